@@ -1,0 +1,141 @@
+//! Field attributes (GA23-0059, "Field attributes"), and cells.
+ghost use Rattle.std.specs.Prelude.{◌≡◌, ◌↔◌, IsTrue, true};
+ghost use Rattle.codes3270.specs.Attribute.{attr_of, attr_byte, display_of, display_bits};
+ghost use Rattle.codes3270.specs.SixBit.{is_six_bit_code};
+ghost use Rattle.codes3270.specs.declared.attribute.Display.TheVariants.{Bright, Hidden};
+
+use crate::six_bit::code_of_value;
+
+/// How the characters of a field are shown: the display bits of its attribute (GA23-0059, "Field attributes").
+#[derive(Clone, Copy, Debug, PartialEq, Eq)]
+pub enum Display {
+    /// At normal intensity.
+    Normal,
+    /// At normal intensity, and a light pen would find it.
+    Detectable,
+    /// At high intensity; a light pen would find it.
+    Bright,
+    /// Not shown, not printed, and no light pen finds it.
+    Hidden,
+}
+
+/// The attribute of a field (GA23-0059, "Field attributes"). It takes the cell before the field's first.
+#[derive(Clone, Copy, Debug, PartialEq, Eq)]
+pub struct Attr {
+    /// The operator can't change the field.
+    pub protected: bool,
+    /// The operator can type numbers alone; with `protected`, the cursor skips the field.
+    pub numeric: bool,
+    /// How its characters are shown.
+    pub display: Display,
+    /// The modified data tag: the field was changed, and Read Modified sends it.
+    pub mdt: bool,
+}
+
+/// What one cell of the screen has (GA23-0059, "Field attributes").
+#[derive(Clone, Copy, Debug, PartialEq, Eq)]
+pub enum Cell {
+    /// A character, as its EBCDIC code: one that `storable` takes.
+    Char(u8),
+    /// The attribute of the field that begins at the next cell.
+    Attr(Attr),
+}
+
+/// What the display bits of a byte, 0C, say.
+fn display_of_byte(byte: u8) -> Display
+    ensures { result ≡ display_of byte }
+{
+    match (byte & 0x08 != 0, byte & 0x04 != 0) {
+        (false, false) => Display::Normal,
+        (false, true) => Display::Detectable,
+        (true, false) => Display::Bright,
+        (true, true) => Display::Hidden,
+    }
+}
+
+/// The display bits that say it.
+fn bits_of_display(display: Display) -> u8
+    ensures { result ≡ display_bits display }
+{
+    match display {
+        Display::Normal => 0x00,
+        Display::Detectable => 0x04,
+        Display::Bright => 0x08,
+        Display::Hidden => 0x0C,
+    }
+}
+
+impl Attr {
+    /// The attribute that a byte is read as. Bits 80, 40 and 02 mean nothing and are dropped, so every byte is read.
+    pub fn from_code(code: u8) -> Attr
+        ensures { result ≡ attr_of code }
+    {
+        Attr {
+            protected: code & 0x20 != 0,
+            numeric: code & 0x10 != 0,
+            display: display_of_byte(code),
+            mdt: code & 0x01 != 0,
+        }
+    }
+
+    /// Whether the operator can't change the field.
+    pub fn protected(self) -> bool
+        ensures { result ≡ self.protected }
+    {
+        self.protected
+    }
+
+    /// Whether the operator can type numbers alone.
+    pub fn numeric(self) -> bool
+        ensures { result ≡ self.numeric }
+    {
+        self.numeric
+    }
+
+    /// Whether the cursor passes over the field as typing reaches it: protected and numeric together.
+    pub fn autoskip(self) -> bool
+        ensures { IsTrue result ↔ (IsTrue self.protected × IsTrue self.numeric) }
+    {
+        self.protected && self.numeric
+    }
+
+    /// Whether the field is shown at high intensity.
+    pub fn bright(self) -> bool
+        ensures { IsTrue result ↔ (self.display ≡ Bright) }
+    {
+        self.display == Display::Bright
+    }
+
+    /// Whether the field isn't shown.
+    pub fn hidden(self) -> bool
+        ensures { IsTrue result ↔ (self.display ≡ Hidden) }
+    {
+        self.display == Display::Hidden
+    }
+
+    /// Whether the modified data tag is on.
+    pub fn mdt(self) -> bool
+        ensures { result ≡ self.mdt }
+    {
+        self.mdt
+    }
+
+    /// The same attribute, its modified data tag on or off.
+    pub fn with_mdt(self, mdt: bool) -> Attr
+        ensures { result ≡ record self { mdt = mdt } }
+    {
+        Attr { mdt, ..self }
+    }
+}
+
+/// The byte that an attribute is written as: the graphic code of its six bits (GA23-0059, "Code structure").
+pub fn attr_code(attr: Attr) -> u8
+    ensures byte { result ≡ attr_byte attr }
+    ensures read_back { attr_of result ≡ attr }
+    ensures graphic { is_six_bit_code result ≡ true }
+{
+    let protected = if attr.protected { 0x20 } else { 0 };
+    let numeric = if attr.numeric { 0x10 } else { 0 };
+    let mdt = if attr.mdt { 0x01 } else { 0 };
+    code_of_value(protected + numeric + bits_of_display(attr.display) + mdt)
+}

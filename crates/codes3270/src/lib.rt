@@ -1,0 +1,27 @@
+//! The codes of the 3270 data stream (GA23-0059), for a 3278 model 2: buffer addresses, field attributes, write control
+//! characters, attention identifiers, and characters in EBCDIC code page 037.
+//!
+//! Each code is written and read: the call that writes ensures that its bytes are read back as the same value. No call
+//! allocates, and none fails but where bytes from outside mean nothing. In these documents codes are hexadecimal.
+#![tactic(auto)]
+
+mod address;
+mod attention;
+mod attribute;
+mod code_page;
+mod laws;
+mod six_bit;
+mod size;
+mod storable_codes;
+#[cfg(test)]
+mod tests;
+mod write_control;
+
+pub use address::{Addr, AddrFault, addr_from_bytes, addr_to_bytes};
+pub use attention::{Aid, PaNo, PfNo, aid_byte, aid_from_byte};
+pub use attribute::{Attr, Cell, Display, attr_code};
+pub use code_page::{from_latin1, to_latin1};
+pub use laws::code_laws;
+pub use size::{CELLS, COLUMNS, ROWS, size_laws};
+pub use storable_codes::storable;
+pub use write_control::Wcc;

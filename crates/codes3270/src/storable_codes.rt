@@ -1,0 +1,14 @@
+//! Which bytes a cell can hold as a character (GA23-0059, "Code structure").
+ghost use Rattle.std.specs.Prelude.{◌≡◌};
+ghost use Rattle.codes3270.specs.Storable.{is_storable};
+
+/// Whether a cell can hold a byte as a character: null, 40 to FE, and eight control codes (GA23-0059,
+/// "Code structure"). In a write any other byte is an order's, or means nothing.
+pub fn storable(byte: u8) -> bool
+    ensures { result ≡ is_storable byte }
+{
+    matches!(
+        byte,
+        0x00 | 0x0C | 0x0D | 0x15 | 0x19 | 0x1C | 0x1E | 0x3F | 0x40..=0xFE | 0xFF
+    )
+}

@@ -1,0 +1,13 @@
+-- A buffer of bytes that never holds more than its limit.
+use Rattle.std.specs.Prelude.{ℕ, List, [], ◌∷◌, ◌++◌}
+
+-- Its limit, and the bytes that it holds.
+pub record Bounded : Type 0 where
+  pub limit : ℕ
+  pub bytes : List ℕ
+
+abbrev pub empty : ℕ → Bounded
+empty limit = record { limit = limit; bytes = [] }
+
+abbrev pub with_byte : Bounded → ℕ → Bounded
+with_byte buffer byte = record { limit = buffer.limit; bytes = buffer.bytes ++ byte ∷ [] }

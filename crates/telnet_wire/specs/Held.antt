@@ -1,0 +1,50 @@
+-- What a decoder holds between two bytes, and what a byte makes of it.
+use Rattle.std.specs.Prelude.{◌≡◌, ℕ, Bool, true, false, List, [], ◌∷◌, ◌++◌, Option, None, Some}
+use Rattle.std.specs.Option.{option_to_list}
+use Rattle.telnet_wire.specs.declared.wire.Step.{Step}
+use Rattle.telnet_wire.specs.declared.wire.Step.TheVariants.{More, Ready}
+use Rattle.telnet_wire.specs.declared.wire.WireFault.{WireFault}
+use Rattle.telnet_wire.specs.declared.wire.WireFault.TheVariants.{Failed}
+use Rattle.telnet_wire.specs.Items.{WireItem}
+use Rattle.telnet_wire.specs.Reading.{Rest, nothing, Delivers, GoesWrong}
+
+-- A decoder, seen from outside: the data bytes that a record may have, the rest of the stream since `new` or `reset`,
+-- the item that the last byte completed, and whether a byte was refused.
+pub record Held : Type 0 where
+  pub limit : ℕ
+  pub rest : Rest
+  pub ready : Option WireItem
+  pub failed : Bool
+
+-- As `new` and `reset` leave it: before the first byte.
+abbrev pub fresh : ℕ → Held
+fresh limit = record { limit = limit; rest = nothing; ready = None; failed = false }
+
+-- After a fault: it holds nothing, until `reset`.
+abbrev pub broken : ℕ → Held
+broken limit = record { limit = limit; rest = nothing; ready = None; failed = true }
+
+-- What `push` answers of a byte that it took.
+abbrev pub step_of : Option WireItem → Step
+step_of None = More
+step_of (Some item) = Ready
+
+-- The byte is taken: it is read behind the rest, and the item that is ready is the item of the token that it completes,
+-- none where it completes none, or a byte of data.
+pub record Takes (old : Held) (byte : ℕ) (new : Held) : Type 0 where
+  pub delivers : Delivers old.limit old.rest (byte ∷ []) (option_to_list new.ready) new.rest
+  pub ran : old.failed ≡ false
+  pub runs : new.failed ≡ false
+  pub limit : new.limit ≡ old.limit
+
+-- The byte is refused, for this fault: the stream goes wrong at it, or a byte was refused before.
+abbrev pub Refuses : Held → ℕ → WireFault → Type 0
+Refuses old byte Failed = old.failed ≡ true
+Refuses old byte fault = (old.failed ≡ false) × GoesWrong old.limit old.rest (byte ∷ []) fault
+
+-- These bytes are taken one after another, and these are the items that were ready on the way, in order.
+abbrev pub TakesAll : Held → List ℕ → List WireItem → Held → Type 0
+TakesAll old [] items new = (items ≡ []) × (new ≡ old)
+TakesAll old (byte ∷ bytes) items new =
+    (next : Held) × (others : List WireItem) × Takes old byte next × (items ≡ option_to_list next.ready ++ others)
+    × TakesAll next bytes others new

@@ -1,0 +1,61 @@
+-- What a list of tokens says: its items, and the data of the record that isn't finished.
+use Rattle.std.specs.Prelude.{ℕ, ◌≤◌, List, [], ◌∷◌, ◌++◌, length, map}
+use Rattle.telnet_wire.specs.declared.wire.Verb.{Verb}
+use Rattle.telnet_wire.specs.declared.wire.Item.{Item}
+use Rattle.telnet_wire.specs.declared.wire.Item.TheVariants as lent
+use Rattle.telnet_wire.specs.Token.{Token, Data, End, Opt as OptToken, Sub as SubToken, Other as OtherToken, IsOtherCode}
+
+-- What a stream hands out: a whole record, an option's negotiation, a subnegotiation, or another command (RFC 854, 885).
+pub data WireItem : Type 0 where
+  Record : List ℕ → WireItem
+  Opt : Verb → ℕ → WireItem
+  Sub : List ℕ → WireItem
+  Other : ℕ → WireItem
+
+-- An item without where it lies in memory.
+abbrev pub item_of : Item → WireItem
+item_of (lent.Record bytes) = Record bytes.now
+item_of (lent.Opt verb code) = Opt verb code
+item_of (lent.Sub bytes) = Sub bytes.now
+item_of (lent.Other code) = Other code
+
+-- The items of these tokens, in order: each End is the record of the data since the End before (RFC 885), and a
+-- command between two bytes of data is an item of its own, which doesn't end the record. `unfinished` is the data
+-- that came before these tokens, since the last End.
+abbrev pub items_after : List ℕ → List Token → List WireItem
+items_after unfinished [] = []
+items_after unfinished (Data byte ∷ tokens) = items_after (unfinished ++ byte ∷ []) tokens
+items_after unfinished (End ∷ tokens) = Record unfinished ∷ items_after [] tokens
+items_after unfinished (OptToken verb code ∷ tokens) = Opt verb code ∷ items_after unfinished tokens
+items_after unfinished (SubToken bytes ∷ tokens) = Sub bytes ∷ items_after unfinished tokens
+items_after unfinished (OtherToken code ∷ tokens) = Other code ∷ items_after unfinished tokens
+
+-- The data since the last End, where `unfinished` came before these tokens.
+abbrev pub unfinished_after : List ℕ → List Token → List ℕ
+unfinished_after unfinished [] = unfinished
+unfinished_after unfinished (Data byte ∷ tokens) = unfinished_after (unfinished ++ byte ∷ []) tokens
+unfinished_after unfinished (End ∷ tokens) = unfinished_after [] tokens
+unfinished_after unfinished (_ ∷ tokens) = unfinished_after unfinished tokens
+
+-- A record has at most `limit` bytes of data, each counted once however it is spelt (our profile).
+abbrev pub IsWithin : ℕ → WireItem → Type 0
+IsWithin limit (Record bytes) = length bytes ≤ limit
+IsWithin limit _ = Unit {0}
+
+-- The tokens of one record: its data, and its end.
+abbrev pub record_tokens : List ℕ → List Token
+record_tokens bytes = map Data bytes ++ End ∷ []
+
+-- The tokens that say this item, where no record is unfinished.
+abbrev pub item_tokens : WireItem → List Token
+item_tokens (Record bytes) = record_tokens bytes
+item_tokens (Opt verb code) = OptToken verb code ∷ []
+item_tokens (Sub bytes) = SubToken bytes ∷ []
+item_tokens (Other code) = OtherToken code ∷ []
+
+-- An item that a stream can hand out: within its limit, and no other command's code where it is a command.
+abbrev pub CanCome : ℕ → WireItem → Type 0
+CanCome limit (Record bytes) = length bytes ≤ limit
+CanCome limit (Opt verb code) = Unit {0}
+CanCome limit (Sub bytes) = length bytes ≤ 256
+CanCome limit (Other code) = IsOtherCode code

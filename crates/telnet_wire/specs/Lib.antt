@@ -1,0 +1,9 @@
+pub mod Token
+pub mod Items
+pub mod Reading
+pub mod Held
+pub mod Messages
+pub mod Bounded
+pub mod Places
+pub mod Writing
+pub mod Laws

@@ -1,0 +1,58 @@
+-- How a stream is read: its tokens, its items and its rest, and where it goes wrong. It speaks of whole texts, never of
+-- a state between two bytes.
+use Rattle.std.specs.Prelude.{◌≡◌, ◌≢◌, ℕ, ◌≤◌, ◌⊎◌, List, [], ◌∷◌, ◌++◌, length}
+use Rattle.std.specs.List.{AllByRecursion}
+use Rattle.telnet_wire.specs.declared.wire.WireFault.{WireFault}
+use Rattle.telnet_wire.specs.declared.wire.WireFault.TheVariants.{TooLong, BadSub}
+use Rattle.telnet_wire.specs.Token.{Token, IsToken, IsShort, IsPartial, text, escaped, opened}
+use Rattle.telnet_wire.specs.Items.{WireItem, items_after, unfinished_after, IsWithin}
+
+-- What comes behind the whole tokens of a stream: the data of the unfinished record, and the bytes of one more token.
+pub record Rest : Type 0 where
+  pub unfinished : List ℕ
+  pub partial : List ℕ
+
+-- Before the first byte.
+abbrev pub nothing : Rest
+nothing = record { unfinished = []; partial = [] }
+
+-- With the rest `from` before them, these bytes are these tokens, each within its limit, and the rest `to`.
+pub record Reads (limit : ℕ) (from : Rest) (bytes : List ℕ) (tokens : List Token) (to : Rest) : Type 0 where
+  pub spelt : from.partial ++ bytes ≡ text tokens ++ to.partial
+  pub unfinished : to.unfinished ≡ unfinished_after from.unfinished tokens
+  pub each : AllByRecursion IsToken tokens
+  pub short : AllByRecursion IsShort tokens
+  pub records : AllByRecursion (IsWithin limit) (items_after from.unfinished tokens)
+
+-- A rest with which a stream may go on: its record is within the limit, and its bytes are of one token that isn't
+-- complete.
+pub record IsRest (limit : ℕ) (rest : Rest) : Type 0 where
+  pub unfinished : length rest.unfinished ≤ limit
+  pub partial : IsPartial rest.partial
+
+-- With the rest `from` before them, these bytes are read without fault: they say these items and leave the rest `to`.
+pub record Delivers (limit : ℕ) (from : Rest) (bytes : List ℕ) (items : List WireItem) (to : Rest) : Type 0 where
+  pub tokens : List Token
+  pub reads : Reads limit from bytes tokens to
+  pub is_rest : IsRest limit to
+  pub said : items ≡ items_after from.unfinished tokens
+
+-- A rest that is wrong at its last byte, and at no byte before (our profile; RFC 854 and 855 give no limits and don't
+-- say what a command inside a subnegotiation means). TooLong: one byte of data more than a record may have, or byte 257
+-- of a subnegotiation, with the second byte of its spelling where it is 255. BadSub: inside a subnegotiation, a byte
+-- behind IAC that is neither IAC nor SE.
+abbrev pub IsWrong : ℕ → Rest → WireFault → Type 0
+IsWrong limit rest TooLong =
+    ((byte : ℕ) × (rest.partial ≡ escaped byte) × (length rest.unfinished ≡ limit))
+    ⊎ ((content : List ℕ) × (rest.partial ≡ opened content) × (length content ≡ 257) × (length rest.unfinished ≤ limit))
+IsWrong limit rest BadSub =
+    (content : List ℕ) × (code : ℕ) × (rest.partial ≡ opened content ++ 255 ∷ code ∷ [])
+    × (code ≢ 255) × (code ≢ 240) × (length content ≤ 256) × (length rest.unfinished ≤ limit)
+IsWrong limit rest _ = ⊥
+
+-- With the rest `from` before them, these bytes go wrong by this fault, at the last of them and at none before.
+pub record GoesWrong (limit : ℕ) (from : Rest) (bytes : List ℕ) (fault : WireFault) : Type 0 where
+  pub tokens : List Token
+  pub to : Rest
+  pub reads : Reads limit from bytes tokens to
+  pub is_wrong : IsWrong limit to fault

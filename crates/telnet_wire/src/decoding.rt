@@ -1,0 +1,248 @@
+//! The decoder: bytes in, items out.
+ghost use Rattle.std.specs.Prelude.{◌≡◌, ℕ, IfOk, IfErr, List, [], ◌∷◌, ◌++◌, IsSome, Some, Err};
+ghost use Rattle.telnet_wire.specs.Items.{item_of};
+ghost use Rattle.telnet_wire.specs.Held.{Held, fresh, broken, Takes, Refuses, step_of};
+ghost use Rattle.telnet_wire.specs.Places.{held, ready_at, AreWithin};
+ghost use Rattle.telnet_wire.specs.declared.decoding.Place.TheVariants as places;
+ghost use Rattle.telnet_wire.specs.declared.wire.WireFault.{WireFault};
+ghost use Rattle.telnet_wire.specs.declared.wire.WireFault.TheVariants.{Memory};
+
+use crate::buffer::Buffer;
+use crate::codes::{DO, DONT, EOR, IAC, SB, SE, WILL, WONT};
+use crate::wire::{Item, Step, Verb, WireFault};
+use std::alloc::Global;
+use std::marker::Model;
+
+/// The bytes that a subnegotiation may have (our profile).
+const SUB_LIMIT: usize = 256;
+
+/// Where in a token the stream stands.
+#[derive(Clone, Copy)]
+enum Place {
+    /// Behind a whole token that is no item, or before the first byte.
+    Between,
+    /// Behind a whole token that is an item. A record stays in its buffer until the next byte.
+    Done(Completed),
+    AfterIac,
+    AfterVerb(Verb),
+    InSub,
+    AfterIacInSub,
+    Failed,
+}
+
+/// The item that the last byte completed.
+#[derive(Clone, Copy)]
+enum Completed {
+    Record,
+    Opt(Verb, u8),
+    Sub,
+    Other(u8),
+}
+
+// A byte where a token begins.
+fn between(byte: u8, record_buffer: &mut Buffer, sub_buffer: &Buffer) -> Result<Place, WireFault>
+    requires { AreWithin record_buffer.old sub_buffer.now }
+    ensures taken { IfOk result (λ next. Takes (held places.Between record_buffer.old sub_buffer.now.bytes) byte (held next record_buffer.new sub_buffer.now.bytes)) }
+    ensures refused { IfErr result (Refuses (held places.Between record_buffer.old sub_buffer.now.bytes) byte) }
+    ensures within { AreWithin record_buffer.new sub_buffer.now }
+    ensures limit { record_buffer.new.limit ≡ record_buffer.old.limit }
+{
+    if byte == IAC {
+        return Ok(Place::AfterIac);
+    }
+    record_buffer.add(byte)?;
+    Ok(Place::Between)
+}
+
+// The byte after IAC.
+fn after_iac(
+    code: u8,
+    record_buffer: &mut Buffer,
+    sub_buffer: &mut Buffer,
+) -> Result<Place, WireFault>
+    requires { AreWithin record_buffer.old sub_buffer.old }
+    ensures taken { IfOk result (λ next. Takes (held places.AfterIac record_buffer.old sub_buffer.old.bytes) code (held next record_buffer.new sub_buffer.new.bytes)) }
+    ensures refused { IfErr result (Refuses (held places.AfterIac record_buffer.old sub_buffer.old.bytes) code) }
+    ensures within { AreWithin record_buffer.new sub_buffer.new }
+    ensures limit { record_buffer.new.limit ≡ record_buffer.old.limit }
+{
+    Ok(match code {
+        IAC => {
+            record_buffer.add(IAC)?;
+            Place::Between
+        }
+        EOR => Place::Done(Completed::Record),
+        SB => {
+            sub_buffer.clear();
+            Place::InSub
+        }
+        WILL => Place::AfterVerb(Verb::Will),
+        WONT => Place::AfterVerb(Verb::Wont),
+        DO => Place::AfterVerb(Verb::Do),
+        DONT => Place::AfterVerb(Verb::Dont),
+        _ => Place::Done(Completed::Other(code)),
+    })
+}
+
+// A byte inside a subnegotiation.
+fn in_sub(byte: u8, record_buffer: &Buffer, sub_buffer: &mut Buffer) -> Result<Place, WireFault>
+    requires { AreWithin record_buffer.now sub_buffer.old }
+    ensures taken { IfOk result (λ next. Takes (held places.InSub record_buffer.now sub_buffer.old.bytes) byte (held next record_buffer.now sub_buffer.new.bytes)) }
+    ensures refused { IfErr result (Refuses (held places.InSub record_buffer.now sub_buffer.old.bytes) byte) }
+    ensures within { AreWithin record_buffer.now sub_buffer.new }
+{
+    if byte == IAC {
+        return Ok(Place::AfterIacInSub);
+    }
+    sub_buffer.add(byte)?;
+    Ok(Place::InSub)
+}
+
+// The byte after IAC inside a subnegotiation.
+fn after_iac_in_sub(
+    code: u8,
+    record_buffer: &Buffer,
+    sub_buffer: &mut Buffer,
+) -> Result<Place, WireFault>
+    requires { AreWithin record_buffer.now sub_buffer.old }
+    ensures taken { IfOk result (λ next. Takes (held places.AfterIacInSub record_buffer.now sub_buffer.old.bytes) code (held next record_buffer.now sub_buffer.new.bytes)) }
+    ensures refused { IfErr result (Refuses (held places.AfterIacInSub record_buffer.now sub_buffer.old.bytes) code) }
+    ensures within { AreWithin record_buffer.now sub_buffer.new }
+{
+    match code {
+        IAC => {
+            sub_buffer.add(IAC)?;
+            Ok(Place::InSub)
+        }
+        SE => Ok(Place::Done(Completed::Sub)),
+        _ => Err(WireFault::BadSub),
+    }
+}
+
+// The place after the byte.
+fn next(
+    place: Place,
+    byte: u8,
+    record_buffer: &mut Buffer,
+    sub_buffer: &mut Buffer,
+) -> Result<Place, WireFault>
+    requires { AreWithin record_buffer.old sub_buffer.old }
+    ensures taken { IfOk result (λ next. Takes (held place record_buffer.old sub_buffer.old.bytes) byte (held next record_buffer.new sub_buffer.new.bytes)) }
+    ensures refused { IfErr result (Refuses (held place record_buffer.old sub_buffer.old.bytes) byte) }
+    ensures within { AreWithin record_buffer.new sub_buffer.new }
+    ensures limit { record_buffer.new.limit ≡ record_buffer.old.limit }
+{
+    match place {
+        Place::Done(Completed::Record) => {
+            record_buffer.clear();
+            between(byte, record_buffer, sub_buffer)
+        }
+        Place::Between | Place::Done(_) => between(byte, record_buffer, sub_buffer),
+        Place::AfterIac => after_iac(byte, record_buffer, sub_buffer),
+        Place::AfterVerb(verb) => Ok(Place::Done(Completed::Opt(verb, byte))),
+        Place::InSub => in_sub(byte, record_buffer, sub_buffer),
+        Place::AfterIacInSub => after_iac_in_sub(byte, record_buffer, sub_buffer),
+        Place::Failed => Err(WireFault::Failed),
+    }
+}
+
+impl Place {
+    fn step(self) -> Step
+        ensures { (gathered content : List ℕ) → result ≡ step_of (ready_at self gathered content) }
+    {
+        match self {
+            Place::Done(_) => Step::Ready,
+            _ => Step::More,
+        }
+    }
+}
+
+/// Takes a stream byte by byte, and lends the items that it completes.
+///
+/// A byte costs the same however long the record is, and takes no memory: the room for a record of `limit` bytes and a
+/// subnegotiation of 256 is made by `new`. Where the stream is cut into pieces makes no difference.
+#[derive(Drop)]
+pub struct Decoder {
+    place: Place,
+    record_buffer: Buffer,
+    sub_buffer: Buffer,
+}
+
+impl Model for Decoder {
+    ghost Value = { Held };
+
+    ghost view = { λ d. held d.place d.record_buffer d.sub_buffer.bytes };
+
+    ghost invariant = { λ d. AreWithin d.record_buffer d.sub_buffer };
+}
+
+impl Decoder {
+    /// A decoder before the first byte, for records of at most `limit` bytes of data, each 255 counted once.
+    ///
+    /// It makes all the room that the decoder will need, and answers [`WireFault::Memory`] where that can't be had.
+    pub fn new(alloc: Global, limit: usize) -> Result<Decoder, WireFault>
+        ensures made { IfOk result (λ d. d ≡ fresh limit) }
+        ensures memory { IfErr result (λ fault. fault ≡ Memory) }
+    {
+        let record_buffer = Buffer::new(alloc, limit)?;
+        let sub_buffer = Buffer::new(alloc, SUB_LIMIT)?;
+        Ok(Decoder {
+            place: Place::Between,
+            record_buffer,
+            sub_buffer,
+        })
+    }
+
+    /// Takes the next byte, and says whether it completed an item, which [`Decoder::item`] then lends.
+    ///
+    /// It is refused exactly where the stream goes wrong: by [`WireFault::TooLong`] at the byte that completes a data
+    /// byte over the limit, or byte 257 of a subnegotiation, and by [`WireFault::BadSub`] at a byte behind IAC inside a
+    /// subnegotiation that is neither IAC nor SE. From then on the decoder holds nothing, and every push is refused by
+    /// [`WireFault::Failed`] until [`Decoder::reset`]. It takes no memory.
+    pub fn push(&mut self, byte: u8) -> Result<Step, WireFault>
+        ensures taken { IfOk result (λ step. Takes self.old byte self.new × (step ≡ step_of self.new.ready)) }
+        ensures refused { IfErr result (λ fault. Refuses self.old byte fault × (self.new ≡ broken self.old.limit)) }
+        // A fault comes wherever the stream goes wrong.
+        ensures exact { (fault : WireFault) → Refuses self.old byte fault → result ≡ Err fault }
+    {
+        match next(
+            self.place,
+            byte,
+            &mut self.record_buffer,
+            &mut self.sub_buffer,
+        ) {
+            Ok(place) => {
+                self.place = place;
+                Ok(place.step())
+            }
+            Err(fault) => {
+                self.place = Place::Failed;
+                Err(fault)
+            }
+        }
+    }
+
+    /// The item that the last push completed, lent from the decoder's buffers until the next push.
+    ///
+    /// It may be called only after [`Step::Ready`].
+    pub fn item(&self) -> Item<'_>
+        requires { IsSome self.now.ready }
+        ensures { self.now.ready ≡ Some (item_of result) }
+    {
+        match self.place {
+            Place::Done(Completed::Record) => Item::Record(self.record_buffer.as_slice()),
+            Place::Done(Completed::Opt(verb, code)) => Item::Opt { verb, code },
+            Place::Done(Completed::Sub) => Item::Sub(self.sub_buffer.as_slice()),
+            Place::Done(Completed::Other(code)) => Item::Other(code),
+            _ => unreachable!(),
+        }
+    }
+
+    /// Forgets the stream, and any fault: the decoder is as `new` made it.
+    pub fn reset(&mut self)
+        ensures { self.new ≡ fresh self.old.limit }
+    {
+        self.record_buffer.clear();
+        self.place = Place::Between;
+    }
+}
