@@ -1,0 +1,225 @@
+-- What a screen's read writes is read as that screen's data.
+use Rattle.std.proofs.Common.{◌≡◌, ◌==◌, ℕ, ◌+◌, ◌-◌, ◌%◌, ◌<◌, ◌≤◌, List, [], ◌∷◌, ◌++◌, length, get_or, take, drop, map, filter, Bool, true, false, cond, refl, ap, sym, ◌∙◌, Some, None, arith, append_assoc, subst, add-zero}
+use Rattle.std.specs.Prelude.{All, ◌&&◌, not, if◌then◌else◌}
+use Rattle.std.specs.List.{flat_map, list_all}
+use Rattle.std.proofs.Math.Nat.{mod-lt}
+use Rattle.std.proofs.lemmas.Bool.{cond_both, and_from, false≢true}
+use Rattle.std.proofs.lemmas.List.{append-nil, take-append-drop, take_more, drop_more, get_or-drop, length-map}
+use Rattle.std.proofs.lemmas.List.Elements.{All-head, All-tail, All-nil, All-cons, All-append}
+use Rattle.codes3270.specs.Size.{cell_count}
+use Rattle.codes3270.specs.Address.{address_bytes}
+use Rattle.codes3270.specs.Aid.{aid_of, byte_of_aid, is_short_aid, IsRealAid}
+use Rattle.codes3270.specs.Attribute.{attr_byte}
+use Rattle.codes3270.specs.Storable.{is_storable}
+use Rattle.codes3270.proofs.RoundTrips.{address_read_back, aid_read_back, attr_read_back}
+use Rattle.codes3270.specs.declared.attention.Aid.{Aid}
+use Rattle.codes3270.specs.declared.attention.Aid.TheVariants.{NoAid, Enter, Clear, Pf, Pa}
+use Rattle.codes3270.specs.declared.attribute.Attr.{Attr as Attribute}
+use Rattle.codes3270.specs.declared.attribute.Cell.{Cell}
+use Rattle.codes3270.specs.declared.attribute.Cell.TheVariants.{Char as CharCell, Attr as AttrCell}
+use Rattle.datastream.specs.declared.inbound_part.Form.{Form}
+use Rattle.datastream.specs.declared.inbound_part.Form.TheVariants.{Modified, All as AllModified, Buffer}
+use Rattle.datastream.specs.declared.inbound_part.Part.{Part}
+use Rattle.datastream.specs.declared.inbound_part.Part.TheVariants.{At, Char, Attr}
+use Rattle.datastream.specs.Grammar.{set_buffer_address}
+use Rattle.datastream.specs.Screen.{Screen, is_char, text_before_attribute, field_text, places_from}
+use Rattle.datastream.specs.Fields.{Field, fields_from, fields}
+use Rattle.datastream.specs.Inbound.{without_nulls, is_modified, modified_field, modified_text, read_modified, cell_bytes, read_buffer}
+use Rattle.datastream.specs.InboundText.{is_text_char, IsTextPart, IsPart, AreParts, IsWhole, InboundParts, stands_alone, IsInbound}
+use Rattle.datastream.specs.InboundText.IsInbound.{alone, long}
+use Rattle.datastream.specs.InboundFields.{Returned, field_parts, parts_of_fields, part_of_cell, parts_of_cells, lead_of, is_modified_field, returned_field, returned_of, modified_data, buffer_data, IsStorableCell, IsSendable, SentIsRead}
+
+-- ---- parts of texts
+
+text_part : (form : Form) (part : Part) (bytes : List ℕ) → (form ≡ Buffer → ⊥) → IsTextPart part bytes → IsPart form part bytes
+text_part Modified part bytes other stands = stands
+text_part AllModified part bytes other stands = stands
+text_part Buffer part bytes other stands = absurd (other refl)
+
+whole_text : (form : Form) (parts : List Part) → (form ≡ Buffer → ⊥) → IsWhole form parts
+whole_text Modified parts other = tt
+whole_text AllModified parts other = tt
+whole_text Buffer parts other = absurd (other refl)
+
+AreParts-append : (form : Form) (ps qs : List Part) (a b : List ℕ) → AreParts form ps a → AreParts form qs b → AreParts form (ps ++ qs) (a ++ b)
+AreParts-append form [] qs a b is are = subst (λ bytes. AreParts form qs (bytes ++ b)) (sym is) are
+AreParts-append form (p ∷ ps) qs a b (front, back, first, others, is) are =
+    (front, back ++ b, first, AreParts-append form ps qs back b others are, ap (λ bytes. bytes ++ b) is ∙ append_assoc front back b)
+
+chars_are_parts : (form : Form) (chars : List ℕ) → (form ≡ Buffer → ⊥) → All (λ char. is_text_char char ≡ true) chars → AreParts form (map Char chars) chars
+chars_are_parts form [] other proper = refl
+chars_are_parts form (char ∷ chars) other proper = (
+  char ∷ [],
+  chars,
+  text_part form (Char char) (char ∷ []) other (All-head (λ c. is_text_char c ≡ true) char chars proper, refl),
+  chars_are_parts form chars other (All-tail (λ c. is_text_char c ≡ true) char chars proper),
+  refl,
+)
+
+-- without nulls, storable characters are those of a text
+text_chars : (chars : List ℕ) → All (λ char. is_storable char ≡ true) chars → All (λ char. is_text_char char ≡ true) (without_nulls chars)
+text_chars [] proper = All-nil (λ c. is_text_char c ≡ true)
+text_chars (char ∷ chars) proper =
+    let P : ℕ → Type 0 = λ c. is_text_char c ≡ true in
+    let here : is_storable char ≡ true = All-head (λ c. is_storable c ≡ true) char chars proper in
+    let others : All P (without_nulls chars) = text_chars chars (All-tail (λ c. is_storable c ≡ true) char chars proper) in
+    cond_both (not (char == 0)) (char ∷ without_nulls chars) (without_nulls chars) (λ cs. All P cs)
+    (λ some. All-cons P char (without_nulls chars) (and_from _ _ here some) others)
+    (λ none. others)
+
+text_storable : (cells : List Cell) → All IsStorableCell cells → All (λ char. is_storable char ≡ true) (text_before_attribute cells)
+text_storable [] proper = All-nil (λ c. is_storable c ≡ true)
+text_storable (CharCell byte ∷ cells) proper =
+    All-cons (λ c. is_storable c ≡ true) byte (text_before_attribute cells) (All-head IsStorableCell (CharCell byte) cells proper)
+    (text_storable cells (All-tail IsStorableCell (CharCell byte) cells proper))
+text_storable (AttrCell attribute ∷ cells) proper = All-nil (λ c. is_storable c ≡ true)
+
+-- ---- a field's text, from its attribute on
+
+-- what lies behind an attribute doesn't matter
+text_to_attribute : (xs : List Cell) (attribute : Attribute) (ys zs : List Cell) → text_before_attribute (xs ++ AttrCell attribute ∷ ys) ≡ text_before_attribute (xs ++ AttrCell attribute ∷ zs)
+text_to_attribute [] attribute ys zs = refl
+text_to_attribute (CharCell byte ∷ xs) attribute ys zs = ap (λ t. byte ∷ t) (text_to_attribute xs attribute ys zs)
+text_to_attribute (AttrCell other ∷ xs) attribute ys zs = refl
+
+next_drop : (cells : List Cell) (at : ℕ) (cell : Cell) (rest : List Cell) → at < length cells → drop at cells ≡ cell ∷ rest → drop (at + 1) cells ≡ rest
+next_drop cells at cell rest below left = tail_is (get_or cells at cell) cell (drop (at + 1) cells) rest (sym (drop_more cells at cell below) ∙ left)
+  where
+    tail_is : (x y : Cell) (xs ys : List Cell) → x ∷ xs ≡ y ∷ ys → xs ≡ ys
+    tail_is x y xs ys e = cc
+
+cell_at : (cells : List Cell) (at : ℕ) (cell : Cell) (rest : List Cell) → drop at cells ≡ cell ∷ rest → get_or cells at cell ≡ cell
+cell_at cells at cell rest left =
+    let there : at + 0 ≡ at = omega arith in
+    sym (rw there at (get_or-drop at cells 0 cell)) ∙ ap (λ cs. get_or cs 0 cell) left
+
+same_text : (cells : List Cell) (at : ℕ) (attribute : Attribute) (rest : List Cell) → at < length cells → drop at cells ≡ AttrCell attribute ∷ rest
+    → field_text cells at ≡ text_before_attribute (rest ++ cells)
+same_text cells at attribute rest below left =
+    let behind : drop (at + 1) cells ≡ rest = next_drop cells at (AttrCell attribute) rest below left in
+    let front : take (at + 1) cells ≡ take at cells ++ AttrCell attribute ∷ [] =
+    take_more cells at (AttrCell attribute) below ∙ ap (λ c. take at cells ++ c ∷ []) (cell_at cells at (AttrCell attribute) rest left) in
+    let whole : cells ≡ take at cells ++ AttrCell attribute ∷ rest = sym (take-append-drop at cells) ∙ ap (λ cs. take at cells ++ cs) left in
+    let once : rest ++ (take at cells ++ AttrCell attribute ∷ []) ≡ (rest ++ take at cells) ++ AttrCell attribute ∷ [] = sym (append_assoc rest (take at cells) (AttrCell attribute ∷ [])) in
+    let again : rest ++ (take at cells ++ AttrCell attribute ∷ rest) ≡ (rest ++ take at cells) ++ AttrCell attribute ∷ rest = sym (append_assoc rest (take at cells) (AttrCell attribute ∷ rest)) in
+    ap (λ cs. text_before_attribute (cs ++ take (at + 1) cells)) behind
+    ∙ ap (λ cs. text_before_attribute (rest ++ cs)) front
+    ∙ ap text_before_attribute once
+    ∙ text_to_attribute (rest ++ take at cells) attribute [] rest
+    ∙ ap text_before_attribute (sym again)
+    ∙ ap (λ cs. text_before_attribute (rest ++ cs)) (sym whole)
+
+-- ---- the modified fields
+
+field_is_parts : (form : Form) (cells : List Cell) (at : ℕ) (attribute : Attribute) (rest : List Cell) → (form ≡ Buffer → ⊥) → length cells ≡ cell_count
+    → All IsStorableCell cells → All IsStorableCell rest → at < length cells → drop at cells ≡ AttrCell attribute ∷ rest
+    → AreParts form (field_parts (returned_field (length cells) (record { place = at; attr = attribute; text = text_before_attribute (rest ++ cells) }))) (modified_field cells at)
+field_is_parts form cells at attribute rest other size storable storable_rest below left =
+    let first : ℕ = (at + 1) % length cells in
+    let positive : 0 < length cells = omega arith in
+    let in_range : first < cell_count = subst (λ n. first < n) size (mod-lt (at + 1) positive) in
+    let text : List ℕ = without_nulls (text_before_attribute (rest ++ cells)) in
+    let proper : All (λ char. is_text_char char ≡ true) text = text_chars _ (text_storable (rest ++ cells) (All-append IsStorableCell rest cells storable_rest storable)) in (
+      set_buffer_address ∷ address_bytes first,
+      text,
+      text_part form (At first) (set_buffer_address ∷ address_bytes first) other (_, _, (sym (address_read_back first in_range), in_range), refl),
+      chars_are_parts form text other proper,
+      ap (λ t. set_buffer_address ∷ address_bytes first ++ without_nulls t) (same_text cells at attribute rest below left),
+    )
+
+abbrev sent_from : List Cell → ℕ → List Cell → List Part
+sent_from cells at rest = flat_map field_parts (map (returned_field (length cells)) (filter is_modified_field (fields_from cells at rest)))
+
+abbrev written_from : List Cell → ℕ → List Cell → List ℕ
+written_from cells at rest = flat_map (modified_field cells) (places_from is_modified at rest)
+
+fields_are_parts : (form : Form) (cells : List Cell) (at : ℕ) (rest : List Cell) → (form ≡ Buffer → ⊥) → length cells ≡ cell_count
+    → All IsStorableCell cells → All IsStorableCell rest → at + length rest ≡ length cells → drop at cells ≡ rest
+    → AreParts form (sent_from cells at rest) (written_from cells at rest)
+fields_are_parts form cells at [] other size storable storable_rest ends left = refl
+fields_are_parts form cells at (CharCell byte ∷ rest) other size storable storable_rest ends left =
+    fields_are_parts form cells (at + 1) rest other size storable (All-tail IsStorableCell (CharCell byte) rest storable_rest) (omega arith)
+    (next_drop cells at (CharCell byte) rest (omega arith) left)
+fields_are_parts form cells at (AttrCell attribute ∷ rest) other size storable storable_rest ends left =
+    let storable_tail : All IsStorableCell rest = All-tail IsStorableCell (AttrCell attribute) rest storable_rest in
+    let field : Field = record { place = at; attr = attribute; text = text_before_attribute (rest ++ cells) } in
+    let others : AreParts form (sent_from cells (at + 1) rest) (written_from cells (at + 1) rest) =
+    fields_are_parts form cells (at + 1) rest other size storable storable_tail (omega arith) (next_drop cells at (AttrCell attribute) rest (omega arith) left) in
+    one_more attribute.mdt field others
+    (field_is_parts form cells at attribute rest other size storable storable_tail (omega arith) left)
+  where
+    one_more : (modified : Bool) (field : Field) → AreParts form (sent_from cells (at + 1) rest) (written_from cells (at + 1) rest)
+        → AreParts form (field_parts (returned_field (length cells) field)) (modified_field cells at)
+        → AreParts form (flat_map field_parts (map (returned_field (length cells)) (cond modified (field ∷ filter is_modified_field (fields_from cells (at + 1) rest)) (filter is_modified_field (fields_from cells (at + 1) rest)))))
+        (flat_map (modified_field cells) (cond modified (at ∷ places_from is_modified (at + 1) rest) (places_from is_modified (at + 1) rest)))
+    one_more true field others first = AreParts-append form (field_parts (returned_field (length cells) field)) (sent_from cells (at + 1) rest) (modified_field cells at) (written_from cells (at + 1) rest) first others
+    one_more false field others first = others
+
+no_fields : (whole : List Cell) (at : ℕ) (cells : List Cell) → list_all is_char cells ≡ true → fields_from whole at cells ≡ []
+no_fields whole at [] none = refl
+no_fields whole at (CharCell byte ∷ cells) none = no_fields whole (at + 1) cells none
+no_fields whole at (AttrCell attribute ∷ cells) none = absurd (false≢true none)
+
+text_is_parts : (form : Form) (cells : List Cell) → (form ≡ Buffer → ⊥) → length cells ≡ cell_count → All IsStorableCell cells
+    → AreParts form (parts_of_fields (lead_of cells) (returned_of cells)) (modified_text cells)
+text_is_parts form cells other size storable = by (list_all is_char cells) refl
+  where
+    by : (b : Bool) → list_all is_char cells ≡ b
+        → AreParts form (parts_of_fields (cond b (without_nulls (text_before_attribute cells)) []) (returned_of cells)) (cond b (without_nulls (text_before_attribute cells)) (flat_map (modified_field cells) (places_from is_modified 0 cells)))
+    by true none =
+        let text : List ℕ = without_nulls (text_before_attribute cells) in
+        let nothing : returned_of cells ≡ [] = ap (λ fs. map (returned_field (length cells)) (filter is_modified_field fs)) (no_fields cells 0 cells none) in
+        let are : AreParts form (map Char text) text = chars_are_parts form text other (text_chars _ (text_storable cells storable)) in
+        subst (λ fs. AreParts form (parts_of_fields text fs) text) (sym nothing) (subst (λ ps. AreParts form ps text) (sym (append-nil (map Char text))) are)
+    by false some = fields_are_parts form cells 0 cells other size storable storable (omega arith) refl
+
+-- ---- Read Modified
+
+modified_not_buffer : Modified ≡ Buffer → ⊥
+modified_not_buffer e = cc
+
+all_not_buffer : AllModified ≡ Buffer → ⊥
+all_not_buffer e = cc
+
+long_sent : (form : Form) (screen : Screen) → (form ≡ Buffer → ⊥) → IsSendable screen → stands_alone form screen.aid ≡ false
+    → IsInbound (record { form = form; aid = screen.aid; cursor = Some screen.cursor; parts = parts_of_fields (lead_of screen.cells) (returned_of screen.cells) })
+    (byte_of_aid screen.aid ∷ address_bytes screen.cursor ++ modified_text screen.cells)
+long_sent form screen other sendable goes_on =
+    long (byte_of_aid screen.aid) _ _ screen.cursor (modified_text screen.cells) goes_on (aid_read_back screen.aid sendable.aid) refl
+    (sym (address_read_back screen.cursor sendable.cursor), sendable.cursor)
+    (text_is_parts form screen.cells other sendable.size sendable.storable) (whole_text form _ other) refl
+
+modified_sent : (screen : Screen) → IsSendable screen → IsInbound (modified_data Modified screen) (read_modified false screen)
+modified_sent screen sendable = by (is_short_aid screen.aid) refl
+  where
+    by : (b : Bool) → is_short_aid screen.aid ≡ b
+        → IsInbound (cond b (record { form = Modified; aid = screen.aid; cursor = None; parts = [] }) (record { form = Modified; aid = screen.aid; cursor = Some screen.cursor; parts = parts_of_fields (lead_of screen.cells) (returned_of screen.cells) }))
+        (cond (b && not false) (byte_of_aid screen.aid ∷ []) (byte_of_aid screen.aid ∷ address_bytes screen.cursor ++ modified_text screen.cells))
+    by true short = alone (byte_of_aid screen.aid) short (aid_read_back screen.aid sendable.aid) refl refl refl
+    by false other = long_sent Modified screen modified_not_buffer sendable other
+
+all_sent : (screen : Screen) → IsSendable screen → IsInbound (modified_data AllModified screen) (read_modified true screen)
+all_sent screen sendable = by (is_short_aid screen.aid)
+  where
+    by : (b : Bool) → IsInbound (record { form = AllModified; aid = screen.aid; cursor = Some screen.cursor; parts = parts_of_fields (lead_of screen.cells) (returned_of screen.cells) })
+        (cond (b && not true) (byte_of_aid screen.aid ∷ []) (byte_of_aid screen.aid ∷ address_bytes screen.cursor ++ modified_text screen.cells))
+    by true = long_sent AllModified screen all_not_buffer sendable refl
+    by false = long_sent AllModified screen all_not_buffer sendable refl
+
+-- ---- Read Buffer
+
+cells_are_parts : (cells : List Cell) → All IsStorableCell cells → AreParts Buffer (parts_of_cells cells) (flat_map cell_bytes cells)
+cells_are_parts [] storable = refl
+cells_are_parts (CharCell byte ∷ cells) storable =
+    (byte ∷ [], flat_map cell_bytes cells, (All-head IsStorableCell (CharCell byte) cells storable, refl), cells_are_parts cells (All-tail IsStorableCell (CharCell byte) cells storable), refl)
+cells_are_parts (AttrCell attribute ∷ cells) storable =
+    (cell_bytes (AttrCell attribute), flat_map cell_bytes cells, (attr_byte attribute, sym (attr_read_back attribute), refl), cells_are_parts cells (All-tail IsStorableCell (AttrCell attribute) cells storable), refl)
+
+buffer_sent : (screen : Screen) → IsSendable screen → IsInbound (buffer_data screen) (read_buffer screen)
+buffer_sent screen sendable =
+    long (byte_of_aid screen.aid) _ _ screen.cursor (flat_map cell_bytes screen.cells) refl (aid_read_back screen.aid sendable.aid) refl
+    (sym (address_read_back screen.cursor sendable.cursor), sendable.cursor)
+    (cells_are_parts screen.cells sendable.storable) (length-map screen.cells part_of_cell ∙ sendable.size) refl
+
+pub sent_is_read : SentIsRead
+sent_is_read = record { modified = modified_sent; all = all_sent; buffer = buffer_sent }

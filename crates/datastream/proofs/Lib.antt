@@ -1,0 +1,17 @@
+pub mod Front
+pub mod Sequences
+pub mod Commands
+pub mod Written
+pub mod Rounds
+pub mod Places
+pub mod Fields
+pub mod OrderPlaces
+pub mod Texts
+pub mod FieldViews
+pub mod HeldRounds
+pub mod InboundFront
+pub mod InboundSequences
+pub mod InboundData
+pub mod InboundViews
+pub mod InboundSent
+pub mod InboundSlices

@@ -1,0 +1,24 @@
+-- The fields of a screen as a list (GA23-0059, "Fields"): each once, in the order of their attributes' addresses.
+use Rattle.std.specs.Prelude.{ℕ, ◌+◌, List, [], ◌∷◌, ◌++◌}
+use Rattle.codes3270.specs.declared.attribute.Cell.{Cell}
+use Rattle.codes3270.specs.declared.attribute.Cell.TheVariants.{Char, Attr}
+use Rattle.codes3270.specs.declared.attribute.Attr.{Attr as Attribute}
+use Rattle.datastream.specs.Screen.{text_before_attribute}
+
+-- a field: the address of its attribute, the attribute, its characters
+pub record Field : Type 0 where
+  pub place : ℕ
+  pub attr : Attribute
+  pub text : List ℕ
+
+-- the fields whose attributes stand in `rest`, the cells of `whole` from an address on: a field's characters run from the
+-- next cell to the next attribute, and after the last cell go on at address 0
+abbrev pub fields_from : List Cell → ℕ → List Cell → List Field
+fields_from whole at [] = []
+fields_from whole at (Char byte ∷ rest) = fields_from whole (at + 1) rest
+fields_from whole at (Attr attribute ∷ rest) =
+    record { place = at; attr = attribute; text = text_before_attribute (rest ++ whole) } ∷ fields_from whole (at + 1) rest
+
+-- all fields of these cells
+abbrev pub fields : List Cell → List Field
+fields cells = fields_from cells 0 cells

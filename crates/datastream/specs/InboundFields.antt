@@ -1,0 +1,126 @@
+-- Inbound data by fields: what came before any address, each field that came with its first address and its text, and the
+-- cells of a buffer.
+use Rattle.std.specs.Prelude.{◌≡◌, ⊤, ◌+◌, ◌%◌, ◌&&◌, ◌<◌, ◌≤◌, not, ℕ, Bool, true, false, List, [], ◌∷◌, ◌++◌, length, map, filter, All, Option, Some, None, if◌then◌else◌}
+use Rattle.std.specs.List.{flat_map, list_all}
+use Rattle.codes3270.specs.Size.{cell_count}
+use Rattle.codes3270.specs.Aid.{is_short_aid, IsRealAid}
+use Rattle.codes3270.specs.Storable.{is_storable}
+use Rattle.codes3270.specs.declared.attention.Aid.{Aid}
+use Rattle.codes3270.specs.declared.attribute.Cell.{Cell}
+use Rattle.codes3270.specs.declared.attribute.Cell.TheVariants.{Char as CharCell, Attr as AttrCell}
+use Rattle.datastream.specs.declared.inbound_part.Form.{Form}
+use Rattle.datastream.specs.declared.inbound_part.Form.TheVariants.{Modified, All as AllModified, Buffer}
+use Rattle.datastream.specs.declared.inbound_part.Part.{Part}
+use Rattle.datastream.specs.declared.inbound_part.Part.TheVariants.{At, Char, Attr}
+use Rattle.datastream.specs.Screen.{Screen, is_char, text_before_attribute}
+use Rattle.datastream.specs.Fields.{Field, fields}
+use Rattle.datastream.specs.Inbound.{without_nulls, read_modified, read_buffer}
+use Rattle.datastream.specs.InboundText.{is_text_char, InboundParts, IsInbound, IsProperPart, stands_alone}
+
+-- a field that came: the address of its first cell, and its characters
+pub record Returned : Type 0 where
+  pub first : ℕ
+  pub text : List ℕ
+
+-- its address is one of the screen, and its text has no nulls
+pub record IsProperReturned (field : Returned) : Type 0 where
+  pub first : field.first < cell_count
+  pub text : All (λ char. is_text_char char ≡ true) field.text
+
+-- ---- from parts to fields
+
+-- the characters before any address or attribute
+abbrev pub lead : List Part → List ℕ
+lead [] = []
+lead (At address ∷ parts) = []
+lead (Char char ∷ parts) = char ∷ lead parts
+lead (Attr attr ∷ parts) = []
+
+-- each address with the characters up to the next one
+abbrev pub returned : List Part → List Returned
+returned [] = []
+returned (At address ∷ parts) = record { first = address; text = lead parts } ∷ returned parts
+returned (Char char ∷ parts) = returned parts
+returned (Attr attr ∷ parts) = returned parts
+
+abbrev pub cell_of_part : Part → Option Cell
+cell_of_part (At address) = None
+cell_of_part (Char char) = Some (CharCell char)
+cell_of_part (Attr attr) = Some (AttrCell attr)
+
+-- the cells that came; an address is none
+abbrev pub cells_sent : List Part → List Cell
+cells_sent [] = []
+cells_sent (At address ∷ parts) = cells_sent parts
+cells_sent (Char char ∷ parts) = CharCell char ∷ cells_sent parts
+cells_sent (Attr attr ∷ parts) = AttrCell attr ∷ cells_sent parts
+
+-- ---- and back
+
+abbrev pub field_parts : Returned → List Part
+field_parts field = At field.first ∷ map Char field.text
+
+abbrev pub parts_of_fields : List ℕ → List Returned → List Part
+parts_of_fields lead returned = map Char lead ++ flat_map field_parts returned
+
+abbrev pub part_of_cell : Cell → Part
+part_of_cell (CharCell char) = Char char
+part_of_cell (AttrCell attr) = Attr attr
+
+abbrev pub parts_of_cells : List Cell → List Part
+parts_of_cells cells = map part_of_cell cells
+
+-- The two views are one: parts of modified fields are those of their fields, the parts of a buffer those of its cells, and
+-- fields or cells come back from their parts.
+pub record PartsAreFields : Type 0 where
+  pub joined : (form : Form) (parts : List Part) → (form ≡ Buffer → ⊥) → All (IsProperPart form) parts → parts_of_fields (lead parts) (returned parts) ≡ parts
+  pub lead_back : (chars : List ℕ) (fields : List Returned) → lead (parts_of_fields chars fields) ≡ chars
+  pub returned_back : (chars : List ℕ) (fields : List Returned) → returned (parts_of_fields chars fields) ≡ fields
+  pub cells_joined : (parts : List Part) → All (IsProperPart Buffer) parts → parts_of_cells (cells_sent parts) ≡ parts
+  pub cells_back : (cells : List Cell) → cells_sent (parts_of_cells cells) ≡ cells
+
+-- ---- what a screen sends
+
+-- an unformatted screen sends all its characters before any address, without nulls
+abbrev pub lead_of : List Cell → List ℕ
+lead_of cells = if list_all is_char cells then without_nulls (text_before_attribute cells) else []
+
+abbrev pub is_modified_field : Field → Bool
+is_modified_field field = field.attr.mdt
+
+-- a field as it is sent: `size` is the number of cells
+abbrev pub returned_field : ℕ → Field → Returned
+returned_field size field = record { first = (field.place + 1) % size; text = without_nulls field.text }
+
+-- the modified fields, by the addresses of their attributes
+abbrev pub returned_of : List Cell → List Returned
+returned_of cells = map (returned_field (length cells)) (filter is_modified_field (fields cells))
+
+-- what Read Modified, or Read Modified All, says of a screen
+abbrev pub modified_data : Form → Screen → InboundParts
+modified_data form screen =
+    if stands_alone form screen.aid
+    then record { form = form; aid = screen.aid; cursor = None; parts = [] }
+    else record { form = form; aid = screen.aid; cursor = Some screen.cursor; parts = parts_of_fields (lead_of screen.cells) (returned_of screen.cells) }
+
+-- what Read Buffer says of a screen
+abbrev pub buffer_data : Screen → InboundParts
+buffer_data screen =
+    record { form = Buffer; aid = screen.aid; cursor = Some screen.cursor; parts = parts_of_cells screen.cells }
+
+abbrev pub IsStorableCell : Cell → Type 0
+IsStorableCell (CharCell char) = is_storable char ≡ true
+IsStorableCell (AttrCell attr) = ⊤
+
+-- a screen of the profile's size, whose parts can all be written as bytes
+pub record IsSendable (screen : Screen) : Type 0 where
+  pub size : length screen.cells ≡ cell_count
+  pub cursor : screen.cursor < cell_count
+  pub aid : IsRealAid screen.aid
+  pub storable : All IsStorableCell screen.cells
+
+-- What a screen's read writes is read as exactly that screen's data.
+pub record SentIsRead : Type 0 where
+  pub modified : (screen : Screen) → IsSendable screen → IsInbound (modified_data Modified screen) (read_modified false screen)
+  pub all : (screen : Screen) → IsSendable screen → IsInbound (modified_data AllModified screen) (read_modified true screen)
+  pub buffer : (screen : Screen) → IsSendable screen → IsInbound (buffer_data screen) (read_buffer screen)

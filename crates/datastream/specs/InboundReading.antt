@@ -1,0 +1,68 @@
+-- Reading inbound data from left to right: what a value that borrows the bytes has still to give.
+use Rattle.std.specs.Prelude.{◌≡◌, ℕ, zero, suc, List, [], ◌∷◌, length, Result, Ok, Err, nat_lt, ◌==◌, if◌then◌else◌}
+use Rattle.codes3270.specs.Size.{cell_count}
+use Rattle.codes3270.specs.Address.{address_of}
+use Rattle.codes3270.specs.Attribute.{attr_of}
+use Rattle.codes3270.specs.Storable.{is_storable}
+use Rattle.datastream.specs.declared.inbound_part.Form.{Form}
+use Rattle.datastream.specs.declared.inbound_part.Form.TheVariants.{Modified, All as AllModified, Buffer}
+use Rattle.datastream.specs.declared.inbound_part.Part.{Part}
+use Rattle.datastream.specs.declared.inbound_part.Part.TheVariants.{At, Char, Attr}
+use Rattle.datastream.specs.declared.inbound_part.InboundFault.{InboundFault}
+use Rattle.datastream.specs.declared.inbound_part.InboundFault.TheVariants.{Short, BadAddress, BadForm}
+use Rattle.datastream.specs.Grammar.{start_field, set_buffer_address}
+use Rattle.datastream.specs.InboundText.{is_text_char}
+
+-- what a function returned, seen by view, is what reading gives
+abbrev pub Gives : {X Y : Type 0} → (X → Y) → Result X InboundFault → Result Y InboundFault → Type 0
+Gives view (Ok x) read = read ≡ Ok (view x)
+Gives view (Err e) read = read ≡ Err e
+
+-- each reader answers what stands at the front, and the bytes behind it
+
+-- an address, behind its order's code
+abbrev pub address_at : List ℕ → Result (Part × List ℕ) InboundFault
+address_at [] = Err BadForm
+address_at (high ∷ []) = Err BadForm
+address_at (high ∷ low ∷ rest) =
+    if nat_lt (address_of high low) cell_count then Ok (At (address_of high low), rest) else Err BadAddress
+
+-- an attribute, behind its order's code
+abbrev pub attribute_at : List ℕ → Result (Part × List ℕ) InboundFault
+attribute_at [] = Err Short
+attribute_at (code ∷ rest) = Ok (Attr (attr_of code), rest)
+
+-- a part of the modified fields
+unfoldable pub text_part_at : List ℕ → Result (Part × List ℕ) InboundFault
+text_part_at [] = Err Short
+text_part_at (byte ∷ rest) =
+    if byte == set_buffer_address then address_at rest
+    else if is_text_char byte then Ok (Char byte, rest)
+    else Err BadForm
+
+-- a cell of the buffer
+unfoldable pub cell_part_at : List ℕ → Result (Part × List ℕ) InboundFault
+cell_part_at [] = Err Short
+cell_part_at (byte ∷ rest) =
+    if byte == start_field then attribute_at rest
+    else if is_storable byte then Ok (Char byte, rest)
+    else Err BadForm
+
+abbrev pub part_at : Form → List ℕ → Result (Part × List ℕ) InboundFault
+part_at Modified text = text_part_at text
+part_at AllModified text = text_part_at text
+part_at Buffer text = cell_part_at text
+
+-- a part, and those in the bytes behind it
+abbrev pub and_parts : (List ℕ → List Part) → Result (Part × List ℕ) InboundFault → List Part
+and_parts others (Ok found) = found.0 ∷ others found.1
+and_parts others (Err fault) = []
+
+-- the parts at the front of the bytes, up to where none stands; at most so many
+unfoldable pub parts_within : Form → ℕ → List ℕ → List Part
+parts_within form zero text = []
+parts_within form (suc n) text = and_parts (parts_within form n) (part_at form text)
+
+-- the parts at the front of the bytes, up to where none stands
+unfoldable pub parts_in : Form → List ℕ → List Part
+parts_in form text = parts_within form (length text) text

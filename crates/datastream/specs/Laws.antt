@@ -1,0 +1,24 @@
+-- Laws that join the definitions.
+use Rattle.std.specs.Prelude.{◌≡◌, ℕ, Bool, false, List, All, length}
+use Rattle.codes3270.specs.declared.write_control.Wcc.{Wcc}
+use Rattle.datastream.specs.declared.command_code.CommandCode.{CommandCode}
+use Rattle.datastream.specs.declared.order.Order.{Order}
+use Rattle.datastream.specs.Grammar.{IsCommand}
+use Rattle.datastream.specs.Meaning.{Draft, all_ordered}
+use Rattle.datastream.specs.OrderPlaces.{ByPlace}
+use Rattle.datastream.specs.Writing.{Call, IsAllowed, command_bytes, command_of_calls}
+
+-- What is written in any calls spells the command that they name. It is the only one that they spell: see `read_command`.
+abbrev pub WrittenIsRead : Type 0
+WrittenIsRead = (code : CommandCode) (wcc : Wcc) (calls : List Call) → All IsAllowed calls
+    → IsCommand (command_of_calls code wcc calls) (command_bytes code wcc calls)
+
+-- Each write goes by the places of its orders, and ends as its meaning says.
+abbrev pub TabsByPlace : Type 0
+TabsByPlace = (orders : List Order) (start : Draft)
+    → (drafts : ℕ → Draft) × (nulls : ℕ → Bool) × ByPlace orders start drafts nulls × (drafts (length orders) ≡ all_ordered orders false start)
+
+-- It goes so in one way.
+abbrev pub OnlyByPlace : Type 0
+OnlyByPlace = (orders : List Order) (start : Draft) (drafts : ℕ → Draft) (nulls : ℕ → Bool)
+    → ByPlace orders start drafts nulls → drafts (length orders) ≡ all_ordered orders false start

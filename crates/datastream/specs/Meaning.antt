@@ -1,0 +1,160 @@
+-- What a command makes of a screen, one equation for each order.
+use Rattle.std.specs.Prelude.{◌+◌, ◌-◌, ◌%◌, ◌&&◌, ℕ, Bool, true, false, List, [], ◌∷◌, length, drop, map, replicate, zip, position, slice_set, Option, Some, None, if◌then◌else◌}
+use Rattle.std.specs.List.{list_all, prefix_len}
+use Rattle.codes3270.specs.declared.attribute.Cell.{Cell}
+use Rattle.codes3270.specs.declared.attribute.Cell.TheVariants.{Char, Attr}
+use Rattle.codes3270.specs.declared.attention.Aid.TheVariants.{NoAid}
+use Rattle.codes3270.specs.declared.write_control.Wcc.{Wcc}
+use Rattle.datastream.specs.declared.order.Order.{Order}
+use Rattle.datastream.specs.declared.order.Order.TheVariants.{Sf, Sba, Ic, Pt, Ra, Eua, Char as Data}
+use Rattle.datastream.specs.declared.command_code.CommandCode.{CommandCode}
+use Rattle.datastream.specs.declared.command_code.CommandCode.TheVariants.{Write, EraseWrite, EraseWriteAlternate, ReadBuffer, ReadModified, ReadModifiedAll, EraseAllUnprotected}
+use Rattle.datastream.specs.Grammar.{CommandParts}
+use Rattle.datastream.specs.Screen.{Screen, is_char, is_open_attribute, is_protected, ring}
+use Rattle.datastream.specs.Span.{distance, is_within}
+
+-- each cell, changed by a rule that sees its address; the first is at the address given
+abbrev pub by_place : (ℕ → Cell → Cell) → ℕ → List Cell → List Cell
+by_place rule at [] = []
+by_place rule at (cell ∷ cells) = rule at cell ∷ by_place rule (at + 1) cells
+
+-- a null in place of a character
+abbrev pub erased : Cell → Cell
+erased (Char byte) = Char 0
+erased (Attr attribute) = Attr attribute
+
+-- MDT off in an attribute
+abbrev pub unmodified : Cell → Cell
+unmodified (Char byte) = Char byte
+unmodified (Attr attribute) = Attr (record attribute { mdt = false })
+
+-- the cells of a span, changed by a rule that sees their addresses: `count` places from `from` on, round the end
+abbrev pub across : ℕ → ℕ → (ℕ → Cell → Cell) → List Cell → List Cell
+across from count rule cells =
+    by_place (λ at old. if is_within (length cells) from count at then rule at old else old) 0 cells
+
+-- MDT on in an attribute
+abbrev pub modified : Cell → Cell
+modified (Char byte) = Char byte
+modified (Attr attribute) = Attr (record attribute { mdt = true })
+
+-- one cell in each place of a span
+abbrev pub filled : ℕ → ℕ → Cell → List Cell → List Cell
+filled from count new cells = across from count (λ at old. new) cells
+
+-- nulls in the unprotected cells of a span; attributes stay
+abbrev pub opened : ℕ → ℕ → List Cell → List Cell
+opened from count cells = across from count (λ at old. if is_protected cells at then old else erased old) cells
+
+-- the cell after the first unprotected attribute from an address up to the last cell, else 0
+abbrev pub after_open_attribute : Option ℕ → ℕ → ℕ → ℕ
+after_open_attribute None at size = 0
+after_open_attribute (Some distance) at size = (at + distance + 1) % size
+
+abbrev pub tab_stop : List Cell → ℕ → ℕ
+tab_stop cells at = after_open_attribute (position is_open_attribute (drop at cells)) at (length cells)
+
+-- what a write is at: the screen so far, and the address
+pub record Draft : Type 0 where
+  pub screen : Screen
+  pub address : ℕ
+
+abbrev pub with_cells : Draft → List Cell → ℕ → Draft
+with_cells draft cells address =
+    record { screen = record draft.screen { cells = cells }; address = address }
+
+-- one cell stored at the address, which advances round the end
+abbrev pub stored : Draft → Cell → Draft
+stored draft cell =
+    let cells = draft.screen.cells in
+    with_cells draft (slice_set cells draft.address cell) ((draft.address + 1) % length cells)
+
+-- The meaning of one order; `nulls` says whether a PT at its place nulls. A PT at the attribute of an
+-- unprotected field needs no case of its own: nothing lies before that attribute, and it is the first.
+abbrev pub ordered : Order → Bool → Draft → Draft
+ordered (Data byte) nulls draft = stored draft (Char byte)
+ordered (Sf attribute) nulls draft = stored draft (Attr attribute)
+ordered (Sba address) nulls draft = record draft { address = address }
+ordered Ic nulls draft = record draft { screen = record draft.screen { cursor = draft.address } }
+ordered (Ra stop byte) nulls draft =
+    let cells = draft.screen.cells in
+    with_cells draft (filled draft.address (distance (length cells) draft.address stop) (Char byte) cells) stop
+ordered (Eua stop) nulls draft =
+    let cells = draft.screen.cells in
+    with_cells draft (opened draft.address (distance (length cells) draft.address stop) cells) stop
+ordered Pt nulls draft =
+    let cells = draft.screen.cells in
+    let run = prefix_len is_char (drop draft.address cells) in
+    with_cells draft (if nulls then filled draft.address run (Char 0) cells else cells)
+    (tab_stop cells draft.address)
+
+-- whether a PT nulls that directly follows an order: after data, and after a PT that nulled and met
+-- no attribute through the last cell
+abbrev pub nulls_after : Order → Bool → Draft → Bool
+nulls_after (Data byte) nulls draft = true
+nulls_after Pt nulls draft = nulls && list_all is_char (drop draft.address draft.screen.cells)
+nulls_after (Sf attribute) nulls draft = false
+nulls_after (Sba address) nulls draft = false
+nulls_after Ic nulls draft = false
+nulls_after (Ra stop byte) nulls draft = false
+nulls_after (Eua stop) nulls draft = false
+
+-- the orders of a write, one after another
+abbrev pub all_ordered : List Order → Bool → Draft → Draft
+all_ordered [] nulls draft = draft
+all_ordered (order ∷ orders) nulls draft =
+    all_ordered orders (nulls_after order nulls draft) (ordered order nulls draft)
+
+-- a screen of nulls, with the cursor at 0
+abbrev pub cleared : Screen → Screen
+cleared screen = record screen { cells = replicate (length screen.cells) (Char 0); cursor = 0 }
+
+abbrev pub prepared : Wcc → Screen → Screen
+prepared wcc screen =
+    record screen { cells = if wcc.reset then map unmodified screen.cells else screen.cells }
+
+abbrev pub restored : Wcc → Screen → Screen
+restored wcc screen = record screen { aid = if wcc.restore then NoAid else screen.aid }
+
+-- a write from the cursor on; each write has a write control character
+abbrev pub written : Option Wcc → List Order → Screen → Screen
+written None orders screen = screen
+written (Some wcc) orders screen =
+    restored wcc
+    (all_ordered orders false (record { screen = prepared wcc screen; address = screen.cursor })).screen
+
+-- a start: a character behind the attribute of an unprotected field
+abbrev pub is_start : Cell × Cell → Bool
+is_start pair = is_open_attribute pair.0 && is_char pair.1
+
+-- the least start, else 0: each cell is looked at beside the one before it, round the end
+abbrev pub place_or_first : Option ℕ → ℕ
+place_or_first None = 0
+place_or_first (Some place) = place
+
+abbrev pub home : List Cell → ℕ
+home cells = place_or_first (position is_start (zip (ring (length cells - 1) cells) cells))
+
+-- MDT off in the attribute of an unprotected field
+abbrev pub open_unmodified : Cell → Cell
+open_unmodified cell = if is_open_attribute cell then unmodified cell else cell
+
+-- what Erase All Unprotected and Erase Input do to the screen; the former also sets the AID
+abbrev pub unprotected_erased : Screen → Screen
+unprotected_erased screen =
+    let cells = screen.cells in
+    record screen { cells = map open_unmodified (opened 0 (length cells) cells); cursor = home cells }
+
+-- the screen after a command of a code, with a write control character and orders where it has them
+abbrev pub after_code : CommandCode → Option Wcc → List Order → Screen → Screen
+after_code Write wcc orders screen = written wcc orders screen
+after_code EraseWrite wcc orders screen = written wcc orders (cleared screen)
+after_code EraseWriteAlternate wcc orders screen = written wcc orders (cleared screen)
+after_code EraseAllUnprotected wcc orders screen = record (unprotected_erased screen) { aid = NoAid }
+after_code ReadBuffer wcc orders screen = screen
+after_code ReadModified wcc orders screen = screen
+after_code ReadModifiedAll wcc orders screen = screen
+
+-- the screen after a command
+abbrev pub after_command : CommandParts → Screen → Screen
+after_command command screen = after_code command.code command.wcc command.orders screen

@@ -1,0 +1,77 @@
+-- A screen, and its fields as GA23-0059 sees them: the cells lie on a ring, and an attribute governs
+-- the cells after it up to the next attribute.
+use Rattle.std.specs.Prelude.{◌≡◌, ◌+◌, ◌-◌, ◌%◌, ◌<◌, not, slice_index_or, ℕ, Bool, true, false, List, [], ◌∷◌, ◌++◌, length, take, drop, Option, Some, None, if◌then◌else◌}
+use Rattle.std.specs.Option.{option_or}
+use Rattle.codes3270.specs.declared.attribute.Cell.{Cell}
+use Rattle.codes3270.specs.declared.attribute.Cell.TheVariants.{Char, Attr}
+use Rattle.codes3270.specs.declared.attention.Aid.{Aid}
+use Rattle.codes3270.specs.declared.attribute.Attr.{Attr as Attribute}
+
+-- the cells by address, the cursor's address, and the AID
+pub record Screen : Type 0 where
+  pub cells : List Cell
+  pub cursor : ℕ
+  pub aid : Aid
+
+-- the attribute that a cell holds
+abbrev pub attribute_in : Cell → Option Attribute
+attribute_in (Char byte) = None
+attribute_in (Attr attribute) = Some attribute
+
+abbrev pub is_char : Cell → Bool
+is_char (Char byte) = true
+is_char (Attr attribute) = false
+
+-- the attribute of an unprotected field
+abbrev pub is_open_attribute : Cell → Bool
+is_open_attribute (Char byte) = false
+is_open_attribute (Attr attribute) = not attribute.protected
+
+-- all cells, from an address on and round the end
+abbrev pub ring : ℕ → List Cell → List Cell
+ring from cells = drop from cells ++ take from cells
+
+-- the last attribute in a list of cells
+abbrev pub last_attribute : List Cell → Option Attribute
+last_attribute [] = None
+last_attribute (cell ∷ cells) = option_or (last_attribute cells) (attribute_in cell)
+
+-- the attribute that governs the cell at an address: the last one on the ring that ends at that cell
+abbrev pub attribute_over : List Cell → ℕ → Option Attribute
+attribute_over cells at = last_attribute (ring (at + 1) cells)
+
+-- cells of no field count as unprotected
+abbrev pub protects : Option Attribute → Bool
+protects None = false
+protects (Some attribute) = attribute.protected
+
+abbrev pub is_protected : List Cell → ℕ → Bool
+is_protected cells at = protects (attribute_over cells at)
+
+-- the characters before the first attribute
+abbrev pub text_before_attribute : List Cell → List ℕ
+text_before_attribute [] = []
+text_before_attribute (Char byte ∷ cells) = byte ∷ text_before_attribute cells
+text_before_attribute (Attr attribute ∷ cells) = []
+
+-- the characters of the field whose attribute is at an address: up to the next attribute, round the end
+abbrev pub field_text : List Cell → ℕ → List ℕ
+field_text cells at = text_before_attribute (ring (at + 1) cells)
+
+-- the addresses of the cells that pass a test, the first cell being at the address given
+abbrev pub places_from : (Cell → Bool) → ℕ → List Cell → List ℕ
+places_from passes at [] = []
+places_from passes at (cell ∷ cells) =
+    if passes cell then at ∷ places_from passes (at + 1) cells else places_from passes (at + 1) cells
+
+abbrev pub is_char_at : List Cell → ℕ → Bool
+is_char_at cells at = is_char (slice_index_or cells at (Char 0))
+
+-- The attribute that governs the cell at `at` stands at `attr`: `back` places before it, round the end,
+-- with only characters nearer. `back` is 0 where the cell holds the attribute.
+pub record IsGoverned (cells : List Cell) (at attr : ℕ) : Type 0 where
+  pub back : ℕ
+  pub near : back < length cells
+  pub place : attr ≡ (at + length cells - back) % length cells
+  pub there : is_char_at cells attr ≡ false
+  pub none_nearer : (nearer : ℕ) → nearer < back → is_char_at cells ((at + length cells - nearer) % length cells) ≡ true

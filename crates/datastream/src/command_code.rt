@@ -1,0 +1,66 @@
+//! The commands and their codes.
+ghost use Rattle.std.specs.Prelude.{◌≡◌, MatchOption};
+ghost use Rattle.datastream.specs.declared.command_code.CommandCode.{CommandCode as Code};
+ghost use Rattle.datastream.specs.Grammar.{IsCode, codes_of, is_write};
+
+/// What a command does (GA23-0059, "3270 Data Stream Commands").
+#[derive(Clone, Copy, Debug, PartialEq, Eq, Hash)]
+pub enum CommandCode {
+    /// Write: stores from the cursor on.
+    Write,
+    /// Erase/Write: as Write, on a screen that was cleared.
+    EraseWrite,
+    /// Erase/Write Alternate: the same as Erase/Write, since the screen has one size (our profile).
+    EraseWriteAlternate,
+    /// Read Buffer: asks for all cells.
+    ReadBuffer,
+    /// Read Modified: asks for the fields that were modified.
+    ReadModified,
+    /// Read Modified All: asks for them whatever key was pressed.
+    ReadModifiedAll,
+    /// Erase All Unprotected (EAU): clears the unprotected cells.
+    EraseAllUnprotected,
+}
+
+impl CommandCode {
+    /// The command with this code. Each has two.
+    pub(crate) fn from_byte(byte: u8) -> Option<CommandCode>
+        ensures { MatchOption result ((code : Code) → IsCode code byte → ⊥) (λ code. IsCode code byte) }
+    {
+        match byte {
+            0x01 | 0xF1 => Some(CommandCode::Write),
+            0x05 | 0xF5 => Some(CommandCode::EraseWrite),
+            0x0D | 0x7E => Some(CommandCode::EraseWriteAlternate),
+            0x02 | 0xF2 => Some(CommandCode::ReadBuffer),
+            0x06 | 0xF6 => Some(CommandCode::ReadModified),
+            0x0E | 0x6E => Some(CommandCode::ReadModifiedAll),
+            0x0F | 0x6F => Some(CommandCode::EraseAllUnprotected),
+            _ => None,
+        }
+    }
+
+    /// The code that is sent.
+    pub(crate) fn byte(self) -> u8
+        ensures { result ≡ (codes_of self).1 }
+    {
+        match self {
+            CommandCode::Write => 0xF1,
+            CommandCode::EraseWrite => 0xF5,
+            CommandCode::EraseWriteAlternate => 0x7E,
+            CommandCode::ReadBuffer => 0xF2,
+            CommandCode::ReadModified => 0xF6,
+            CommandCode::ReadModifiedAll => 0x6E,
+            CommandCode::EraseAllUnprotected => 0x6F,
+        }
+    }
+
+    /// Whether it has a write control character and orders: whether it is a write.
+    pub fn has_orders(self) -> bool
+        ensures { result ≡ is_write self }
+    {
+        matches!(
+            self,
+            CommandCode::Write | CommandCode::EraseWrite | CommandCode::EraseWriteAlternate
+        )
+    }
+}

@@ -1,0 +1,35 @@
+//! Why bytes are no command.
+use std::error::Error;
+use std::fmt;
+
+/// Why bytes are no command: the first fault in reading order (our profile).
+#[derive(Clone, Copy, Debug, PartialEq, Eq, Hash)]
+pub enum CommandFault {
+    /// The first byte is no command's code. Write Structured Field is none of ours.
+    BadCommand,
+    /// A byte that is neither an order's code nor storable, or a Repeat to Address whose character isn't storable. The
+    /// latter is judged after its address.
+    BadOrder,
+    /// An address isn't below [`CELLS`](codes3270::CELLS). It is judged when both its bytes are there.
+    BadAddress,
+    /// The bytes end inside an order, or before the write control character, or there are none.
+    Truncated,
+}
+
+impl fmt::Display for CommandFault {
+    ghost use Rattle.std.specs.Prelude.{Some};
+    ghost use Rattle.datastream.specs.Messages.{fault_text};
+
+    ghost output = { λ fault. Some (fault_text fault) };
+
+    fn fmt<W: fmt::Write>(&self, f: &mut fmt::Formatter<W>) -> fmt::Result {
+        match self {
+            CommandFault::BadCommand => f.write_str("unknown command"),
+            CommandFault::BadOrder => f.write_str("neither an order nor a character"),
+            CommandFault::BadAddress => f.write_str("address beyond the screen"),
+            CommandFault::Truncated => f.write_str("command cut short"),
+        }
+    }
+}
+
+impl Error for CommandFault {}

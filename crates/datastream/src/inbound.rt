@@ -1,0 +1,209 @@
+//! Inbound data.
+ghost use Rattle.std.specs.Prelude.{◌≡◌, [], ◌∷◌, Some, true, false, All as Each, MatchOption, MatchResult, IfSome, length, ◌<◌, ◌^◌};
+ghost use Rattle.codes3270.specs.Aid.{aid_of};
+ghost use Rattle.codes3270.specs.Size.{cell_count};
+ghost use Rattle.datastream.specs.declared.inbound_part.Form.TheVariants.{Modified, Buffer};
+ghost use Rattle.datastream.specs.declared.inbound_part.InboundFault.{InboundFault as Fault};
+ghost use Rattle.datastream.specs.InboundText.{AreParts, InboundParts, IsInbound, IsSent, IsNoInbound, IsProperPart, is_text_char, stands_alone};
+ghost use Rattle.datastream.specs.InboundReading.{parts_in};
+ghost use Rattle.datastream.specs.InboundFields.{lead, returned, cells_sent, IsProperReturned, IsStorableCell};
+
+use crate::inbound_fields::{ReturnedFields, split_characters};
+use crate::inbound_part::{Form, InboundFault};
+use crate::inbound_reader::{Cells, Parts, check_parts};
+use codes3270::{Addr, Aid, addr_from_bytes, aid_from_byte};
+use std::marker::Model;
+
+/// What a terminal sent, which borrows its bytes. Contracts see its form, AID, cursor address and parts.
+#[derive(Drop)]
+pub struct Inbound<'a> {
+    form: Form,
+    aid: Aid,
+    cursor: Option<Addr>,
+    text: &'a [u8],
+}
+
+impl<'a> Model for Inbound<'a> {
+    ghost use Rattle.datastream.specs.InboundText.{InboundParts, IsSent, AreParts};
+    ghost use Rattle.datastream.specs.InboundReading.{parts_in};
+
+    ghost Value = { InboundParts };
+
+    ghost view = { λ inbound. record { form = inbound.form; aid = inbound.aid; cursor = inbound.cursor; parts = parts_in inbound.form inbound.text.now } };
+
+    ghost invariant = { λ inbound.
+        IsSent (record { form = inbound.form; aid = inbound.aid; cursor = inbound.cursor; parts = parts_in inbound.form inbound.text.now })
+        × AreParts inbound.form (parts_in inbound.form inbound.text.now) inbound.text.now };
+}
+
+impl<'a> Inbound<'a> {
+    /// Which read it answers.
+    pub fn form(&self) -> Form
+        ensures form { result ≡ self.now.form }
+        // Some bytes are this inbound data.
+        ensures sent { IsSent self.now }
+    {
+        self.form
+    }
+
+    /// The key that sent it.
+    pub fn aid(&self) -> Aid
+        ensures aid { result ≡ self.now.aid }
+        ensures sent { IsSent self.now }
+    {
+        self.aid
+    }
+
+    /// The cursor's address. None where a PA key or Clear stands alone.
+    pub fn cursor(&self) -> Option<Addr>
+        ensures cursor { result ≡ self.now.cursor }
+        ensures in_range { IfSome result (λ cursor. cursor < cell_count) }
+        ensures alone { MatchOption result (stands_alone self.now.form self.now.aid ≡ true) (λ _. stands_alone self.now.form self.now.aid ≡ false) }
+        ensures sent { IsSent self.now }
+    {
+        self.cursor
+    }
+
+    /// What follows the cursor's address. A buffer has a part for each cell.
+    pub fn parts(&self) -> Parts<'a>
+        ensures parts { result ≡ self.now.parts }
+        ensures proper { Each (IsProperPart self.now.form) result }
+        ensures whole { self.now.form ≡ Buffer → length result ≡ cell_count }
+        ensures alone { stands_alone self.now.form self.now.aid ≡ true → result ≡ [] }
+        ensures few { length result < 2 ^ 64 }
+        ensures sent { IsSent self.now }
+    {
+        let _bytes = self.text.len();
+        Parts {
+            form: self.form,
+            text: self.text,
+        }
+    }
+
+    /// The characters before any address. In a buffer, those before the first attribute.
+    pub fn lead(&self) -> &'a [u8]
+        ensures lead { result.now ≡ lead self.now.parts }
+        ensures proper { (self.now.form ≡ Buffer → ⊥) → Each (λ char. is_text_char char ≡ true) result.now }
+        ensures sent { IsSent self.now }
+    {
+        let (lead, _) = split_characters(self.text);
+        lead
+    }
+
+    /// The fields that came, each with the address of its first cell. A buffer has none: its cells are its parts.
+    pub fn returned(&self) -> ReturnedFields<'a>
+        ensures returned { result ≡ returned self.now.parts }
+        ensures proper { Each IsProperReturned result }
+        ensures few { length result < 2 ^ 64 }
+        ensures sent { IsSent self.now }
+    {
+        let _bytes = self.text.len();
+        ReturnedFields {
+            text: self.field_bytes(),
+        }
+    }
+
+    /// The cells that came, by address: a buffer has one for each cell of the screen.
+    pub fn cells(&self) -> Cells<'a>
+        requires { self.now.form ≡ Buffer }
+        ensures cells { result ≡ cells_sent self.now.parts }
+        ensures whole { length result ≡ cell_count }
+        ensures proper { Each IsStorableCell result }
+        ensures sent { IsSent self.now }
+    {
+        Cells { text: self.text }
+    }
+
+    /// The bytes that have the fields that came.
+    fn field_bytes(&self) -> &'a [u8]
+        ensures parts { AreParts Modified (parts_in Modified result.now) result.now }
+        ensures fields { returned (parts_in Modified result.now) ≡ returned self.now.parts }
+    {
+        match self.form {
+            Form::Modified => self.text,
+            Form::All => self.text,
+            Form::Buffer => &[],
+        }
+    }
+}
+
+/// Whether data of a form with this AID has it alone.
+fn is_alone(form: Form, aid: &Aid) -> bool
+    ensures { result ≡ stands_alone form aid.now }
+{
+    match form {
+        Form::Modified => aid.is_short(),
+        Form::All => false,
+        Form::Buffer => false,
+    }
+}
+
+fn inbound_of(bytes: &[u8], form: Form) -> Result<Inbound<'_>, InboundFault>
+    ensures { MatchResult result (λ inbound. (inbound.form ≡ form) × IsInbound inbound bytes.now) (λ fault. IsNoInbound form fault bytes.now) }
+{
+    let [byte, rest @ ..] = bytes else {
+        return Err(InboundFault::Short);
+    };
+    let Some(aid) = aid_from_byte(*byte) else {
+        return Err(InboundFault::BadAid);
+    };
+    if is_alone(form, &aid) {
+        alone_inbound(form, aid, *byte, rest)
+    } else {
+        long_inbound(form, aid, *byte, rest)
+    }
+}
+
+/// The data that has its AID alone, of which `rest` is what follows the AID's byte.
+fn alone_inbound(form: Form, aid: Aid, byte: u8, rest: &[u8]) -> Result<Inbound<'_>, InboundFault>
+    requires known { aid_of byte ≡ Some aid }
+    requires alone { stands_alone form aid ≡ true }
+    ensures { MatchResult result (λ inbound. (inbound.form ≡ form) × IsInbound inbound (byte ∷ rest.now)) (λ fault. IsNoInbound form fault (byte ∷ rest.now)) }
+{
+    if rest.is_empty() {
+        Ok(Inbound {
+            form,
+            aid,
+            cursor: None,
+            text: rest,
+        })
+    } else {
+        Err(InboundFault::BadForm)
+    }
+}
+
+/// The data that goes on behind its AID's byte with `rest`.
+fn long_inbound(form: Form, aid: Aid, byte: u8, rest: &[u8]) -> Result<Inbound<'_>, InboundFault>
+    requires known { aid_of byte ≡ Some aid }
+    requires long { stands_alone form aid ≡ false }
+    ensures { MatchResult result (λ inbound. (inbound.form ≡ form) × IsInbound inbound (byte ∷ rest.now)) (λ fault. IsNoInbound form fault (byte ∷ rest.now)) }
+{
+    let [high, low, text @ ..] = rest else {
+        return Err(InboundFault::Short);
+    };
+    let Ok(cursor) = addr_from_bytes([*high, *low]) else {
+        return Err(InboundFault::BadAddress);
+    };
+    check_parts(form, text)?;
+    Ok(Inbound {
+        form,
+        aid,
+        cursor: Some(cursor),
+        text,
+    })
+}
+
+/// The inbound data of a form that the bytes are, or the first fault in them.
+///
+/// Modified and All begin with the AID and the cursor's address; then come characters and, for each field, SBA with the
+/// address of its first cell and its characters. In form Modified a PA key or Clear stands alone. Buffer has a part for each
+/// cell of the screen behind AID and cursor (GA23-0059, "Read commands"). That a field's text has no null, and the order of
+/// the faults, are our profile.
+pub fn read_inbound(bytes: &[u8], form: Form) -> Result<Inbound<'_>, InboundFault>
+    ensures found { MatchResult result (λ inbound. (inbound.form ≡ form) × IsInbound inbound bytes.now) (λ fault. IsNoInbound form fault bytes.now) }
+    // There is no other inbound data of the form, and no other fault.
+    ensures only { (inbound : InboundParts) → inbound.form ≡ form → IsInbound inbound bytes.now → result ≡ Ok inbound }
+    ensures first { (fault : Fault) → IsNoInbound form fault bytes.now → result ≡ Err fault }
+{
+    inbound_of(bytes, form)
+}

@@ -1,0 +1,73 @@
+//! The fields of inbound data, as slices of its bytes.
+ghost use Rattle.std.specs.Prelude.{◌≡◌, ◌≤◌, length, take, drop};
+ghost use Rattle.std.specs.List.{prefix_len};
+ghost use Rattle.std.specs.Iterator.{YieldsFirstBy, item_count};
+ghost use Rattle.codes3270.specs.Storable.{is_storable};
+ghost use Rattle.datastream.specs.InboundReturned.{returned_of_field};
+
+use codes3270::{Addr, addr_from_bytes, storable};
+use std::marker::Model;
+
+/// A field that came: the address of its first cell, below `CELLS`, and its characters, of which none is null.
+#[derive(Clone, Copy)]
+pub struct ReturnedField<'a> {
+    pub first: Addr,
+    pub text: &'a [u8],
+}
+
+/// The fields that are left of those that came, in their order. Contracts see their list.
+#[derive(Drop)]
+pub struct ReturnedFields<'a> {
+    pub(crate) text: &'a [u8],
+}
+
+impl<'a> Model for ReturnedFields<'a> {
+    ghost use Rattle.std.specs.Prelude.{List};
+    ghost use Rattle.datastream.specs.declared.inbound_part.Form.TheVariants.{Modified};
+    ghost use Rattle.datastream.specs.InboundText.{AreParts};
+    ghost use Rattle.datastream.specs.InboundReading.{parts_in};
+    ghost use Rattle.datastream.specs.InboundFields.{Returned, returned};
+
+    ghost Value = { List Returned };
+
+    ghost view = { λ fields. returned (parts_in Modified fields.text.now) };
+
+    ghost invariant = { λ fields. AreParts Modified (parts_in Modified fields.text.now) fields.text.now };
+}
+
+impl<'a> Iterator for ReturnedFields<'a> {
+    type Item = ReturnedField<'a>;
+
+    ghost next_gives = { YieldsFirstBy returned_of_field (λ fields. fields) };
+
+    ghost remaining = { item_count (λ fields. fields) };
+
+    fn next(&mut self) -> Option<ReturnedField<'a>> {
+        let (_, fields) = split_characters(self.text);
+        let [_, high, low, rest @ ..] = fields else {
+            return None;
+        };
+        let Ok(first) = addr_from_bytes([*high, *low]) else {
+            return None;
+        };
+        let (text, others) = split_characters(rest);
+        self.text = others;
+        Some(ReturnedField { first, text })
+    }
+}
+
+/// How many characters come before the first byte that is none.
+fn count_characters(text: &[u8]) -> usize
+    ensures value { result ≡ prefix_len is_storable text.now }
+    ensures bound { result ≤ length text.now }
+{
+    text.iter().take_while(|byte| storable(**byte)).count()
+}
+
+/// The characters at the front, and the bytes from the first one on that is none.
+pub(crate) fn split_characters(text: &[u8]) -> (&[u8], &[u8])
+    ensures characters { result.0.now ≡ take (prefix_len is_storable text.now) text.now }
+    ensures rest { result.1.now ≡ drop (prefix_len is_storable text.now) text.now }
+{
+    text.split_at(count_characters(text))
+}

@@ -1,0 +1,197 @@
+//! Reading the parts of inbound data.
+ghost use Rattle.std.specs.Prelude.{◌≡◌, ⊤, List, MatchResult};
+ghost use Rattle.std.specs.Iterator.{YieldsFirst, item_count};
+ghost use Rattle.datastream.specs.declared.inbound_part.Form.TheVariants.{Buffer};
+ghost use Rattle.datastream.specs.InboundText.{AreParts, IsWhole, HasPartFault};
+ghost use Rattle.datastream.specs.InboundReading.{Gives, address_at, attribute_at, text_part_at, cell_part_at, part_at, parts_in};
+
+use crate::inbound_part::{Form, InboundFault, Part};
+use crate::order_codes::{SET_BUFFER_ADDRESS, START_FIELD};
+use codes3270::{Attr, CELLS, Cell, addr_from_bytes, storable};
+use std::marker::Model;
+
+/// The parts that are left of inbound data. Contracts see their list.
+#[derive(Drop)]
+pub struct Parts<'a> {
+    pub(crate) form: Form,
+    pub(crate) text: &'a [u8],
+}
+
+impl<'a> Model for Parts<'a> {
+    ghost use Rattle.std.specs.Prelude.{List};
+    ghost use Rattle.datastream.specs.declared.inbound_part.Part.{Part};
+    ghost use Rattle.datastream.specs.InboundReading.{parts_in};
+
+    ghost Value = { List Part };
+
+    ghost view = { λ parts. parts_in parts.form parts.text.now };
+}
+
+impl<'a> Iterator for Parts<'a> {
+    type Item = Part;
+
+    ghost next_gives = { YieldsFirst (λ parts. parts) };
+
+    ghost remaining = { item_count (λ parts. parts) };
+
+    fn next(&mut self) -> Option<Part> {
+        match part_of(self.form, self.text) {
+            Ok((part, rest)) => {
+                self.text = rest;
+                Some(part)
+            }
+            Err(_) => None,
+        }
+    }
+}
+
+/// The cells that are left of a buffer. Contracts see their list.
+#[derive(Drop)]
+pub struct Cells<'a> {
+    pub(crate) text: &'a [u8],
+}
+
+impl<'a> Model for Cells<'a> {
+    ghost use Rattle.std.specs.Prelude.{List};
+    ghost use Rattle.codes3270.specs.declared.attribute.Cell.{Cell};
+    ghost use Rattle.datastream.specs.declared.inbound_part.Form.TheVariants.{Buffer};
+    ghost use Rattle.datastream.specs.InboundReading.{parts_in};
+    ghost use Rattle.datastream.specs.InboundFields.{cells_sent};
+
+    ghost Value = { List Cell };
+
+    ghost view = { λ cells. cells_sent (parts_in Buffer cells.text.now) };
+}
+
+impl<'a> Iterator for Cells<'a> {
+    type Item = Cell;
+
+    ghost next_gives = { YieldsFirst (λ cells. cells) };
+
+    ghost remaining = { item_count (λ cells. cells) };
+
+    fn next(&mut self) -> Option<Cell> {
+        match cell_part_of(self.text) {
+            Ok((part, rest)) => {
+                self.text = rest;
+                part.cell()
+            }
+            Err(_) => None,
+        }
+    }
+}
+
+// Each of these reads what stands at the front of the bytes, and answers the bytes behind it too.
+
+/// An address, behind its order's code.
+fn address_part_of(bytes: &[u8]) -> Result<(Part, &[u8]), InboundFault>
+    ensures { Gives (λ x. (x.0, x.1.now)) result (address_at bytes.now) }
+{
+    match bytes {
+        [high, low, rest @ ..] => match addr_from_bytes([*high, *low]) {
+            Ok(addr) => Ok((Part::At(addr), rest)),
+            Err(_) => Err(InboundFault::BadAddress),
+        },
+        _ => Err(InboundFault::BadForm),
+    }
+}
+
+/// An attribute, behind its order's code.
+fn attribute_part_of(bytes: &[u8]) -> Result<(Part, &[u8]), InboundFault>
+    ensures { Gives (λ x. (x.0, x.1.now)) result (attribute_at bytes.now) }
+{
+    match bytes {
+        [code, rest @ ..] => Ok((Part::Attr(Attr::from_code(*code)), rest)),
+        [] => Err(InboundFault::Short),
+    }
+}
+
+/// An address or a character of the modified fields.
+#[tactic(auto, unfolding(crate::specs::InboundReading::text_part_at))]
+fn text_part_of(bytes: &[u8]) -> Result<(Part, &[u8]), InboundFault>
+    ensures { Gives (λ x. (x.0, x.1.now)) result (text_part_at bytes.now) }
+{
+    match bytes {
+        [] => Err(InboundFault::Short),
+        [SET_BUFFER_ADDRESS, rest @ ..] => address_part_of(rest),
+        [byte, rest @ ..] => {
+            if storable(*byte) && *byte != 0 {
+                Ok((Part::Char(*byte), rest))
+            } else {
+                Err(InboundFault::BadForm)
+            }
+        }
+    }
+}
+
+/// A cell of the buffer.
+#[tactic(auto, unfolding(crate::specs::InboundReading::cell_part_at))]
+fn cell_part_of(bytes: &[u8]) -> Result<(Part, &[u8]), InboundFault>
+    ensures { Gives (λ x. (x.0, x.1.now)) result (cell_part_at bytes.now) }
+{
+    match bytes {
+        [] => Err(InboundFault::Short),
+        [START_FIELD, rest @ ..] => attribute_part_of(rest),
+        [byte, rest @ ..] => {
+            if storable(*byte) {
+                Ok((Part::Char(*byte), rest))
+            } else {
+                Err(InboundFault::BadForm)
+            }
+        }
+    }
+}
+
+fn part_of(form: Form, bytes: &[u8]) -> Result<(Part, &[u8]), InboundFault>
+    ensures { Gives (λ x. (x.0, x.1.now)) result (part_at form bytes.now) }
+{
+    match form {
+        Form::Modified => text_part_of(bytes),
+        Form::All => text_part_of(bytes),
+        Form::Buffer => cell_part_of(bytes),
+    }
+}
+
+/// Whether a text is parts of modified fields to its end.
+fn check_fields(form: Form, text: &[u8]) -> Result<(), InboundFault>
+    requires { form ≡ Buffer → ⊥ }
+    ensures { MatchResult result (λ _. AreParts form (parts_in form text.now) text.now) (λ fault. HasPartFault form fault text.now) }
+{
+    let mut rest = text;
+    while !rest.is_empty() {
+        match part_of(form, rest) {
+            Ok((_, after)) => rest = after,
+            Err(fault) => return Err(fault),
+        }
+    }
+    Ok(())
+}
+
+/// Whether a text is as many cells as the screen has.
+fn check_cells(text: &[u8]) -> Result<(), InboundFault>
+    ensures { MatchResult result (λ _. AreParts Buffer (parts_in Buffer text.now) text.now × IsWhole Buffer (parts_in Buffer text.now)) (λ fault. HasPartFault Buffer fault text.now) }
+{
+    let mut rest = text;
+    for _ in 0..CELLS {
+        match cell_part_of(rest) {
+            Ok((_, after)) => rest = after,
+            Err(fault) => return Err(fault),
+        }
+    }
+    if rest.is_empty() {
+        Ok(())
+    } else {
+        Err(InboundFault::BadForm)
+    }
+}
+
+/// Whether a text is all the parts that a form has behind AID and cursor.
+pub(crate) fn check_parts(form: Form, text: &[u8]) -> Result<(), InboundFault>
+    ensures { MatchResult result (λ _. AreParts form (parts_in form text.now) text.now × IsWhole form (parts_in form text.now)) (λ fault. HasPartFault form fault text.now) }
+{
+    match form {
+        Form::Modified => check_fields(Form::Modified, text),
+        Form::All => check_fields(Form::All, text),
+        Form::Buffer => check_cells(text),
+    }
+}

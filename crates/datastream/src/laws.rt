@@ -1,0 +1,36 @@
+//! Laws of the definitions in `specs/`, for proofs in the crates above. Each is the contract of a function that does nothing.
+ghost use Rattle.datastream.specs.FieldLaws.{EachCellHasOneField, FieldsAreListed, FieldsAscend, FieldsTakeAll, Unformatted};
+ghost use Rattle.datastream.specs.HeldLaws.{EraseInputHolds, HeldAtFirst, HeldComposes, HeldIsRound};
+ghost use Rattle.datastream.specs.Laws.{OnlyByPlace, TabsByPlace, WrittenIsRead};
+
+/// Does nothing: its contract says that what a [`CommandWriter`](crate::CommandWriter) wrote in any calls is the command
+/// of the orders that the calls name.
+pub fn written_is_read()
+    ensures { WrittenIsRead }
+{}
+
+/// Does nothing: its contract says that a write's orders act one after another, and that a program tab nulls just behind
+/// data, and behind another one that nulled up to the last cell.
+pub fn tabs_by_place()
+    ensures by_place { TabsByPlace }
+    ensures only { OnlyByPlace }
+{}
+
+/// Does nothing: its contract says that the two views of fields agree (GA23-0059, "Fields"): the list of fields by the
+/// addresses of their attributes, and for each cell the attribute that stands nearest before it, round the end.
+pub fn fields_both_ways()
+    ensures ascend { FieldsAscend }
+    ensures listed { FieldsAreListed }
+    ensures each_cell { EachCellHasOneField }
+    ensures unformatted { Unformatted }
+    ensures all_cells { FieldsTakeAll }
+{}
+
+/// Does nothing: its contract says what operator keys keep of the screen that the last write left, by place and by a
+/// walk, and that what keys keep one after another is kept since the write.
+pub fn kept_since_the_write()
+    ensures round { HeldIsRound }
+    ensures at_first { HeldAtFirst }
+    ensures composes { HeldComposes }
+    ensures erase_input { EraseInputHolds }
+{}

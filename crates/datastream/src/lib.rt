@@ -1,0 +1,53 @@
+//! The commands of the 3270 data stream (GA23-0059), read and written, and what they mean.
+//!
+//! [`read_command`] reads a command whole before anything comes of it: it answers the command, which lends its orders one
+//! by one, or the first fault in reading order. A [`CommandWriter`] appends commands to a vector.
+//!
+//! ```text
+//! for order in read_command(&[0xF5, 0xC3, 0x11, 0x40, 0x40, 0x1D, 0x60, 0xC8, 0xC9])?.orders() {
+//!     match order {
+//!         Order::Sba(addr) => ..,
+//!         Order::Sf(attr) => ..,
+//!         Order::Char(byte) => ..,
+//!         ..
+//!     }
+//! }
+//! ```
+//!
+//! `specs/` has the definitions: `Grammar` says which bytes are commands and where others go wrong, `Writing` what is
+//! written, `Screen`, `Fields` and `Span` what a screen is, `Meaning` what a command makes of it, and `Laws` what joins
+//! these. The functions [`written_is_read`] and those beside it have the laws as their contracts.
+#![tactic(auto)]
+
+mod command;
+mod command_code;
+mod fault;
+mod inbound;
+mod inbound_fields;
+mod inbound_laws;
+mod inbound_part;
+mod inbound_reader;
+#[cfg(test)]
+mod inbound_tests;
+mod laws;
+mod order;
+mod order_codes;
+mod orders;
+#[cfg(test)]
+mod tests;
+mod wanted;
+mod writer;
+
+pub use command::{Command, read_command};
+pub use command_code::CommandCode;
+pub use fault::CommandFault;
+pub use inbound::{Inbound, read_inbound};
+pub use inbound_fields::{ReturnedField, ReturnedFields};
+pub use inbound_laws::{parts_are_fields, sent_is_read};
+pub use inbound_part::{Form, InboundFault, Part};
+pub use inbound_reader::{Cells, Parts};
+pub use laws::{fields_both_ways, kept_since_the_write, tabs_by_place, written_is_read};
+pub use order::Order;
+pub use orders::Orders;
+pub use wanted::{Want, Wanted};
+pub use writer::{CommandWriter, Memory};

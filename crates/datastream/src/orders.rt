@@ -1,0 +1,126 @@
+//! Reading orders.
+ghost use Rattle.std.specs.Prelude.{◌≡◌, List};
+ghost use Rattle.std.specs.Iterator.{YieldsFirst, item_count};
+ghost use Rattle.datastream.specs.Reading.{Gives, order_at, order_after, byte_at, address_at, character_at};
+
+use crate::fault::CommandFault;
+use crate::order::Order;
+use crate::order_codes::{
+    ERASE_UNPROTECTED_TO_ADDRESS, INSERT_CURSOR, PROGRAM_TAB, REPEAT_TO_ADDRESS,
+    SET_BUFFER_ADDRESS, START_FIELD,
+};
+use codes3270::{Addr, Attr, addr_from_bytes, storable};
+use std::marker::Model;
+
+/// The orders that are left of a command, lent from its bytes: an iterator, which answers `None` once they are at an end.
+/// Contracts see the list of these orders.
+#[derive(Drop)]
+pub struct Orders<'a> {
+    pub(crate) text: &'a [u8],
+}
+
+impl<'a> Model for Orders<'a> {
+    ghost use Rattle.std.specs.Prelude.{List};
+    ghost use Rattle.datastream.specs.declared.order.Order.{Order};
+    ghost use Rattle.datastream.specs.Reading.{orders_in};
+
+    ghost Value = { List Order };
+
+    ghost view = { λ orders. orders_in orders.text.now };
+}
+
+impl<'a> Iterator for Orders<'a> {
+    type Item = Order;
+
+    ghost next_gives = { YieldsFirst (λ orders. orders) };
+
+    ghost remaining = { item_count (λ orders. orders) };
+
+    fn next(&mut self) -> Option<Order> {
+        match order_of(self.text) {
+            Ok((order, rest)) => {
+                self.text = rest;
+                Some(order)
+            }
+            Err(_) => None,
+        }
+    }
+}
+
+// Each of these reads what stands at the front of the bytes, and answers the bytes behind it too.
+
+pub(crate) fn byte_of(bytes: &[u8]) -> Result<(u8, &[u8]), CommandFault>
+    ensures { Gives (λ x. (x.0, x.1.now)) result (byte_at bytes.now) }
+{
+    match bytes {
+        [byte, rest @ ..] => Ok((*byte, rest)),
+        [] => Err(CommandFault::Truncated),
+    }
+}
+
+fn address_of(bytes: &[u8]) -> Result<(Addr, &[u8]), CommandFault>
+    ensures { Gives (λ x. (x.0, x.1.now)) result (address_at bytes.now) }
+{
+    match bytes {
+        [high, low, rest @ ..] => match addr_from_bytes([*high, *low]) {
+            Ok(addr) => Ok((addr, rest)),
+            Err(_) => Err(CommandFault::BadAddress),
+        },
+        _ => Err(CommandFault::Truncated),
+    }
+}
+
+fn character_of(bytes: &[u8]) -> Result<(u8, &[u8]), CommandFault>
+    ensures { Gives (λ x. (x.0, x.1.now)) result (character_at bytes.now) }
+{
+    let (byte, rest) = byte_of(bytes)?;
+    if storable(byte) {
+        Ok((byte, rest))
+    } else {
+        Err(CommandFault::BadOrder)
+    }
+}
+
+/// The order whose code stands before the bytes.
+#[tactic(auto, unfolding(crate::specs::Reading::order_after))]
+fn order_behind(code: u8, bytes: &[u8]) -> Result<(Order, &[u8]), CommandFault>
+    ensures { Gives (λ x. (x.0, x.1.now)) result (order_after code bytes.now) }
+{
+    match code {
+        START_FIELD => {
+            let (attr, rest) = byte_of(bytes)?;
+            Ok((Order::Sf(Attr::from_code(attr)), rest))
+        }
+        SET_BUFFER_ADDRESS => match address_of(bytes) {
+            Ok((addr, rest)) => Ok((Order::Sba(addr), rest)),
+            Err(fault) => Err(fault),
+        },
+        ERASE_UNPROTECTED_TO_ADDRESS => match address_of(bytes) {
+            Ok((stop, rest)) => Ok((Order::Eua(stop), rest)),
+            Err(fault) => Err(fault),
+        },
+        REPEAT_TO_ADDRESS => match address_of(bytes) {
+            Ok((stop, rest)) => {
+                let (character, rest) = character_of(rest)?;
+                Ok((Order::Ra(stop, character), rest))
+            }
+            Err(fault) => Err(fault),
+        },
+        INSERT_CURSOR => Ok((Order::Ic, bytes)),
+        PROGRAM_TAB => Ok((Order::Pt, bytes)),
+        _ => Err(CommandFault::BadOrder),
+    }
+}
+
+/// The order at the front of the bytes.
+#[tactic(auto, unfolding(crate::specs::Reading::order_at))]
+pub(crate) fn order_of(bytes: &[u8]) -> Result<(Order, &[u8]), CommandFault>
+    ensures { Gives (λ x. (x.0, x.1.now)) result (order_at bytes.now) }
+{
+    let (byte, rest) = byte_of(bytes)?;
+    if storable(byte) {
+        Ok((Order::Char(byte), rest))
+    } else {
+        order_behind(byte, rest)
+    }
+}

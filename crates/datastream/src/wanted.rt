@@ -1,0 +1,87 @@
+//! What a screen is wanted to be.
+ghost use Rattle.std.specs.Prelude.{◌≡◌, ◌<◌, All, length, slice_get, Some};
+ghost use Rattle.codes3270.specs.Size.{cell_count};
+ghost use Rattle.datastream.specs.Wanted.{IsProper, WantedScreen};
+
+use codes3270::{Addr, Attr, CELLS};
+use std::marker::Model;
+
+/// What a cell is wanted to have.
+#[derive(Clone, Copy, Debug, PartialEq, Eq)]
+pub enum Want {
+    Char(u8),
+    Attr(Attr),
+    /// What it has.
+    Keep,
+}
+
+/// How many cells a screen has, as a length.
+const SIZE: usize = CELLS as usize;
+
+/// A wanted screen: a [`Want`] for each cell, where the cursor shall be, and whether all fields are
+/// marked as unmodified first. Each wanted character is storable.
+#[derive(Clone, Copy, Debug)]
+pub struct Wanted {
+    cells: [Want; SIZE],
+    cursor: Addr,
+    reset: bool,
+}
+
+impl Model for Wanted {
+    ghost use Rattle.datastream.specs.Wanted.{WantedScreen, IsScreen};
+
+    ghost Value = { WantedScreen };
+
+    ghost view = { λ wanted. record { cells = wanted.cells; cursor = wanted.cursor; reset = wanted.reset } };
+
+    ghost invariant = { λ wanted. IsScreen (record { cells = wanted.cells; cursor = wanted.cursor; reset = wanted.reset }) };
+
+    ghost inverse = { λ screen. record { cells = screen.cells; cursor = screen.cursor; reset = screen.reset } };
+}
+
+impl Wanted {
+    /// The wanted screen of these parts, each wanted character being storable.
+    pub fn new(cells: [Want; SIZE], cursor: Addr, reset: bool) -> Wanted
+        requires { All IsProper cells }
+        ensures { result ≡ record { cells = cells; cursor = cursor; reset = reset } }
+    {
+        let _position = cursor.get();
+        Wanted {
+            cells,
+            cursor,
+            reset,
+        }
+    }
+
+    /// What each cell is wanted to have, by address.
+    pub fn cells(&self) -> &[Want]
+        ensures cells { result.now ≡ self.now.cells }
+        ensures size { length result.now ≡ cell_count }
+        ensures proper { All IsProper result.now }
+    {
+        &self.cells
+    }
+
+    /// What a cell is wanted to have.
+    pub fn want(&self, addr: Addr) -> Want
+        ensures wanted { slice_get self.now.cells addr ≡ Some result }
+        ensures proper { IsProper result }
+    {
+        self.cells[addr.get() as usize]
+    }
+
+    /// Where the cursor shall be.
+    pub fn cursor(&self) -> Addr
+        ensures cursor { result ≡ self.now.cursor }
+        ensures in_range { result < cell_count }
+    {
+        self.cursor
+    }
+
+    /// Whether all fields are marked as unmodified first.
+    pub fn reset(&self) -> bool
+        ensures { result ≡ self.now.reset }
+    {
+        self.reset
+    }
+}

@@ -1,0 +1,87 @@
+//! Writing commands.
+ghost use Rattle.std.specs.Prelude.{◌≡◌, All, map, true};
+ghost use Rattle.codes3270.specs.Storable.{is_storable};
+ghost use Rattle.datastream.specs.declared.order.Order.TheVariants.{Sf, Sba, Ic, Ra, Char};
+ghost use Rattle.datastream.specs.Writing.{order_bytes, orders_bytes, command_start, Appends};
+
+use crate::command_code::CommandCode;
+use crate::order_codes::{INSERT_CURSOR, REPEAT_TO_ADDRESS, SET_BUFFER_ADDRESS, START_FIELD};
+use codes3270::{Addr, Attr, Wcc, addr_to_bytes, attr_code};
+use std::alloc::AllocError;
+
+/// Want of memory: a growth that the allocator refused. A call that answers it has changed nothing.
+pub type Memory = AllocError;
+
+/// Appends a command to a vector: `begin`, and then a call for each order or for several characters.
+///
+/// Every call leaves the vector as it was where it is refused memory, and succeeds where the vector has room. What the
+/// calls append is read again by [`read_command`](crate::read_command) as the orders that they name: see
+/// [`written_is_read`](crate::written_is_read).
+#[derive(Drop)]
+pub struct CommandWriter<'a> {
+    /// The vector that the calls append to. What stands in it already stays. It is public so that a caller's proof can
+    /// say that it is still the caller's own.
+    pub out: &'a mut Vec<u8>,
+}
+
+impl<'a> CommandWriter<'a> {
+    /// A writer at the end of this vector. It writes nothing.
+    pub fn new(out: &'a mut Vec<u8>) -> CommandWriter<'a>
+        ensures same_vector { result.out.ghost_name ≡ out.entry.ghost_name }
+        ensures same { result.out.now ≡ out.old }
+    {
+        CommandWriter { out }
+    }
+
+    /// Begins a command: its code, and for a write its write control character (GA23-0059, "Write Control Character
+    /// (WCC)"). The other commands have none, and what follows them is ignored.
+    pub fn begin(&mut self, code: CommandCode, wcc: Wcc) -> Result<(), Memory>
+        ensures { Appends self.old.out self.new.out result (command_start code wcc) }
+    {
+        if code.has_orders() {
+            self.out.extend_from_slice(&[code.byte(), wcc.byte()])
+        } else {
+            self.out.extend_from_slice(&[code.byte()])
+        }
+    }
+
+    /// Sets the current address (GA23-0059, "Set Buffer Address (SBA)").
+    pub fn sba(&mut self, addr: Addr) -> Result<(), Memory>
+        ensures { Appends self.old.out self.new.out result (order_bytes (Sba addr)) }
+    {
+        let [high, low] = addr_to_bytes(addr);
+        self.out.extend_from_slice(&[SET_BUFFER_ADDRESS, high, low])
+    }
+
+    /// Starts a field (GA23-0059, "Start Field (SF)").
+    pub fn sf(&mut self, attr: Attr) -> Result<(), Memory>
+        ensures { Appends self.old.out self.new.out result (order_bytes (Sf attr)) }
+    {
+        self.out.extend_from_slice(&[START_FIELD, attr_code(attr)])
+    }
+
+    /// Stores characters, which have to be storable.
+    pub fn chars(&mut self, chars: &[u8]) -> Result<(), Memory>
+        requires { All (λ char. is_storable char ≡ true) chars.now }
+        ensures { Appends self.old.out self.new.out result (orders_bytes (map (λ char. Char char) chars.now)) }
+    {
+        self.out.extend_from_slice(chars)
+    }
+
+    /// Stores a character, which has to be storable, up to an address (GA23-0059, "Repeat to Address (RA)").
+    pub fn ra(&mut self, stop: Addr, char: u8) -> Result<(), Memory>
+        requires { is_storable char ≡ true }
+        ensures { Appends self.old.out self.new.out result (order_bytes (Ra stop char)) }
+    {
+        let [high, low] = addr_to_bytes(stop);
+        self.out
+            .extend_from_slice(&[REPEAT_TO_ADDRESS, high, low, char])
+    }
+
+    /// Puts the cursor at the current address (GA23-0059, "Insert Cursor (IC)").
+    pub fn ic(&mut self) -> Result<(), Memory>
+        ensures { Appends self.old.out self.new.out result (order_bytes Ic) }
+    {
+        self.out.extend_from_slice(&[INSERT_CURSOR])
+    }
+}

@@ -1,0 +1,43 @@
+use Rattle.std.proofs.Common.{◌≡◌, sym, ◌∙◌, ap, Ok, Err, rules, arith}
+use Rattle.std.specs.Option.{option_copied}
+use Rattle.std.proofs.lemmas.Option.{slice_get_within}
+use Rattle.lu_pool.specs.Asking.{answer_to}
+use Rattle.lu_pool.proofs.Changes.{after_grant, refused_held, one_holder, one_lu}
+use Rattle.lu_pool.proofs.pool.Pool.ask.Goals as goal
+
+pub set_holder-requires : goal.set_holder-requires
+set_holder-requires c =
+    omega (arith, slice_get_within c.deref.result.now c.in-Ok.place _ c.in-Ok.ensures.granted.free, c.deref.ensures.len)
+
+pub invariant_of-self : goal.invariant_of-self
+invariant_of-self c =
+    let free = (rw c.deref.ensures.value at c.in-Ok.ensures.granted) in
+    (after_grant c.self.inside.entries.items c.in-Ok.place c.args.conn c.set_holder.result _ c.set_holder.new.entries.items c.self.invariant (rw c.self.view_is c.requires) free c.set_holder.ensures.lu c.set_holder.ensures.changed).pool
+
+pub returns-in-Ok : goal.returns-in-Ok
+returns-in-Ok c =
+    let free = (rw c.deref.ensures.value at c.in-Ok.ensures.granted) in
+    let all = after_grant c.self.inside.entries.items c.in-Ok.place c.args.conn c.set_holder.result _ c.set_holder.new.entries.items c.self.invariant (rw c.self.view_is c.requires) free c.set_holder.ensures.lu c.set_holder.ensures.changed in
+    rw (← c.self.view_is) (record {
+      answer = all.is_answer;
+      granted = all.grants;
+      refused = tt;
+      held = all.held;
+      is_lu = all.is_lu;
+      one_holder = all.one_holder;
+      one_lu = all.one_lu;
+    })
+
+pub returns-in-Err : goal.returns-in-Err
+returns-in-Err c =
+    let pool = c.self.invariant in
+    let refused = (rw c.deref.ensures.value at c.in-Err.ensures.refused) in
+    rw (← c.self.view_is) (record {
+      answer = sym refused;
+      granted = tt;
+      refused = search rules;
+      held = refused_held c.self.inside.entries.items c.args.conn c.in-Err.reason _ (search rules);
+      is_lu = tt;
+      one_holder = one_holder c.self.inside.entries.items pool;
+      one_lu = one_lu c.self.inside.entries.items pool;
+    })

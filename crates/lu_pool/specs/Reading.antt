@@ -1,0 +1,47 @@
+-- How a list of names becomes a pool, and why it doesn't.
+use Rattle.std.specs.Prelude.{◌≡◌, ℕ, ◌<◌, List, length, map, Option, None, Some, slice_get, IsTrue, String}
+use Rattle.std.specs.String.{string_bytes}
+use Rattle.tn3270e_msg.specs.Lu.{is_lu, lu_of}
+use Rattle.lu_pool.specs.declared.entry.Entry.{Entry}
+use Rattle.lu_pool.specs.declared.fault.PoolFault.{PoolFault}
+use Rattle.lu_pool.specs.declared.fault.PoolFault.TheVariants.{BadName, Twice, BadCount, Memory}
+use Rattle.lu_pool.specs.Pool.{entry, IsCount}
+
+-- the LUs that these texts are read as, if they are
+abbrev pub readings : {Z : Type 0} → List (String Z) → List (Option (List ℕ))
+readings names = map (λ name. lu_of (string_bytes name)) names
+
+-- the pool has the LUs that were read, in their order, and nobody holds one
+pub record IsReadFrom (read : List (Option (List ℕ))) (pool : List Entry) : Type 0 where
+  pub lus : read ≡ map (λ at. Some at.lu) pool
+  pub free : pool ≡ map (λ at. entry at.lu None) pool
+
+-- what is wrong with what was read: the count, a text that is no LU, or one that was read before
+abbrev pub HasFault : List (Option (List ℕ)) → PoolFault → Type 0
+HasFault read BadCount = IsCount (length read) → ⊥
+HasFault read (BadName place) = slice_get read place ≡ Some None
+HasFault read (Twice place) =
+    (earlier : ℕ) × (lu : List ℕ) × (earlier < place) × (slice_get read earlier ≡ Some (Some lu)) × (slice_get read place ≡ Some (Some lu))
+HasFault read Memory = ⊥
+
+-- no text before this place is wrong
+abbrev pub IsRightBelow : List (Option (List ℕ)) → ℕ → Type 0
+IsRightBelow read place = (before : ℕ) → before < place → (HasFault read (BadName before) → ⊥) × (HasFault read (Twice before) → ⊥)
+
+-- the count is wrong, or it is right and this is the first text that is wrong; or memory was refused
+abbrev pub IsFirstFault : List (Option (List ℕ)) → PoolFault → Type 0
+IsFirstFault read BadCount = HasFault read BadCount
+IsFirstFault read (BadName place) = IsCount (length read) × HasFault read (BadName place) × IsRightBelow read place
+IsFirstFault read (Twice place) = IsCount (length read) × HasFault read (Twice place) × IsRightBelow read place
+IsFirstFault read Memory = IsCount (length read)
+
+-- what is wrong with one text, behind these entries
+pub data IsTextFault (pool : List Entry) (place : ℕ) (read : Option (List ℕ)) (fault : PoolFault) : Type 0 where
+  no_name : read ≡ None → fault ≡ BadName place → IsTextFault pool place read fault
+  named_before : (lu : List ℕ) (earlier : ℕ) (at : Entry) → read ≡ Some lu → slice_get pool earlier ≡ Some at → at.lu ≡ lu → fault ≡ Twice place → IsTextFault pool place read fault
+
+-- this LU is read, and no entry has it yet
+pub record IsNew (pool : List Entry) (read : Option (List ℕ)) (lu : List ℕ) : Type 0 where
+  pub read_as : read ≡ Some lu
+  pub is_lu : IsTrue (is_lu lu)
+  pub absent : (place : ℕ) (at : Entry) → slice_get pool place ≡ Some at → at.lu ≡ lu → ⊥

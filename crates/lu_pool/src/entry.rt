@@ -1,0 +1,36 @@
+//! An LU of a pool.
+ghost use Rattle.std.specs.Prelude.{◌≡◌, is_none};
+ghost use Rattle.std.specs.Str.{bytes_eq};
+ghost use Rattle.lu_pool.specs.Pool.{is_held_by};
+
+use tn3270e_msg::Lu;
+
+/// An LU, and the number of the connection that holds it, if one does.
+#[derive(Clone, Copy, Debug)]
+pub struct Entry {
+    pub lu: Lu,
+    pub holder: Option<usize>,
+}
+
+impl Entry {
+    pub fn is_of(&self, lu: Lu) -> bool
+        ensures { result ≡ bytes_eq self.now.lu lu }
+    {
+        self.lu.as_bytes() == lu.as_bytes()
+    }
+
+    pub fn is_free(&self) -> bool
+        ensures { result ≡ is_none self.now.holder }
+    {
+        self.holder.is_none()
+    }
+
+    pub fn is_held_by(&self, conn: usize) -> bool
+        ensures { result ≡ is_held_by conn self.now.holder }
+    {
+        match self.holder {
+            Some(holder) => holder == conn,
+            None => false,
+        }
+    }
+}

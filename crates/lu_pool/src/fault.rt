@@ -1,0 +1,38 @@
+//! Why a list of names is no pool.
+ghost use Rattle.std.specs.Prelude.{◌≡◌};
+ghost use Rattle.lu_pool.specs.declared.fault.PoolFault.TheVariants.{Memory};
+
+use std::alloc::AllocError;
+use std::fmt;
+
+/// Why a list of names is no pool. Places count from 0.
+#[derive(Clone, Copy, Debug, PartialEq, Eq)]
+pub enum PoolFault {
+    /// 1: the text at this place is no name of an LU.
+    BadName(usize),
+    /// 2: the text at this place is read as an LU that an earlier one is read as.
+    Twice(usize),
+    /// 3: there is no text, or there are more than 64.
+    BadCount,
+    /// There was no memory for the pool.
+    Memory,
+}
+
+impl fmt::Display for PoolFault {
+    fn fmt<W: fmt::Write>(&self, f: &mut fmt::Formatter<W>) -> fmt::Result {
+        match self {
+            PoolFault::BadName(place) => write!(f, "lu {place}: BadName"),
+            PoolFault::Twice(place) => write!(f, "lu {place}: Twice"),
+            PoolFault::BadCount => f.write_str("lu: BadCount"),
+            PoolFault::Memory => f.write_str("no memory"),
+        }
+    }
+}
+
+impl From<AllocError> for PoolFault {
+    ghost from_gives = { λ _ fault. fault ≡ Memory };
+
+    fn from(_: AllocError) -> PoolFault {
+        PoolFault::Memory
+    }
+}

@@ -1,0 +1,135 @@
+//! A host's pool of logical units.
+ghost use Rattle.std.specs.Prelude.{◌≡◌, ◌≢◌, ◌↔◌, ◌⊎◌, ℕ, List, [], ◌∷◌, ◌++◌, None, Ok, IfOk, IfErr, OnOk, OnErr, IfSome, IfNone, IsTrue};
+ghost use Rattle.std.specs.Option.{option_copied};
+ghost use Rattle.tn3270e_msg.specs.Lu.{is_lu, lu_of};
+ghost use Rattle.lu_pool.specs.Asking.{answer_to, Grants, Frees};
+ghost use Rattle.lu_pool.specs.Pool.{Holds, HoldsNone, OneHolder, OneLu, IsCount, entry};
+ghost use Rattle.lu_pool.specs.Reading.{readings, IsReadFrom, IsFirstFault, IsTextFault, IsNew};
+ghost use Rattle.lu_pool.specs.declared.fault.PoolFault.{PoolFault};
+
+use crate::entry::Entry;
+use crate::fault::PoolFault;
+use crate::places::{place_for, place_held_by, place_of, set_holder};
+use std::alloc::{AllocError, Global};
+use std::marker::Model;
+use tn3270e_msg::{Lu, Reason};
+
+/// The LUs that a pool has at most (our profile).
+const MOST_LUS: usize = 64;
+
+/// A host's logical units, 1 to 64, and which connection holds which. Contracts see it as the list of
+/// its entries, each an LU and the number of its holder.
+#[derive(Drop)]
+pub struct Pool {
+    entries: Vec<Entry>,
+}
+
+impl Model for Pool {
+    ghost use Rattle.std.specs.Prelude.{List};
+    ghost use Rattle.lu_pool.specs.declared.entry.Entry.{Entry};
+    ghost use Rattle.lu_pool.specs.Pool.{IsPool};
+
+    ghost Value = { List Entry };
+
+    ghost view = { λ pool. pool.entries.items };
+
+    ghost invariant = { λ pool. IsPool pool.entries.items };
+}
+
+impl Pool {
+    /// A pool of the LUs that these texts are read as, in their order; nobody holds one. BadCount
+    /// where there aren't 1 to 64; else the fault of the first text that is no name of an LU
+    /// (BadName), or is read as an LU that an earlier one is read as (Twice).
+    pub fn read(alloc: Global, names: &[String]) -> Result<Pool, PoolFault>
+        ensures read { IfOk result (IsReadFrom (readings names.now)) }
+        ensures one_holder { IfOk result OneHolder }
+        ensures one_lu { IfOk result OneLu }
+        ensures fault { IfErr result (IsFirstFault (readings names.now)) }
+    {
+        if !is_count(names.len()) {
+            return Err(PoolFault::BadCount);
+        }
+        let mut entries = Vec::with_capacity(alloc, names.len())?;
+        for (place, name) in names.iter().enumerate() {
+            let lu = new_lu(&entries, place, name.as_bytes())?;
+            add_free(&mut entries, lu)?;
+        }
+        Ok(Pool { entries })
+    }
+
+    /// Grants an LU to a connection that holds none: the one of this name, or without a name the
+    /// first that is free. INV-NAME where the pool has no such LU, DEVICE-IN-USE where it is held,
+    /// or where each is; then nothing changes. `lu_held_by` tells whether a connection holds none.
+    pub fn ask(&mut self, conn: usize, name: Option<&[u8]>) -> Result<Lu, Reason>
+        requires { HoldsNone self.old conn }
+        ensures answer { result ≡ answer_to self.old (option_copied name.entry) }
+        ensures granted { IfOk result (λ lu. Grants self.old conn lu self.new) }
+        ensures refused { OnErr result (self.new ≡ self.old) }
+        // Afterwards this connection holds what was granted, and each holds what it held.
+        ensures held { (other : ℕ) (lu : List ℕ) → Holds self.new other lu
+            ↔ (Holds self.old other lu ⊎ ((other ≡ conn) × (result ≡ Ok lu))) }
+        ensures is_lu { IfOk result (λ lu. IsTrue (is_lu lu)) }
+        ensures one_holder { OneHolder self.new }
+        ensures one_lu { OneLu self.new }
+    {
+        match place_for(&self.entries, name) {
+            Ok(place) => Ok(set_holder(&mut self.entries, place, Some(conn))),
+            Err(reason) => Err(reason),
+        }
+    }
+
+    /// Frees the LU that a connection holds, if it holds one.
+    pub fn give_back(&mut self, conn: usize)
+        ensures frees { Frees self.old conn self.new }
+        // Afterwards it holds none, and each other connection holds what it held.
+        ensures held { (other : ℕ) (lu : List ℕ) → Holds self.new other lu
+            ↔ (Holds self.old other lu × (other ≢ conn)) }
+        ensures one_holder { OneHolder self.new }
+        ensures one_lu { OneLu self.new }
+    {
+        match place_held_by(&self.entries, conn) {
+            Some(place) => {
+                let _ = set_holder(&mut self.entries, place, None);
+            }
+            None => {}
+        }
+    }
+
+    /// The LU that a connection holds, if it holds one.
+    pub fn lu_held_by(&self, conn: usize) -> Option<Lu>
+        ensures held { IfSome result (Holds self.now conn) }
+        ensures none { IfNone result (HoldsNone self.now conn) }
+    {
+        match place_held_by(&self.entries, conn) {
+            Some(place) => Some(self.entries[place].lu),
+            None => None,
+        }
+    }
+}
+
+fn is_count(count: usize) -> bool
+    ensures { IsTrue result ↔ IsCount count }
+{
+    count >= 1 && count <= MOST_LUS
+}
+
+fn add_free(entries: &mut Vec<Entry>, lu: Lu) -> Result<(), AllocError>
+    ensures { OnOk result (entries.new.items ≡ entries.old.items ++ entry lu None ∷ []) }
+{
+    entries.push(Entry { lu, holder: None })?;
+    Ok(())
+}
+
+// The LU that the text at this place is read as, if no entry has it yet.
+fn new_lu(entries: &[Entry], place: usize, name: &[u8]) -> Result<Lu, PoolFault>
+    ensures new { IfOk result (IsNew entries.now (lu_of name.now)) }
+    ensures fault { IfErr result (IsTextFault entries.now place (lu_of name.now)) }
+{
+    match Lu::read(name) {
+        Some(lu) => match place_of(entries, lu) {
+            Some(_) => Err(PoolFault::Twice(place)),
+            None => Ok(lu),
+        },
+        None => Err(PoolFault::BadName(place)),
+    }
+}

@@ -1,0 +1,6 @@
+pub mod Starts
+pub mod Appendings
+pub mod Texts
+pub mod Storable
+pub mod FieldLists
+pub mod Sent

@@ -1,0 +1,6 @@
+use Rattle.std.proofs.Common.{sym}
+use Rattle.presentation.proofs.FieldLists.{fields_listed}
+use Rattle.presentation.proofs.screen.Screen.fields.Goals as goal
+
+pub returns : goal.returns
+returns c = rw (← c.self.view_is) (sym (fields_listed c.self.inside.cells))

@@ -1,0 +1,14 @@
+use Rattle.std.proofs.Common.{◌≡◌, ℕ, List, ◌++◌, ap}
+use Rattle.codes3270.specs.Address.{address_bytes}
+use Rattle.datastream.specs.Inbound.{modified_text}
+use Rattle.presentation.proofs.Appendings.{Appends-then, Appends-same}
+use Rattle.presentation.proofs.screen.Screen.put_cursor_and_fields.Goals as goal
+
+pub returns : goal.returns
+returns c =
+    let screen = c.args.self.now in
+    let cells : List ℕ = modified_text screen.cells in
+    let cursor : c.addr_to_bytes.result ≡ address_bytes screen.cursor = rw (← c.self.view_is) c.addr_to_bytes.ensures.bytes in
+    let whole : c.addr_to_bytes.result ++ cells ≡ address_bytes screen.cursor ++ cells =
+    ap (λ (front : List ℕ). front ++ cells) cursor in
+    Appends-same _ _ _ _ _ whole (rw (← c.self.view_is) (Appends-then _ _ _ _ _ _ c.in_ok-put_bytes.ensures c.put_modified_text.ensures))

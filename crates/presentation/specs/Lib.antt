@@ -1,0 +1,6 @@
+pub mod Applied
+pub mod Appending
+pub mod Places
+pub mod Fields
+pub mod Glyph
+pub mod Answering

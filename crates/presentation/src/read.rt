@@ -1,0 +1,219 @@
+ghost use Rattle.std.specs.Prelude.{◌≡◌, ◌+◌, ◌%◌, ◌<◌, ◌∷◌, [], ◌++◌, length, take, drop, is_ok, OnOk, OnErr, ◌&&◌, not};
+ghost use Rattle.codes3270.specs.Size.{cell_count};
+ghost use Rattle.std.specs.List.{flat_map};
+ghost use Rattle.codes3270.specs.Address.{address_bytes};
+ghost use Rattle.codes3270.specs.Aid.{is_short_aid};
+ghost use Rattle.datastream.specs.Screen.{text_before_attribute, field_text, places_from};
+ghost use Rattle.datastream.specs.Inbound.{without_nulls, modified_field, modified_text, read_modified, is_modified, cell_bytes, read_buffer};
+ghost use Rattle.datastream.specs.InboundText.{IsInbound};
+ghost use Rattle.datastream.specs.InboundFields.{IsSendable, modified_data, buffer_data};
+ghost use Rattle.presentation.specs.Answering.{form_of};
+ghost use Rattle.presentation.specs.Appending.{Appends, AppendsOrStops};
+
+use crate::{Screen, cells};
+use codes3270::{Addr, Aid, CELLS, Cell, addr_to_bytes, aid_byte, attr_code};
+use datastream::Memory;
+
+const SBA: u8 = 0x11;
+
+const SF: u8 = 0x1D;
+
+fn put_byte(out: &mut Vec<u8>, byte: u8) -> Result<(), Memory>
+    ensures { AppendsOrStops (is_ok result) out.old out.new (byte ∷ []) }
+{
+    out.push(byte)?;
+    Ok(())
+}
+
+fn put_bytes(out: &mut Vec<u8>, bytes: &[u8]) -> Result<(), Memory>
+    ensures { AppendsOrStops (is_ok result) out.old out.new bytes.now }
+{
+    out.extend_from_slice(bytes)
+}
+
+fn put_unless_null(out: &mut Vec<u8>, byte: u8) -> Result<(), Memory>
+    ensures { AppendsOrStops (is_ok result) out.old out.new (without_nulls (byte ∷ [])) }
+{
+    if byte == 0 {
+        Ok(())
+    } else {
+        put_byte(out, byte)
+    }
+}
+
+/// The characters before the first attribute, without nulls.
+fn put_text(out: &mut Vec<u8>, cells: &[Cell]) -> Result<(), Memory>
+    ensures { AppendsOrStops (is_ok result) out.old out.new (without_nulls (text_before_attribute cells.now)) }
+{
+    for cell in cells {
+        let Cell::Char(byte) = *cell else {
+            return Ok(());
+        };
+        put_unless_null(out, byte)?;
+    }
+    Ok(())
+}
+
+/// The text of the field whose attribute stands at `at`, round the end, without nulls.
+fn put_field_text(out: &mut Vec<u8>, cells: &[Cell], at: Addr) -> Result<(), Memory>
+    requires { length cells.now ≡ cell_count }
+    ensures { AppendsOrStops (is_ok result) out.old out.new (without_nulls (field_text cells.now at)) }
+{
+    let (front, back) = cells.split_at(at.get() as usize + 1);
+    put_text(out, back)?;
+    if cells::has_only_characters(back) {
+        put_text(out, front)
+    } else {
+        Ok(())
+    }
+}
+
+/// SBA, the field's first address and its text.
+fn put_field(out: &mut Vec<u8>, cells: &[Cell], at: Addr) -> Result<(), Memory>
+    requires { length cells.now ≡ cell_count }
+    ensures { AppendsOrStops (is_ok result) out.old out.new (modified_field cells.now at) }
+{
+    let [high, low] = addr_to_bytes(at.next());
+    put_bytes(out, &[SBA, high, low])?;
+    put_field_text(out, cells, at)
+}
+
+fn is_modified_attribute(cell: Cell) -> bool
+    ensures { result ≡ is_modified cell }
+{
+    match cell {
+        Cell::Char(_) => false,
+        Cell::Attr(attr) => attr.mdt,
+    }
+}
+
+fn put_field_if_modified(out: &mut Vec<u8>, cells: &[Cell], at: Addr) -> Result<(), Memory>
+    requires { length cells.now ≡ cell_count }
+    ensures { let places = places_from is_modified at (take 1 (drop at cells.now)) in
+        AppendsOrStops (is_ok result) out.old out.new (flat_map (modified_field cells.now) places) }
+{
+    if is_modified_attribute(cells[at.get() as usize]) {
+        put_field(out, cells, at)
+    } else {
+        Ok(())
+    }
+}
+
+/// The modified fields, by the addresses of their attributes.
+fn put_modified_fields(out: &mut Vec<u8>, cells: &[Cell]) -> Result<(), Memory>
+    requires { length cells.now ≡ cell_count }
+    ensures { let places = places_from is_modified 0 cells.now in
+        AppendsOrStops (is_ok result) out.old out.new (flat_map (modified_field cells.now) places) }
+{
+    for place in 0..CELLS {
+        put_field_if_modified(out, cells, Addr::first().forward(place))?;
+    }
+    Ok(())
+}
+
+fn put_modified_text(out: &mut Vec<u8>, cells: &[Cell]) -> Result<(), Memory>
+    requires { length cells.now ≡ cell_count }
+    ensures { AppendsOrStops (is_ok result) out.old out.new (modified_text cells.now) }
+{
+    if cells::has_only_characters(cells) {
+        put_text(out, cells)
+    } else {
+        put_modified_fields(out, cells)
+    }
+}
+
+/// Whether the AID stands alone.
+fn is_short_form(aid: Aid, all: bool) -> bool
+    ensures { result ≡ (is_short_aid aid && not all) }
+{
+    aid.is_short() && !all
+}
+
+fn put_cell(out: &mut Vec<u8>, cell: Cell) -> Result<(), Memory>
+    ensures { AppendsOrStops (is_ok result) out.old out.new (cell_bytes cell) }
+{
+    match cell {
+        Cell::Char(byte) => put_byte(out, byte),
+        Cell::Attr(attr) => put_bytes(out, &[SF, attr_code(attr)]),
+    }
+}
+
+fn put_cells(out: &mut Vec<u8>, cells: &[Cell]) -> Result<(), Memory>
+    ensures { AppendsOrStops (is_ok result) out.old out.new (flat_map cell_bytes cells.now) }
+{
+    for cell in cells {
+        put_cell(out, *cell)?;
+    }
+    Ok(())
+}
+
+impl Screen {
+    fn put_cursor_and_cells(&self, out: &mut Vec<u8>) -> Result<(), Memory>
+        ensures { let bytes = address_bytes self.now.cursor ++ flat_map cell_bytes self.now.cells in
+            AppendsOrStops (is_ok result) out.old out.new bytes }
+    {
+        put_bytes(out, &addr_to_bytes(self.cursor))?;
+        put_cells(out, &self.cells)
+    }
+
+    fn put_buffer(&self, out: &mut Vec<u8>) -> Result<(), Memory>
+        ensures bytes { AppendsOrStops (is_ok result) out.old out.new (read_buffer self.now) }
+        ensures sendable { IsSendable self.now }
+    {
+        put_byte(out, aid_byte(self.aid))?;
+        self.put_cursor_and_cells(out)
+    }
+
+    /// Appends what Read Buffer answers (GA23-0059, "Read Buffer"): the AID, the cursor's address, and every cell from
+    /// address 0 on, an attribute as SF and its code. It succeeds where `out` has room; where memory is refused nothing is
+    /// appended.
+    pub fn put_read_buffer(&self, out: &mut Vec<u8>) -> Result<(), Memory>
+        ensures appends { Appends out.old out.new result (read_buffer self.now) }
+        // It is read as this screen's cells.
+        ensures inbound { IsInbound (buffer_data self.now) (read_buffer self.now) }
+    {
+        let before = out.len();
+        let put = self.put_buffer(out);
+        if put.is_err() {
+            out.truncate(before);
+        }
+        put
+    }
+
+    fn put_cursor_and_fields(&self, out: &mut Vec<u8>) -> Result<(), Memory>
+        ensures { let bytes = address_bytes self.now.cursor ++ modified_text self.now.cells in
+            AppendsOrStops (is_ok result) out.old out.new bytes }
+    {
+        put_bytes(out, &addr_to_bytes(self.cursor))?;
+        put_modified_text(out, &self.cells)
+    }
+
+    fn put_modified(&self, out: &mut Vec<u8>, all: bool) -> Result<(), Memory>
+        ensures bytes { AppendsOrStops (is_ok result) out.old out.new (read_modified all self.now) }
+        ensures sendable { IsSendable self.now }
+    {
+        put_byte(out, aid_byte(self.aid))?;
+        if is_short_form(self.aid, all) {
+            Ok(())
+        } else {
+            self.put_cursor_and_fields(out)
+        }
+    }
+
+    /// Appends what Read Modified answers, with `all` Read Modified All (GA23-0059, "Read Modified"): the AID, the cursor's
+    /// address, and for each field with MDT on, by the address of its attribute, SBA, the address of its first cell and its
+    /// characters without nulls. On an unformatted screen all characters without nulls follow the cursor. After PA or Clear
+    /// Read Modified answers the AID alone. It succeeds where `out` has room; where memory is refused nothing is appended.
+    pub fn put_read_modified(&self, out: &mut Vec<u8>, all: bool) -> Result<(), Memory>
+        ensures appends { Appends out.old out.new result (read_modified all self.now) }
+        // It is read as this screen's modified fields.
+        ensures inbound { IsInbound (modified_data (form_of all) self.now) (read_modified all self.now) }
+    {
+        let start = out.len();
+        let put = self.put_modified(out, all);
+        if put.is_err() {
+            out.truncate(start);
+        }
+        put
+    }
+}

@@ -1,0 +1,231 @@
+ghost use Rattle.std.specs.Prelude.{◌≡◌, All, false, true};
+ghost use Rattle.codes3270.specs.Storable.{is_storable};
+ghost use Rattle.datastream.specs.Grammar.{IsProper};
+ghost use Rattle.datastream.specs.declared.order.Order.TheVariants.{Sba, Ic, Ra, Eua, Pt};
+ghost use Rattle.datastream.specs.Meaning.{Draft, stored, ordered, nulls_after, all_ordered, prepared, restored, cleared, written, unprotected_erased, after_command};
+ghost use Rattle.presentation.specs.Applied.{asked_by, asked_by_wcc};
+ghost use Rattle.datastream.specs.InboundFields.{IsStorableCell};
+
+use crate::{Screen, cells};
+use codes3270::{Addr, Aid, CELLS, Cell, Wcc};
+use datastream::{Command, CommandCode, Order, Orders};
+
+/// What a command asks of the keyboard and the alarm (GA23-0059, "Write control character").
+#[derive(Clone, Copy, Debug, PartialEq, Eq)]
+pub struct Applied {
+    /// Free the keyboard.
+    pub restore: bool,
+    /// Sound the alarm.
+    pub alarm: bool,
+}
+
+impl Applied {
+    /// Nothing is asked for.
+    const fn nothing() -> Applied
+        ensures { result ≡ record { restore = false; alarm = false } }
+    {
+        Applied {
+            restore: false,
+            alarm: false,
+        }
+    }
+}
+
+/// Where a write is: the address, and whether a PT nulls that comes next.
+#[derive(Clone, Copy)]
+struct Pen {
+    address: Addr,
+    nulls: bool,
+}
+
+impl Pen {
+    /// At an address behind data.
+    const fn after_data(address: Addr) -> Pen
+        ensures { result ≡ record { address = address; nulls = true } }
+    {
+        Pen {
+            address,
+            nulls: true,
+        }
+    }
+
+    /// At an address behind any other order.
+    const fn moved_to(address: Addr) -> Pen
+        ensures { result ≡ record { address = address; nulls = false } }
+    {
+        Pen {
+            address,
+            nulls: false,
+        }
+    }
+}
+
+impl Screen {
+    /// What the Clear key does to the screen: all cells null, the cursor at 0; the AID stays.
+    pub fn clear(&mut self)
+        ensures { self.new ≡ cleared self.old }
+    {
+        cells::fill(&mut self.cells, Addr::first(), CELLS, Cell::Char(0));
+        self.cursor = Addr::first();
+    }
+
+    /// What the Erase Input key does to the screen: the characters of unprotected fields null, MDT off in their attributes,
+    /// the cursor at `home`.
+    pub fn erase_unprotected(&mut self)
+        ensures { self.new ≡ unprotected_erased self.old }
+    {
+        self.cursor = cells::home_of(&self.cells);
+        cells::erase_unprotected_in(&mut self.cells, Addr::first(), CELLS);
+        cells::reset_open_mdt(&mut self.cells);
+    }
+
+    /// Does what a command says to the screen (GA23-0059, "Commands" and "Orders"); a read changes nothing. Answers what the
+    /// command asks of the keyboard and the alarm.
+    pub fn apply(&mut self, command: &Command<'_>) -> Applied
+        ensures screen { self.new ≡ after_command command.now self.old }
+        ensures applied { result ≡ asked_by command.now }
+    {
+        match command.code() {
+            CommandCode::Write => self.write(command.wcc(), command.orders()),
+            CommandCode::EraseWrite | CommandCode::EraseWriteAlternate => {
+                self.clear();
+                self.write(command.wcc(), command.orders())
+            }
+            CommandCode::EraseAllUnprotected => {
+                self.erase_unprotected();
+                self.aid = Aid::NoAid;
+                Applied {
+                    restore: true,
+                    alarm: false,
+                }
+            }
+            CommandCode::ReadBuffer | CommandCode::ReadModified | CommandCode::ReadModifiedAll => {
+                Applied::nothing()
+            }
+        }
+    }
+
+    /// A write from the cursor on.
+    fn write(&mut self, wcc: Option<Wcc>, orders: Orders<'_>) -> Applied
+        requires { All IsProper orders }
+        ensures screen { self.new ≡ written wcc orders.entry self.old }
+        ensures applied { result ≡ asked_by_wcc wcc }
+    {
+        let Some(wcc) = wcc else {
+            return Applied::nothing();
+        };
+        self.prepare(wcc);
+        self.obey_all(orders);
+        self.restore(wcc);
+        Applied {
+            restore: wcc.restore,
+            alarm: wcc.alarm,
+        }
+    }
+
+    fn prepare(&mut self, wcc: Wcc)
+        ensures { self.new ≡ prepared wcc self.old }
+    {
+        if wcc.reset {
+            cells::reset_mdt(&mut self.cells);
+        }
+    }
+
+    fn restore(&mut self, wcc: Wcc)
+        ensures { self.new ≡ restored wcc self.old }
+    {
+        if wcc.restore {
+            self.aid = Aid::NoAid;
+        }
+    }
+
+    /// The orders of a write, from the cursor on.
+    fn obey_all(&mut self, orders: Orders<'_>)
+        requires { All IsProper orders }
+        ensures { let draft : Draft = record { screen = self.old; address = self.old.cursor } in
+            self.new ≡ (all_ordered orders.entry false draft).screen }
+    {
+        let mut pen = Pen::moved_to(self.cursor);
+        for order in orders {
+            pen = self.obey(order, pen);
+        }
+    }
+
+    /// One order of a write.
+    fn obey(&mut self, order: Order, pen: Pen) -> Pen
+        requires { IsProper order }
+        ensures draft { let draft : Draft = record { screen = self.old; address = pen.address } in
+            record { screen = self.new; address = result.address } ≡ ordered order pen.nulls draft }
+        ensures nulls { let draft : Draft = record { screen = self.old; address = pen.address } in
+            result.nulls ≡ nulls_after order pen.nulls draft }
+    {
+        let address = pen.address;
+        match order {
+            Order::Char(byte) => Pen::after_data(self.store(address, Cell::Char(byte))),
+            Order::Sf(attr) => Pen::moved_to(self.store(address, Cell::Attr(attr))),
+            Order::Sba(address) => Pen::moved_to(address),
+            Order::Ic => {
+                self.place_cursor(address);
+                Pen::moved_to(address)
+            }
+            Order::Ra(stop, byte) => {
+                self.repeat(address, stop, byte);
+                Pen::moved_to(stop)
+            }
+            Order::Eua(stop) => {
+                self.erase_up_to(address, stop);
+                Pen::moved_to(stop)
+            }
+            Order::Pt => self.tab(pen),
+        }
+    }
+
+    fn store(&mut self, address: Addr, cell: Cell) -> Addr
+        requires { IsStorableCell cell }
+        ensures { record { screen = self.new; address = result } ≡ stored (record { screen = self.old; address = address }) cell }
+    {
+        self.cells[address.get() as usize] = cell;
+        address.next()
+    }
+
+    fn place_cursor(&mut self, address: Addr)
+        ensures { record { screen = self.new; address = address } ≡ ordered Ic false (record { screen = self.old; address = address }) }
+    {
+        let _in_range = address.get();
+        self.cursor = address;
+    }
+
+    fn repeat(&mut self, address: Addr, stop: Addr, byte: u8)
+        requires { is_storable byte ≡ true }
+        ensures { record { screen = self.new; address = stop } ≡ ordered (Ra stop byte) false (record { screen = self.old; address = address }) }
+    {
+        let count = cells::distance_to(address, stop);
+        cells::fill(&mut self.cells, address, count, Cell::Char(byte));
+    }
+
+    fn erase_up_to(&mut self, address: Addr, stop: Addr)
+        ensures { record { screen = self.new; address = stop } ≡ ordered (Eua stop) false (record { screen = self.old; address = address }) }
+    {
+        let count = cells::distance_to(address, stop);
+        cells::erase_unprotected_in(&mut self.cells, address, count);
+    }
+
+    fn tab(&mut self, pen: Pen) -> Pen
+        ensures draft { let draft : Draft = record { screen = self.old; address = pen.address } in
+            record { screen = self.new; address = result.address } ≡ ordered Pt pen.nulls draft }
+        ensures nulls { let draft : Draft = record { screen = self.old; address = pen.address } in
+            result.nulls ≡ nulls_after Pt pen.nulls draft }
+    {
+        let from = pen.address.get() as usize;
+        let stop = cells::tab_stop_from(&self.cells, pen.address);
+        let to_end = cells::has_only_characters(&self.cells[from..]);
+        if pen.nulls {
+            let count = cells::characters_before_attribute(&self.cells[from..]);
+            cells::fill(&mut self.cells, pen.address, count as u16, Cell::Char(0));
+        }
+        Pen {
+            address: stop,
+            nulls: pen.nulls && to_end,
+        }
+    }
+}

@@ -1,0 +1,84 @@
+-- The host's talk (RFC 1647, section 7; the choices among its replies are our profile): one equation a line of its table.
+use Rattle.std.specs.Prelude.{◌≡◌, ℕ, List, Option, None, Some, Result, Ok, Err}
+use Rattle.telnet_wire.specs.declared.wire.Verb.TheVariants.{Wont as WontVerb, Dont as DontVerb}
+use Rattle.telnet_wire.specs.Items.{WireItem}
+use Rattle.tn3270e_msg.specs.declared.device.Device.{Device}
+use Rattle.tn3270e_msg.specs.declared.functions.Wants.TheVariants.{ResponsesAlone, ResponsesAndMore, NoResponses}
+use Rattle.tn3270e_msg.specs.declared.host_talk.HostState.{HostState}
+use Rattle.tn3270e_msg.specs.declared.host_talk.HostState.TheVariants.{Offered, Asked, Asking, Named, Countered, Agreed, Closed}
+use Rattle.tn3270e_msg.specs.declared.reply.After.TheVariants.{Going, Agreed as AgreedAfter}
+use Rattle.tn3270e_msg.specs.declared.cause.Cause.TheVariants.{NoTn3270e, NoResponses as NoResponsesCause, BadTalk}
+use Rattle.tn3270e_msg.specs.declared.reply.Reason.{Reason}
+use Rattle.tn3270e_msg.specs.declared.reply.Sending.TheVariants.{SendType, TypeIs, TypeReject, FunRequest, FunIs}
+use Rattle.tn3270e_msg.specs.declared.reply.Reply.{Reply}
+use Rattle.tn3270e_msg.specs.declared.reply.Reply.TheVariants.{Nothing, Opt, Sub, AskPool, Agreed as AgreedReply}
+use Rattle.tn3270e_msg.specs.declared.hearing.Line.{Line}
+use Rattle.tn3270e_msg.specs.declared.hearing.Line.TheVariants.{Stays, Goes, Refuses, Closes}
+use Rattle.tn3270e_msg.specs.Device.{device_of}
+use Rattle.tn3270e_msg.specs.Lu.{lu_of}
+use Rattle.tn3270e_msg.specs.Message.{Name, Connect, Associate}
+use Rattle.tn3270e_msg.specs.Talk.{Comes, Will, Wont, Do, Dont, OtherWill, OtherDo, RequestsType, RequestsFunctions, IsFunctions, NoTalk, Hears, Talk, start_at, follow}
+
+-- a device request: of a type that isn't served, with ASSOCIATE, or to be asked of the pool
+-- with CONNECT; the pool has no LU whose name isn't one
+abbrev pub named_line : Device → Option (List ℕ) → Line HostState
+named_line device None = Refuses Asked (TypeReject (record { 0 = 3 }))
+named_line device (Some lu) = Goes (Asking device) (AskPool (Some lu))
+
+abbrev pub request_line : Option Device → Option Name → Line HostState
+request_line None name = Refuses Asked (TypeReject (record { 0 = 4 }))
+request_line (Some device) (Some (Associate name)) = Refuses Asked (TypeReject (record { 0 = 7 }))
+request_line (Some device) None = Goes (Asking device) (AskPool None)
+request_line (Some device) (Some (Connect name)) = named_line device (lu_of name)
+
+abbrev pub host_line : HostState → Comes → Line HostState
+host_line (Closed cause) _ = Closes cause
+host_line Offered Will = Goes Asked (Sub SendType Going)
+host_line _ Will = Stays Nothing
+host_line _ Wont = Closes NoTn3270e
+host_line _ Do = Stays (Opt WontVerb 40)
+host_line _ Dont = Stays Nothing
+host_line _ (OtherDo code) = Stays (Opt WontVerb code)
+host_line _ (OtherWill code) = Stays (Opt DontVerb code)
+host_line _ NoTalk = Stays Nothing
+host_line Asked (RequestsType device name) = request_line (device_of device) name
+host_line (Named lu) (RequestsFunctions ResponsesAlone) = Goes (Agreed lu) (Sub FunIs AgreedAfter)
+host_line (Named lu) (RequestsFunctions ResponsesAndMore) = Refuses (Countered lu) FunRequest
+host_line (Named lu) (RequestsFunctions NoResponses) = Closes NoResponsesCause
+host_line (Countered lu) (RequestsFunctions ResponsesAlone) = Goes (Agreed lu) (Sub FunIs AgreedAfter)
+host_line (Countered lu) (RequestsFunctions ResponsesAndMore) = Refuses (Countered lu) FunRequest
+host_line (Countered lu) (RequestsFunctions NoResponses) = Closes NoResponsesCause
+host_line (Countered lu) (IsFunctions ResponsesAlone) = Goes (Agreed lu) AgreedReply
+host_line _ _ = Closes BadTalk
+
+-- the pool's answer
+abbrev pub answer_line : Device → Result (List ℕ) Reason → Line HostState
+answer_line device (Ok lu) = Goes (Named lu) (Sub (TypeIs device lu) Going)
+answer_line device (Err reason) = Refuses Asked (TypeReject reason)
+
+abbrev pub host_start : Talk HostState
+host_start = start_at Offered
+
+-- the talk takes an item
+pub record HostTakes (old : Talk HostState) (item : WireItem) (reply : Reply) (new : Talk HostState) : Type 0 where
+  pub comes : Comes
+  pub hears : Hears item comes
+  pub gives : (new, reply) ≡ follow Closed old (host_line old.state comes)
+
+-- the talk takes the pool's answer, for which it waited
+pub record HostAnswered (old : Talk HostState) (answer : Result (List ℕ) Reason) (reply : Reply) (new : Talk HostState) : Type 0 where
+  pub device : Device
+  pub asking : old.state ≡ Asking device
+  pub gives : (new, reply) ≡ follow Closed old (answer_line device answer)
+
+-- the LU that was granted
+abbrev pub granted : HostState → Option (List ℕ)
+granted (Named lu) = Some lu
+granted (Countered lu) = Some lu
+granted (Agreed lu) = Some lu
+granted _ = None
+
+-- the pool is to answer
+abbrev pub IsAsking : HostState → Type 0
+IsAsking (Asking device) = Unit {0}
+IsAsking _ = ⊥

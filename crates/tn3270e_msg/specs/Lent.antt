@@ -1,0 +1,36 @@
+-- Messages as the code lends them: what they mean, and the payload that they lie in or are written as.
+use Rattle.std.specs.Prelude.{◌≡◌, ℕ, List, [], ◌∷◌, ◌++◌, Option, None, Some}
+use Rattle.tn3270e_msg.specs.Functions.{functions_of}
+use Rattle.tn3270e_msg.specs.Message.{Message, Name, Connect, Associate, SendType, TypeRequest, TypeIs, TypeReject, FunRequest, FunIs, IsMessage, name_part}
+use Rattle.tn3270e_msg.specs.declared.message.SubMessage.{SubMessage}
+use Rattle.tn3270e_msg.specs.declared.message.SubMessage.TheVariants as lent
+use Rattle.tn3270e_msg.specs.declared.message.Name.{Name as LentName}
+use Rattle.tn3270e_msg.specs.declared.message.Name.TheVariants as lent_name
+
+abbrev pub name_of : Option LentName → Option Name
+name_of None = None
+name_of (Some (lent_name.Connect name)) = Some (Connect name.now)
+name_of (Some (lent_name.Associate name)) = Some (Associate name.now)
+
+-- what a lent message means
+abbrev pub message_of : SubMessage → Message
+message_of lent.SendType = SendType
+message_of (lent.TypeRequest device name) = TypeRequest device.now (name_of name)
+message_of (lent.TypeIs device name) = TypeIs device.now name.now
+message_of (lent.TypeReject reason) = TypeReject reason
+message_of (lent.FunRequest list) = FunRequest (functions_of list.now)
+message_of (lent.FunIs list) = FunIs (functions_of list.now)
+
+-- its bytes: those of its words, and the very texts and list that are lent
+abbrev pub payload : SubMessage → List ℕ
+payload lent.SendType = 0x28 ∷ 8 ∷ 2 ∷ []
+payload (lent.TypeRequest device name) = 0x28 ∷ 2 ∷ 7 ∷ (device.now ++ name_part (name_of name))
+payload (lent.TypeIs device name) = 0x28 ∷ 2 ∷ 4 ∷ (device.now ++ 1 ∷ name.now)
+payload (lent.TypeReject reason) = 0x28 ∷ 2 ∷ 6 ∷ 5 ∷ reason.0 ∷ []
+payload (lent.FunRequest list) = 0x28 ∷ 3 ∷ 7 ∷ list.now
+payload (lent.FunIs list) = 0x28 ∷ 3 ∷ 4 ∷ list.now
+
+-- this message lies in these bytes
+pub record LiesIn (bytes : List ℕ) (message : SubMessage) : Type 0 where
+  pub is_message : IsMessage (message_of message)
+  pub spelt : bytes ≡ payload message

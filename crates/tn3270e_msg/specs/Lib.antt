@@ -1,0 +1,14 @@
+pub mod Header
+pub mod Text
+pub mod Functions
+pub mod Message
+pub mod Lent
+pub mod Lu
+pub mod Device
+pub mod Talk
+pub mod HostTable
+pub mod TermTable
+pub mod Hearing
+pub mod Writing
+pub mod Pair
+pub mod Laws

@@ -1,0 +1,116 @@
+-- A host's talk and a terminal's with each other, and with the host's pool of LUs.
+use Rattle.std.specs.Prelude.{◌≡◌, ℕ, ◌≤◌, List, [], ◌∷◌, ◌++◌, length, Option, None, Some, Result, Ok, Err, IsTrue}
+use Rattle.telnet_wire.specs.declared.wire.Verb.TheVariants.{Do as DoVerb}
+use Rattle.telnet_wire.specs.Items.{WireItem, Opt as OptItem}
+use Rattle.tn3270e_msg.specs.declared.host_talk.HostState.{HostState}
+use Rattle.tn3270e_msg.specs.declared.host_talk.HostState.TheVariants.{Agreed as HostAgreed, Closed as HostClosed}
+use Rattle.tn3270e_msg.specs.declared.term_talk.TermState.{TermState}
+use Rattle.tn3270e_msg.specs.declared.term_talk.TermState.TheVariants.{Agreed as TermAgreed, Refused as TermRefused, Closed as TermClosed}
+use Rattle.tn3270e_msg.specs.declared.reply.Reason.{Reason}
+use Rattle.tn3270e_msg.specs.declared.reply.Reply.{Reply}
+use Rattle.tn3270e_msg.specs.Lu.{is_lu}
+use Rattle.tn3270e_msg.specs.Talk.{Talk, IsLuIfSome, items_sent, names_asked}
+use Rattle.tn3270e_msg.specs.HostTable.{host_start, HostTakes, HostAnswered}
+use Rattle.tn3270e_msg.specs.TermTable.{Term, term_start, TermTakes}
+
+-- the LU that a pool grants, or why it grants none
+abbrev pub Answer : Type 0
+Answer = Result (List ℕ) Reason
+
+-- both ends, the items under way between them, the names that the pool was asked for and has not
+-- answered, and what it answered
+pub record Pair : Type 0 where
+  pub host : Talk HostState
+  pub term : Term
+  pub up : List WireItem
+  pub down : List WireItem
+  pub asked : List (Option (List ℕ))
+  pub answers : List Answer
+
+-- the host has offered TN3270E, by DO
+abbrev pub start : Option (List ℕ) → Pair
+start wanted = record { host = host_start; term = term_start wanted; up = []; down = OptItem DoVerb 40 ∷ []; asked = []; answers = [] }
+
+-- the next item comes to the host
+pub record ComesUp (old new : Pair) : Type 0 where
+  pub item : WireItem
+  pub rest : List WireItem
+  pub host : Talk HostState
+  pub reply : Reply
+  pub is_next : old.up ≡ item ∷ rest
+  pub takes : HostTakes old.host item reply host
+  pub becomes : new ≡ record { host = host; term = old.term; up = rest; down = old.down ++ items_sent reply; asked = old.asked ++ names_asked reply; answers = old.answers }
+
+-- the next item comes to the terminal
+pub record ComesDown (old new : Pair) : Type 0 where
+  pub item : WireItem
+  pub rest : List WireItem
+  pub term : Term
+  pub reply : Reply
+  pub is_next : old.down ≡ item ∷ rest
+  pub takes : TermTakes old.term item reply term
+  pub becomes : new ≡ record { host = old.host; term = term; up = old.up ++ items_sent reply; down = rest; asked = old.asked; answers = old.answers }
+
+-- a pool grants names of LUs, and no other than the one that it is asked for
+abbrev pub IsAnswerTo : Option (List ℕ) → Answer → Type 0
+IsAnswerTo name (Err reason) = Unit {0}
+IsAnswerTo None (Ok lu) = IsTrue (is_lu lu)
+IsAnswerTo (Some name) (Ok lu) = IsTrue (is_lu lu) × (lu ≡ name)
+
+-- the pool answers
+pub record Answers (answer : Answer) (old new : Pair) : Type 0 where
+  pub name : Option (List ℕ)
+  pub rest : List (Option (List ℕ))
+  pub host : Talk HostState
+  pub reply : Reply
+  pub is_next : old.asked ≡ name ∷ rest
+  pub is_answer : IsAnswerTo name answer
+  pub takes : HostAnswered old.host answer reply host
+  pub becomes : new ≡ record { host = host; term = old.term; up = old.up; down = old.down ++ items_sent reply; asked = rest ++ names_asked reply; answers = old.answers ++ answer ∷ [] }
+
+pub data Event : Type 0 where
+  Up : Event
+  Down : Event
+  Pool : Answer → Event
+
+abbrev pub Happens : Event → Pair → Pair → Type 0
+Happens Up old new = ComesUp old new
+Happens Down old new = ComesDown old new
+Happens (Pool answer) old new = Answers answer old new
+
+-- these events happen one after another, in any order that the queues allow
+abbrev pub Happen : List Event → Pair → Pair → Type 0
+Happen [] old new = new ≡ old
+Happen (event ∷ events) old new = (mid : Pair) × Happens event old mid × Happen events mid new
+
+abbrev pub HostIsOpen : HostState → Type 0
+HostIsOpen (HostClosed cause) = ⊥
+HostIsOpen _ = Unit {0}
+
+abbrev pub TermIsOpen : TermState → Type 0
+TermIsOpen (TermClosed cause) = ⊥
+TermIsOpen _ = Unit {0}
+
+-- nothing is under way, and the pool is asked for nothing
+pub record IsSettled (pair : Pair) : Type 0 where
+  pub up : pair.up ≡ []
+  pub down : pair.down ≡ []
+  pub asked : pair.asked ≡ []
+
+-- what the ends come to: both agreed on the LU that the pool granted, or the terminal refused for
+-- the pool's reason
+abbrev pub EndsBy : List Answer → HostState → TermState → Type 0
+EndsBy (Ok lu ∷ []) host term = (host ≡ HostAgreed lu) × (term ≡ TermAgreed lu)
+EndsBy (Err reason ∷ []) host term = term ≡ TermRefused reason
+EndsBy _ host term = ⊥
+
+-- however items are delivered, and whatever the pool answers, neither end closes; the talk ends
+-- after eight events at most, agreed or refused
+pub record TalksAgree (events : List Event) (pair : Pair) : Type 0 where
+  pub host_is_open : HostIsOpen pair.host.state
+  pub term_is_open : TermIsOpen pair.term.talk.state
+  pub few : length events ≤ 8
+  pub ends : IsSettled pair → EndsBy pair.answers pair.host.state pair.term.talk.state
+
+abbrev pub TalksAlwaysAgree : Type 0
+TalksAlwaysAgree = (wanted : Option (List ℕ)) (events : List Event) (pair : Pair) → IsLuIfSome wanted → Happen events (start wanted) pair → TalksAgree events pair

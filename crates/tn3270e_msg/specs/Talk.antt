@@ -1,0 +1,125 @@
+-- What both ends' talks have in common: what an item says to them, and what they say.
+use Rattle.std.specs.Prelude.{◌≡◌, ℕ, ◌-◌, ◌==◌, if◌then◌else◌, List, [], ◌∷◌, ◌++◌, Option, None, Some, option_map, IsTrue}
+use Rattle.telnet_wire.specs.declared.wire.Verb.{Verb}
+use Rattle.telnet_wire.specs.declared.wire.Verb.TheVariants.{Will as WillVerb, Wont as WontVerb, Do as DoVerb, Dont as DontVerb}
+use Rattle.telnet_wire.specs.Items.{WireItem, Record, Opt as OptItem, Sub as SubItem, Other}
+use Rattle.tn3270e_msg.specs.declared.device.Device.TheVariants.{Model2}
+use Rattle.tn3270e_msg.specs.declared.cause.Cause.{Cause}
+use Rattle.tn3270e_msg.specs.declared.cause.Cause.TheVariants.{TooMany}
+use Rattle.tn3270e_msg.specs.declared.reply.Reason.{Reason}
+use Rattle.tn3270e_msg.specs.declared.reply.After.TheVariants.{Close as CloseAfter, Going}
+use Rattle.tn3270e_msg.specs.declared.reply.Sending.{Sending}
+use Rattle.tn3270e_msg.specs.declared.reply.Sending.TheVariants as sent
+use Rattle.tn3270e_msg.specs.declared.reply.Reply.{Reply}
+use Rattle.tn3270e_msg.specs.declared.reply.Reply.TheVariants.{Opt, Sub, AskPool, Close}
+use Rattle.tn3270e_msg.specs.declared.hearing.Line.{Line}
+use Rattle.tn3270e_msg.specs.declared.hearing.Line.TheVariants.{Stays, Goes, Refuses, Closes}
+use Rattle.tn3270e_msg.specs.declared.message.SubFault.TheVariants.{NotOurs, Malformed}
+use Rattle.tn3270e_msg.specs.declared.functions.Wants.{Wants}
+use Rattle.tn3270e_msg.specs.Functions.{wants, responses}
+use Rattle.tn3270e_msg.specs.Device.{device_text}
+use Rattle.tn3270e_msg.specs.Lu.{is_lu}
+use Rattle.tn3270e_msg.specs.Message.{Message, Name, Connect, SendType, TypeRequest, TypeIs, TypeReject, FunRequest, FunIs, Says, HasFault, name_part}
+
+-- what comes, as the tables name it
+pub data Comes : Type 0 where
+  Will : Comes  -- WILL TN3270E, and so on
+  Wont : Comes
+  Do : Comes
+  Dont : Comes
+  OtherWill : ℕ → Comes  -- of another option
+  OtherDo : ℕ → Comes
+  SendsType : Comes
+  RequestsType : List ℕ → Option Name → Comes
+  IsType : List ℕ → List ℕ → Comes
+  RejectsType : Reason → Comes
+  RequestsFunctions : Wants → Comes
+  IsFunctions : Wants → Comes
+  BreaksForm : Comes
+  NoTalk : Comes  -- a record, a command, WONT or DONT of another option, a message of another option
+
+abbrev pub option_says : Verb → ℕ → Comes
+option_says WillVerb code = if code == 40 then Will else OtherWill code
+option_says WontVerb code = if code == 40 then Wont else NoTalk
+option_says DoVerb code = if code == 40 then Do else OtherDo code
+option_says DontVerb code = if code == 40 then Dont else NoTalk
+
+abbrev pub message_says : Message → Comes
+message_says SendType = SendsType
+message_says (TypeRequest device name) = RequestsType device name
+message_says (TypeIs device name) = IsType device name
+message_says (TypeReject reason) = RejectsType reason
+message_says (FunRequest functions) = RequestsFunctions (wants functions)
+message_says (FunIs functions) = IsFunctions (wants functions)
+
+-- what the payload of a subnegotiation says
+pub data PayloadSays (bytes : List ℕ) (comes : Comes) : Type 0 where
+  message_comes : (message : Message) → Says bytes message → comes ≡ message_says message → PayloadSays bytes comes
+  others_message_comes : HasFault bytes NotOurs → comes ≡ NoTalk → PayloadSays bytes comes
+  malformed_comes : HasFault bytes Malformed → comes ≡ BreaksForm → PayloadSays bytes comes
+
+-- what an item says
+abbrev pub Hears : WireItem → Comes → Type 0
+Hears (Record bytes) comes = comes ≡ NoTalk
+Hears (OptItem verb code) comes = comes ≡ option_says verb code
+Hears (SubItem bytes) comes = PayloadSays bytes comes
+Hears (Other code) comes = comes ≡ NoTalk
+
+-- the message that an end sends; a terminal is a model 2 (our profile)
+abbrev pub message_sent : Sending → Message
+message_sent sent.SendType = SendType
+message_sent (sent.TypeRequest lu) = TypeRequest (device_text Model2) (option_map Connect lu)
+message_sent (sent.TypeIs device lu) = TypeIs (device_text device) lu
+message_sent (sent.TypeReject reason) = TypeReject reason
+message_sent sent.FunRequest = FunRequest responses
+message_sent sent.FunIs = FunIs responses
+
+-- the payload that it is sent in
+abbrev pub payload_sent : Sending → List ℕ
+payload_sent sent.SendType = 0x28 ∷ 8 ∷ 2 ∷ []
+payload_sent (sent.TypeRequest lu) = 0x28 ∷ 2 ∷ 7 ∷ (device_text Model2 ++ name_part (option_map Connect lu))
+payload_sent (sent.TypeIs device lu) = 0x28 ∷ 2 ∷ 4 ∷ (device_text device ++ 1 ∷ lu)
+payload_sent (sent.TypeReject reason) = 0x28 ∷ 2 ∷ 6 ∷ 5 ∷ reason.0 ∷ []
+payload_sent sent.FunRequest = 0x28 ∷ 3 ∷ 7 ∷ 2 ∷ []
+payload_sent sent.FunIs = 0x28 ∷ 3 ∷ 4 ∷ 2 ∷ []
+
+-- an LU's name, if there is one
+abbrev pub IsLuIfSome : Option (List ℕ) → Type 0
+IsLuIfSome None = Unit {0}
+IsLuIfSome (Some lu) = IsTrue (is_lu lu)
+
+-- what an end sends of LUs is their names
+abbrev pub IsSending : Sending → Type 0
+IsSending (sent.TypeRequest lu) = IsLuIfSome lu
+IsSending (sent.TypeIs device lu) = IsTrue (is_lu lu)
+IsSending _ = Unit {0}
+
+-- what a reply puts on the wire
+abbrev pub items_sent : Reply → List WireItem
+items_sent (Opt verb code) = OptItem verb code ∷ []
+items_sent (Sub sending after) = SubItem (payload_sent sending) ∷ []
+items_sent _ = []
+
+-- the name that a reply asks the pool for, if it asks
+abbrev pub names_asked : Reply → List (Option (List ℕ))
+names_asked (AskPool name) = name ∷ []
+names_asked _ = []
+
+-- where a talk stands, and how many rejections and counter-requests it may still send
+pub record Talk (S : Type 0) : Type 0 where
+  pub state : S
+  pub refusals_left : ℕ
+
+-- there are eight
+abbrev pub start_at : {S : Type 0} → S → Talk S
+start_at state = record { state = state; refusals_left = 8 }
+
+-- what a line makes of a talk; it closes with the last rejection or counter-request
+abbrev pub follow : {S : Type 0} → (Cause → S) → Talk S → Line S → Talk S × Reply
+follow closed talk (Stays reply) = (talk, reply)
+follow closed talk (Goes state reply) = (record { state = state; refusals_left = talk.refusals_left }, reply)
+follow closed talk (Refuses state sending) =
+    if talk.refusals_left - 1 == 0
+    then (record { state = closed TooMany; refusals_left = 0 }, Sub sending (CloseAfter TooMany))
+    else (record { state = state; refusals_left = talk.refusals_left - 1 }, Sub sending Going)
+follow closed talk (Closes cause) = (record { state = closed cause; refusals_left = talk.refusals_left }, Close cause)

@@ -1,0 +1,11 @@
+-- What writing a message does.
+use Rattle.std.specs.Prelude.{ℕ, List, Result, Vec}
+use Rattle.std.specs.declared.alloc.Global.{Global}
+use Rattle.telnet_wire.specs.Token.{spelling, Sub}
+use Rattle.telnet_wire.specs.Writing.{Appends}
+use Rattle.tn3270e_msg.specs.declared.message.SubMessage.{SubMessage}
+use Rattle.tn3270e_msg.specs.Lent.{payload}
+
+-- a subnegotiation with just this message's payload is added
+abbrev pub PutsMessage : {E : Type 0} → Vec ℕ Global → SubMessage → Result (Unit {0}) E → Vec ℕ Global → Type 0
+PutsMessage old message result new = Appends old (spelling (Sub (payload message))) result new

@@ -1,0 +1,63 @@
+//! The types of device that a host serves (RFC 1647, section 7.1).
+ghost use Rattle.std.specs.Prelude.{◌≡◌, ◌↔◌, IsTrue};
+ghost use Rattle.tn3270e_msg.specs.Device.{device_of, device_text, devices};
+ghost use Rattle.tn3270e_msg.specs.Text.{lowered};
+
+/// A 3278, by its model; an E says that it has extended attributes.
+#[derive(Clone, Copy, Debug, PartialEq, Eq)]
+pub enum Device {
+    Model2,
+    Model2E,
+    Model3,
+    Model3E,
+    Model4,
+    Model4E,
+    Model5,
+    Model5E,
+}
+
+impl Device {
+    const ALL: [Device; 8] = [
+        Device::Model2,
+        Device::Model2E,
+        Device::Model3,
+        Device::Model3E,
+        Device::Model4,
+        Device::Model4E,
+        Device::Model5,
+        Device::Model5E,
+    ];
+
+    /// The device with this text, compared in ASCII without case; None where none has it.
+    #[tactic(auto, unfolding(crate::specs::Device::device_of))]
+    pub fn read(text: &[u8]) -> Option<Device>
+        ensures { result ≡ device_of text.now }
+    {
+        Device::ALL
+            .iter()
+            .copied()
+            .find(|device| device.has_text(text))
+    }
+
+    /// Its text, in upper case.
+    pub fn text(self) -> &'static [u8]
+        ensures { result.now ≡ device_text self }
+    {
+        match self {
+            Device::Model2 => b"IBM-3278-2",
+            Device::Model2E => b"IBM-3278-2-E",
+            Device::Model3 => b"IBM-3278-3",
+            Device::Model3E => b"IBM-3278-3-E",
+            Device::Model4 => b"IBM-3278-4",
+            Device::Model4E => b"IBM-3278-4-E",
+            Device::Model5 => b"IBM-3278-5",
+            Device::Model5E => b"IBM-3278-5-E",
+        }
+    }
+
+    fn has_text(self, text: &[u8]) -> bool
+        ensures { IsTrue result ↔ (lowered text.now ≡ lowered (device_text self)) }
+    {
+        text.eq_ignore_ascii_case(self.text())
+    }
+}

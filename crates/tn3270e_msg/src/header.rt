@@ -1,0 +1,160 @@
+//! The header of a record (RFC 1647, section 8.1).
+ghost use Rattle.std.specs.Prelude.{◌≡◌, ◌↔◌, ◌<◌, ◌≤◌, ◌++◌, ℕ, List, IfOk, IfErr, IsOkAnd, Err};
+ghost use Rattle.tn3270e_msg.specs.Header.{type_code, spelling, next_number, IsDataType, IsFlag, IsHeader, Begins, HasFault};
+ghost use Rattle.tn3270e_msg.specs.declared.header.Header.{Header};
+ghost use Rattle.tn3270e_msg.specs.declared.header.HeadFault.{HeadFault};
+
+/// What a record holds: DATA-TYPE (RFC 1647, section 8.1).
+#[derive(Clone, Copy, Debug, PartialEq, Eq)]
+pub enum DataType {
+    /// 3270-DATA, 0.
+    Data3270,
+    /// SCS-DATA, 1.
+    ScsData,
+    /// RESPONSE, 2.
+    Response,
+    /// BIND-IMAGE, 3.
+    BindImage,
+    /// UNBIND, 4.
+    Unbind,
+    /// NVT-DATA, 5.
+    NvtData,
+    /// REQUEST, 6.
+    Request,
+    /// SSCP-LU-DATA, 7.
+    SscpLuData,
+    /// A code from 8 on, which has no name.
+    Unnamed(u8),
+}
+
+impl DataType {
+    fn from_code(code: u8) -> DataType
+        ensures code { type_code result ≡ code }
+        ensures named { IsDataType result }
+    {
+        match code {
+            0 => DataType::Data3270,
+            1 => DataType::ScsData,
+            2 => DataType::Response,
+            3 => DataType::BindImage,
+            4 => DataType::Unbind,
+            5 => DataType::NvtData,
+            6 => DataType::Request,
+            7 => DataType::SscpLuData,
+            _ => DataType::Unnamed(code),
+        }
+    }
+
+    fn code(self) -> u8
+        ensures { result ≡ type_code self }
+    {
+        match self {
+            DataType::Data3270 => 0,
+            DataType::ScsData => 1,
+            DataType::Response => 2,
+            DataType::BindImage => 3,
+            DataType::Unbind => 4,
+            DataType::NvtData => 5,
+            DataType::Request => 6,
+            DataType::SscpLuData => 7,
+            DataType::Unnamed(code) => code,
+        }
+    }
+
+    fn highest_flag(self) -> u8
+        ensures { (flag : ℕ) → flag < 256 → IsFlag self flag ↔ (flag ≤ result) }
+    {
+        match self {
+            DataType::Data3270 => 2,
+            DataType::Response => 1,
+            _ => 255,
+        }
+    }
+}
+
+/// RESPONSE-FLAG of 3270-DATA that wants no response.
+pub const NO_RESPONSE: u8 = 0;
+
+/// RESPONSE-FLAG of 3270-DATA that wants a response where it is refused.
+pub const ERROR_RESPONSE: u8 = 1;
+
+/// RESPONSE-FLAG of 3270-DATA that wants a response.
+pub const ALWAYS_RESPONSE: u8 = 2;
+
+/// RESPONSE-FLAG of a response to what was done.
+pub const POSITIVE: u8 = 0;
+
+/// RESPONSE-FLAG of a response to what was refused.
+pub const NEGATIVE: u8 = 1;
+
+/// The first five bytes of a record.
+#[derive(Clone, Copy, Debug, PartialEq, Eq)]
+pub struct Header {
+    /// DATA-TYPE.
+    pub kind: DataType,
+    /// REQUEST-FLAG, any byte.
+    pub request: u8,
+    /// RESPONSE-FLAG: at most 2 on 3270-DATA and at most 1 on RESPONSE.
+    pub flag: u8,
+    /// SEQ-NUMBER.
+    pub seq: u16,
+}
+
+/// Why bytes begin with no header.
+#[derive(Clone, Copy, Debug, PartialEq, Eq)]
+pub enum HeadFault {
+    /// There are fewer than five.
+    Short,
+    /// The type has no such RESPONSE-FLAG.
+    BadFlag,
+}
+
+/// The header that a record begins with, and the body behind it. Short where there are fewer than
+/// five bytes, BadFlag where RESPONSE-FLAG is over 2 on 3270-DATA or over 1 on RESPONSE.
+pub fn read_header(bytes: &[u8]) -> Result<(Header, &[u8]), HeadFault>
+    ensures found { IfOk result (λ found. Begins bytes.now found.0 found.1.now) }
+    ensures fault { IfErr result (HasFault bytes.now) }
+    // Whatever a record begins with is found.
+    ensures all { (header : Header) (body : List ℕ) → Begins bytes.now header body →
+        IsOkAnd result (λ found. (found.0 ≡ header) × (found.1.now ≡ body)) }
+    ensures refused { (fault : HeadFault) → HasFault bytes.now fault → result ≡ Err fault }
+{
+    find_header(bytes)
+}
+
+fn find_header(bytes: &[u8]) -> Result<(Header, &[u8]), HeadFault>
+    ensures found { IfOk result (λ found. Begins bytes.now found.0 found.1.now) }
+    ensures fault { IfErr result (HasFault bytes.now) }
+{
+    let [code, request, flag, high, low, body @ ..] = bytes else {
+        return Err(HeadFault::Short);
+    };
+    let kind = DataType::from_code(*code);
+    let header = Header {
+        kind,
+        request: *request,
+        flag: *flag,
+        seq: u16::from_be_bytes([*high, *low]),
+    };
+    if header.flag > kind.highest_flag() {
+        return Err(HeadFault::BadFlag);
+    }
+    Ok((header, body))
+}
+
+/// The five bytes of a header.
+pub fn header_bytes(header: &Header) -> [u8; 5]
+    requires { IsHeader header.now }
+    ensures bytes { result ≡ spelling header.now }
+    ensures read_back { (body : List ℕ) → Begins (result ++ body) header.now body }
+{
+    let [high, low] = header.seq.to_be_bytes();
+    [header.kind.code(), header.request, header.flag, high, low]
+}
+
+/// The number of the record after the one with this number: 0 comes after 32767 (our profile).
+pub const fn next_seq(seq: u16) -> u16
+    ensures { result ≡ next_number seq }
+{
+    if seq < 32767 { seq + 1 } else { 0 }
+}

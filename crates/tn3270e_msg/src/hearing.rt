@@ -1,0 +1,71 @@
+//! What both ends' talks have in common.
+ghost use Rattle.std.specs.Prelude.{◌≡◌};
+ghost use Rattle.telnet_wire.specs.Items.{item_of};
+ghost use Rattle.tn3270e_msg.specs.Talk.{Hears, option_says};
+ghost use Rattle.tn3270e_msg.specs.Hearing.{heard_says};
+
+use crate::cause::Cause;
+use crate::codes::TN3270E;
+use crate::message::{SubFault, SubMessage};
+use crate::reading::read_sub;
+use crate::reply::{Reply, Sending};
+use telnet_wire::{Item, Verb};
+
+/// The rejections and counter-requests that a talk sends at most; with the last it closes (our
+/// profile).
+pub const MOST_REFUSALS: u8 = 8;
+
+/// What an item says to a talk.
+#[derive(Clone, Copy, Debug)]
+pub enum Heard<'a> {
+    Will,
+    Wont,
+    Do,
+    Dont,
+    OtherWill(u8),
+    OtherDo(u8),
+    Message(SubMessage<'a>),
+    Malformed,
+    NoTalk,
+}
+
+/// What a talk does about it.
+#[derive(Clone, Copy, Debug)]
+pub enum Line<S> {
+    /// A reply in the same state.
+    Stays(Reply),
+    /// A reply, and the state after it.
+    Goes(S, Reply),
+    /// A rejection or a counter-request, and the state after it.
+    Refuses(S, Sending),
+    /// The end.
+    Closes(Cause),
+}
+
+pub fn hear<'a>(item: &Item<'a>) -> Heard<'a>
+    ensures { Hears (item_of item.now) (heard_says result) }
+{
+    match *item {
+        Item::Opt { verb, code } => option_heard(verb, code),
+        Item::Sub(bytes) => match read_sub(bytes) {
+            Ok(message) => Heard::Message(message),
+            Err(SubFault::NotOurs) => Heard::NoTalk,
+            Err(SubFault::Malformed) => Heard::Malformed,
+        },
+        Item::Record(_) | Item::Other(_) => Heard::NoTalk,
+    }
+}
+
+fn option_heard<'a>(verb: Verb, code: u8) -> Heard<'a>
+    ensures { heard_says result ≡ option_says verb code }
+{
+    match verb {
+        Verb::Will if code == TN3270E => Heard::Will,
+        Verb::Wont if code == TN3270E => Heard::Wont,
+        Verb::Do if code == TN3270E => Heard::Do,
+        Verb::Dont if code == TN3270E => Heard::Dont,
+        Verb::Will => Heard::OtherWill(code),
+        Verb::Do => Heard::OtherDo(code),
+        Verb::Wont | Verb::Dont => Heard::NoTalk,
+    }
+}

@@ -1,0 +1,234 @@
+//! The host's talk, from its offer to agreement (RFC 1647, section 7; the choices among its replies
+//! are our profile).
+ghost use Rattle.std.specs.Prelude.{◌≡◌, ◌↔◌, ℕ, List, IsTrue};
+ghost use Rattle.telnet_wire.specs.Items.{item_of};
+ghost use Rattle.tn3270e_msg.specs.Talk.{follow, message_says, RequestsFunctions};
+ghost use Rattle.tn3270e_msg.specs.Hearing.{heard_says};
+ghost use Rattle.tn3270e_msg.specs.Lent.{name_of, message_of};
+ghost use Rattle.tn3270e_msg.specs.Device.{device_of};
+ghost use Rattle.tn3270e_msg.specs.HostTable.{host_line, request_line, answer_line, host_start, HostTakes, HostAnswered, IsAsking, granted};
+ghost use Rattle.tn3270e_msg.specs.declared.host_talk.HostState.TheVariants.{Closed, Named, Countered};
+
+use crate::cause::Cause;
+use crate::codes::TN3270E;
+use crate::device::Device;
+use crate::functions::Wants;
+use crate::hearing::{Heard, Line, MOST_REFUSALS, hear};
+use crate::lu::Lu;
+use crate::message::{Name, SubMessage};
+use crate::reply::{After, Reason, Reply, Sending};
+use std::marker::Model;
+use telnet_wire::{Item, Verb};
+
+/// Where a host's talk stands.
+#[derive(Clone, Copy, Debug, PartialEq, Eq)]
+pub enum HostState {
+    /// TN3270E was offered.
+    Offered,
+    /// The terminal was asked for its type.
+    Asked,
+    /// The pool is asked for an LU, for this device.
+    Asking(Device),
+    /// An LU was granted.
+    Named(Lu),
+    /// The terminal's functions were countered.
+    Countered(Lu),
+    /// Both ends agreed, with this LU granted.
+    Agreed(Lu),
+    /// The host closes.
+    Closed(Cause),
+}
+
+impl HostState {
+    // What the table says.
+    fn line(self, heard: Heard) -> Line<HostState>
+        ensures { result ≡ host_line self (heard_says heard.entry) }
+    {
+        if let HostState::Closed(cause) = self {
+            return Line::Closes(cause);
+        }
+        match heard {
+            Heard::Will => match self {
+                HostState::Offered => Line::Goes(
+                    HostState::Asked,
+                    Reply::Sub(Sending::SendType, After::Going),
+                ),
+                _ => Line::Stays(Reply::Nothing),
+            },
+            Heard::Wont => Line::Closes(Cause::NoTn3270e),
+            Heard::Do => Line::Stays(Reply::Opt(Verb::Wont, TN3270E)),
+            Heard::Dont | Heard::NoTalk => Line::Stays(Reply::Nothing),
+            Heard::OtherDo(code) => Line::Stays(Reply::Opt(Verb::Wont, code)),
+            Heard::OtherWill(code) => Line::Stays(Reply::Opt(Verb::Dont, code)),
+            Heard::Message(message) => self.message_line(message),
+            Heard::Malformed => Line::Closes(Cause::BadTalk),
+        }
+    }
+
+    // What it says of a message.
+    fn message_line(self, message: SubMessage) -> Line<HostState>
+        ensures { result ≡ host_line self (message_says (message_of message.entry)) }
+    {
+        match self {
+            HostState::Closed(cause) => Line::Closes(cause),
+            HostState::Asked => match message {
+                SubMessage::TypeRequest { device, name } => {
+                    request_line(Device::read(device), name)
+                }
+                _ => Line::Closes(Cause::BadTalk),
+            },
+            HostState::Named(lu) => match message {
+                SubMessage::FunRequest(list) => functions_line(lu, Wants::of(list)),
+                _ => Line::Closes(Cause::BadTalk),
+            },
+            HostState::Countered(lu) => match message {
+                SubMessage::FunRequest(list) => functions_line(lu, Wants::of(list)),
+                SubMessage::FunIs(list) if Wants::of(list) == Wants::ResponsesAlone => {
+                    Line::Goes(HostState::Agreed(lu), Reply::Agreed)
+                }
+                _ => Line::Closes(Cause::BadTalk),
+            },
+            HostState::Offered | HostState::Asking(_) | HostState::Agreed(_) => {
+                Line::Closes(Cause::BadTalk)
+            }
+        }
+    }
+}
+
+fn request_line(device: Option<Device>, name: Option<Name>) -> Line<HostState>
+    ensures { result ≡ request_line device (name_of name.entry) }
+{
+    let Some(device) = device else {
+        return Line::Refuses(
+            HostState::Asked,
+            Sending::TypeReject(Reason::INV_DEVICE_TYPE),
+        );
+    };
+    match name {
+        None => Line::Goes(HostState::Asking(device), Reply::AskPool(None)),
+        Some(Name::Associate(_)) => {
+            Line::Refuses(
+                HostState::Asked,
+                Sending::TypeReject(Reason::UNSUPPORTED_REQ),
+            )
+        }
+        Some(Name::Connect(name)) => match Lu::read(name) {
+            Some(lu) => Line::Goes(HostState::Asking(device), Reply::AskPool(Some(lu))),
+            None => Line::Refuses(HostState::Asked, Sending::TypeReject(Reason::INV_NAME)),
+        },
+    }
+}
+
+// A functions request, once this LU is granted.
+fn functions_line(lu: Lu, wants: Wants) -> Line<HostState>
+    ensures named { result ≡ host_line (Named lu) (RequestsFunctions wants) }
+    ensures countered { result ≡ host_line (Countered lu) (RequestsFunctions wants) }
+{
+    match wants {
+        Wants::ResponsesAlone => Line::Goes(
+            HostState::Agreed(lu),
+            Reply::Sub(Sending::FunIs, After::Agreed),
+        ),
+        Wants::ResponsesAndMore => Line::Refuses(HostState::Countered(lu), Sending::FunRequest),
+        Wants::NoResponses => Line::Closes(Cause::NoResponses),
+    }
+}
+
+/// The host's part of the talk with one terminal. Contracts see its state, and how many
+/// rejections and counter-requests it may still send.
+#[derive(Drop, Debug)]
+pub struct HostTalk {
+    state: HostState,
+    refusals_left: u8,
+}
+
+impl Model for HostTalk {
+    ghost use Rattle.tn3270e_msg.specs.declared.host_talk.HostState.{HostState};
+    ghost use Rattle.tn3270e_msg.specs.Talk.{Talk};
+
+    ghost Value = { Talk HostState };
+
+    ghost view = { λ talk. record { state = talk.state; refusals_left = talk.refusals_left } };
+}
+
+impl HostTalk {
+    /// A talk in which TN3270E was just offered.
+    pub fn new() -> HostTalk
+        ensures { result ≡ host_start }
+    {
+        HostTalk {
+            state: HostState::Offered,
+            refusals_left: MOST_REFUSALS,
+        }
+    }
+
+    /// Takes an item that came, and says what is to be done about it. A message other than those
+    /// that the talk awaits closes it, by BadTalk; so does the eighth rejection or counter-request,
+    /// once it is sent, by TooMany. A closed talk answers its cause again.
+    pub fn take(&mut self, item: &Item) -> Reply
+        ensures { HostTakes self.old (item_of item.now) (result) self.new }
+    {
+        let line = self.state.line(hear(item));
+        self.follow(line)
+    }
+
+    /// Takes the pool's answer, for which the talk waits.
+    pub fn answered(&mut self, answer: Result<Lu, Reason>) -> Reply
+        requires { IsAsking self.old.state }
+        ensures { HostAnswered self.old answer (result) self.new }
+    {
+        let HostState::Asking(device) = self.state else {
+            unreachable!()
+        };
+        self.follow(match answer {
+            Ok(lu) => Line::Goes(
+                HostState::Named(lu),
+                Reply::Sub(Sending::TypeIs(device, lu), After::Going),
+            ),
+            Err(reason) => Line::Refuses(HostState::Asked, Sending::TypeReject(reason)),
+        })
+    }
+
+    /// Whether the pool's answer is awaited.
+    pub fn asking(&self) -> bool
+        ensures { IsTrue result ↔ IsAsking self.now.state }
+    {
+        matches!(self.state, HostState::Asking(_))
+    }
+
+    /// The LU that was granted, until the talk closes.
+    pub fn lu(&self) -> Option<Lu>
+        ensures { result ≡ granted self.now.state }
+    {
+        match self.state {
+            HostState::Named(lu) | HostState::Countered(lu) | HostState::Agreed(lu) => Some(lu),
+            _ => None,
+        }
+    }
+
+    fn follow(&mut self, line: Line<HostState>) -> Reply
+        ensures { (self.new, result) ≡ follow Closed self.old (line) }
+    {
+        match line {
+            Line::Stays(reply) => reply,
+            Line::Goes(state, reply) => {
+                self.state = state;
+                reply
+            }
+            Line::Refuses(state, sending) => {
+                self.refusals_left = self.refusals_left.saturating_sub(1);
+                if self.refusals_left == 0 {
+                    self.state = HostState::Closed(Cause::TooMany);
+                    Reply::Sub(sending, After::Close(Cause::TooMany))
+                } else {
+                    self.state = state;
+                    Reply::Sub(sending, After::Going)
+                }
+            }
+            Line::Closes(cause) => {
+                self.state = HostState::Closed(cause);
+                Reply::Close(cause)
+            }
+        }
+    }
+}

@@ -1,0 +1,59 @@
+//! TN3270E (RFC 1647): the header of a record, the messages of a negotiation, and both ends' talks
+//! from the host's offer to agreement.
+#![tactic(auto)]
+
+ghost use Rattle.tn3270e_msg.specs.Laws.{OneHeader, FaultIsNoHeader, OneHeadFault, OneMessage, FaultIsNoMessage, OneSubFault, OneHearing, NameIsReadAsItself};
+ghost use Rattle.tn3270e_msg.specs.Pair.{TalksAlwaysAgree};
+
+mod cause;
+mod codes;
+mod device;
+mod functions;
+mod header;
+mod hearing;
+mod host_talk;
+mod lu;
+mod message;
+mod reading;
+mod reply;
+mod term_talk;
+mod writing;
+
+pub use cause::{Cause, Fed, Stop};
+pub use device::Device;
+pub use header::{
+    ALWAYS_RESPONSE, DataType, ERROR_RESPONSE, HeadFault, Header, NEGATIVE, NO_RESPONSE, POSITIVE,
+    header_bytes, next_seq, read_header,
+};
+pub use host_talk::{HostState, HostTalk};
+pub use lu::Lu;
+pub use message::{Name, SubFault, SubMessage};
+pub use reading::read_sub;
+pub use reply::{After, Reason, Reply, Sending};
+pub use term_talk::{TermState, TermTalk};
+pub use writing::put_sub_message;
+
+/// A law: a host's talk and a terminal's with each other never close, whatever the pool answers and
+/// however their items are delivered. After eight events at most they have ended: agreed on the LU
+/// that the pool granted, or refused for its reason.
+pub fn talks_agree()
+    ensures { TalksAlwaysAgree }
+{}
+
+/// Laws: bytes begin with one header or have one fault, and are one message or have one fault; an
+/// item says one thing to a talk; a name of an LU is read as itself.
+pub fn one_reading()
+    ensures header { OneHeader }
+    ensures header_or_fault { FaultIsNoHeader }
+    ensures head_fault { OneHeadFault }
+    ensures message { OneMessage }
+    ensures message_or_fault { FaultIsNoMessage }
+    ensures sub_fault { OneSubFault }
+    ensures hearing { OneHearing }
+    ensures name { NameIsReadAsItself }
+{}
+
+#[cfg(test)]
+mod talk_tests;
+#[cfg(test)]
+mod tests;

@@ -1,0 +1,80 @@
+//! Names of logical units (our profile).
+ghost use Rattle.std.specs.Prelude.{◌≡◌, ◌≤◌, List, IsTrue, IfSome, Some, length};
+ghost use Rattle.tn3270e_msg.specs.Lu.{is_lu, lu_of, is_lu_letter};
+
+use std::marker::Model;
+
+/// The name of a logical unit: one to eight of `A` to `Z`, `0` to `9`, `@`, `#` and `$`, the first no
+/// digit. Contracts see it as the list of its bytes.
+#[derive(Clone, Copy, Debug, PartialEq, Eq)]
+pub struct Lu {
+    letters: [u8; 8],
+    size: usize,
+}
+
+impl Model for Lu {
+    ghost use Rattle.std.specs.Prelude.{ℕ, List, take, length};
+    ghost use Rattle.tn3270e_msg.specs.Lu.{padded, IsPadded};
+
+    ghost Value = { List ℕ };
+
+    ghost view = { λ lu. take lu.size lu.letters };
+
+    ghost invariant = { λ lu. IsPadded lu.letters lu.size };
+
+    ghost inverse = { λ name. record { letters = padded name; size = length name } };
+}
+
+impl Lu {
+    /// The name that these bytes spell, where lower case stands for upper; None where they spell
+    /// none.
+    pub fn read(bytes: &[u8]) -> Option<Lu>
+        ensures value { result ≡ lu_of bytes.now }
+        ensures is_lu { IfSome result (λ lu. IsTrue (is_lu lu)) }
+    {
+        if bytes.len() > 8 {
+            return None;
+        }
+        let mut letters = [0; 8];
+        for (place, byte) in bytes.iter().enumerate() {
+            letters[place] = byte.to_ascii_uppercase();
+        }
+        let size = bytes.len();
+        if !is_name(&letters[..size]) {
+            return None;
+        }
+        Some(Lu { letters, size })
+    }
+
+    /// Its bytes, which are read as this name again.
+    pub fn as_bytes(&self) -> &[u8]
+        ensures value { result.now ≡ self.now }
+        ensures is_lu { IsTrue (is_lu self.now) }
+        ensures read_back { lu_of self.now ≡ Some self.now }
+    {
+        &self.letters[..self.size]
+    }
+
+    // What each name is, for the contracts of those that hold one and don't read it.
+    pub fn is_lu(&self)
+        ensures { IsTrue (is_lu self.now) }
+    {
+        let _ = self.as_bytes();
+    }
+}
+
+fn is_name(name: &[u8]) -> bool
+    requires { length name.now ≤ 8 }
+    ensures { result ≡ is_lu name.now }
+{
+    match name {
+        [] => false,
+        [first, ..] => !first.is_ascii_digit() && name.iter().all(|letter| is_lu_letter(*letter)),
+    }
+}
+
+fn is_lu_letter(letter: u8) -> bool
+    ensures { result ≡ is_lu_letter letter }
+{
+    letter.is_ascii_uppercase() || letter.is_ascii_digit() || matches!(letter, b'@' | b'#' | b'$')
+}

@@ -1,0 +1,106 @@
+//! What the two ends' talks answer.
+ghost use Rattle.std.specs.Prelude.{◌≡◌, ◌≤◌, length};
+ghost use Rattle.tn3270e_msg.specs.Message.{IsMessage};
+ghost use Rattle.tn3270e_msg.specs.Lent.{message_of, payload};
+ghost use Rattle.tn3270e_msg.specs.Talk.{message_sent, payload_sent, IsSending};
+
+use crate::cause::Cause;
+use crate::codes::RESPONSES;
+use crate::device::Device;
+use crate::lu::Lu;
+use crate::message::{Name, SubMessage};
+use telnet_wire::Verb;
+
+/// Why a host rejects a device request: a code of RFC 1647, section 3, or one that it doesn't name.
+#[derive(Clone, Copy, Debug, PartialEq, Eq)]
+pub struct Reason(pub u8);
+
+impl Reason {
+    /// DEVICE-IN-USE: the LU is held, or each is where none was named.
+    pub const DEVICE_IN_USE: Reason = Reason(1);
+
+    /// INV-NAME: there is no such LU.
+    pub const INV_NAME: Reason = Reason(3);
+
+    /// INV-DEVICE-TYPE: the type isn't served.
+    pub const INV_DEVICE_TYPE: Reason = Reason(4);
+
+    /// UNSUPPORTED-REQ: printers aren't served.
+    pub const UNSUPPORTED_REQ: Reason = Reason(7);
+}
+
+/// A message that an end sends. It holds its parts, where a `SubMessage` lends them.
+#[derive(Clone, Copy, Debug, PartialEq, Eq)]
+pub enum Sending {
+    /// SEND DEVICE-TYPE.
+    SendType,
+    /// DEVICE-TYPE REQUEST of a model 2, with CONNECT and this LU if there is one.
+    TypeRequest(Option<Lu>),
+    /// DEVICE-TYPE IS, with CONNECT and the LU granted.
+    TypeIs(Device, Lu),
+    /// DEVICE-TYPE REJECT REASON.
+    TypeReject(Reason),
+    /// FUNCTIONS REQUEST of RESPONSES alone.
+    FunRequest,
+    /// FUNCTIONS IS of RESPONSES alone.
+    FunIs,
+}
+
+impl Sending {
+    /// The message, with its parts lent. It fits a subnegotiation of 256 bytes.
+    pub fn message(&self) -> SubMessage<'_>
+        ensures value { message_of result ≡ message_sent self.now }
+        ensures bytes { payload result ≡ payload_sent self.now }
+        ensures is_message { IsMessage (message_sent self.now) }
+        ensures is_sending { IsSending self.now }
+        ensures short { length (payload_sent self.now) ≤ 256 }
+    {
+        match self {
+            Sending::SendType => SubMessage::SendType,
+            Sending::TypeRequest(lu) => SubMessage::TypeRequest {
+                device: Device::Model2.text(),
+                name: match lu {
+                    Some(lu) => Some(Name::Connect(lu.as_bytes())),
+                    None => None,
+                },
+            },
+            Sending::TypeIs(device, lu) => SubMessage::TypeIs {
+                device: device.text(),
+                name: lu.as_bytes(),
+            },
+            Sending::TypeReject(reason) => SubMessage::TypeReject(*reason),
+            Sending::FunRequest => SubMessage::FunRequest(&[RESPONSES]),
+            Sending::FunIs => SubMessage::FunIs(&[RESPONSES]),
+        }
+    }
+}
+
+/// How a talk stands once a message is sent.
+#[derive(Clone, Copy, Debug, PartialEq, Eq)]
+pub enum After {
+    /// It goes on.
+    Going,
+    /// The ends agreed.
+    Agreed,
+    /// The end closes.
+    Close(Cause),
+}
+
+/// What an end does about an item.
+#[derive(Clone, Copy, Debug, PartialEq, Eq)]
+pub enum Reply {
+    Nothing,
+    /// It sends an option's negotiation.
+    Opt(Verb, u8),
+    /// It sends a message.
+    Sub(Sending, After),
+    /// The host asks its pool for an LU, of this name if there is one; `HostTalk::answered` takes
+    /// the answer.
+    AskPool(Option<Lu>),
+    /// The ends agreed.
+    Agreed,
+    /// The host refused the terminal an LU. The terminal's talk is over, and it stays open.
+    Refused(Reason),
+    /// The end closes.
+    Close(Cause),
+}
