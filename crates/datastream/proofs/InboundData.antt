@@ -1,5 +1,5 @@
 -- Bytes are one inbound data of a form, or have one first fault.
-use Rattle.std.proofs.Common.{◌≡◌, ◌==◌, ℕ, ◌<◌, ◌≤◌, List, [], ◌∷◌, ◌-◌, length, get_or, take, drop, Bool, true, false, cond, refl, ap, sym, ◌∙◌, Result, Ok, Err, Option, Some, None, nat_lt, subst, arith, ◌⊎◌, inl, inr}
+use Rattle.std.proofs.Common.{◌≡◌, ℕ, ◌<◌, ◌≤◌, List, [], ◌∷◌, ◌-◌, length, get_or, take, drop, Bool, true, false, cond, refl, ap, sym, ◌∙◌, Result, Ok, Err, Option, Some, None, nat_lt, subst, arith, ◌⊎◌, inl, inr}
 use Rattle.std.specs.Prelude.{MatchOption, MatchResult, All, if◌then◌else◌, IfSome}
 use Rattle.std.proofs.lemmas.Bool.{cases_lt, false≢true, lt-ltb, le-ltb}
 use Rattle.std.proofs.lemmas.List.{take_all}

@@ -1,18 +1,17 @@
 -- The part at the front of inbound bytes: reading it agrees with what bytes stand for parts.
-use Rattle.std.proofs.Common.{◌≡◌, ◌==◌, ℕ, ◌<◌, ◌≤◌, List, [], ◌∷◌, ◌++◌, length, Bool, true, false, cond, refl, ap, sym, ◌∙◌, Result, Ok, Err, nat_lt, arith}
-use Rattle.std.specs.Prelude.{◌||◌, ◌&&◌}
+use Rattle.std.proofs.Common.{◌≡◌, ◌==◌, ℕ, ◌<◌, List, [], ◌∷◌, ◌++◌, length, Bool, true, false, cond, refl, ap, sym, ◌∙◌, Result, Ok, Err, nat_lt, arith}
+use Rattle.std.specs.Prelude.{◌||◌}
 use Rattle.std.proofs.lemmas.Bool.{cond_both, eqb-true, ltb-true, ltb-false, lt-ltb, le-ltb, false≢true}
 use Rattle.codes3270.specs.Size.{cell_count}
 use Rattle.codes3270.specs.Address.{address_of}
-use Rattle.codes3270.specs.Attribute.{attr_of}
 use Rattle.codes3270.specs.Storable.{is_storable}
 use Rattle.datastream.specs.declared.inbound_part.Form.{Form}
 use Rattle.datastream.specs.declared.inbound_part.Form.TheVariants.{Modified, All as AllModified, Buffer}
 use Rattle.datastream.specs.declared.inbound_part.Part.{Part}
 use Rattle.datastream.specs.declared.inbound_part.Part.TheVariants.{At, Char, Attr}
 use Rattle.datastream.specs.declared.inbound_part.InboundFault.{InboundFault}
-use Rattle.datastream.specs.declared.inbound_part.InboundFault.TheVariants.{Short, BadAddress, BadForm}
-use Rattle.datastream.specs.Grammar.{start_field, set_buffer_address, IsAddress}
+use Rattle.datastream.specs.declared.inbound_part.InboundFault.TheVariants.{Short, BadAddress}
+use Rattle.datastream.specs.Grammar.{start_field, set_buffer_address}
 use Rattle.datastream.specs.InboundText.{is_text_char, IsTextPart, IsCellPart, IsPart, IsNoTextPart, IsNoCell, IsNoPart, IsTextProper, IsCellProper, IsProperPart}
 use Rattle.datastream.specs.InboundText.IsNoTextPart.{out_of_place as text_out_of_place, cut_address, address_too_large}
 use Rattle.datastream.specs.InboundText.IsNoCell.{at_end, cut_attribute, out_of_place as cell_out_of_place}

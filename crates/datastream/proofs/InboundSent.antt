@@ -1,6 +1,6 @@
 -- What a screen's read writes is read as that screen's data.
-use Rattle.std.proofs.Common.{◌≡◌, ◌==◌, ℕ, ◌+◌, ◌-◌, ◌%◌, ◌<◌, ◌≤◌, List, [], ◌∷◌, ◌++◌, length, get_or, take, drop, map, filter, Bool, true, false, cond, refl, ap, sym, ◌∙◌, Some, None, arith, append_assoc, subst, add-zero}
-use Rattle.std.specs.Prelude.{All, ◌&&◌, not, if◌then◌else◌}
+use Rattle.std.proofs.Common.{◌≡◌, ◌==◌, ℕ, ◌+◌, ◌%◌, ◌<◌, List, [], ◌∷◌, ◌++◌, length, get_or, take, drop, map, filter, Bool, true, false, cond, refl, ap, sym, ◌∙◌, Some, None, arith, append_assoc, subst}
+use Rattle.std.specs.Prelude.{All, ◌&&◌, not}
 use Rattle.std.specs.List.{flat_map, list_all}
 use Rattle.std.proofs.Math.Nat.{mod-lt}
 use Rattle.std.proofs.lemmas.Bool.{cond_both, and_from, false≢true}
@@ -8,26 +8,24 @@ use Rattle.std.proofs.lemmas.List.{append-nil, take-append-drop, take_more, drop
 use Rattle.std.proofs.lemmas.List.Elements.{All-head, All-tail, All-nil, All-cons, All-append}
 use Rattle.codes3270.specs.Size.{cell_count}
 use Rattle.codes3270.specs.Address.{address_bytes}
-use Rattle.codes3270.specs.Aid.{aid_of, byte_of_aid, is_short_aid, IsRealAid}
+use Rattle.codes3270.specs.Aid.{byte_of_aid, is_short_aid}
 use Rattle.codes3270.specs.Attribute.{attr_byte}
 use Rattle.codes3270.specs.Storable.{is_storable}
 use Rattle.codes3270.proofs.RoundTrips.{address_read_back, aid_read_back, attr_read_back}
-use Rattle.codes3270.specs.declared.attention.Aid.{Aid}
-use Rattle.codes3270.specs.declared.attention.Aid.TheVariants.{NoAid, Enter, Clear, Pf, Pa}
 use Rattle.codes3270.specs.declared.attribute.Attr.{Attr as Attribute}
 use Rattle.codes3270.specs.declared.attribute.Cell.{Cell}
 use Rattle.codes3270.specs.declared.attribute.Cell.TheVariants.{Char as CharCell, Attr as AttrCell}
 use Rattle.datastream.specs.declared.inbound_part.Form.{Form}
 use Rattle.datastream.specs.declared.inbound_part.Form.TheVariants.{Modified, All as AllModified, Buffer}
 use Rattle.datastream.specs.declared.inbound_part.Part.{Part}
-use Rattle.datastream.specs.declared.inbound_part.Part.TheVariants.{At, Char, Attr}
+use Rattle.datastream.specs.declared.inbound_part.Part.TheVariants.{At, Char}
 use Rattle.datastream.specs.Grammar.{set_buffer_address}
 use Rattle.datastream.specs.Screen.{Screen, is_char, text_before_attribute, field_text, places_from}
-use Rattle.datastream.specs.Fields.{Field, fields_from, fields}
+use Rattle.datastream.specs.Fields.{Field, fields_from}
 use Rattle.datastream.specs.Inbound.{without_nulls, is_modified, modified_field, modified_text, read_modified, cell_bytes, read_buffer}
-use Rattle.datastream.specs.InboundText.{is_text_char, IsTextPart, IsPart, AreParts, IsWhole, InboundParts, stands_alone, IsInbound}
+use Rattle.datastream.specs.InboundText.{is_text_char, IsTextPart, IsPart, AreParts, IsWhole, stands_alone, IsInbound}
 use Rattle.datastream.specs.InboundText.IsInbound.{alone, long}
-use Rattle.datastream.specs.InboundFields.{Returned, field_parts, parts_of_fields, part_of_cell, parts_of_cells, lead_of, is_modified_field, returned_field, returned_of, modified_data, buffer_data, IsStorableCell, IsSendable, SentIsRead}
+use Rattle.datastream.specs.InboundFields.{field_parts, parts_of_fields, part_of_cell, parts_of_cells, lead_of, is_modified_field, returned_field, returned_of, modified_data, buffer_data, IsStorableCell, IsSendable, SentIsRead}
 
 -- ---- parts of texts
 

@@ -1,6 +1,5 @@
 -- Fields of inbound data as slices of its bytes.
 use Rattle.std.proofs.Common.{◌≡◌, ℕ, ◌+◌, ◌-◌, ◌^◌, ◌<◌, ◌≤◌, zero, suc, List, [], ◌∷◌, ◌++◌, length, get_or, take, drop, Bool, true, false, cond, refl, ap, sym, ◌∙◌, subst, arith, ◌⊎◌, inl, inr, Result, Ok, Err}
-use Rattle.std.specs.Prelude.{◌&&◌}
 use Rattle.std.specs.List.{prefix_len}
 use Rattle.std.proofs.lemmas.Bool.{and_parts, false≢true}
 use Rattle.std.proofs.lemmas.List.{take_all}
@@ -13,13 +12,13 @@ use Rattle.datastream.specs.declared.inbound_part.Part.{Part}
 use Rattle.datastream.specs.declared.inbound_part.Part.TheVariants.{At, Char, Attr}
 use Rattle.datastream.specs.declared.inbound_part.InboundFault.{InboundFault}
 use Rattle.datastream.specs.Grammar.{start_field, set_buffer_address}
-use Rattle.datastream.specs.InboundText.{is_text_char, IsPart, AreParts}
+use Rattle.datastream.specs.InboundText.{IsPart, AreParts}
 use Rattle.datastream.specs.InboundReading.{and_parts as and_others, part_at, parts_within, parts_in}
 use Rattle.datastream.specs.InboundFields.{Returned, lead, returned, cells_sent, cell_of_part, IsStorableCell}
 use Rattle.codes3270.specs.declared.attribute.Cell.{Cell}
 use Rattle.codes3270.specs.declared.attribute.Cell.TheVariants.{Char as CharCell, Attr as AttrCell}
 use Rattle.std.specs.Prelude.{All}
-use Rattle.std.proofs.Common.{Option, Some}
+use Rattle.std.proofs.Common.{Some}
 use Rattle.std.proofs.lemmas.List.Elements.{All-head, All-tail, All-nil, All-cons}
 use Rattle.datastream.specs.InboundText.{IsProperPart}
 use Rattle.datastream.proofs.InboundFront.{IsRead, cell_read}

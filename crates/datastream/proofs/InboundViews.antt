@@ -11,7 +11,7 @@ use Rattle.datastream.specs.declared.inbound_part.Form.TheVariants.{Modified, Al
 use Rattle.datastream.specs.declared.inbound_part.Part.{Part}
 use Rattle.datastream.specs.declared.inbound_part.Part.TheVariants.{At, Char, Attr}
 use Rattle.datastream.specs.InboundText.{IsProperPart, is_text_char}
-use Rattle.datastream.specs.InboundFields.{Returned, lead, returned, cells_sent, field_parts, parts_of_fields, part_of_cell, parts_of_cells, PartsAreFields, IsProperReturned}
+use Rattle.datastream.specs.InboundFields.{Returned, lead, returned, cells_sent, field_parts, parts_of_fields, parts_of_cells, PartsAreFields, IsProperReturned}
 
 -- ---- which parts a form has not
 

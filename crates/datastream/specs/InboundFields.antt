@@ -1,11 +1,10 @@
 -- Inbound data by fields: what came before any address, each field that came with its first address and its text, and the
 -- cells of a buffer.
-use Rattle.std.specs.Prelude.{◌≡◌, ⊤, ◌+◌, ◌%◌, ◌&&◌, ◌<◌, ◌≤◌, not, ℕ, Bool, true, false, List, [], ◌∷◌, ◌++◌, length, map, filter, All, Option, Some, None, if◌then◌else◌}
+use Rattle.std.specs.Prelude.{◌≡◌, ⊤, ◌+◌, ◌%◌, ◌<◌, ℕ, Bool, true, false, List, [], ◌∷◌, ◌++◌, length, map, filter, All, Option, Some, None, if◌then◌else◌}
 use Rattle.std.specs.List.{flat_map, list_all}
 use Rattle.codes3270.specs.Size.{cell_count}
-use Rattle.codes3270.specs.Aid.{is_short_aid, IsRealAid}
+use Rattle.codes3270.specs.Aid.{IsRealAid}
 use Rattle.codes3270.specs.Storable.{is_storable}
-use Rattle.codes3270.specs.declared.attention.Aid.{Aid}
 use Rattle.codes3270.specs.declared.attribute.Cell.{Cell}
 use Rattle.codes3270.specs.declared.attribute.Cell.TheVariants.{Char as CharCell, Attr as AttrCell}
 use Rattle.datastream.specs.declared.inbound_part.Form.{Form}

@@ -1,14 +1,12 @@
 -- What `position` finds.
-use Rattle.std.proofs.Common.{◌≡◌, ℕ, zero, suc, ◌+◌, ◌<◌, ◌≤◌, Bool, true, false, not, cond, ltb, List, [], ◌∷◌, length, Option, None, Some, Result, Ok, Err, refl, sym, ap, ◌∙◌, arith}
+use Rattle.std.proofs.Common.{◌≡◌, ℕ, zero, suc, ◌+◌, ◌<◌, ◌≤◌, Bool, true, false, cond, ltb, List, [], ◌∷◌, length, Option, None, Some, Err, refl, ap, ◌∙◌, arith}
 use Rattle.std.specs.Prelude.{find, position, slice_get, is_none}
 use Rattle.std.specs.List.{position_or_len}
 use Rattle.std.specs.Str.{bytes_eq}
-use Rattle.std.proofs.lemmas.Bool.{false≢true, ltb-true, ltb-false}
-use Rattle.std.proofs.lemmas.Slice.Eq.{bytes_eq-Decides}
-use Rattle.tn3270e_msg.specs.Lu.{lu_of}
+use Rattle.std.proofs.lemmas.Bool.{ltb-true, ltb-false}
 use Rattle.lu_pool.specs.declared.entry.Entry.{Entry}
 use Rattle.lu_pool.specs.Pool.{entry}
-use Rattle.lu_pool.specs.Asking.{answer_to, answer_to_lu, IsFreePlace, device_in_use, inv_name, named, granted}
+use Rattle.lu_pool.specs.Asking.{answer_to, answer_to_lu, IsFreePlace, device_in_use, inv_name}
 
 -- the first element that passes stands at this place
 pub record Finds {X : Type 0} (p : X → Bool) (xs : List X) (place : ℕ) : Type 0 where

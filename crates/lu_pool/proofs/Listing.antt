@@ -10,13 +10,12 @@ use Rattle.std.proofs.lemmas.Bool.{false≢true}
 use Rattle.tn3270e_msg.specs.Lu.{is_lu}
 use Rattle.lu_pool.specs.declared.entry.Entry.{Entry}
 use Rattle.lu_pool.specs.declared.fault.PoolFault.{PoolFault}
-use Rattle.lu_pool.specs.declared.fault.PoolFault.TheVariants.{BadName, Twice, BadCount, Memory}
-use Rattle.lu_pool.specs.Pool.{entry, IsCount, IsPool, AreLus, ListedOnce, HeldOnce}
+use Rattle.lu_pool.specs.Pool.{entry, IsCount, IsPool, AreLus, ListedOnce}
 use Rattle.std.specs.Prelude.{String}
 use Rattle.std.specs.String.{string_bytes}
 use Rattle.std.proofs.lemmas.Option.{slice_get_read}
 use Rattle.tn3270e_msg.specs.Lu.{lu_of}
-use Rattle.lu_pool.specs.Reading.{readings, IsReadFrom, HasFault, IsRightBelow, IsFirstFault, IsTextFault, no_name, named_before, IsNew}
+use Rattle.lu_pool.specs.Reading.{readings, IsReadFrom, IsRightBelow, IsFirstFault, IsTextFault, no_name, named_before, IsNew}
 
 -- what stands at a place of a list that grew by one
 push_get : {X : Type 0} (xs : List X) (y : X) (j : ℕ) (e : X) → slice_get (xs ++ y ∷ []) j ≡ Some e → (slice_get xs j ≡ Some e) ⊎ ((j ≡ length xs) × (y ≡ e))

@@ -1,4 +1,4 @@
-use Rattle.std.proofs.Common.{sym, ◌∙◌, ap, refl}
+use Rattle.std.proofs.Common.{sym, ◌∙◌, refl}
 use Rattle.std.specs.Str.{bytes_eq}
 use Rattle.lu_pool.specs.declared.entry.Entry.{Entry}
 use Rattle.lu_pool.specs.Reading.{named_before}

@@ -1,7 +1,5 @@
-use Rattle.std.proofs.Common.{◌≡◌, sym, ◌∙◌, ap, Ok, Err, rules, arith}
-use Rattle.std.specs.Option.{option_copied}
+use Rattle.std.proofs.Common.{sym, rules, arith}
 use Rattle.std.proofs.lemmas.Option.{slice_get_within}
-use Rattle.lu_pool.specs.Asking.{answer_to}
 use Rattle.lu_pool.proofs.Changes.{after_grant, refused_held, one_holder, one_lu}
 use Rattle.lu_pool.proofs.pool.Pool.ask.Goals as goal
 

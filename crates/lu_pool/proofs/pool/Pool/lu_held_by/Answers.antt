@@ -1,4 +1,4 @@
-use Rattle.std.proofs.Common.{◌≡◌, sym, ◌∙◌}
+use Rattle.std.proofs.Common.{sym, ◌∙◌}
 use Rattle.lu_pool.specs.declared.entry.Entry.{Entry}
 use Rattle.lu_pool.specs.Pool.{is_held_by}
 use Rattle.lu_pool.proofs.Finding.{finds, finds_none}

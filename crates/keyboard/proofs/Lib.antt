@@ -1,0 +1,10 @@
+pub mod Searches
+pub mod Governing
+pub mod Texts
+pub mod Kept
+pub mod Leaving
+pub mod Keeping
+pub mod Locks
+pub mod Replaced
+pub mod Inside
+pub mod Homes

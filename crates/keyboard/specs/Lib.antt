@@ -1,0 +1,7 @@
+pub mod State
+pub mod Names
+pub mod Places
+pub mod Edits
+pub mod Keys
+pub mod Leaves
+pub mod Laws

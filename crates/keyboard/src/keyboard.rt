@@ -1,0 +1,190 @@
+ghost use Rattle.std.specs.Prelude.{◌≡◌, false};
+ghost use Rattle.codes3270.specs.Size.{columns};
+ghost use Rattle.keyboard.specs.State.{fresh, freed};
+ghost use Rattle.keyboard.specs.Keys.{pressed, acted, locked_out, reset, sent, keyboard_after, answer_to};
+
+use crate::{Key, Lock, Pressed, Refusal, edits, places};
+use codes3270::{Addr, Aid, COLUMNS};
+use presentation::Screen;
+use std::marker::Model;
+
+/// A keyboard: its lock, and whether insert mode is on. Contracts see these two.
+#[derive(Clone, Copy, Debug, PartialEq, Eq)]
+pub struct Keyboard {
+    lock: Lock,
+    inserting: bool,
+}
+
+impl Model for Keyboard {
+    ghost use Rattle.keyboard.specs.State.{Keyboard as Kept};
+
+    ghost Value = { Kept };
+
+    ghost view = { λ keyboard. record { lock = keyboard.lock; inserting = keyboard.inserting } };
+
+    ghost inverse = { λ kept. record { lock = kept.lock; inserting = kept.inserting } };
+}
+
+impl Keyboard {
+    /// The keyboard of a terminal that no write has freed yet: its lock is `Wait`, and insert mode is off (our profile).
+    pub fn new() -> Keyboard
+        ensures { result ≡ fresh }
+    {
+        Keyboard {
+            lock: Lock::Wait,
+            inserting: false,
+        }
+    }
+
+    /// Whether it takes keys.
+    pub fn lock(&self) -> Lock
+        ensures { result ≡ self.now.lock }
+    {
+        let Keyboard { lock, .. } = *self;
+        lock
+    }
+
+    /// Whether insert mode is on, in which characters shift the rest of the field in place of overwriting it.
+    pub fn inserting(&self) -> bool
+        ensures { result ≡ self.now.inserting }
+    {
+        let Keyboard { inserting, .. } = *self;
+        inserting
+    }
+
+    /// What a command does to the keyboard that restores it (GA23-0059, "Write control character"): its lock is `Free`.
+    /// Insert mode stays (our profile).
+    pub fn restored(&mut self)
+        ensures { self.new ≡ freed self.old }
+    {
+        self.lock = Lock::Free;
+    }
+
+    /// Presses a key (GA23-0059, "Keyboard and Printer Operations").
+    ///
+    /// At a lock that isn't `Free` only Reset acts, which never ends `Wait`. A key that can't act is refused: the reasons are
+    /// tested in the order that [`Refusal`] names, `Locked` and `NoCode` change nothing, and the other refusals set the lock to
+    /// `Error` and change nothing else (our profile). Enter, PF, PA and Clear set the screen's AID, end insert mode and set the
+    /// lock to `Wait`; what is sent then is read off the screen.
+    pub fn press(&mut self, screen: &mut Screen, key: Key) -> Pressed
+        ensures keyboard { self.new ≡ (pressed columns key self.old screen.old).keyboard }
+        ensures screen { screen.new ≡ (pressed columns key self.old screen.old).screen }
+        ensures answer { result ≡ (pressed columns key self.old screen.old).answer }
+    {
+        match self.lock {
+            Lock::Free => self.act(screen, key),
+            Lock::Wait | Lock::Error => self.stay_locked(screen, key),
+        }
+    }
+
+    /// A key at a lock that isn't free: all but Reset are refused.
+    fn stay_locked(&mut self, screen: &Screen, key: Key) -> Pressed
+        ensures keyboard { self.new ≡ (locked_out key self.old screen.now).keyboard }
+        ensures screen { (locked_out key self.old screen.now).screen ≡ screen.now }
+        ensures answer { result ≡ (locked_out key self.old screen.now).answer }
+    {
+        match key {
+            Key::Reset => {
+                self.reset();
+                Pressed::Done
+            }
+            _ => Pressed::Refused(Refusal::Locked),
+        }
+    }
+
+    /// A key at a free lock.
+    fn act(&mut self, screen: &mut Screen, key: Key) -> Pressed
+        ensures keyboard { self.new ≡ (acted columns key self.old screen.old).keyboard }
+        ensures screen { screen.new ≡ (acted columns key self.old screen.old).screen }
+        ensures answer { result ≡ (acted columns key self.old screen.old).answer }
+    {
+        match key {
+            Key::Char(letter) => {
+                let typed = edits::type_character(screen, self.inserting(), letter);
+                self.finish(typed)
+            }
+            Key::Delete => {
+                let deleted = edits::delete(screen);
+                self.finish(deleted)
+            }
+            Key::EraseEof => {
+                let erased = edits::erase_to_field_end(screen);
+                self.finish(erased)
+            }
+            Key::EraseInput => {
+                screen.erase_unprotected();
+                Pressed::Done
+            }
+            Key::Insert => {
+                self.inserting = true;
+                Pressed::Done
+            }
+            Key::Reset => {
+                self.reset();
+                Pressed::Done
+            }
+            Key::Enter => self.send(screen, Aid::Enter),
+            Key::Pf(number) => self.send(screen, Aid::Pf(number)),
+            Key::Pa(number) => self.send(screen, Aid::Pa(number)),
+            Key::Clear => {
+                screen.clear();
+                self.send(screen, Aid::Clear)
+            }
+            Key::Tab => go(screen, places::next_start(screen, screen.cursor())),
+            Key::BackTab => go(screen, places::start_before(screen, screen.cursor())),
+            Key::NewLine => go(screen, places::next_line(screen, screen.cursor())),
+            Key::Home => go(screen, screen.home()),
+            Key::CursorUp => go(screen, screen.cursor().backward(COLUMNS)),
+            Key::CursorDown => go(screen, screen.cursor().forward(COLUMNS)),
+            Key::CursorLeft | Key::Backspace => go(screen, screen.cursor().backward(1)),
+            Key::CursorRight => go(screen, screen.cursor().next()),
+        }
+    }
+
+    /// Ends insert mode, and the lock after a refusal.
+    fn reset(&mut self)
+        ensures { self.new ≡ reset self.old }
+    {
+        self.inserting = false;
+        if self.lock == Lock::Error {
+            self.lock = Lock::Free;
+        }
+    }
+
+    /// The answer to an edit; a refusal sets the lock.
+    fn finish(&mut self, edit: Result<(), Refusal>) -> Pressed
+        ensures keyboard { self.new ≡ keyboard_after edit self.old }
+        ensures answer { result ≡ answer_to edit }
+    {
+        match edit {
+            Ok(()) => Pressed::Done,
+            Err(Refusal::Locked) => Pressed::Refused(Refusal::Locked),
+            Err(Refusal::NoCode) => Pressed::Refused(Refusal::NoCode),
+            Err(why) => {
+                self.lock = Lock::Error;
+                Pressed::Refused(why)
+            }
+        }
+    }
+
+    /// Sends an AID: the keyboard waits, with insert mode off.
+    fn send(&mut self, screen: &mut Screen, aid: Aid) -> Pressed
+        ensures keyboard { self.new ≡ (sent aid self.old screen.old).keyboard }
+        ensures screen { screen.new ≡ (sent aid self.old screen.old).screen }
+        ensures answer { result ≡ (sent aid self.old screen.old).answer }
+    {
+        screen.set_aid(aid);
+        self.lock = Lock::Wait;
+        self.inserting = false;
+        Pressed::Send(screen.aid())
+    }
+}
+
+/// Moves the cursor.
+fn go(screen: &mut Screen, to: Addr) -> Pressed
+    ensures screen { screen.new ≡ record screen.old { cursor = to } }
+    ensures answer { result ≡ Pressed.Done }
+{
+    screen.set_cursor(to);
+    Pressed::Done
+}

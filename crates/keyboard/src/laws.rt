@@ -1,0 +1,46 @@
+//! Laws of the keys, for proofs in the crates above. Each is the contract of a function that does nothing.
+ghost use Rattle.keyboard.specs.Laws.{KeysLeave, KeysKeep, EraseInputIsWalked, KeysStayOnTheScreen, RefusalsSetTheLockAlone, ResetAloneActsUnderALock, NoKeyEndsWait, NearestOnward, NearestBackward, NoneOnward, NoneBackward, HomeIsTabFromTheEnd, EditsRewriteTheText, FirstNullMakesRoom, NoNullNoRoom, DeleteBringsInANull};
+
+use datastream::kept_since_the_write;
+
+/// Does nothing: its contract says what keys leave of the cells, each of those that it found, and all together of those
+/// that the last write left. A key that sends nothing keeps attributes but for MDT of unprotected fields, protected cells,
+/// and each unprotected field whose MDT is off, but for Erase Input, which nulls the unprotected cells and resets their
+/// MDT. Enter, PF and PA keep the cells, and Clear nulls them. No key moves the cursor off the screen.
+pub fn keys_keep_what_was_left()
+    ensures leave { KeysLeave }
+    ensures keep { KeysKeep }
+    ensures erase_input { EraseInputIsWalked }
+    ensures on_screen { KeysStayOnTheScreen }
+{
+    kept_since_the_write();
+}
+
+/// Does nothing: its contract says that a refused key changes the lock alone, if that, and that at a lock only Reset acts,
+/// which doesn't end Wait.
+pub fn locks_hold()
+    ensures refused { RefusalsSetTheLockAlone }
+    ensures reset_alone { ResetAloneActsUnderALock }
+    ensures wait { NoKeyEndsWait }
+{}
+
+/// Does nothing: its contract says that Tab, Back Tab, New Line and autoskip go to the nearest place that they look for, round
+/// the end, the place that they start from being the farthest, and to 0 where there is none. Home goes where Tab goes from
+/// the last cell.
+pub fn keys_go_to_the_nearest()
+    ensures onward { NearestOnward }
+    ensures backward { NearestBackward }
+    ensures none_onward { NoneOnward }
+    ensures none_backward { NoneBackward }
+    ensures home { HomeIsTabFromTheEnd }
+{}
+
+/// Does nothing: its contract says what edits make of the text from the cursor on. A text comes in place of as many
+/// characters, what of the field lies behind them stays, an inserted character takes the room of the first null, and
+/// Delete brings in a null at the end.
+pub fn edits_rewrite_the_text()
+    ensures rewritten { EditsRewriteTheText }
+    ensures inserted { FirstNullMakesRoom }
+    ensures full { NoNullNoRoom }
+    ensures deleted { DeleteBringsInANull }
+{}

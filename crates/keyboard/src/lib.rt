@@ -1,0 +1,26 @@
+//! The keyboard of a 3278 model 2: what each key does to the screen and to the keyboard (GA23-0059, "Keyboard and Printer
+//! Operations"; the order of refusals and what each leaves is our profile). No call allocates.
+//!
+//! A [`Keyboard`] starts in [`Lock::Wait`], and the host's writes free it by [`Keyboard::restored`]. [`Keyboard::press`]
+//! changes a screen as a key does, and answers whether it was refused or sends what was typed.
+//!
+//! `specs/` has the definitions: `Keys` says what each key makes of keyboard and screen, `Edits` what typing and erasing
+//! make of a field's text, `Places` where the cursor goes, `Leaves` what stays of the cells, and `Laws` what joins these.
+//! The functions [`keys_keep_what_was_left`], [`locks_hold`], [`keys_go_to_the_nearest`] and [`edits_rewrite_the_text`]
+//! have the laws as their contracts.
+#![tactic(auto)]
+
+mod edits;
+mod key;
+mod keyboard;
+mod laws;
+mod places;
+#[cfg(test)]
+mod tests;
+
+pub use codes3270::{PaNo, PfNo};
+pub use key::{Key, Lock, Pressed, Refusal};
+pub use keyboard::Keyboard;
+pub use laws::{
+    edits_rewrite_the_text, keys_go_to_the_nearest, keys_keep_what_was_left, locks_hold,
+};
