@@ -1,0 +1,12 @@
+pub mod Trees
+pub mod PartLists
+pub mod Standing
+pub mod FirstSome
+pub mod Building
+pub mod Codes
+pub mod Indexing
+pub mod Naming
+pub mod Overlapping
+pub mod Sound
+pub mod Linking
+pub mod Leading

@@ -1,0 +1,33 @@
+-- What reading a panel text answers.
+use Rattle.std.specs.Prelude.{◌≡◌, ℕ, ◌<◌, List, Contains, None, Some}
+use Rattle.toml.specs.Data.{Members}
+use Rattle.toml.specs.Parse.{parse_document}
+use Rattle.panels.specs.declared.fault.TreeFault.{TreeFault}
+use Rattle.panels.specs.declared.fault.PanelFault.{PanelFault}
+use Rattle.panels.specs.declared.fault.PanelFault.TheVariants.{Memory, NotToml, Tree}
+use Rattle.panels.specs.declared.part.Part.{Part}
+use Rattle.panels.specs.declared.place.At.{At}
+use Rattle.panels.specs.Faults.{Stands, IsFaulty, faults_of, IsCleanIn}
+
+-- the fault stands at the place, and no earlier pass than the one that looks for it has one
+pub record IsFirst (fault : TreeFault) (place : At) (top : Members) : Type 0 where
+  pub pass : ℕ
+  pub looked_for : Contains (faults_of pass) fault
+  pub stands : Stands fault place top
+  pub earlier : (before : ℕ) → before < pass → IsCleanIn before top
+
+-- no fault stands anywhere
+abbrev pub IsFaultless : Members → Type 0
+IsFaultless top = (fault : TreeFault) (part : Part) → ¬ IsFaulty fault part top
+
+-- the answer is a reason why a tree defines no panels; want of memory says nothing of the tree
+abbrev pub IsReasonIn : Members → PanelFault → Type 0
+IsReasonIn top Memory = Unit {0}
+IsReasonIn top NotToml = ⊥
+IsReasonIn top (Tree fault place) = IsFirst fault place top
+
+-- the same of a text
+abbrev pub IsReason : List ℕ → PanelFault → Type 0
+IsReason text Memory = Unit {0}
+IsReason text NotToml = parse_document text ≡ None
+IsReason text (Tree fault place) = (top : Members) × (parse_document text ≡ Some top) × IsFirst fault place top

@@ -1,0 +1,110 @@
+-- Which keys each table has, and the types of their values.
+use Rattle.std.specs.Prelude.{codes, ℕ, Bool, true, false, not, ◌&&◌, List, [], ◌∷◌, Option, Some, None, is_some, bytes_eq, if◌then◌else◌}
+use Rattle.std.specs.List.{list_any}
+use Rattle.std.specs.Option.{option_map_or}
+use Rattle.toml.specs.Data as tree
+use Rattle.toml.specs.Data.{Data, Items, no_items, item, Members, no_members, member, get_member, as_str, as_table}
+use Rattle.panels.specs.declared.part.Part.{Part}
+use Rattle.panels.specs.declared.part.Part.TheVariants as part
+use Rattle.panels.specs.declared.kinds.Kind.{Kind}
+use Rattle.panels.specs.declared.kinds.Kind.TheVariants as kind
+use Rattle.panels.specs.Tree.{keys}
+
+abbrev pub is_text : Data → Bool
+is_text value = is_some (as_str value)
+
+abbrev pub is_table : Data → Bool
+is_table value = is_some (as_table value)
+
+abbrev pub all_items : (Data → Bool) → Items → Bool
+all_items test no_items = true
+all_items test (item value values) = test value && all_items test values
+
+abbrev pub all_values : (Data → Bool) → Members → Bool
+all_values test no_members = true
+all_values test (member key value more) = test value && all_values test more
+
+-- a value is of a kind
+abbrev pub is_of_kind : Kind → Data → Bool
+is_of_kind kind.Text (tree.string text) = true
+is_of_kind kind.Integer (tree.integer number) = true
+is_of_kind kind.Truth (tree.boolean truth) = true
+is_of_kind kind.Texts (tree.array values) = all_items is_text values
+is_of_kind kind.Tables (tree.array values) = all_items is_table values
+is_of_kind kind.Table (tree.table table) = true
+is_of_kind _ _ = false
+
+-- a key that may stand, or must, and the kind of its value
+pub record Rule : Type 0 where
+  pub key : List ℕ
+  pub kind : Kind
+  pub needed : Bool
+
+abbrev pub must : List ℕ → Kind → Rule
+must key kind = record { key = key; kind = kind; needed = true }
+
+abbrev pub may : List ℕ → Kind → Rule
+may key kind = record { key = key; kind = kind; needed = false }
+
+abbrev pub top_rules : List Rule
+top_rules = must (codes "start") kind.Text ∷ must (codes "lus") kind.Texts ∷ must (codes "panel") kind.Tables ∷ []
+
+abbrev pub panel_rules : List Rule
+panel_rules =
+    must (codes "name") kind.Text ∷ may (codes "cursor") kind.Text ∷ may (codes "text") kind.Tables ∷ may (codes "field") kind.Tables
+    ∷ may (codes "keys") kind.Table ∷ []
+
+abbrev pub literal_rules : List Rule
+literal_rules =
+    must (codes "row") kind.Integer ∷ must (codes "col") kind.Integer ∷ must (codes "text") kind.Text ∷ may (codes "bright") kind.Truth ∷ []
+
+abbrev pub show_rules : List Rule
+show_rules =
+    must (codes "row") kind.Integer ∷ must (codes "col") kind.Integer ∷ must (codes "show") kind.Text ∷ must (codes "length") kind.Integer
+    ∷ may (codes "bright") kind.Truth ∷ []
+
+abbrev pub field_rules : List Rule
+field_rules =
+    must (codes "name") kind.Text ∷ must (codes "row") kind.Integer ∷ must (codes "col") kind.Integer ∷ must (codes "length") kind.Integer
+    ∷ may (codes "fill") kind.Text ∷ may (codes "numeric") kind.Truth ∷ may (codes "hidden") kind.Truth ∷ may (codes "required") kind.Truth
+    ∷ may (codes "marked") kind.Truth ∷ []
+
+abbrev pub has_key : List ℕ → Members → Bool
+has_key key table = is_some (get_member key table)
+
+-- the rules for a table: a text item has its text, or shows a field; for a panel's keys there are none, since each is a key's name
+abbrev pub rules_for : Part → Members → Option (List Rule)
+rules_for part.Top table = Some top_rules
+rules_for (part.Panel p) table = Some panel_rules
+rules_for (part.Text p i) table = Some (if has_key (codes "text") table then literal_rules else show_rules)
+rules_for (part.Field p i) table = Some field_rules
+rules_for (part.Keys p) table = None
+
+abbrev pub is_known : List Rule → List ℕ → Bool
+is_known rules key = list_any (λ rule. bytes_eq rule.key key) rules
+
+-- some key is in no rule
+abbrev pub breaks_keys : List Rule → Members → Bool
+breaks_keys rules table = list_any (λ key. not (is_known rules key)) (keys table)
+
+abbrev pub has_unknown_key : Part → Members → Bool
+has_unknown_key part table = option_map_or (λ rules. breaks_keys rules table) (rules_for part table) false
+
+-- some needed key is absent
+abbrev pub breaks_needs : List Rule → Members → Bool
+breaks_needs rules table = list_any (λ rule. rule.needed && not (has_key rule.key table)) rules
+
+abbrev pub lacks_key : Part → Members → Bool
+lacks_key part table = option_map_or (λ rules. breaks_needs rules table) (rules_for part table) false
+
+abbrev pub is_misfit : Kind → Option Data → Bool
+is_misfit kind None = false
+is_misfit kind (Some value) = not (is_of_kind kind value)
+
+-- some key's value is of another kind than its rule says
+abbrev pub breaks_kinds : List Rule → Members → Bool
+breaks_kinds rules table = list_any (λ rule. is_misfit rule.kind (get_member rule.key table)) rules
+
+-- the same, or in a panel's keys some value is no text
+abbrev pub has_bad_kind : Part → Members → Bool
+has_bad_kind part table = option_map_or (λ rules. breaks_kinds rules table) (rules_for part table) (not (all_values is_text table))

@@ -1,0 +1,61 @@
+//! Texts in the host's code.
+ghost use Rattle.std.specs.Prelude.{◌≡◌, IfOk, chars};
+ghost use Rattle.panels.specs.Characters.{AreCharacters, codes_of};
+
+use codes3270::from_latin1;
+use std::alloc::{AllocError, Global};
+use std::marker::Model;
+
+/// Characters in the host's code: storable bytes without nulls.
+#[derive(Debug, Drop)]
+pub struct Characters {
+    bytes: Vec<u8>,
+}
+
+impl Model for Characters {
+    ghost use Rattle.std.specs.Prelude.{List, ℕ};
+    ghost use Rattle.panels.specs.Characters.{AreCharacters};
+
+    ghost Value = { List ℕ };
+
+    ghost view = { λ characters. characters.bytes.items };
+
+    ghost invariant = { λ characters. AreCharacters characters.bytes.items };
+}
+
+impl Characters {
+    /// A copy of bytes, which are storable and no nulls.
+    pub fn copy(alloc: Global, bytes: &[u8]) -> Result<Characters, AllocError>
+        requires { AreCharacters bytes.now }
+        ensures { IfOk result (λ characters. characters ≡ bytes.now) }
+    {
+        Ok(Characters {
+            bytes: bytes.to_vec(alloc)?,
+        })
+    }
+
+    /// The codes of a text's characters, as far as they have one.
+    pub(crate) fn of_text(alloc: Global, text: &str) -> Result<Characters, AllocError>
+        ensures { IfOk result (λ characters. characters ≡ codes_of (chars text.now)) }
+    {
+        Ok(Characters {
+            bytes: codes_of_text(alloc, text)?,
+        })
+    }
+
+    pub fn as_slice(&self) -> &[u8]
+        ensures bytes { result.now ≡ self.now }
+        ensures characters { AreCharacters result.now }
+    {
+        self.bytes.as_slice()
+    }
+}
+
+/// The codes of a text's characters, as far as they have one.
+fn codes_of_text(alloc: Global, text: &str) -> Result<Vec<u8>, AllocError>
+    ensures { IfOk result (λ bytes. bytes.items ≡ codes_of (chars text.now)) }
+{
+    text.chars()
+        .filter_map(|character| from_latin1(character))
+        .collect(alloc)
+}

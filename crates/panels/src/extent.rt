@@ -1,0 +1,51 @@
+//! Where an item of a panel stands.
+ghost use Rattle.std.specs.Prelude.{◌≡◌, ◌≤◌, ◌<◌, ◌+◌};
+ghost use Rattle.codes3270.specs.Size.{cell_count};
+ghost use Rattle.panels.specs.Size.{message_start};
+
+use codes3270::Addr;
+
+/// Where an item stands: the address of its first character, before which its attribute stands, and how many
+/// characters it has. It ends before the row for messages.
+#[derive(Clone, Copy, Debug, PartialEq, Eq)]
+pub struct Extent {
+    pub first: u16,
+    pub length: u16,
+    ghost after_attribute: { 1 ≤ first },
+    ghost has_cells: { 1 ≤ length },
+    ghost above_message: { first + length ≤ message_start },
+}
+
+/// The address at a place on the screen.
+fn address(position: u16) -> Addr
+    requires { position < cell_count }
+    ensures { result ≡ position }
+{
+    match Addr::new(position) {
+        Some(addr) => addr,
+        None => unreachable!(),
+    }
+}
+
+impl Extent {
+    /// The address of its attribute.
+    pub fn attr(self) -> Addr
+        ensures { result + 1 ≡ self.first }
+    {
+        address(self.first - 1)
+    }
+
+    /// The address of its first character.
+    pub fn first_cell(self) -> Addr
+        ensures { result ≡ self.first }
+    {
+        address(self.first)
+    }
+}
+
+/// The first address of the screen.
+pub(crate) fn home() -> Addr
+    ensures { result ≡ 0 }
+{
+    address(0)
+}

@@ -1,0 +1,68 @@
+//! Why a text defines no panels.
+use crate::place::At;
+use std::fmt;
+
+/// What is wrong with a table of a panel text.
+#[derive(Clone, Copy, Debug, PartialEq, Eq)]
+pub enum TreeFault {
+    UnknownKey,
+    /// A key that must stand is absent, or the array of panels is empty.
+    Missing,
+    /// A value isn't of its key's TOML type.
+    BadKind,
+    BadName,
+    /// An earlier panel, or an earlier field of the whole text, has the name.
+    TwiceNamed,
+    /// The item doesn't lie on the screen above the last row, or its fill is longer than it.
+    OutOfPlace,
+    /// The item shares a cell with an earlier one of its panel; texts count before fields.
+    Overlap,
+    /// A character has no code.
+    NoCode,
+    /// A name is of no panel or field.
+    NoTarget,
+    /// A name in the table of keys is of no key.
+    BadKey,
+    /// More than 64 panels, or 256 texts or 128 fields of one.
+    TooMany,
+}
+
+/// Why a text can't be read as panels.
+#[derive(Clone, Copy, Debug, PartialEq, Eq)]
+pub enum PanelFault {
+    /// A growth was refused; this says nothing of the text.
+    Memory,
+    NotToml,
+    /// The text is TOML, with a fault at a place.
+    Tree(TreeFault, At),
+}
+
+impl fmt::Display for TreeFault {
+    fn fmt<W: fmt::Write>(&self, f: &mut fmt::Formatter<W>) -> fmt::Result {
+        f.write_str(match self {
+            TreeFault::UnknownKey => "UnknownKey",
+            TreeFault::Missing => "Missing",
+            TreeFault::BadKind => "BadKind",
+            TreeFault::BadName => "BadName",
+            TreeFault::TwiceNamed => "TwiceNamed",
+            TreeFault::OutOfPlace => "OutOfPlace",
+            TreeFault::Overlap => "Overlap",
+            TreeFault::NoCode => "NoCode",
+            TreeFault::NoTarget => "NoTarget",
+            TreeFault::BadKey => "BadKey",
+            TreeFault::TooMany => "TooMany",
+        })
+    }
+}
+
+impl fmt::Display for PanelFault {
+    fn fmt<W: fmt::Write>(&self, f: &mut fmt::Formatter<W>) -> fmt::Result {
+        match self {
+            PanelFault::Memory => f.write_str("no memory"),
+            PanelFault::NotToml => f.write_str("not TOML"),
+            PanelFault::Tree(fault, place) => write!(f, "{place}: {fault}"),
+        }
+    }
+}
+
+impl std::error::Error for PanelFault {}

@@ -1,0 +1,55 @@
+//! The types of the values of a panel text.
+ghost use Rattle.std.specs.Prelude.{◌≡◌, is_some};
+ghost use Rattle.std.specs.List.{list_all};
+ghost use Rattle.toml.specs.Data.{as_str, as_table};
+ghost use Rattle.toml.specs.View.{view, items_view, table_view};
+ghost use Rattle.panels.specs.Shape.{is_of_kind, all_items, all_values, is_text, is_table};
+
+use toml::{Table, Value};
+
+/// What type the value of a key has.
+#[derive(Clone, Copy, Debug, PartialEq, Eq)]
+pub(crate) enum Kind {
+    Text,
+    Integer,
+    Truth,
+    /// An array of texts.
+    Texts,
+    /// An array of tables.
+    Tables,
+    Table,
+}
+
+fn are_texts(values: &[Value]) -> bool
+    ensures { result ≡ all_items is_text (items_view values.now) }
+{
+    values.iter().all(|value| value.is_str())
+}
+
+fn are_tables(values: &[Value]) -> bool
+    ensures { result ≡ all_items is_table (items_view values.now) }
+{
+    values.iter().all(|value| value.is_table())
+}
+
+/// Whether all values of a table are texts.
+pub(crate) fn has_texts_alone(table: &Table) -> bool
+    ensures { result ≡ all_values is_text (table_view table.now) }
+{
+    table.values().all(|value| value.is_str())
+}
+
+/// Whether a value is of a kind.
+pub(crate) fn fits_kind(kind: Kind, value: &Value) -> bool
+    ensures { result ≡ is_of_kind kind (view value.now) }
+{
+    match (kind, value) {
+        (Kind::Text, Value::String(_)) => true,
+        (Kind::Integer, Value::Integer(_)) => true,
+        (Kind::Truth, Value::Boolean(_)) => true,
+        (Kind::Texts, Value::Array(values)) => are_texts(values),
+        (Kind::Tables, Value::Array(values)) => are_tables(values),
+        (Kind::Table, Value::Table(_)) => true,
+        _ => false,
+    }
+}

@@ -1,0 +1,58 @@
+//! Reading a panel text.
+ghost use Rattle.std.specs.Prelude.{IfOk, IfErr};
+ghost use Rattle.toml.specs.View.{table_view};
+ghost use Rattle.panels.specs.Passes.{IsFaultless, IsReasonIn, IsReason};
+ghost use Rattle.panels.specs.Defines.{Defines, IsReadFrom};
+
+use crate::build::build;
+use crate::checks::check_passes;
+use crate::fault::PanelFault;
+use crate::panel_set::PanelSet;
+use crate::parts::parts_of;
+use crate::survey::survey_of;
+use std::alloc::{AllocError, Global};
+use toml::Table;
+
+/// The panels that a tree defines, or the first fault in it.
+fn read_tree(alloc: Global, top: &Table) -> Result<PanelSet, PanelFault>
+    ensures panels { IfOk result (λ set. IsFaultless (table_view top.now) × Defines (table_view top.now) set) }
+    ensures fault { IfErr result (IsReasonIn (table_view top.now)) }
+{
+    let parts = match parts_of(alloc, top) {
+        Ok(parts) => parts,
+        Err(AllocError) => return Err(PanelFault::Memory),
+    };
+    let survey = match survey_of(alloc, top) {
+        Ok(survey) => survey,
+        Err(AllocError) => return Err(PanelFault::Memory),
+    };
+    match check_passes(parts.as_slice(), top, &survey) {
+        Ok(()) => {}
+        Err((fault, place)) => return Err(PanelFault::Tree(fault, place)),
+    }
+    match build(alloc, top, &survey) {
+        Ok(set) => Ok(set),
+        Err(AllocError) => Err(PanelFault::Memory),
+    }
+}
+
+impl PanelSet {
+    /// The panels that a TOML text defines. Faults are looked for in passes: that it is TOML, then keys and types, numbers,
+    /// names, places and characters, overlaps, and targets; one of the first pass that finds any is answered. `Memory` is
+    /// answered where a growth was refused.
+    pub fn read(alloc: Global, text: &str) -> Result<PanelSet, PanelFault>
+        ensures panels { IfOk result (IsReadFrom text.now) }
+        ensures fault { IfErr result (IsReason text.now) }
+    {
+        match toml::table_from_str(alloc, text) {
+            Ok(top) => read_tree(alloc, &top),
+            Err(error) => {
+                if error.is_memory() {
+                    Err(PanelFault::Memory)
+                } else {
+                    Err(PanelFault::NotToml)
+                }
+            }
+        }
+    }
+}

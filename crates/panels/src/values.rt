@@ -1,0 +1,61 @@
+//! The values of fields.
+ghost use Rattle.std.specs.Prelude.{◌≡◌, ◌≢◌, ℕ, [], Some, option_copied, OnOk, OnErr, IfSome};
+ghost use Rattle.panels.specs.Characters.{AreCharacters};
+ghost use Rattle.panels.specs.Values.{value_of};
+
+use crate::characters::Characters;
+use std::alloc::{AllocError, Global};
+use std::collections::BTreeMap;
+use std::marker::Model;
+
+/// The values of fields, by the fields' numbers over the whole text.
+#[derive(Drop)]
+pub struct Values {
+    alloc: Global,
+    values: BTreeMap<usize, Characters>,
+}
+
+impl Model for Values {
+    ghost use Rattle.std.specs.Prelude.{List, ℕ};
+
+    ghost Value = { List (ℕ × List ℕ) };
+
+    ghost view = { λ values. values.values.entries };
+}
+
+impl Values {
+    /// No values. This takes no memory.
+    pub fn new(alloc: Global) -> Values
+        ensures { result ≡ [] }
+    {
+        Values {
+            alloc,
+            values: BTreeMap::new(alloc),
+        }
+    }
+
+    /// The value of the field with a number, if it has one: storable bytes without nulls.
+    pub fn get(&self, field: usize) -> Option<&[u8]>
+        ensures value { option_copied result ≡ value_of self.now field }
+        ensures characters { IfSome result (λ value. AreCharacters value.now) }
+    {
+        match self.values.get(&field) {
+            Some(value) => Some(value.as_slice()),
+            None => None,
+        }
+    }
+
+    /// Gives a field a copy of bytes as its value. Where memory is wanting nothing changes.
+    pub fn set(&mut self, field: usize, bytes: &[u8]) -> Result<(), AllocError>
+        requires { AreCharacters bytes.now }
+        ensures value { OnOk result (value_of self.new field ≡ Some bytes.now) }
+        ensures others { OnOk result ((other : ℕ) → other ≢ field → value_of self.new other ≡ value_of self.old other) }
+        ensures err { OnErr result (self.new ≡ self.old) }
+    {
+        let value = Characters::copy(self.alloc, bytes)?;
+        match self.values.insert(field, value) {
+            Ok(_) => Ok(()),
+            Err(_) => Err(AllocError),
+        }
+    }
+}
