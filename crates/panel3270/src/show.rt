@@ -68,7 +68,7 @@ fn apply(screen: &mut Screen, bytes: &[u8]) -> Result<(), CommandFault> {
     Ok(())
 }
 
-/// The negative response that a terminal gives to a command with a fault (RFC 1647, section 9.1).
+/// The negative response that a terminal gives to a command with a fault (RFC 1647, section 10.4).
 fn answer_to(fault: CommandFault) -> &'static str {
     match fault {
         CommandFault::BadCommand => "COMMAND-REJECT",

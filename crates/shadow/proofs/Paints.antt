@@ -1,0 +1,284 @@
+-- A paint gives the wanted screen on every screen that meets the shadow.
+use Rattle.std.proofs.Common.{◌≡◌, ℕ, zero, suc, ◌+◌, Bool, true, false, ◌||◌, List, [], ◌∷◌, ◌++◌, length, map, set, replicate, Option, Some, None, refl, ap, sym, subst, ◌∙◌, eqb-true, append_assoc, length-append, arith, if◌then◌else◌}
+use Rattle.std.specs.List.{list_all}
+use Rattle.std.proofs.lemmas.Bool.{and_parts}
+use Rattle.std.proofs.lemmas.List.{length-map, length-replicate}
+use Rattle.codes3270.specs.declared.attention.Aid.TheVariants.{NoAid}
+use Rattle.codes3270.specs.declared.attribute.Attr.{Attr as Attribute}
+use Rattle.codes3270.specs.declared.attribute.Cell.{Cell}
+use Rattle.codes3270.specs.declared.attribute.Cell.TheVariants.{Char, Attr}
+use Rattle.codes3270.specs.declared.write_control.Wcc.{Wcc}
+use Rattle.codes3270.specs.Attribute.{attr_of}
+use Rattle.codes3270.proofs.RoundTrips.{attr_read_back}
+use Rattle.datastream.specs.Screen.{Screen}
+use Rattle.datastream.specs.Fields.{Field}
+use Rattle.datastream.specs.Held.{without_mdt}
+use Rattle.datastream.specs.Wanted.{WantedScreen}
+use Rattle.datastream.specs.Meaning.{Draft, unmodified, prepared, restored, written, cleared}
+use Rattle.datastream.specs.declared.order.Order.{Order}
+use Rattle.datastream.specs.declared.wanted.Want.{Want}
+use Rattle.datastream.specs.declared.wanted.Want.TheVariants.{Char as WantChar, Attr as WantAttr, Keep}
+use Rattle.shadow.specs.declared.known.Known.{Known}
+use Rattle.shadow.specs.declared.known.Known.TheVariants.{Attr as KnownAttr, Char as KnownChar}
+use Rattle.shadow.specs.declared.mark.Mark.{Mark}
+use Rattle.shadow.specs.declared.mark.Mark.TheVariants.{On, Off, Unknown}
+use Rattle.shadow.specs.Pairs.{Pairwise}
+use Rattle.shadow.specs.Belief.{Belief, Shadow, next_address}
+use Rattle.shadow.specs.Meets.{MarkIs, KnownIs, Knows}
+use Rattle.shadow.specs.Heard.{same_attr, formatted_or}
+use Rattle.shadow.specs.Stores.{Store, store_also, stores, stores_unplaced, is_plain_order}
+use Rattle.shadow.specs.Taken.{laid_out, marks_off_if, mark_off, formatted_as}
+use Rattle.shadow.specs.Painted.{keeps_ahead, attr_or_kept, painted_from, plainly_painted}
+use Rattle.shadow.specs.Paint.{is_char, marks, is_there, unless, to_store, order_of, is_at, sba_unless, painting, known_nulls}
+use Rattle.shadow.specs.Laws.{WantedIsPainted, PaintedIsKnown, PaintIsPlain}
+use Rattle.shadow.proofs.LaidOut.{CellFits, laid_out_fits}
+use Rattle.shadow.proofs.Stored.{stored, cursor_after, plain_orders}
+use Rattle.shadow.proofs.Erasing.{same_nulls}
+use Rattle.shadow.proofs.Keeps.{KeepsChars, HasNoKeep, keeps_chars, no_keep}
+
+marked : (mark : Mark) (m mdt : Bool) → MarkIs mark mdt → marks mark m ≡ true → mdt ≡ m
+marked On true mdt h e = h
+marked Off true mdt h e = absurd (cc)
+marked Unknown true mdt h e = absurd (cc)
+marked On false mdt h e = absurd (cc)
+marked Off false mdt h e = h
+marked Unknown false mdt h e = absurd (cc)
+
+char_there : (known : Option ℕ) (c d : ℕ) → KnownIs known d → is_char known c ≡ true → d ≡ c
+char_there None c d h e = absurd (cc)
+char_there (Some known) c d h e = h ∙ eqb-true known c e
+
+same_attr_true : (a b : Attribute) → same_attr a b ≡ true → without_mdt a ≡ without_mdt b
+same_attr_true a b e = sym (attr_read_back (without_mdt a)) ∙ ap attr_of (eqb-true _ _ e) ∙ attr_read_back (without_mdt b)
+
+whole_attr : (a b : Attribute) → without_mdt a ≡ without_mdt b → a.mdt ≡ b.mdt → a ≡ b
+whole_attr a b e m = λ i. record { protected = (e i).protected; numeric = (e i).numeric; display = (e i).display; mdt = m i }
+
+-- what is known to be there is there
+there : (known : Known) (cell want : Cell) → CellFits known cell → is_there known want ≡ true → cell ≡ want
+there (KnownAttr k m) (Attr a) (Attr b) h e =
+    let parts = and_parts _ _ e in
+    let same : without_mdt a ≡ without_mdt b = ap without_mdt h.0 ∙ same_attr_true k b parts.0 in
+    let mdt : a.mdt ≡ b.mdt = marked m b.mdt a.mdt h.1 parts.1 in
+    ap (λ (x : Attribute). Attr x) (whole_attr a b same mdt)
+there (KnownAttr k m) (Char d) want h e = absurd h
+there (KnownChar k fresh) (Attr a) want h e = absurd h
+there (KnownAttr k m) (Attr a) (Char c) h e = absurd (cc)
+there (KnownChar k fresh) (Char d) (Attr b) h e = absurd (cc)
+there (KnownChar k fresh) (Char d) (Char c) h e = ap (λ (x : ℕ). Char x) (char_there k c d h.0 e)
+
+-- the orders store the cells
+at_known : (known : Option ℕ) (at to : ℕ) → ((k : ℕ) → known ≡ Some k → at ≡ k) → is_at known to ≡ true → at ≡ to
+at_known None at to h e = absurd (cc)
+at_known (Some k) at to h e = h k refl ∙ eqb-true k to e
+
+cell_stored : (size at : ℕ) (cell : Cell) (orders : List Order) → stores size at (order_of cell ∷ orders) ≡ record { at = at; cell = cell } ∷ stores size (next_address size at) orders
+cell_stored size at (Char c) orders = refl
+cell_stored size at (Attr a) orders = refl
+
+paints_stores : (size cursor : ℕ) (more : List Store) (at : ℕ) (known : Option ℕ) → ((k : ℕ) → known ≡ Some k → at ≡ k) → stores size at (painting size cursor known more) ≡ more
+paints_stores size cursor [] at known h = refl
+paints_stores size cursor (store ∷ more) at known h =
+    cases (is_at known store.at) refl (paints_stores size cursor more (next_address size store.at) (Some (next_address size store.at)) (λ k e. (cc)))
+  where
+    cases : (t : Bool) → is_at known store.at ≡ t → stores size (next_address size store.at) (painting size cursor (Some (next_address size store.at)) more) ≡ more
+        → stores size at (sba_unless t store.at (order_of store.cell ∷ painting size cursor (Some (next_address size store.at)) more)) ≡ store ∷ more
+    cases true e ih =
+        subst (λ a. stores size a (order_of store.cell ∷ painting size cursor (Some (next_address size store.at)) more) ≡ store ∷ more) (sym (at_known known at store.at h e))
+        (cell_stored size store.at store.cell (painting size cursor (Some (next_address size store.at)) more) ∙ ap (λ l. store ∷ l) ih)
+    cases false e ih = cell_stored size store.at store.cell (painting size cursor (Some (next_address size store.at)) more) ∙ ap (λ l. store ∷ l) ih
+
+paints_cursor : (size cursor : ℕ) (more : List Store) (old at : ℕ) (known : Option ℕ) → cursor_after size old at (painting size cursor known more) ≡ cursor
+paints_cursor size cursor [] old at known = refl
+paints_cursor size cursor (store ∷ more) old at known = cases (is_at known store.at) (λ a. paints_cursor size cursor more old a (Some (next_address size store.at)))
+  where
+    one : (cell : Cell) (a : ℕ) → ((b : ℕ) → cursor_after size old b (painting size cursor (Some (next_address size store.at)) more) ≡ cursor)
+        → cursor_after size old a (order_of cell ∷ painting size cursor (Some (next_address size store.at)) more) ≡ cursor
+    one (Char c) a ih = ih (next_address size a)
+    one (Attr b) a ih = ih (next_address size a)
+
+    cases : (t : Bool) → ((b : ℕ) → cursor_after size old b (painting size cursor (Some (next_address size store.at)) more) ≡ cursor)
+        → cursor_after size old at (sba_unless t store.at (order_of store.cell ∷ painting size cursor (Some (next_address size store.at)) more)) ≡ cursor
+    cases true ih = one store.cell at ih
+    cases false ih = one store.cell store.at ih
+
+paints_plain : (size cursor : ℕ) (more : List Store) (known : Option ℕ) → list_all is_plain_order (painting size cursor known more) ≡ true
+paints_plain size cursor [] known = refl
+paints_plain size cursor (store ∷ more) known = cases (is_at known store.at) (one store.cell (paints_plain size cursor more (Some (next_address size store.at))))
+  where
+    one : (cell : Cell) → list_all is_plain_order (painting size cursor (Some (next_address size store.at)) more) ≡ true
+        → list_all is_plain_order (order_of cell ∷ painting size cursor (Some (next_address size store.at)) more) ≡ true
+    one (Char c) h = h
+    one (Attr a) h = h
+
+    cases : (t : Bool) → list_all is_plain_order (order_of store.cell ∷ painting size cursor (Some (next_address size store.at)) more) ≡ true
+        → list_all is_plain_order (sba_unless t store.at (order_of store.cell ∷ painting size cursor (Some (next_address size store.at)) more)) ≡ true
+    cases true h = h
+    cases false h = h
+
+put_at : {X : Type 0} (front : List X) (x y : X) (rest : List X) (n : ℕ) → length front ≡ n → set (front ++ x ∷ rest) n y ≡ front ++ y ∷ rest
+put_at [] x y rest zero e = refl
+put_at [] x y rest (suc n) e = absurd (omega arith)
+put_at (z ∷ front) x y rest zero e = absurd (omega arith)
+put_at (z ∷ front) x y rest (suc n) e = ap (λ l. z ∷ l) (put_at front x y rest n (omega arith))
+
+length_more : {X : Type 0} (front : List X) (x : X) (n : ℕ) → length front ≡ n → length (front ++ x ∷ []) ≡ n + 1
+length_more front x n e = omega (arith, length-append front (x ∷ []))
+
+-- one cell is stored or left
+one_cell : (right : Bool) (n : ℕ) (front : List Cell) (x y z : Cell) (cells : List Cell) (more : List Store) → length front ≡ n → (right ≡ true → x ≡ z) → (right ≡ false → y ≡ z)
+    → stored (store_also (unless right y) n more) (front ++ x ∷ cells) ≡ stored more ((front ++ z ∷ []) ++ cells)
+one_cell true n front x y z cells more e h k = ap (λ (w : Cell). stored more (front ++ w ∷ cells)) (h refl) ∙ ap (stored more) (sym (append_assoc front (z ∷ []) cells))
+one_cell false n front x y z cells more e h k = ap (stored more) (put_at front x y cells n e ∙ ap (λ (w : Cell). front ++ w ∷ cells) (k refl) ∙ sym (append_assoc front (z ∷ []) cells))
+
+attr_left : (keeps known : Bool) (x : Cell) (a : Attribute) → (known ≡ true → x ≡ Attr a) → (keeps || known) ≡ true → x ≡ attr_or_kept keeps false a x
+attr_left true known x a h e = refl
+attr_left false known x a h e = h e
+
+attr_put : (keeps known : Bool) (x : Cell) (a : Attribute) → (keeps || known) ≡ false → Attr a ≡ attr_or_kept keeps false a x
+attr_put true known x a e = absurd (cc)
+attr_put false known x a e = refl
+
+stores_plain : (whole : List Want) (n : ℕ) (rest : List Want) (known : List Known) (cells front : List Cell) → length front ≡ n → length rest ≡ length cells → Pairwise CellFits known cells
+    → stored (to_store whole n rest known) (front ++ cells) ≡ front ++ painted_from false whole rest cells
+stores_plain whole n [] [] [] front e same h = refl
+stores_plain whole n [] known (x ∷ cells) front e same h = absurd (omega arith)
+stores_plain whole n [] (slot ∷ known) [] front e same h = absurd h
+stores_plain whole n (want ∷ rest) known [] front e same h = absurd (omega arith)
+stores_plain whole n (want ∷ rest) [] (x ∷ cells) front e same h = absurd h
+stores_plain whole n (Keep ∷ rest) (slot ∷ known) (x ∷ cells) front e same h =
+    ap (stored (to_store whole (n + 1) rest known)) (sym (append_assoc front (x ∷ []) cells))
+    ∙ stores_plain whole (n + 1) rest known cells (front ++ x ∷ []) (length_more front x n e) (omega arith) h.1
+    ∙ append_assoc front (x ∷ []) (painted_from false whole rest cells)
+stores_plain whole n (WantChar c ∷ rest) (slot ∷ known) (x ∷ cells) front e same h =
+    one_cell (is_there slot (Char c)) n front x (Char c) (Char c) cells (to_store whole (n + 1) rest known) e (there slot x (Char c) h.0) (λ _. refl)
+    ∙ stores_plain whole (n + 1) rest known cells (front ++ Char c ∷ []) (length_more front (Char c) n e) (omega arith) h.1
+    ∙ append_assoc front (Char c ∷ []) (painted_from false whole rest cells)
+stores_plain whole n (WantAttr a ∷ rest) (slot ∷ known) (x ∷ cells) front e same h =
+    let keeps : Bool = keeps_ahead (rest ++ whole) in
+    let z : Cell = attr_or_kept keeps false a x in
+    one_cell (keeps || is_there slot (Attr a)) n front x (Attr a) z cells (to_store whole (n + 1) rest known) e
+    (attr_left keeps (is_there slot (Attr a)) x a (there slot x (Attr a) h.0)) (attr_put keeps (is_there slot (Attr a)) x a)
+    ∙ stores_plain whole (n + 1) rest known cells (front ++ z ∷ []) (length_more front z n e) (omega arith) h.1
+    ∙ append_assoc front (z ∷ []) (painted_from false whole rest cells)
+
+-- what is kept, after a reset
+kept_reset : (whole rest : List Want) (cells : List Cell) → KeepsChars rest cells
+    → painted_from false whole rest (map unmodified cells) ≡ painted_from true whole rest cells
+kept_reset whole [] cells k = refl
+kept_reset whole (want ∷ rest) [] k = refl
+kept_reset whole (WantAttr a ∷ rest) (x ∷ cells) k = ap (λ l. attr_or_kept (keeps_ahead (rest ++ whole)) true a x ∷ l) (kept_reset whole rest cells k)
+kept_reset whole (WantChar c ∷ rest) (x ∷ cells) k = ap (λ l. Char c ∷ l) (kept_reset whole rest cells k)
+kept_reset whole (Keep ∷ rest) (Attr a ∷ cells) k = absurd k
+kept_reset whole (Keep ∷ rest) (Char c ∷ cells) k = ap (λ l. Char c ∷ l) (kept_reset whole rest cells k)
+
+known_reset : (known : List Known) (cells : List Cell) → Pairwise CellFits known cells → Pairwise CellFits (map mark_off known) (map unmodified cells)
+known_reset [] [] h = tt
+known_reset [] (x ∷ cells) h = h
+known_reset (slot ∷ known) [] h = h
+known_reset (KnownAttr k m ∷ known) (Attr a ∷ cells) h = ((h.0.0, refl), known_reset known cells h.1)
+known_reset (KnownAttr k m ∷ known) (Char c ∷ cells) h = absurd h.0
+known_reset (KnownChar k fresh ∷ known) (Attr a ∷ cells) h = absurd h.0
+known_reset (KnownChar k fresh ∷ known) (Char c ∷ cells) h = ((h.0.0, λ _. refl), known_reset known cells h.1)
+
+null_fits : (size : ℕ) → Pairwise CellFits (known_nulls size) (replicate size (Char 0))
+null_fits zero = tt
+null_fits (suc size) = ((refl, λ _. refl), null_fits size)
+
+-- where nothing is kept the screen before doesn't matter
+no_keep_ahead : (xs ys : List Want) → HasNoKeep xs → HasNoKeep ys → keeps_ahead (xs ++ ys) ≡ false
+no_keep_ahead [] [] h k = refl
+no_keep_ahead [] (WantAttr a ∷ ys) h k = refl
+no_keep_ahead [] (WantChar c ∷ ys) h k = no_keep_ahead [] ys h k
+no_keep_ahead [] (Keep ∷ ys) h k = absurd (cc)
+no_keep_ahead (WantAttr a ∷ xs) ys h k = refl
+no_keep_ahead (WantChar c ∷ xs) ys h k = no_keep_ahead xs ys h k
+no_keep_ahead (Keep ∷ xs) ys h k = absurd (cc)
+
+none_kept : (r q : Bool) (whole rest : List Want) (cells others : List Cell) → HasNoKeep whole → HasNoKeep rest → length cells ≡ length others → painted_from r whole rest cells ≡ painted_from q whole rest others
+none_kept r q whole [] cells others h k e = refl
+none_kept r q whole (want ∷ rest) [] [] h k e = refl
+none_kept r q whole (want ∷ rest) [] (o ∷ others) h k e = absurd (omega arith)
+none_kept r q whole (want ∷ rest) (x ∷ cells) [] h k e = absurd (omega arith)
+none_kept r q whole (Keep ∷ rest) (x ∷ cells) (o ∷ others) h k e = absurd (cc)
+none_kept r q whole (WantChar c ∷ rest) (x ∷ cells) (o ∷ others) h k e = ap (λ l. Char c ∷ l) (none_kept r q whole rest cells others h k (omega arith))
+none_kept r q whole (WantAttr a ∷ rest) (x ∷ cells) (o ∷ others) h k e =
+    rw (no_keep_ahead rest whole k h) (ap (λ l. Attr a ∷ l) (none_kept r q whole rest cells others h k (omega arith)))
+
+kept_as_is : (reset : Bool) (whole : List Want) (known : List Known) (cells : List Cell) → length whole ≡ length cells → KeepsChars whole cells → Pairwise CellFits known cells
+    → stored (to_store whole 0 whole (marks_off_if reset known)) (if reset then map unmodified cells else cells) ≡ painted_from reset whole whole cells
+kept_as_is true whole known cells same k h =
+    stores_plain whole 0 whole (map mark_off known) (map unmodified cells) [] refl (same ∙ sym (length-map cells unmodified)) (known_reset known cells h) ∙ kept_reset whole whole cells k
+kept_as_is false whole known cells same k h = stores_plain whole 0 whole known cells [] refl same h
+
+-- ---- the whole screen
+
+-- a paint's write control character
+abbrev paint_wcc : Bool → Wcc
+paint_wcc reset = record { alarm = false; restore = true; reset = reset }
+
+-- what a paint's orders make of a screen
+paint_orders : (size cursor : ℕ) (reset : Bool) (more : List Store) (s : Screen) → length s.cells ≡ size
+    → written (Some (paint_wcc reset)) (painting size cursor None more) s
+    ≡ record { cells = stored more (if reset then map unmodified s.cells else s.cells); cursor = cursor; aid = NoAid }
+paint_orders size cursor reset more s whole =
+    let orders : List Order = painting size cursor None more in
+    let draft : Draft = record { screen = prepared (paint_wcc reset) s; address = s.cursor } in
+    ap (restored (paint_wcc reset)) (plain_orders size orders false draft (paints_plain size cursor more None) (length-prepared reset))
+    ∙ (λ i. record {
+      cells = stored (paints_stores size cursor more s.cursor None (λ k e. absurd (cc)) i) (if reset then map unmodified s.cells else s.cells);
+      cursor = paints_cursor size cursor more s.cursor s.cursor None i;
+      aid = NoAid;
+    })
+  where
+    length-prepared : (r : Bool) → length (if r then map unmodified s.cells else s.cells) ≡ size
+    length-prepared true = length-map s.cells unmodified ∙ whole
+    length-prepared false = whole
+
+erased_paint : (wanted : WantedScreen) (s : Screen) → length wanted.cells ≡ length s.cells → HasNoKeep wanted.cells
+    → written (Some (paint_wcc wanted.reset)) (painting (length s.cells) wanted.cursor None (to_store wanted.cells 0 wanted.cells (known_nulls (length s.cells)))) (cleared s) ≡ plainly_painted wanted s
+erased_paint wanted s same none =
+    let size : ℕ = length s.cells in
+    let blank : List Cell = replicate size (Char 0) in
+    let more : List Store = to_store wanted.cells 0 wanted.cells (known_nulls size) in
+    paint_orders size wanted.cursor wanted.reset more (cleared s) (length-replicate size (Char 0))
+    ∙ ap (λ (cells : List Cell). record { cells = cells; cursor = wanted.cursor; aid = NoAid })
+    (ap (stored more) (same_nulls wanted.reset size)
+    ∙ stores_plain wanted.cells 0 wanted.cells (known_nulls size) blank [] refl (same ∙ sym (length-replicate size (Char 0))) (null_fits size)
+    ∙ none_kept false wanted.reset wanted.cells wanted.cells blank s.cells none none (length-replicate size (Char 0)))
+
+pub wanted_painted : WantedIsPainted
+wanted_painted Shadow.NothingKnown wanted s same fits meets = erased_paint wanted s same (no_keep wanted.cells fits)
+wanted_painted (Shadow.Unformatted known) wanted s same fits meets = erased_paint wanted s same (no_keep wanted.cells fits)
+wanted_painted (Shadow.Formatted bs) wanted s same fits meets =
+    let size : ℕ = length s.cells in
+    let more : List Store = to_store wanted.cells 0 wanted.cells (marks_off_if wanted.reset (laid_out size bs)) in
+    paint_orders size wanted.cursor wanted.reset more s refl
+    ∙ ap (λ (cells : List Cell). record { cells = cells; cursor = wanted.cursor; aid = NoAid })
+    (kept_as_is wanted.reset wanted.cells (laid_out size bs) s.cells same (keeps_chars bs wanted.cells s.cells same meets.1 fits) (laid_out_fits size s.cells bs refl meets.1 meets.0))
+
+-- ---- something is known after a paint
+
+seen_knows : (fs : List Field) (chars : List ℕ) → Knows (formatted_or fs chars)
+seen_knows [] chars = tt
+seen_knows (f ∷ fs) chars = tt
+
+formatted_knows : (bs : List Belief) (known : List (Option ℕ)) → Knows (formatted_as bs known)
+formatted_knows [] known = tt
+formatted_knows (b ∷ bs) known = tt
+
+paints_placed : (size cursor : ℕ) (more : List Store) → stores_unplaced (painting size cursor None more) ≡ false
+paints_placed size cursor [] = refl
+paints_placed size cursor (store ∷ more) = refl
+
+pub painted_known : PaintedIsKnown
+painted_known size Shadow.NothingKnown wanted = seen_knows _ _
+painted_known size (Shadow.Unformatted known) wanted = seen_knows _ _
+painted_known size (Shadow.Formatted bs) wanted =
+    let more : List Store = to_store wanted.cells 0 wanted.cells (marks_off_if wanted.reset (laid_out size bs)) in
+    rw (paints_placed size wanted.cursor more) (formatted_knows _ _)
+
+pub painted_plain : PaintIsPlain
+painted_plain size Shadow.NothingKnown wanted = paints_plain size wanted.cursor _ None
+painted_plain size (Shadow.Unformatted known) wanted = paints_plain size wanted.cursor _ None
+painted_plain size (Shadow.Formatted bs) wanted = paints_plain size wanted.cursor _ None

@@ -1,0 +1,41 @@
+-- What a host believes of a terminal's screen (our profile): nothing; the characters of an unformatted screen; or its fields.
+use Rattle.std.specs.Prelude.{◌+◌, ◌%◌, ℕ, List, [], Option, replicate}
+use Rattle.codes3270.specs.declared.attribute.Attr.{Attr as Attribute}
+use Rattle.shadow.specs.declared.mark.Mark.{Mark}
+
+-- What is believed of a field's characters: they are a text; a text or all null; without nulls a text; without nulls a
+-- text or all null; or anything. `Any` has each character, where it is known.
+pub data Fact : Type 0 where
+  Exact : List ℕ → Fact
+  ExactOrNulls : List ℕ → Fact
+  Text : List ℕ → Fact
+  TextOrNulls : List ℕ → Fact
+  Any : List (Option ℕ) → Fact
+
+-- A field: the address of its attribute, the attribute with MDT off, what is known of MDT, how many characters it has, and
+-- what is believed of them.
+pub record Belief : Type 0 where
+  pub place : ℕ
+  pub attr : Attribute
+  pub mark : Mark
+  pub length : ℕ
+  pub fact : Fact
+
+-- of an unformatted screen each character, where it is known; the fields stand in the order of their addresses
+pub data Shadow : Type 0 where
+  NothingKnown : Shadow
+  Unformatted : List (Option ℕ) → Shadow
+  Formatted : List Belief → Shadow
+
+-- the fields of a shadow
+abbrev pub fields_of : Shadow → List Belief
+fields_of Shadow.NothingKnown = []
+fields_of (Shadow.Unformatted known) = []
+fields_of (Shadow.Formatted beliefs) = beliefs
+
+abbrev pub nulls : ℕ → List ℕ
+nulls count = replicate count 0
+
+-- the address behind another, round the end
+abbrev pub next_address : ℕ → ℕ → ℕ
+next_address size place = (place + 1) % size

@@ -1,0 +1,45 @@
+-- Where Keep may stand: in unprotected fields that are believed to be there, with the same attribute and length.
+use Rattle.std.specs.Prelude.{◌==◌, ◌+◌, ◌&&◌, ◌||◌, not, ℕ, Bool, true, false, List, [], ◌∷◌, ◌++◌}
+use Rattle.std.specs.List.{list_any}
+use Rattle.codes3270.specs.declared.attribute.Attr.{Attr as Attribute}
+use Rattle.datastream.specs.declared.wanted.Want.{Want}
+use Rattle.datastream.specs.declared.wanted.Want.TheVariants.{Char as WantChar, Attr as WantAttr, Keep}
+use Rattle.shadow.specs.Belief.{Belief, Shadow, fields_of}
+use Rattle.shadow.specs.Heard.{same_attr}
+use Rattle.datastream.specs.Wanted.{WantedScreen}
+use Rattle.shadow.specs.Painted.{keeps_ahead, count_ahead}
+
+abbrev pub is_keep : Want → Bool
+is_keep (WantChar byte) = false
+is_keep (WantAttr attribute) = false
+is_keep Keep = true
+
+abbrev pub is_attribute : Want → Bool
+is_attribute (WantChar byte) = false
+is_attribute (WantAttr attribute) = true
+is_attribute Keep = false
+
+-- the field at a place is believed to be this one
+abbrev pub is_field : ℕ → Attribute → ℕ → Belief → Bool
+is_field place attribute count belief =
+    belief.place == place && same_attr belief.attr attribute && belief.length == count
+
+-- a field without Keep, or an unprotected one that is believed to be there; `ahead`: what is wanted behind its attribute
+abbrev pub fits_field : List Belief → ℕ → Attribute → List Want → Bool
+fits_field beliefs place attribute ahead =
+    not (keeps_ahead ahead)
+    || (not attribute.protected && list_any (is_field place attribute (count_ahead ahead)) beliefs)
+
+-- the fields whose attributes stand in `rest`, what is wanted from an address on
+abbrev pub fits_from : List Belief → List Want → ℕ → List Want → Bool
+fits_from beliefs whole at [] = true
+fits_from beliefs whole at (WantChar byte ∷ rest) = fits_from beliefs whole (at + 1) rest
+fits_from beliefs whole at (Keep ∷ rest) = fits_from beliefs whole (at + 1) rest
+fits_from beliefs whole at (WantAttr attribute ∷ rest) =
+    fits_field beliefs at attribute (rest ++ whole) && fits_from beliefs whole (at + 1) rest
+
+-- Keep stands in fields alone, and each of these fits
+abbrev pub fits : Shadow → WantedScreen → Bool
+fits shadow wanted =
+    (not (list_any is_keep wanted.cells) || list_any is_attribute wanted.cells)
+    && fits_from (fields_of shadow) wanted.cells 0 wanted.cells

@@ -1,0 +1,239 @@
+-- What a host believes once it has heard what a terminal sent, and which texts can't be so (our profile).
+use Rattle.std.specs.Prelude.{◌==◌, nat_lt, ◌&&◌, ◌||◌, not, ℕ, Bool, true, false, List, [], ◌∷◌, length, map, replicate, Option, Some, None, option_map, Result, Ok, Err, if◌then◌else◌, bytes_eq}
+use Rattle.std.specs.List.{list_any}
+use Rattle.codes3270.specs.declared.attention.Aid.{Aid}
+use Rattle.codes3270.specs.declared.attention.Aid.TheVariants.{NoAid, Enter, Clear, Pf, Pa}
+use Rattle.codes3270.specs.declared.attribute.Attr.{Attr as Attribute}
+use Rattle.codes3270.specs.declared.attribute.Cell.{Cell}
+use Rattle.codes3270.specs.Aid.{is_short_aid}
+use Rattle.codes3270.specs.Attribute.{attr_byte}
+use Rattle.datastream.specs.Screen.{text_before_attribute}
+use Rattle.datastream.specs.Fields.{Field, fields}
+use Rattle.datastream.specs.Held.{without_mdt}
+use Rattle.datastream.specs.Inbound.{without_nulls}
+use Rattle.shadow.specs.declared.mark.Mark.{Mark}
+use Rattle.shadow.specs.declared.mark.Mark.TheVariants.{On, Off, Unknown}
+use Rattle.shadow.specs.declared.fault.HeardFault.{HeardFault}
+use Rattle.shadow.specs.declared.fault.HeardFault.TheVariants.{NoSuchField, Contradiction}
+use Rattle.datastream.specs.InboundText.{InboundParts}
+use Rattle.datastream.specs.InboundFields.{Returned, lead, returned, cells_sent}
+use Rattle.datastream.specs.declared.inbound_part.Form.{Form}
+use Rattle.datastream.specs.declared.inbound_part.Form.TheVariants.{Modified, All as AllModified, Buffer}
+use Rattle.datastream.specs.declared.inbound_part.Part.{Part}
+use Rattle.shadow.specs.Belief.{Fact, Belief, Shadow, nulls, next_address}
+
+-- ---- which field each text came for
+
+-- a field with the text that came for it, if one came
+pub record Answer : Type 0 where
+  pub field : Belief
+  pub text : Option (List ℕ)
+
+abbrev pub starts_at : ℕ → Belief → ℕ → Bool
+starts_at size belief address = next_address size belief.place == address
+
+-- an address that is the first of no field
+abbrev pub is_nowhere : ℕ → List Belief → Returned → Bool
+is_nowhere size beliefs came = not (list_any (λ belief. starts_at size belief came.first) beliefs)
+
+abbrev pub answer_and : Belief → Option (List ℕ) → Option (List Answer) → Option (List Answer)
+answer_and belief text others = option_map (λ answers. record { field = belief; text = text } ∷ answers) others
+
+-- each field with what came for it; None where the texts are out of the fields' order, or one comes twice
+abbrev pub answers : ℕ → List Belief → List Returned → Option (List Answer)
+answers size [] [] = Some []
+answers size [] (came ∷ more) = None
+answers size (belief ∷ beliefs) [] = answer_and belief None (answers size beliefs [])
+answers size (belief ∷ beliefs) (came ∷ more) =
+    if starts_at size belief came.first
+    then answer_and belief (Some came.text) (answers size beliefs more)
+    else answer_and belief None (answers size beliefs (came ∷ more))
+
+-- ---- the fields of a long text
+
+abbrev pub is_on : Mark → Bool
+is_on On = true
+is_on Off = false
+is_on Unknown = false
+
+abbrev pub is_off : Mark → Bool
+is_off On = false
+is_off Off = true
+is_off Unknown = false
+
+-- known exactly, and without nulls another text
+abbrev pub denies : Fact → List ℕ → Bool
+denies (Fact.Exact value) text = not (bytes_eq (without_nulls value) text)
+denies (Fact.ExactOrNulls value) text = false
+denies (Fact.Text value) text = false
+denies (Fact.TextOrNulls value) text = false
+denies (Fact.Any known) text = false
+
+-- a protected field that is on has to come; a text has to fit, and of a protected field to be the one that is known
+abbrev pub contradicts_text : Belief → Option (List ℕ) → Bool
+contradicts_text belief None = belief.attr.protected && is_on belief.mark
+contradicts_text belief (Some text) =
+    nat_lt belief.length (length text) || (belief.attr.protected && (is_off belief.mark || denies belief.fact text))
+
+abbrev pub contradicts : Answer → Bool
+contradicts answer = contradicts_text answer.field answer.text
+
+-- an unprotected field that was on and isn't returned: the operator erased the input
+abbrev pub lost_text : Belief → Option (List ℕ) → Bool
+lost_text belief None = not belief.attr.protected && is_on belief.mark
+lost_text belief (Some text) = false
+
+abbrev pub was_erased : Answer → Bool
+was_erased answer = lost_text answer.field answer.text
+
+-- the text of a field; without characters it is all null
+abbrev pub text_fact : ℕ → List ℕ → Fact
+text_fact count [] = Fact.Exact (nulls count)
+text_fact count (char ∷ chars) = Fact.Text (char ∷ chars)
+
+-- an unreturned field is as it was, or null
+abbrev pub or_nulls : Fact → Fact
+or_nulls (Fact.Exact value) = if bytes_eq value (nulls (length value)) then Fact.Exact value else Fact.ExactOrNulls value
+or_nulls (Fact.ExactOrNulls value) = Fact.ExactOrNulls value
+or_nulls (Fact.Text value) = Fact.TextOrNulls value
+or_nulls (Fact.TextOrNulls value) = Fact.TextOrNulls value
+or_nulls (Fact.Any known) = Fact.Any (map (λ _. None) known)
+
+abbrev pub mark_of : Option (List ℕ) → Mark
+mark_of (Some text) = On
+mark_of None = Off
+
+abbrev pub unprotected_fact : Bool → Belief → Option (List ℕ) → Fact
+unprotected_fact erased belief (Some text) = text_fact belief.length text
+unprotected_fact erased belief None = if erased then Fact.Exact (nulls belief.length) else or_nulls belief.fact
+
+-- a field after a long text; `erased`: the operator erased the input
+abbrev pub after_long : Bool → Answer → Belief
+after_long erased answer = record answer.field {
+  mark = mark_of answer.text;
+  fact = if answer.field.attr.protected then answer.field.fact else unprotected_fact erased answer.field answer.text;
+}
+
+abbrev pub settled : Option (List Answer) → Result Shadow HeardFault
+settled None = Err Contradiction
+settled (Some found) =
+    if list_any contradicts found then Err Contradiction
+    else Ok (Shadow.Formatted (map (after_long (list_any was_erased found)) found))
+
+abbrev pub heard_long : ℕ → Shadow → List ℕ → List Returned → Result Shadow HeardFault
+heard_long size Shadow.NothingKnown lead [] = Ok Shadow.NothingKnown
+heard_long size Shadow.NothingKnown lead (came ∷ more) = Err NoSuchField
+heard_long size (Shadow.Unformatted known) lead [] =
+    if nat_lt (length known) (length lead) then Err Contradiction else Ok Shadow.NothingKnown
+heard_long size (Shadow.Unformatted known) lead (came ∷ more) = Err NoSuchField
+heard_long size (Shadow.Formatted beliefs) lead returned =
+    if list_any (is_nowhere size beliefs) returned then Err NoSuchField
+    else if nat_lt 0 (length lead) then Err Contradiction
+    else settled (answers size beliefs returned)
+
+-- ---- a key alone
+
+-- nothing known of a field's characters; without cells it is exact
+abbrev pub unknown_fact : ℕ → Fact
+unknown_fact count = if count == 0 then Fact.Exact [] else Fact.Any (replicate count None)
+
+abbrev pub after_attention : Belief → Belief
+after_attention belief =
+    if belief.attr.protected then belief else record belief { mark = Unknown; fact = unknown_fact belief.length }
+
+abbrev pub heard_attention : Shadow → Shadow
+heard_attention Shadow.NothingKnown = Shadow.NothingKnown
+heard_attention (Shadow.Unformatted known) = Shadow.NothingKnown
+heard_attention (Shadow.Formatted beliefs) = Shadow.Formatted (map after_attention beliefs)
+
+-- Clear leaves nulls; a PA key sends no fields
+abbrev pub heard_short : ℕ → Aid → Shadow → Shadow
+heard_short size Clear shadow = Shadow.Unformatted (replicate size (Some 0))
+heard_short size (Pa key) shadow = heard_attention shadow
+heard_short size NoAid shadow = heard_attention shadow
+heard_short size Enter shadow = heard_attention shadow
+heard_short size (Pf key) shadow = heard_attention shadow
+
+-- ---- every cell
+
+abbrev pub mark_seen : Bool → Mark
+mark_seen true = On
+mark_seen false = Off
+
+abbrev pub belief_seen : Field → Belief
+belief_seen field = record {
+  place = field.place;
+  attr = without_mdt field.attr;
+  mark = mark_seen field.attr.mdt;
+  length = length field.text;
+  fact = Fact.Exact field.text;
+}
+
+abbrev pub formatted_or : List Field → List ℕ → Shadow
+formatted_or [] chars = Shadow.Unformatted (map Some chars)
+formatted_or (field ∷ others) chars = Shadow.Formatted (map belief_seen (field ∷ others))
+
+-- what is believed of a screen that is wholly known
+abbrev pub seen : List Cell → Shadow
+seen cells = formatted_or (fields cells) (text_before_attribute cells)
+
+-- the same code without MDT
+abbrev pub same_attr : Attribute → Attribute → Bool
+same_attr one other = attr_byte (without_mdt one) == attr_byte (without_mdt other)
+
+abbrev pub misses : Option ℕ → ℕ → Bool
+misses None char = false
+misses (Some known) char = not (char == known)
+
+-- a known character differs, or the two have other lengths
+abbrev pub differs : List (Option ℕ) → List ℕ → Bool
+differs [] [] = false
+differs [] (char ∷ chars) = true
+differs (known ∷ more) [] = true
+differs (known ∷ more) (char ∷ chars) = misses known char || differs more chars
+
+-- the characters of a field, where they are known
+abbrev pub known_chars : ℕ → Fact → List (Option ℕ)
+known_chars count (Fact.Exact value) = map Some value
+known_chars count (Fact.ExactOrNulls value) = replicate count None
+known_chars count (Fact.Text value) = replicate count None
+known_chars count (Fact.TextOrNulls value) = replicate count None
+known_chars count (Fact.Any known) = known
+
+-- a field that was read isn't the one that is believed: its place, its attribute, or known characters of a protected one
+abbrev pub is_other : Belief → Field → Bool
+is_other belief field =
+    not (field.place == belief.place) || not (same_attr field.attr belief.attr)
+    || (belief.attr.protected && differs (known_chars belief.length belief.fact) field.text)
+
+abbrev pub others : List Belief → List Field → Bool
+others [] [] = false
+others [] (field ∷ more) = true
+others (belief ∷ beliefs) [] = true
+others (belief ∷ beliefs) (field ∷ more) = is_other belief field || others beliefs more
+
+abbrev pub is_formatted : List Field → Bool
+is_formatted [] = false
+is_formatted (field ∷ more) = true
+
+abbrev pub denies_buffer : Shadow → List Cell → Bool
+denies_buffer Shadow.NothingKnown cells = false
+denies_buffer (Shadow.Unformatted known) cells = is_formatted (fields cells)
+denies_buffer (Shadow.Formatted beliefs) cells = others beliefs (fields cells)
+
+abbrev pub heard_buffer : Shadow → List Cell → Result Shadow HeardFault
+heard_buffer shadow cells = if denies_buffer shadow cells then Err Contradiction else Ok (seen cells)
+
+-- ---- any of the three
+
+abbrev pub heard_parts : ℕ → Shadow → List Part → Result Shadow HeardFault
+heard_parts size shadow parts = heard_long size shadow (lead parts) (returned parts)
+
+-- after a key that sends its AID alone there are no fields
+abbrev pub heard_form : Form → ℕ → Shadow → Aid → List Part → Result Shadow HeardFault
+heard_form Modified size shadow aid parts = if is_short_aid aid then Ok (heard_short size aid shadow) else heard_parts size shadow parts
+heard_form AllModified size shadow aid parts = heard_parts size shadow parts
+heard_form Buffer size shadow aid parts = heard_buffer shadow (cells_sent parts)
+
+abbrev pub heard : ℕ → Shadow → InboundParts → Result Shadow HeardFault
+heard size shadow inbound = heard_form inbound.form size shadow inbound.aid inbound.parts

@@ -1,0 +1,71 @@
+-- What holds of beliefs: what is heard, taken and painted is so.
+use Rattle.std.specs.Prelude.{◌≡◌, ℕ, Bool, true, false, List, length, replicate, IsOkAnd}
+use Rattle.codes3270.specs.declared.attention.Aid.{Aid}
+use Rattle.codes3270.specs.declared.attention.Aid.TheVariants.{NoAid, Enter, Clear, Pf, Pa}
+use Rattle.codes3270.specs.declared.attribute.Cell.{Cell}
+use Rattle.codes3270.specs.declared.attribute.Cell.TheVariants.{Char}
+use Rattle.codes3270.specs.Aid.{is_short_aid}
+use Rattle.datastream.specs.Screen.{Screen}
+use Rattle.datastream.specs.Held.{Held}
+use Rattle.datastream.specs.InboundFields.{modified_data, buffer_data}
+use Rattle.datastream.specs.declared.inbound_part.Form.TheVariants.{Modified, All as AllModified}
+use Rattle.shadow.specs.Belief.{Shadow}
+use Rattle.shadow.specs.Meets.{Meets, Knows, IsTold}
+use Rattle.datastream.specs.Grammar.{CommandParts, IsSpelt}
+use Rattle.datastream.specs.Meaning.{after_command}
+use Rattle.shadow.specs.Heard.{heard}
+use Rattle.shadow.specs.Stores.{is_plain}
+use Rattle.shadow.specs.Taken.{taken}
+use Rattle.datastream.specs.Wanted.{WantedScreen}
+use Rattle.shadow.specs.Painted.{plainly_painted}
+use Rattle.shadow.specs.Fits.{fits}
+use Rattle.shadow.specs.Paint.{paint}
+
+-- all null
+abbrev pub IsCleared : List Cell → List Cell → Type 0
+IsCleared left now = now ≡ replicate (length left) (Char 0)
+
+-- The cells that a terminal has when a key just sent that identifier; `left`: those after the last write, `erased`: Erase
+-- Input was done since then.
+abbrev pub IsSentFrom : Bool → List Cell → List Cell → Aid → Type 0
+IsSentFrom erased left now Clear = IsCleared left now
+IsSentFrom erased left now (Pa key) = Held erased left now
+IsSentFrom erased left now Enter = Held erased left now
+IsSentFrom erased left now (Pf key) = Held erased left now
+IsSentFrom erased left now NoAid = Held erased left now
+
+-- what was heard of a screen: the screen meets it, and where fields were sent their texts are told
+abbrev pub Believed : Bool → Screen → Shadow → Type 0
+Believed sent screen shadow = Meets shadow screen × (sent ≡ false → IsTold shadow screen)
+
+-- A key's data is heard, and then believed as it is. A host that knows nothing refuses any field.
+abbrev pub HearsModified : Type 0
+HearsModified = (erased : Bool) (shadow : Shadow) (left now : Screen) → Knows shadow → Meets shadow left → IsSentFrom erased left.cells now.cells now.aid
+    → IsOkAnd (heard (length now.cells) shadow (modified_data Modified now)) (Believed (is_short_aid now.aid) now)
+
+-- so is the answer to Read Modified All
+abbrev pub HearsAll : Type 0
+HearsAll = (erased : Bool) (shadow : Shadow) (left now : Screen) → Knows shadow → Meets shadow left → Held erased left.cells now.cells
+    → IsOkAnd (heard (length now.cells) shadow (modified_data AllModified now)) (Believed false now)
+
+-- and to Read Buffer, of a screen that meets what is believed
+abbrev pub HearsBuffer : Type 0
+HearsBuffer = (shadow : Shadow) (now : Screen) → Meets shadow now → IsOkAnd (heard (length now.cells) shadow (buffer_data now)) (Believed false now)
+
+-- A plain write on a screen that meets what is believed leaves one that meets what is then believed.
+abbrev pub WrittenIsTaken : Type 0
+WrittenIsTaken = (command : CommandParts) (shadow : Shadow) (screen : Screen) → IsSpelt command → is_plain command ≡ true → Meets shadow screen
+    → Meets (taken (length screen.cells) command shadow) (after_command command screen)
+
+-- A paint makes the wanted screen of every screen that meets what is believed.
+abbrev pub WantedIsPainted : Type 0
+WantedIsPainted = (shadow : Shadow) (wanted : WantedScreen) (screen : Screen) → length wanted.cells ≡ length screen.cells → fits shadow wanted ≡ true → Meets shadow screen
+    → after_command (paint (length screen.cells) shadow wanted) screen ≡ plainly_painted wanted screen
+
+-- Once it is taken, something is known.
+abbrev pub PaintedIsKnown : Type 0
+PaintedIsKnown = (size : ℕ) (shadow : Shadow) (wanted : WantedScreen) → Knows (taken size (paint size shadow wanted) shadow)
+
+-- A paint is a plain write.
+abbrev pub PaintIsPlain : Type 0
+PaintIsPlain = (size : ℕ) (shadow : Shadow) (wanted : WantedScreen) → is_plain (paint size shadow wanted) ≡ true

@@ -1,0 +1,16 @@
+pub mod Pairs
+pub mod Belief
+pub mod Meets
+pub mod Heard
+pub mod Stores
+pub mod Taken
+pub mod Painted
+pub mod Fits
+pub mod Paint
+pub mod Laws
+pub mod Asked
+pub mod Held
+pub mod Store
+pub mod Came
+pub mod State
+pub mod Appending

@@ -1,0 +1,66 @@
+-- The screens that a belief allows.
+use Rattle.std.specs.Prelude.{◌≡◌, ◌⊎◌, ⊤, ℕ, Bool, true, false, List, [], length, Option, Some, None}
+use Rattle.datastream.specs.Screen.{Screen, text_before_attribute}
+use Rattle.datastream.specs.Fields.{Field, fields}
+use Rattle.datastream.specs.Held.{without_mdt}
+use Rattle.datastream.specs.Inbound.{without_nulls}
+use Rattle.shadow.specs.declared.mark.Mark.{Mark}
+use Rattle.shadow.specs.declared.mark.Mark.TheVariants.{On, Off, Unknown}
+use Rattle.shadow.specs.Pairs.{Pairwise}
+use Rattle.shadow.specs.Belief.{Fact, Belief, Shadow, nulls}
+
+abbrev pub IsNull : List ℕ → Type 0
+IsNull text = text ≡ nulls (length text)
+
+-- a character that is known is the screen's
+abbrev pub KnownIs : Option ℕ → ℕ → Type 0
+KnownIs None char = ⊤
+KnownIs (Some known) char = char ≡ known
+
+abbrev pub MarkIs : Mark → Bool → Type 0
+MarkIs On mdt = mdt ≡ true
+MarkIs Off mdt = mdt ≡ false
+MarkIs Unknown mdt = ⊤
+
+-- the characters are as a fact says
+abbrev pub Holds : Fact → List ℕ → Type 0
+Holds (Fact.Exact value) text = text ≡ value
+Holds (Fact.ExactOrNulls value) text = (text ≡ value) ⊎ IsNull text
+Holds (Fact.Text value) text = without_nulls text ≡ value
+Holds (Fact.TextOrNulls value) text = (without_nulls text ≡ value) ⊎ IsNull text
+Holds (Fact.Any known) text = Pairwise KnownIs known text
+
+pub record FieldMeets (belief : Belief) (field : Field) : Type 0 where
+  pub same_place : field.place ≡ belief.place
+  pub same_attr : without_mdt field.attr ≡ belief.attr
+  pub same_length : length field.text ≡ belief.length
+  pub mark_is : MarkIs belief.mark field.attr.mdt
+  pub holds : Holds belief.fact field.text
+
+abbrev pub Meets : Shadow → Screen → Type 0
+Meets Shadow.NothingKnown screen = ⊤
+Meets (Shadow.Unformatted known) screen = (fields screen.cells ≡ []) × Pairwise KnownIs known (text_before_attribute screen.cells)
+Meets (Shadow.Formatted beliefs) screen = (fields screen.cells ≡ [] → ⊥) × Pairwise FieldMeets beliefs (fields screen.cells)
+
+-- the host knows something of the screen
+abbrev pub Knows : Shadow → Type 0
+Knows Shadow.NothingKnown = ⊥
+Knows (Shadow.Unformatted known) = ⊤
+Knows (Shadow.Formatted beliefs) = ⊤
+
+-- the text without nulls that a fact tells
+abbrev pub told : Fact → Option (List ℕ)
+told (Fact.Exact value) = Some (without_nulls value)
+told (Fact.ExactOrNulls value) = None
+told (Fact.Text value) = Some value
+told (Fact.TextOrNulls value) = None
+told (Fact.Any known) = None
+
+-- the text of an unprotected field with MDT on is told
+abbrev pub FieldTold : Belief → Field → Type 0
+FieldTold belief field = field.attr.protected ≡ false → field.attr.mdt ≡ true → told belief.fact ≡ Some (without_nulls field.text)
+
+abbrev pub IsTold : Shadow → Screen → Type 0
+IsTold Shadow.NothingKnown screen = ⊤
+IsTold (Shadow.Unformatted known) screen = ⊤
+IsTold (Shadow.Formatted beliefs) screen = Pairwise FieldTold beliefs (fields screen.cells)

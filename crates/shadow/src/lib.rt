@@ -1,0 +1,32 @@
+//! What a host believes of a terminal's screen, and the writes that paint it.
+#![tactic(auto)]
+
+mod blank;
+mod buffer;
+mod cells;
+mod fact;
+mod fault;
+mod fields;
+mod fitting;
+mod hearing;
+mod held;
+mod known;
+mod laws;
+mod mark;
+mod painting;
+mod shadow;
+mod state;
+mod writing;
+
+pub use fact::Fact;
+pub use fault::HeardFault;
+pub use laws::{
+    what_is_read_is_heard, what_is_sent_is_heard, what_is_wanted_is_painted,
+    what_is_written_is_taken,
+};
+pub use mark::Mark;
+pub use shadow::Shadow;
+pub use writing::plain;
+
+#[cfg(test)]
+mod tests;

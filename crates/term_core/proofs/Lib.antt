@@ -1,0 +1,5 @@
+pub mod ByItems
+pub mod Lengths
+pub mod Outcomes
+pub mod Rows
+pub mod Steps

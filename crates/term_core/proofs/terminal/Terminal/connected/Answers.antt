@@ -1,0 +1,6 @@
+use Rattle.term_core.proofs.Steps.{fresh_runs, limit_of}
+use Rattle.term_core.proofs.terminal.Terminal.connected.Goals as goal
+
+pub invariant_of-self : goal.invariant_of-self
+invariant_of-self c =
+    fresh_runs c.reset.new.self c.self.inside.decoder.limit c.reset.ensures (limit_of c.self.inside.attachment c.self.inside.decoder c.self.invariant)

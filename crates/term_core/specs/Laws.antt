@@ -1,0 +1,46 @@
+-- A terminal is one machine: what it becomes and what it sends is a function of what it was and of the bytes, however they
+-- are cut into pieces.
+use Rattle.std.specs.Prelude.{◌≡◌, ℕ, List, [], ◌∷◌, ◌++◌, None}
+use Rattle.telnet_wire.specs.Items.{WireItem}
+use Rattle.telnet_wire.specs.Reading.{Rest, IsRest, Delivers}
+use Rattle.tn3270e_msg.specs.TermTable.{Term}
+use Rattle.term_core.specs.State.{Station, Terminal, Attached, record_limit}
+use Rattle.term_core.specs.Says.{sent_bytes}
+use Rattle.term_core.specs.Items.{TakesItem}
+use Rattle.term_core.specs.Bytes.{TakesBytes, before_byte}
+
+-- bytes make one terminal of a terminal
+abbrev pub OneOutcome : Type 0
+OneOutcome = (old new other : Terminal) (bytes : List ℕ) → TakesBytes old bytes new → TakesBytes old bytes other → new ≡ other
+
+-- two pieces, one after the other, are taken as both in one
+abbrev pub PiecesCompose : Type 0
+PiecesCompose = (old mid new : Terminal) (first second : List ℕ)
+    → TakesBytes old first mid → TakesBytes mid second new → TakesBytes old (first ++ second) new
+
+-- what is taken in one is taken in any two pieces
+abbrev pub PiecesPart : Type 0
+PiecesPart = (old new : Terminal) (first second : List ℕ)
+    → TakesBytes old (first ++ second) new → (mid : Terminal) × TakesBytes old first mid × TakesBytes mid second new
+
+-- items come one after another, and none closes the connection: what they make of the talk and of the station (but for
+-- whether the last byte completed a write), and what is sent
+abbrev pub TakesItems : Term → Station → List WireItem → List WireItem → Term → Station → Type 0
+TakesItems talk old [] says after new = (says ≡ []) × (after ≡ talk) × (before_byte new ≡ before_byte old)
+TakesItems talk old (item ∷ items) says after new =
+    (next : Term) × (mid : Station) × (some others : List WireItem)
+    × TakesItem talk (before_byte old) item some None next mid × TakesItems next mid items others after new × (says ≡ some ++ others)
+
+-- what bytes make of a terminal is what the items that they say make of it
+pub record IsByItems (old : Terminal) (rest : Rest) (talk : Term) (bytes : List ℕ) (new : Terminal) (to : Rest) (after : Term) : Type 0 where
+  pub items : List WireItem
+  pub says : List WireItem
+  pub delivers : Delivers record_limit rest bytes items to
+  pub takes : TakesItems talk old.station items says after new.station
+  pub sends : new.out ≡ old.out ++ sent_bytes says
+
+-- bytes that leave it attached are read as items, and make of it what these do one after another
+abbrev pub BytesAreItems : Type 0
+BytesAreItems = (old new : Terminal) (rest to : Rest) (talk after : Term) (bytes : List ℕ)
+    → old.link ≡ Attached rest talk → IsRest record_limit rest → new.link ≡ Attached to after → TakesBytes old bytes new
+    → IsByItems old rest talk bytes new to after

@@ -1,0 +1,12 @@
+pub mod State
+pub mod Says
+pub mod Room
+pub mod Reads
+pub mod Records
+pub mod Items
+pub mod Bytes
+pub mod Presses
+pub mod Feeds
+pub mod Over
+pub mod ScreenText
+pub mod Laws

@@ -1,0 +1,52 @@
+-- What a terminal makes of a key.
+use Rattle.std.specs.Prelude.{ℕ, Bool, true, false, List, ◌++◌, Option, None, Some}
+use Rattle.codes3270.specs.Size.{columns}
+use Rattle.datastream.specs.Screen.{Screen}
+use Rattle.datastream.specs.Inbound.{read_modified}
+use Rattle.keyboard.specs.Keys.{Outcome, pressed}
+use Rattle.keyboard.specs.declared.key.Key.{Key}
+use Rattle.keyboard.specs.declared.key.Pressed.{Pressed}
+use Rattle.keyboard.specs.declared.key.Pressed.TheVariants.{Done, Refused, Send}
+use Rattle.telnet_wire.specs.Items.{WireItem}
+use Rattle.term_core.specs.State.{Station, Terminal, phase_of, is_bound}
+use Rattle.term_core.specs.Says.{sent_bytes}
+use Rattle.term_core.specs.Records.{data_sent, numbered}
+
+-- the data that a key sends, by what the keyboard answers: a terminal that is bound sends its modified fields, another
+-- sends nothing
+abbrev pub data_pressed : Bool → Pressed → Screen → Option (List ℕ)
+data_pressed true (Send aid) screen = Some (read_modified false screen)
+data_pressed false (Send aid) screen = None
+data_pressed bound Done screen = None
+data_pressed bound (Refused why) screen = None
+
+abbrev pub key_outcome : Key → Station → Outcome
+key_outcome key station = pressed columns key station.keyboard station.screen
+
+-- what a key makes of a station, and what is sent
+abbrev pub data_of_key : Key → Bool → Station → Option (List ℕ)
+data_of_key key bound old =
+    let outcome = key_outcome key old in
+    data_pressed bound outcome.answer outcome.screen
+
+abbrev pub station_after_key : Key → Bool → Station → Station
+station_after_key key bound old =
+    let outcome = key_outcome key old in
+    numbered (data_of_key key bound old) (record old { screen = outcome.screen; keyboard = outcome.keyboard })
+
+abbrev pub says_of_key : Key → Bool → Station → List WireItem
+says_of_key key bound old = data_sent old.number (data_of_key key bound old)
+
+-- the terminal after a key
+abbrev pub after_key : Key → Terminal → Terminal
+after_key key old =
+    let bound = is_bound (phase_of old.link) in
+    record {
+      link = old.link;
+      station = station_after_key key bound old.station;
+      out = old.out ++ sent_bytes (says_of_key key bound old.station);
+    }
+
+-- what the key is answered
+abbrev pub answer_to_key : Key → Terminal → Pressed
+answer_to_key key old = (key_outcome key old.station).answer

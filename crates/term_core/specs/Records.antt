@@ -1,0 +1,102 @@
+-- What a terminal makes of a record, once it is bound (RFC 1647, sections 8.1 and 10.4; the refusals of commands are our profile).
+use Rattle.std.specs.Prelude.{◌≡◌, ◌≢◌, ◌==◌, ◌&&◌, ℕ, Bool, true, false, List, [], ◌∷◌, ◌++◌, Option, None, Some, if◌then◌else◌}
+use Rattle.datastream.specs.Screen.{Screen}
+use Rattle.datastream.specs.Grammar.{CommandParts, IsCommand, IsNoCommand, is_write}
+use Rattle.datastream.specs.Meaning.{after_command}
+use Rattle.datastream.specs.Inbound.{read_modified, read_buffer}
+use Rattle.datastream.specs.declared.command_code.CommandCode.{CommandCode}
+use Rattle.datastream.specs.declared.command_code.CommandCode.TheVariants.{Write, EraseWrite, EraseWriteAlternate, ReadBuffer, ReadModified, ReadModifiedAll, EraseAllUnprotected}
+use Rattle.datastream.specs.declared.fault.CommandFault.{CommandFault}
+use Rattle.datastream.specs.declared.fault.CommandFault.TheVariants.{BadCommand, BadOrder, BadAddress, Truncated}
+use Rattle.presentation.specs.Applied.{asked_by}
+use Rattle.keyboard.specs.State.{Keyboard, freed}
+use Rattle.telnet_wire.specs.Items.{WireItem}
+use Rattle.tn3270e_msg.specs.Header.{Begins, HasFault, next_number}
+use Rattle.tn3270e_msg.specs.declared.header.Header.{Header}
+use Rattle.tn3270e_msg.specs.declared.header.HeadFault.{HeadFault}
+use Rattle.tn3270e_msg.specs.declared.header.DataType.TheVariants.{Data3270}
+use Rattle.tn3270e_msg.specs.declared.cause.Cause.{Cause}
+use Rattle.tn3270e_msg.specs.declared.cause.Cause.TheVariants.{BadRecord}
+use Rattle.term_core.specs.declared.outcome.Outcome.{Outcome}
+use Rattle.term_core.specs.declared.outcome.Outcome.TheVariants.{DeviceEnd, CommandReject, OperationCheck}
+use Rattle.term_core.specs.State.{Station}
+use Rattle.term_core.specs.Says.{response, data_record}
+
+-- the response to a command that was refused: none where its record wants none (response flag 0)
+abbrev pub refused_response : ℕ → ℕ → Outcome → List WireItem
+refused_response flag number outcome = if flag == 0 then [] else response number outcome ∷ []
+
+-- the response to a command that was done: one where its record wants one in any case (response flag 2)
+abbrev pub done_response : ℕ → ℕ → List WireItem
+done_response flag number = if flag == 2 then response number DeviceEnd ∷ [] else []
+
+-- why a command with a fault is refused
+abbrev pub refusal_of : CommandFault → Outcome
+refusal_of BadCommand = CommandReject
+refusal_of BadOrder = OperationCheck
+refusal_of BadAddress = OperationCheck
+refusal_of Truncated = OperationCheck
+
+-- the data that a read command gets; other commands get none
+abbrev pub data_read : CommandCode → Screen → Option (List ℕ)
+data_read ReadBuffer screen = Some (read_buffer screen)
+data_read ReadModified screen = Some (read_modified false screen)
+data_read ReadModifiedAll screen = Some (read_modified true screen)
+data_read Write screen = None
+data_read EraseWrite screen = None
+data_read EraseWriteAlternate screen = None
+data_read EraseAllUnprotected screen = None
+
+-- a record of data, if there is some
+abbrev pub data_sent : ℕ → Option (List ℕ) → List WireItem
+data_sent number None = []
+data_sent number (Some body) = data_record number body ∷ []
+
+-- it takes a number
+abbrev pub number_behind : Option (List ℕ) → ℕ → ℕ
+number_behind None number = number
+number_behind (Some body) number = next_number number
+
+abbrev pub numbered : Option (List ℕ) → Station → Station
+numbered body station = record station { number = number_behind body station.number }
+
+-- the keyboard is freed by a command that restores
+abbrev pub freed_if : Bool → Keyboard → Keyboard
+freed_if true keyboard = freed keyboard
+freed_if false keyboard = keyboard
+
+-- a write, and not Erase All Unprotected, that restores
+abbrev pub is_restoring_write : CommandParts → Bool
+is_restoring_write command = is_write command.code && (asked_by command).restore
+
+-- the command is applied
+abbrev pub applied : CommandParts → Station → Station
+applied command old = record old {
+  screen = after_command command old.screen;
+  keyboard = freed_if (asked_by command).restore old.keyboard;
+  took_write = is_restoring_write command;
+}
+
+-- what a command that is done gets: first it is applied, then a read gets its data, then comes the response
+abbrev pub answer_of : Header → CommandParts → Station → List WireItem
+answer_of header command old =
+    data_sent old.number (data_read command.code (applied command old).screen) ++ done_response header.flag header.seq
+
+abbrev pub obeyed : CommandParts → Station → Station
+obeyed command old =
+    let done = applied command old in
+    numbered (data_read command.code done.screen) done
+
+-- A record comes to a terminal that is bound; `says` is what it sends, `closes` the cause by which it closes the connection,
+-- if it does. Without a header it closes; other data than 3270-DATA is dropped; a command that is refused changes nothing.
+pub data TakesRecord (old : Station) (bytes : List ℕ) (says : List WireItem) (closes : Option Cause) (new : Station) : Type 0 where
+  no_header : (fault : HeadFault) → HasFault bytes fault
+      → says ≡ [] → closes ≡ Some BadRecord → new ≡ old → TakesRecord old bytes says closes new
+  dropped : (header : Header) (body : List ℕ) → Begins bytes header body → header.kind ≢ Data3270
+      → says ≡ [] → closes ≡ None → new ≡ old → TakesRecord old bytes says closes new
+  refused : (header : Header) (body : List ℕ) (fault : CommandFault) → Begins bytes header body → header.kind ≡ Data3270
+      → IsNoCommand fault body → says ≡ refused_response header.flag header.seq (refusal_of fault) → closes ≡ None → new ≡ old
+      → TakesRecord old bytes says closes new
+  obeys : (header : Header) (body : List ℕ) (command : CommandParts) → Begins bytes header body → header.kind ≡ Data3270
+      → IsCommand command body → says ≡ answer_of header command old → closes ≡ None → new ≡ obeyed command old
+      → TakesRecord old bytes says closes new

@@ -1,0 +1,40 @@
+-- What a terminal sends (RFC 1647, sections 8.1 and 10.4).
+use Rattle.std.specs.Prelude.{ℕ, List, [], ◌∷◌, ◌++◌}
+use Rattle.std.specs.List.{flat_map}
+use Rattle.telnet_wire.specs.Items.{WireItem, Record, item_tokens}
+use Rattle.telnet_wire.specs.Token.{text}
+use Rattle.tn3270e_msg.specs.Header.{spelling}
+use Rattle.tn3270e_msg.specs.declared.header.Header.{Header}
+use Rattle.tn3270e_msg.specs.declared.header.DataType.TheVariants.{Data3270, Response}
+use Rattle.term_core.specs.declared.outcome.Outcome.{Outcome}
+use Rattle.term_core.specs.declared.outcome.Outcome.TheVariants.{DeviceEnd, CommandReject, OperationCheck}
+
+-- POSITIVE or NEGATIVE
+abbrev pub outcome_flag : Outcome → ℕ
+outcome_flag DeviceEnd = 0
+outcome_flag CommandReject = 1
+outcome_flag OperationCheck = 1
+
+-- the byte behind the header
+abbrev pub outcome_code : Outcome → ℕ
+outcome_code DeviceEnd = 0
+outcome_code CommandReject = 0
+outcome_code OperationCheck = 2
+
+abbrev pub response_header : ℕ → Outcome → Header
+response_header number outcome = record { kind = Response; request = 0; flag = outcome_flag outcome; seq = number }
+
+-- the record that answers the command with this number
+abbrev pub response : ℕ → Outcome → WireItem
+response number outcome = Record (spelling (response_header number outcome) ++ outcome_code outcome ∷ [])
+
+abbrev pub data_header : ℕ → Header
+data_header number = record { kind = Data3270; request = 0; flag = 0; seq = number }
+
+-- the record of inbound data with this number, which wants no response
+abbrev pub data_record : ℕ → List ℕ → WireItem
+data_record number body = Record (spelling (data_header number) ++ body)
+
+-- the bytes of what is sent, one after another
+abbrev pub sent_bytes : List WireItem → List ℕ
+sent_bytes items = flat_map (λ item. text (item_tokens item)) items

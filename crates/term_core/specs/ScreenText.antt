@@ -1,0 +1,61 @@
+-- The screen as text (our profile).
+use Rattle.std.specs.Prelude.{ℕ, ◌+◌, ◌*◌, ◌/◌, ◌%◌, ◌==◌, Bool, true, false, List, [], ◌∷◌, ◌++◌, if◌then◌else◌, codes, slice_index, suc, zero}
+use Rattle.std.specs.List.{flat_map}
+use Rattle.std.specs.Char.{encode_utf8}
+use Rattle.std.specs.Fmt.{decimal}
+use Rattle.codes3270.specs.Size.{rows, columns}
+use Rattle.codes3270.specs.Aid.{byte_of_aid}
+use Rattle.codes3270.specs.declared.attribute.Cell.{Cell}
+use Rattle.datastream.specs.Screen.{Screen}
+use Rattle.presentation.specs.Glyph.{glyph_at, blank}
+use Rattle.keyboard.specs.State.{Keyboard}
+use Rattle.keyboard.specs.Names.{lock_name}
+use Rattle.term_core.specs.State.{Station}
+
+abbrev pub newline : ℕ
+newline = 10
+
+-- the characters that are printed for as many cells, from an address on
+unfoldable pub glyphs : List Cell → ℕ → ℕ → List ℕ
+glyphs cells at zero = []
+glyphs cells at (suc count) = glyph_at cells at ∷ glyphs cells (at + 1) count
+
+-- a character in front of a text that has no blanks at its end: a blank alone is one
+abbrev pub before_trimmed : ℕ → List ℕ → List ℕ
+before_trimmed char [] = if char == blank then [] else char ∷ []
+before_trimmed char (next ∷ text) = char ∷ next ∷ text
+
+-- a text without the blanks at its end
+abbrev pub trimmed : List ℕ → List ℕ
+trimmed [] = []
+trimmed (char ∷ text) = before_trimmed char (trimmed text)
+
+-- a row's line, in UTF-8
+abbrev pub line : List Cell → ℕ → List ℕ
+line cells row = flat_map encode_utf8 (trimmed (glyphs cells (row * columns) columns)) ++ newline ∷ []
+
+-- the lines of the first rows
+unfoldable pub lines : List Cell → ℕ → List ℕ
+lines cells zero = []
+lines cells (suc count) = lines cells count ++ line cells count
+
+-- what is added to the lock in insert mode
+abbrev pub insert_word : Bool → List ℕ
+insert_word true = codes " insert"
+insert_word false = []
+
+-- a byte's two digits
+abbrev pub hexadecimal_digit : ℕ → ℕ
+hexadecimal_digit value = slice_index (codes "0123456789ABCDEF") value
+
+abbrev pub hexadecimal : ℕ → List ℕ
+hexadecimal byte = hexadecimal_digit (byte / 16) ∷ hexadecimal_digit (byte % 16) ∷ []
+
+-- the line on the cursor, the keyboard and the AID
+abbrev pub status_line : Screen → Keyboard → List ℕ
+status_line screen keyboard =
+    codes "cursor " ++ decimal screen.cursor ++ codes " lock " ++ lock_name keyboard.lock ++ insert_word keyboard.inserting
+    ++ codes " aid " ++ hexadecimal (byte_of_aid screen.aid) ++ newline ∷ []
+
+abbrev pub screen_text : Station → List ℕ
+screen_text station = lines station.screen.cells rows ++ status_line station.screen station.keyboard

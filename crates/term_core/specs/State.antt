@@ -1,0 +1,76 @@
+-- A terminal, seen from outside (our profile).
+use Rattle.std.specs.Prelude.{ℕ, Bool, true, false, List, [], Option, None, Some, replicate}
+use Rattle.codes3270.specs.Size.{cell_count}
+use Rattle.codes3270.specs.declared.attribute.Cell.TheVariants.{Char}
+use Rattle.codes3270.specs.declared.attention.Aid.TheVariants.{NoAid}
+use Rattle.datastream.specs.Screen.{Screen}
+use Rattle.keyboard.specs.State.{Keyboard, fresh}
+use Rattle.telnet_wire.specs.Reading.{Rest, nothing}
+use Rattle.tn3270e_msg.specs.TermTable.{Term, term_start}
+use Rattle.tn3270e_msg.specs.declared.term_talk.TermState.{TermState}
+use Rattle.tn3270e_msg.specs.declared.term_talk.TermState.TheVariants.{Agreed, Refused}
+use Rattle.tn3270e_msg.specs.declared.cause.Cause.{Cause}
+use Rattle.term_core.specs.declared.phase.TermPhase.{TermPhase}
+use Rattle.term_core.specs.declared.phase.TermPhase.TheVariants as phase
+
+-- whether the terminal is attached to a connection: what it holds of the stream since it was, and how far the talk is; or
+-- the cause by which it closed the connection
+pub data Link : Type 0 where
+  Detached : Link
+  Attached : Rest → Term → Link
+  Closed : Cause → Link
+
+-- what the operator has before him
+pub record Station : Type 0 where
+  pub screen : Screen
+  pub keyboard : Keyboard
+  pub number : ℕ  -- of the next record of data on this connection
+  pub took_write : Bool  -- whether the last byte that came completed a write with restore, which was applied
+
+pub record Terminal : Type 0 where
+  pub link : Link
+  pub station : Station
+  pub out : List ℕ  -- what it has to send
+
+-- the data bytes that a record may have
+abbrev pub record_limit : ℕ
+record_limit = 16384
+
+-- all cells null, the cursor at 0, no AID
+abbrev pub blank : Screen
+blank = record { cells = replicate cell_count (Char 0); cursor = 0; aid = NoAid }
+
+-- a screen that was left, with a keyboard that waits
+abbrev pub waiting : Screen → Station
+waiting screen = record { screen = screen; keyboard = fresh; number = 0; took_write = false }
+
+-- as it begins, and as it begins anew
+abbrev pub new_terminal : Terminal
+new_terminal = record { link = Detached; station = waiting blank; out = [] }
+
+-- at the begin of a connection, on which it wants this LU, if one
+abbrev pub connected : Option (List ℕ) → Terminal
+connected wanted = record { link = Attached nothing (term_start wanted); station = waiting blank; out = [] }
+
+-- the connection is lost: the screen stays
+abbrev pub lost : Terminal → Terminal
+lost old = record { link = Detached; station = waiting old.station.screen; out = [] }
+
+-- its phase while it talks
+abbrev pub talk_phase : TermState → TermPhase
+talk_phase (Agreed lu) = phase.Bound lu
+talk_phase (Refused reason) = phase.Refused reason
+talk_phase _ = phase.Talking
+
+abbrev pub phase_of : Link → TermPhase
+phase_of Detached = phase.Idle
+phase_of (Attached rest talk) = talk_phase talk.talk.state
+phase_of (Closed cause) = phase.Closed cause
+
+-- whether a terminal in this phase is bound to an LU
+abbrev pub is_bound : TermPhase → Bool
+is_bound (phase.Bound lu) = true
+is_bound phase.Idle = false
+is_bound phase.Talking = false
+is_bound (phase.Refused reason) = false
+is_bound (phase.Closed cause) = false

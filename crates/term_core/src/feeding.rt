@@ -1,0 +1,111 @@
+//! How a terminal that is attached takes bytes.
+ghost use Rattle.std.specs.Prelude.{◌≡◌, ◌≤◌, ◌++◌, None};
+ghost use Rattle.std.specs.Vec.{vec_capacity};
+ghost use Rattle.telnet_wire.specs.Items.{item_of};
+ghost use Rattle.tn3270e_msg.specs.Talk.{items_sent, IsSending};
+ghost use Rattle.term_core.specs.Says.{sent_bytes};
+ghost use Rattle.term_core.specs.Room.{HasRoom};
+ghost use Rattle.term_core.specs.Items.{closing};
+ghost use Rattle.term_core.specs.Bytes.{TakesByte};
+ghost use Rattle.term_core.specs.Feeds.{Feeds};
+ghost use Rattle.term_core.specs.Over.{ItemTaken, IsRunning, IsLeft, terminal_of, cause_of};
+
+use crate::room::REPLY_ROOM;
+use crate::station::Station;
+use telnet_wire::{Decoder, Item, Step, put_option};
+use tn3270e_msg::{After, Cause, Fed, Reply, Stop, TermState, TermTalk, put_sub_message};
+
+/// Takes bytes as long as the connection is open and there is room for a reply.
+pub(crate) fn feed_attached(
+    talk: &mut TermTalk,
+    decoder: &mut Decoder,
+    station: &mut Station,
+    out: &mut Vec<u8>,
+    bytes: &[u8],
+) -> Fed
+    requires { IsRunning decoder.old }
+    ensures fed { Feeds (terminal_of decoder.old talk.old None station.old out.old) bytes.now result (terminal_of decoder.new talk.new (cause_of result.stop) station.new out.new) }
+    ensures left { IsLeft (cause_of result.stop) decoder.new }
+{
+    for (taken, byte) in bytes.iter().enumerate() {
+        if out.reserve(REPLY_ROOM).is_err() {
+            return Fed {
+                taken,
+                stop: Stop::Memory,
+            };
+        }
+        if let Some(cause) = take_byte(talk, decoder, station, out, *byte) {
+            return Fed {
+                taken: taken + 1,
+                stop: Stop::Closed(cause),
+            };
+        }
+    }
+    Fed {
+        taken: bytes.len(),
+        stop: Stop::Going,
+    }
+}
+
+/// Takes a byte, and answers the cause by which it closes the connection, if it does.
+fn take_byte(
+    talk: &mut TermTalk,
+    decoder: &mut Decoder,
+    station: &mut Station,
+    out: &mut Vec<u8>,
+    byte: u8,
+) -> Option<Cause>
+    requires running { IsRunning decoder.old }
+    requires room { HasRoom out.old }
+    ensures taken { TakesByte (terminal_of decoder.old talk.old None station.old out.old) byte (terminal_of decoder.new talk.new result station.new out.new) }
+    ensures left { IsLeft result decoder.new }
+{
+    station.begin_byte();
+    match decoder.push(byte) {
+        Err(_) => Some(Cause::Wire),
+        Ok(Step::More) => None,
+        Ok(Step::Ready) => take_item(talk, station, out, &decoder.item()),
+    }
+}
+
+/// Takes what the stream hands out, and answers the cause by which it closes the connection, if it does.
+fn take_item(
+    talk: &mut TermTalk,
+    station: &mut Station,
+    out: &mut Vec<u8>,
+    item: &Item<'_>,
+) -> Option<Cause>
+    requires { HasRoom out.old }
+    ensures { ItemTaken talk.old station.old (item_of item.now) out.old out.new result talk.new station.new }
+{
+    match item {
+        Item::Record(bytes) => match talk.state() {
+            TermState::Agreed(_) => station.take_record(bytes, out),
+            _ => send_reply(&talk.take(item), out),
+        },
+        _ => send_reply(&talk.take(item), out),
+    }
+}
+
+/// Sends what the talk replies, and answers the cause by which the reply closes the connection, if it does.
+fn send_reply(reply: &Reply, out: &mut Vec<u8>) -> Option<Cause>
+    requires { HasRoom out.old }
+    ensures sent { out.new.items ≡ out.old.items ++ sent_bytes (items_sent reply.now) }
+    ensures closes { result ≡ closing reply.now }
+{
+    match reply {
+        Reply::Opt(verb, code) => {
+            put_option(out, *verb, *code).unwrap();
+            None
+        }
+        Reply::Sub(sending, after) => {
+            put_sub_message(out, &sending.message()).unwrap();
+            match after {
+                After::Close(cause) => Some(*cause),
+                After::Going | After::Agreed => None,
+            }
+        }
+        Reply::Close(cause) => Some(*cause),
+        Reply::Nothing | Reply::AskPool(_) | Reply::Agreed | Reply::Refused(_) => None,
+    }
+}

@@ -1,0 +1,16 @@
+//! The terminal whole: Telnet bytes and keystrokes come in, Telnet bytes and a printed screen go out.
+#![tactic(auto)]
+
+mod feeding;
+mod laws;
+mod outcome;
+mod phase;
+mod room;
+mod screen_text;
+mod station;
+mod terminal;
+
+pub use laws::one_machine;
+pub use outcome::Outcome;
+pub use phase::TermPhase;
+pub use terminal::{RECORD_LIMIT, Terminal};

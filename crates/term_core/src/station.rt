@@ -1,0 +1,281 @@
+//! The display station: screen and keyboard, and what records and keys make of them.
+ghost use Rattle.std.specs.Prelude.{◌≡◌, ◌≤◌, ◌+◌, ◌++◌, ◌∷◌, [], Bool, None, Some, IfOk, length, vec_len};
+ghost use Rattle.std.specs.Vec.{vec_capacity};
+ghost use Rattle.datastream.specs.Grammar.{is_write};
+ghost use Rattle.datastream.specs.Screen.{Screen as Shown};
+ghost use Rattle.datastream.specs.Inbound.{read_modified, read_buffer};
+ghost use Rattle.term_core.specs.State.{waiting, blank};
+ghost use Rattle.term_core.specs.Bytes.{before_byte};
+ghost use Rattle.term_core.specs.Says.{sent_bytes, response, data_record};
+ghost use Rattle.term_core.specs.Room.{HasRoom, HasRoomForResponse, longest_reading};
+ghost use Rattle.term_core.specs.Reads.{data_of, data_if};
+ghost use Rattle.term_core.specs.Records.{refusal_of, data_read, numbered, answer_of, obeyed};
+ghost use Rattle.term_core.specs.Over.{RecordTaken};
+ghost use Rattle.term_core.specs.Presses.{key_outcome, station_after_key, says_of_key};
+
+use crate::outcome::Outcome;
+use crate::room::RECORD_ROOM;
+use datastream::{Command, CommandCode, CommandFault, fields_both_ways, read_command};
+use keyboard::{Key, Keyboard, Pressed};
+use presentation::Screen;
+use std::alloc::Global;
+use std::marker::Model;
+use telnet_wire::{Memory, put_record};
+use tn3270e_msg::{
+    ALWAYS_RESPONSE, Cause, DataType, Header, NEGATIVE, NO_RESPONSE, POSITIVE, header_bytes,
+    next_seq, read_header,
+};
+
+/// What the operator has before him, and the room for a record.
+#[derive(Drop)]
+pub(crate) struct Station {
+    screen: Screen,
+    keyboard: Keyboard,
+    number: u16,
+    took_write: bool,
+    // Room for the largest record that is sent.
+    record: Vec<u8>,
+}
+
+impl Model for Station {
+    ghost use Rattle.std.specs.Prelude.{◌≤◌};
+    ghost use Rattle.std.specs.Vec.{vec_capacity};
+    ghost use Rattle.term_core.specs.State.{Station as Kept};
+    ghost use Rattle.term_core.specs.Room.{record_room};
+
+    ghost Value = { Kept };
+
+    ghost view = { λ s. record { screen = s.screen; keyboard = s.keyboard; number = s.number; took_write = s.took_write } };
+
+    ghost invariant = { λ s. record_room ≤ vec_capacity s.record };
+}
+
+/// A read: the modified fields as a key sends them, all of them whatever the AID, or the whole buffer.
+#[derive(Clone, Copy)]
+enum Reading {
+    Modified,
+    ModifiedAll,
+    Buffer,
+}
+
+/// The read that a command asks for.
+fn reading_of(code: CommandCode) -> Option<Reading>
+    ensures { (screen : Shown) → data_read code screen ≡ data_if result screen }
+{
+    match code {
+        CommandCode::ReadModified => Some(Reading::Modified),
+        CommandCode::ReadModifiedAll => Some(Reading::ModifiedAll),
+        CommandCode::ReadBuffer => Some(Reading::Buffer),
+        CommandCode::Write
+        | CommandCode::EraseWrite
+        | CommandCode::EraseWriteAlternate
+        | CommandCode::EraseAllUnprotected => None,
+    }
+}
+
+/// Why a command with a fault is refused.
+fn refusal(fault: CommandFault) -> Outcome
+    ensures { result ≡ refusal_of fault }
+{
+    match fault {
+        CommandFault::BadCommand => Outcome::CommandReject,
+        CommandFault::BadOrder | CommandFault::BadAddress | CommandFault::Truncated => {
+            Outcome::OperationCheck
+        }
+    }
+}
+
+/// Whether a command is a write; Erase All Unprotected isn't.
+fn is_write(code: CommandCode) -> bool
+    ensures { result ≡ is_write code }
+{
+    matches!(
+        code,
+        CommandCode::Write | CommandCode::EraseWrite | CommandCode::EraseWriteAlternate
+    )
+}
+
+/// Sends the response to a command with this number.
+fn send_response(out: &mut Vec<u8>, number: u16, outcome: Outcome)
+    requires { HasRoomForResponse out.old }
+    ensures sent { out.new.items ≡ out.old.items ++ sent_bytes (response number outcome ∷ []) }
+    ensures capacity { vec_capacity out.old ≤ vec_capacity out.new }
+{
+    let (flag, code) = match outcome {
+        Outcome::DeviceEnd => (POSITIVE, 0),
+        Outcome::CommandReject => (NEGATIVE, 0),
+        Outcome::OperationCheck => (NEGATIVE, 2),
+    };
+    let header = Header {
+        kind: DataType::Response,
+        request: 0,
+        flag,
+        seq: number,
+    };
+    let [kind, request, flag, high, low] = header_bytes(&header);
+    put_record(out, &[kind, request, flag, high, low, code]).unwrap();
+}
+
+impl Station {
+    /// As a terminal begins: a blank screen, and a keyboard that waits.
+    pub(crate) fn new(alloc: Global) -> Result<Station, Memory>
+        ensures { IfOk result (λ station. station ≡ waiting blank) }
+    {
+        let record = Vec::with_capacity(alloc, RECORD_ROOM)?;
+        Ok(Station {
+            screen: Screen::blank(),
+            keyboard: Keyboard::new(),
+            number: 0,
+            took_write: false,
+            record,
+        })
+    }
+
+    /// Waits for a host, with the screen as it is.
+    pub(crate) fn wait(&mut self)
+        ensures { self.new ≡ waiting self.old.screen }
+    {
+        self.keyboard = Keyboard::new();
+        self.number = 0;
+        self.took_write = false;
+    }
+
+    /// Begins anew.
+    pub(crate) fn renew(&mut self)
+        ensures { self.new ≡ waiting blank }
+    {
+        self.screen = Screen::blank();
+        self.wait();
+    }
+
+    pub(crate) fn screen(&self) -> &Screen
+        ensures { result.now ≡ self.now.screen }
+    {
+        &self.screen
+    }
+
+    pub(crate) fn keyboard(&self) -> Keyboard
+        ensures { result ≡ self.now.keyboard }
+    {
+        self.keyboard
+    }
+
+    pub(crate) fn took_write(&self) -> bool
+        ensures { result ≡ self.now.took_write }
+    {
+        self.took_write
+    }
+
+    /// A byte came that may complete no write.
+    pub(crate) fn begin_byte(&mut self)
+        ensures { self.new ≡ before_byte self.old }
+    {
+        self.took_write = false;
+    }
+
+    /// Sends a record of data that wants no response.
+    fn send(&mut self, reading: Reading, out: &mut Vec<u8>)
+        requires { HasRoom out.old }
+        ensures station { self.new ≡ numbered (Some (data_of reading self.old.screen)) self.old }
+        ensures sent { out.new.items ≡ out.old.items ++ sent_bytes (data_record self.old.number (data_of reading self.old.screen) ∷ []) }
+        ensures room { HasRoomForResponse out.new }
+        ensures capacity { vec_capacity out.old ≤ vec_capacity out.new }
+    {
+        let header = Header {
+            kind: DataType::Data3270,
+            request: 0,
+            flag: NO_RESPONSE,
+            seq: self.number,
+        };
+        self.record.clear();
+        self.record
+            .extend_from_slice(&header_bytes(&header))
+            .unwrap();
+        put_reading(&self.screen, reading, &mut self.record);
+        put_record(out, self.record.as_slice()).unwrap();
+        self.number = next_seq(self.number);
+    }
+
+    /// Applies a command, and sends the data that it asks for and then the response that its record wants.
+    fn obey(&mut self, header: &Header, command: &Command<'_>, out: &mut Vec<u8>)
+        requires { HasRoom out.old }
+        ensures station { self.new ≡ obeyed command.now self.old }
+        ensures sent { out.new.items ≡ out.old.items ++ sent_bytes (answer_of header.now command.now self.old) }
+        ensures capacity { vec_capacity out.old ≤ vec_capacity out.new }
+    {
+        let applied = self.screen.apply(command);
+        if applied.restore {
+            self.keyboard.restored();
+        }
+        self.took_write = applied.restore && is_write(command.code());
+        if let Some(reading) = reading_of(command.code()) {
+            self.send(reading, out);
+        }
+        if header.flag == ALWAYS_RESPONSE {
+            send_response(out, header.seq, Outcome::DeviceEnd);
+        }
+    }
+
+    /// Takes a record that comes to a bound terminal, and answers the cause by which it closes the connection, if it does.
+    pub(crate) fn take_record(&mut self, bytes: &[u8], out: &mut Vec<u8>) -> Option<Cause>
+        requires { HasRoom out.old }
+        ensures taken { RecordTaken self.old bytes.now out.old out.new result self.new }
+        ensures capacity { vec_capacity out.old ≤ vec_capacity out.new }
+    {
+        let Ok((header, body)) = read_header(bytes) else {
+            return Some(Cause::BadRecord);
+        };
+        let DataType::Data3270 = header.kind else {
+            return None;
+        };
+        match read_command(body) {
+            Ok(command) => self.obey(&header, &command, out),
+            Err(fault) => {
+                if header.flag != NO_RESPONSE {
+                    send_response(out, header.seq, refusal(fault));
+                }
+            }
+        }
+        None
+    }
+
+    /// Presses a key; where it sends on a bound terminal, its data is sent.
+    pub(crate) fn press(&mut self, key: Key, bound: bool, out: &mut Vec<u8>) -> Pressed
+        requires { HasRoom out.old }
+        ensures station { self.new ≡ station_after_key key bound self.old }
+        ensures sent { out.new.items ≡ out.old.items ++ sent_bytes (says_of_key key bound self.old) }
+        ensures answer { result ≡ (key_outcome key self.old).answer }
+    {
+        let pressed = self.keyboard.press(&mut self.screen, key);
+        if let Pressed::Send(_) = pressed {
+            if bound {
+                self.send(Reading::Modified, out);
+            }
+        }
+        pressed
+    }
+}
+
+/// Does nothing: its contract says how long the data is that a read gets.
+fn readings_fit(screen: &Screen)
+    ensures modified { (all : Bool) → length (read_modified all screen.now) ≤ longest_reading }
+    ensures buffer { length (read_buffer screen.now) ≤ longest_reading }
+{
+    fields_both_ways();
+    let _on_the_screen = screen.cursor();
+}
+
+/// Appends the data that a read gets.
+fn put_reading(screen: &Screen, reading: Reading, record: &mut Vec<u8>)
+    requires { vec_len record.old + longest_reading ≤ vec_capacity record.old }
+    ensures appended { record.new.items ≡ record.old.items ++ data_of reading screen.now }
+    ensures short { length (data_of reading screen.now) ≤ longest_reading }
+    ensures capacity { vec_capacity record.old ≤ vec_capacity record.new }
+{
+    readings_fit(screen);
+    match reading {
+        Reading::Modified => screen.put_read_modified(record, false).unwrap(),
+        Reading::ModifiedAll => screen.put_read_modified(record, true).unwrap(),
+        Reading::Buffer => screen.put_read_buffer(record).unwrap(),
+    }
+}
