@@ -1,4 +1,3 @@
 pub mod Pool
 pub mod Asking
 pub mod Reading
-pub mod Messages
