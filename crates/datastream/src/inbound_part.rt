@@ -55,15 +55,19 @@ pub enum InboundFault {
 }
 
 impl fmt::Display for InboundFault {
+    ghost use Rattle.std.specs.Prelude.{Some};
+    ghost use Rattle.datastream.specs.Messages.{inbound_fault_text};
+
+    ghost output = { λ fault. Some (inbound_fault_text fault) };
+
     fn fmt<W: fmt::Write>(&self, f: &mut fmt::Formatter<W>) -> fmt::Result {
         match self {
-            InboundFault::Short => write!(f, "the inbound data ends too early"),
-            InboundFault::BadAid => write!(f, "the inbound data begins with no AID"),
-            InboundFault::BadAddress => write!(
-                f,
-                "the inbound data has an address beyond the screen"
-            ),
-            InboundFault::BadForm => write!(f, "the inbound data has something out of place"),
+            InboundFault::Short => f.write_str("the inbound data ends too early"),
+            InboundFault::BadAid => f.write_str("the inbound data begins with no AID"),
+            InboundFault::BadAddress => {
+                f.write_str("the inbound data has an address beyond the screen")
+            }
+            InboundFault::BadForm => f.write_str("the inbound data has something out of place"),
         }
     }
 }

@@ -1,3 +1,4 @@
 pub mod Pool
 pub mod Asking
 pub mod Reading
+pub mod Messages

@@ -19,6 +19,11 @@ pub enum PoolFault {
 }
 
 impl fmt::Display for PoolFault {
+    ghost use Rattle.std.specs.Prelude.{Some};
+    ghost use Rattle.lu_pool.specs.Messages.{fault_text};
+
+    ghost output = { λ fault. Some (fault_text fault) };
+
     fn fmt<W: fmt::Write>(&self, f: &mut fmt::Formatter<W>) -> fmt::Result {
         match self {
             PoolFault::BadName(place) => write!(f, "lu {place}: BadName"),
