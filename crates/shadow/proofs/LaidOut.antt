@@ -9,7 +9,7 @@ use Rattle.codes3270.specs.WriteControl.{wcc_of}
 use Rattle.datastream.specs.Grammar.{CommandParts, IsCommand, write, other, IsSpelt, is_write}
 use Rattle.datastream.specs.Screen.{Screen, text_before_attribute}
 use Rattle.datastream.specs.Fields.{Field, fields, fields_from}
-use Rattle.datastream.specs.Meaning.{unmodified, prepared, written, cleared, after_code}
+use Rattle.datastream.specs.Meaning.{unmodified, prepared, written, cleared, after_code, after_command}
 use Rattle.datastream.specs.declared.order.Order.{Order}
 use Rattle.datastream.specs.declared.command_code.CommandCode.{CommandCode}
 use Rattle.datastream.specs.declared.command_code.CommandCode.TheVariants.{Write, EraseWrite, EraseWriteAlternate, ReadBuffer, ReadModified, ReadModifiedAll, EraseAllUnprotected}
@@ -18,7 +18,7 @@ use Rattle.shadow.specs.Pairs.{Pairwise}
 use Rattle.shadow.specs.Belief.{Belief, Shadow}
 use Rattle.shadow.specs.Meets.{FieldMeets, KnownIs, Meets}
 use Rattle.shadow.specs.Heard.{known_chars, seen}
-use Rattle.shadow.specs.Stores.{stores, stores_unplaced, is_plain_order}
+use Rattle.shadow.specs.Stores.{stores, stores_unplaced, is_plain_order, is_plain}
 use Rattle.shadow.specs.Taken.{old_char, field_cells, first_place, laid_out, marks_off_if, believed, known_after, after_write, taken_write, taken, blank_screen}
 use Rattle.shadow.specs.Laws.{WrittenIsTaken}
 use Rattle.shadow.proofs.Pairs.{pairwise-append, pairwise-drop, pairwise-take}
@@ -115,7 +115,7 @@ fields_fit whole n (Attr a ∷ rest) (b ∷ bs) h some = ((h.0.same_attr, h.0.ma
         (sym (append_assoc (char_cells (text_before_attribute (rest ++ whole))) (from_attr rest) (char_cells (text_before_attribute whole))) ∙ ap (λ cs. cs ++ char_cells (text_before_attribute whole)) (ring_inner whole whole (n + 1) rest some))
         (pairwise-append CellFits _ _ _ _ mine (ih some))
 
-first_at : (whole : List Cell) (n : ℕ) (rest : List Cell) (bs : List Belief) → Pairwise FieldMeets bs (fields_from whole n rest) → (fields_from whole n rest ≡ [] → ⊥)
+pub first_at : (whole : List Cell) (n : ℕ) (rest : List Cell) (bs : List Belief) → Pairwise FieldMeets bs (fields_from whole n rest) → (fields_from whole n rest ≡ [] → ⊥)
     → first_place bs ≡ n + length (text_before_attribute rest)
 first_at whole n [] bs h some = absurd (some refl)
 first_at whole n (Char c ∷ rest) bs h some = let ih = first_at whole (n + 1) rest bs h some in omega arith
@@ -188,8 +188,9 @@ erase_meets wcc orders s plain =
         ≡ stored (stores (length (cleared (blank_screen (length s.cells))).cells) 0 orders) (prepared wcc (cleared (blank_screen (length s.cells)))).cells
     same = ap (λ (cells : List Cell). stored (stores (length cells) 0 orders) (if wcc.reset then map unmodified cells else cells)) (sym same_size)
 
-pub written_taken : WrittenIsTaken
-written_taken command shadow s spelt plain meets = go command.code command.wcc (has_wcc command spelt) plain
+pub written_with : (command : CommandParts) → (is_write command.code ≡ true → (wcc : Wcc) × (command.wcc ≡ Some wcc)) → (shadow : Shadow) (s : Screen) → is_plain command ≡ true → Meets shadow s
+    → Meets (taken (length s.cells) command shadow) (after_command command s)
+written_with command control shadow s plain meets = go command.code command.wcc control plain
   where
     go : (code : CommandCode) (wcc : Option Wcc) → (is_write code ≡ true → (w : Wcc) × (wcc ≡ Some w)) → (is_write code && list_all is_plain_order command.orders) ≡ true
         → Meets (taken (length s.cells) (record { code = code; wcc = wcc; orders = command.orders }) shadow) (after_code code wcc command.orders s)
@@ -203,3 +204,6 @@ written_taken command shadow s spelt plain meets = go command.code command.wcc (
     go ReadModified wcc has p = absurd (cc)
     go ReadModifiedAll wcc has p = absurd (cc)
     go EraseAllUnprotected wcc has p = absurd (cc)
+
+pub written_taken : WrittenIsTaken
+written_taken command shadow s spelt plain meets = written_with command (has_wcc command spelt) shadow s plain meets

@@ -22,3 +22,6 @@ pub mod Paired
 pub mod Others
 pub mod Appendings
 pub mod PaintBytes
+pub mod ExactHeard
+pub mod Behind
+pub mod ExactTaken

@@ -24,14 +24,14 @@ use Rattle.shadow.specs.declared.mark.Mark.{Mark}
 use Rattle.shadow.specs.declared.mark.Mark.TheVariants.{On, Off, Unknown}
 use Rattle.shadow.specs.Pairs.{Pairwise}
 use Rattle.shadow.specs.Belief.{Belief, Shadow, next_address}
-use Rattle.shadow.specs.Meets.{MarkIs, KnownIs, Knows}
+use Rattle.shadow.specs.Meets.{MarkIs, KnownIs, Knows, Meets}
 use Rattle.shadow.specs.Heard.{same_attr, formatted_or}
 use Rattle.shadow.specs.Stores.{Store, store_also, stores, stores_unplaced, is_plain_order}
-use Rattle.shadow.specs.Taken.{laid_out, marks_off_if, mark_off, formatted_as}
+use Rattle.shadow.specs.Taken.{laid_out, marks_off_if, mark_off, formatted_as, taken}
 use Rattle.shadow.specs.Painted.{keeps_ahead, attr_or_kept, painted_from, plainly_painted}
-use Rattle.shadow.specs.Paint.{is_char, marks, is_there, unless, to_store, order_of, is_at, sba_unless, painting, known_nulls}
-use Rattle.shadow.specs.Laws.{WantedIsPainted, PaintedIsKnown, PaintIsPlain}
-use Rattle.shadow.proofs.LaidOut.{CellFits, laid_out_fits}
+use Rattle.shadow.specs.Paint.{is_char, marks, is_there, unless, to_store, order_of, is_at, sba_unless, painting, known_nulls, paint}
+use Rattle.shadow.specs.Laws.{WantedIsPainted, PaintIsTaken, PaintedIsKnown, PaintIsPlain}
+use Rattle.shadow.proofs.LaidOut.{CellFits, laid_out_fits, written_with}
 use Rattle.shadow.proofs.Stored.{stored, cursor_after, plain_orders}
 use Rattle.shadow.proofs.Erasing.{same_nulls}
 use Rattle.shadow.proofs.Keeps.{KeepsChars, HasNoKeep, keeps_chars, no_keep}
@@ -48,7 +48,7 @@ char_there : (known : Option ℕ) (c d : ℕ) → KnownIs known d → is_char kn
 char_there None c d h e = absurd (cc)
 char_there (Some known) c d h e = h ∙ eqb-true known c e
 
-same_attr_true : (a b : Attribute) → same_attr a b ≡ true → without_mdt a ≡ without_mdt b
+pub same_attr_true : (a b : Attribute) → same_attr a b ≡ true → without_mdt a ≡ without_mdt b
 same_attr_true a b e = sym (attr_read_back (without_mdt a)) ∙ ap attr_of (eqb-true _ _ e) ∙ attr_read_back (without_mdt b)
 
 whole_attr : (a b : Attribute) → without_mdt a ≡ without_mdt b → a.mdt ≡ b.mdt → a ≡ b
@@ -76,7 +76,7 @@ cell_stored : (size at : ℕ) (cell : Cell) (orders : List Order) → stores siz
 cell_stored size at (Char c) orders = refl
 cell_stored size at (Attr a) orders = refl
 
-paints_stores : (size cursor : ℕ) (more : List Store) (at : ℕ) (known : Option ℕ) → ((k : ℕ) → known ≡ Some k → at ≡ k) → stores size at (painting size cursor known more) ≡ more
+pub paints_stores : (size cursor : ℕ) (more : List Store) (at : ℕ) (known : Option ℕ) → ((k : ℕ) → known ≡ Some k → at ≡ k) → stores size at (painting size cursor known more) ≡ more
 paints_stores size cursor [] at known h = refl
 paints_stores size cursor (store ∷ more) at known h =
     cases (is_at known store.at) refl (paints_stores size cursor more (next_address size store.at) (Some (next_address size store.at)) (λ k e. (cc)))
@@ -116,13 +116,13 @@ paints_plain size cursor (store ∷ more) known = cases (is_at known store.at) (
     cases true h = h
     cases false h = h
 
-put_at : {X : Type 0} (front : List X) (x y : X) (rest : List X) (n : ℕ) → length front ≡ n → set (front ++ x ∷ rest) n y ≡ front ++ y ∷ rest
+pub put_at : {X : Type 0} (front : List X) (x y : X) (rest : List X) (n : ℕ) → length front ≡ n → set (front ++ x ∷ rest) n y ≡ front ++ y ∷ rest
 put_at [] x y rest zero e = refl
 put_at [] x y rest (suc n) e = absurd (omega arith)
 put_at (z ∷ front) x y rest zero e = absurd (omega arith)
 put_at (z ∷ front) x y rest (suc n) e = ap (λ l. z ∷ l) (put_at front x y rest n (omega arith))
 
-length_more : {X : Type 0} (front : List X) (x : X) (n : ℕ) → length front ≡ n → length (front ++ x ∷ []) ≡ n + 1
+pub length_more : {X : Type 0} (front : List X) (x : X) (n : ℕ) → length front ≡ n → length (front ++ x ∷ []) ≡ n + 1
 length_more front x n e = omega (arith, length-append front (x ∷ []))
 
 -- one cell is stored or left
@@ -282,3 +282,10 @@ pub painted_plain : PaintIsPlain
 painted_plain size Shadow.NothingKnown wanted = paints_plain size wanted.cursor _ None
 painted_plain size (Shadow.Unformatted known) wanted = paints_plain size wanted.cursor _ None
 painted_plain size (Shadow.Formatted bs) wanted = paints_plain size wanted.cursor _ None
+
+-- what a paint leaves meets what is then believed, and is the wanted screen
+pub painted_taken : PaintIsTaken
+painted_taken shadow wanted s same fits meets =
+    let size : ℕ = length s.cells in
+    subst (Meets (taken size (paint size shadow wanted) shadow)) (wanted_painted shadow wanted s same fits meets)
+    (written_with (paint size shadow wanted) (λ _. (record { alarm = false; restore = true; reset = wanted.reset }, refl)) shadow s (painted_plain size shadow wanted) meets)

@@ -26,7 +26,7 @@ ahead_fresh [] (Attr a ∷ more) = refl
 ahead_fresh (Char c ∷ cells) more = ap (λ (ks : List (Option ℕ)). Some c ∷ ks) (ahead_fresh cells more)
 ahead_fresh (Attr a ∷ cells) more = refl
 
-whole_fresh : (text : List ℕ) → whole_text (map Some text) ≡ Some text
+pub whole_fresh : (text : List ℕ) → whole_text (map Some text) ≡ Some text
 whole_fresh [] = refl
 whole_fresh (c ∷ text) = ap (and_char (Some c)) (whole_fresh text)
 

@@ -62,6 +62,11 @@ abbrev pub WantedIsPainted : Type 0
 WantedIsPainted = (shadow : Shadow) (wanted : WantedScreen) (screen : Screen) → length wanted.cells ≡ length screen.cells → fits shadow wanted ≡ true → Meets shadow screen
     → after_command (paint (length screen.cells) shadow wanted) screen ≡ plainly_painted wanted screen
 
+-- Once it is taken, the wanted screen meets what is believed.
+abbrev pub PaintIsTaken : Type 0
+PaintIsTaken = (shadow : Shadow) (wanted : WantedScreen) (screen : Screen) → length wanted.cells ≡ length screen.cells → fits shadow wanted ≡ true → Meets shadow screen
+    → Meets (taken (length screen.cells) (paint (length screen.cells) shadow wanted) shadow) (plainly_painted wanted screen)
+
 -- Once it is taken, something is known.
 abbrev pub PaintedIsKnown : Type 0
 PaintedIsKnown = (size : ℕ) (shadow : Shadow) (wanted : WantedScreen) → Knows (taken size (paint size shadow wanted) shadow)

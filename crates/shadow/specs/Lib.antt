@@ -8,6 +8,7 @@ pub mod Painted
 pub mod Fits
 pub mod Paint
 pub mod Laws
+pub mod Exactness
 pub mod Asked
 pub mod Held
 pub mod Store

@@ -1,5 +1,6 @@
 //! What holds of beliefs. The functions are empty: their contracts are the laws.
-ghost use Rattle.shadow.specs.Laws.{HearsModified, HearsAll, HearsBuffer, WrittenIsTaken, WantedIsPainted, PaintedIsKnown, PaintIsPlain};
+ghost use Rattle.shadow.specs.Laws.{HearsModified, HearsAll, HearsBuffer, WrittenIsTaken, WantedIsPainted, PaintIsTaken, PaintedIsKnown, PaintIsPlain};
+ghost use Rattle.shadow.specs.Exactness.{NothingIsExact, HeardStaysExact, HeardStaysProtected, TakenStaysExact, ErasedIsExact, PaintedIsExact, ProtectedIsSeen, ReturnedIsTold};
 
 /// What a terminal sends after keys isn't refused, and what the host then believes is so.
 pub fn what_is_sent_is_heard()
@@ -17,9 +18,32 @@ pub fn what_is_written_is_taken()
     ensures { WrittenIsTaken }
 {}
 
-/// A paint is a plain write, makes the wanted screen of every screen that meets what is believed, and leaves something known.
+/// A paint is a plain write, makes the wanted screen of every screen that meets what is believed, and leaves what the wanted
+/// screen meets, and so something known.
 pub fn what_is_wanted_is_painted()
     ensures plain { PaintIsPlain }
     ensures painted { WantedIsPainted }
+    ensures taken { PaintIsTaken }
     ensures known { PaintedIsKnown }
+{}
+
+/// Where all characters of a field are known its fact is exact. This stays so, whatever is heard or written.
+pub fn what_is_known_is_exact()
+    ensures heard { HeardStaysExact }
+    ensures taken { TakenStaysExact }
+{}
+
+/// The fact of each protected field is exact where nothing is known, after each erase and after each paint that fits; and it
+/// stays so whatever is heard.
+pub fn what_is_protected_is_exact()
+    ensures nothing { NothingIsExact }
+    ensures heard { HeardStaysProtected }
+    ensures erased { ErasedIsExact }
+    ensures painted { PaintedIsExact }
+{}
+
+/// Where the facts of protected fields are exact, the host knows their texts, and is told the text of each returned field.
+pub fn what_is_exact_is_so()
+    ensures protected { ProtectedIsSeen }
+    ensures returned { ReturnedIsTold }
 {}

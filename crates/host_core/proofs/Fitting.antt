@@ -1,0 +1,60 @@
+-- What a host paints fits what it believes.
+use Rattle.std.proofs.Common.{◌≡◌, ◌+◌, ℕ, Bool, true, false, not, ◌&&◌, ◌||◌, List, [], ◌∷◌, ◌++◌, refl, ap, ◌∙◌, if◌then◌else◌}
+use Rattle.std.specs.List.{list_any}
+use Rattle.datastream.specs.Wanted.{WantedScreen}
+use Rattle.datastream.specs.declared.wanted.Want.{Want}
+use Rattle.datastream.specs.declared.wanted.Want.TheVariants.{Char, Attr, Keep}
+use Rattle.shadow.specs.Belief.{Belief, Shadow, fields_of}
+use Rattle.shadow.specs.Painted.{keeps_ahead}
+use Rattle.shadow.specs.Fits.{is_keep, is_attribute, fits_from, fits}
+use Rattle.panels.specs.declared.message.Message.{Message}
+use Rattle.panels.specs.Screen.{Values}
+use Rattle.host_core.specs.Application.{Application, IsApplication, KeepsNothing}
+use Rattle.host_core.specs.Session.{Conn}
+use Rattle.host_core.specs.Acts.{Act, wanted_by}
+use Rattle.host_core.specs.Laws.{IsPaintable, ActsFit}
+
+none_kept-append : (xs ys : List Want) → list_any is_keep xs ≡ false → list_any is_keep ys ≡ false → list_any is_keep (xs ++ ys) ≡ false
+none_kept-append [] ys h k = k
+none_kept-append (Char byte ∷ xs) ys h k = none_kept-append xs ys h k
+none_kept-append (Attr attribute ∷ xs) ys h k = none_kept-append xs ys h k
+none_kept-append (Keep ∷ xs) ys h k = absurd (cc)
+
+none_ahead : (wants : List Want) → list_any is_keep wants ≡ false → keeps_ahead wants ≡ false
+none_ahead [] h = refl
+none_ahead (Char byte ∷ wants) h = none_ahead wants h
+none_ahead (Attr attribute ∷ wants) h = refl
+none_ahead (Keep ∷ wants) h = absurd (cc)
+
+fields_fit : (beliefs : List Belief) (whole : List Want) (at : ℕ) (rest : List Want) → list_any is_keep whole ≡ false → list_any is_keep rest ≡ false → fits_from beliefs whole at rest ≡ true
+fields_fit beliefs whole at [] h k = refl
+fields_fit beliefs whole at (Char byte ∷ rest) h k = fields_fit beliefs whole (at + 1) rest h k
+fields_fit beliefs whole at (Keep ∷ rest) h k = absurd (cc)
+fields_fit beliefs whole at (Attr attribute ∷ rest) h k =
+    rw (none_ahead (rest ++ whole) (none_kept-append rest whole k h)) (fields_fit beliefs whole (at + 1) rest h k)
+
+pub whole_fits : (shadow : Shadow) (wanted : WantedScreen) → KeepsNothing wanted → fits shadow wanted ≡ true
+whole_fits shadow wanted h =
+    ap (λ kept. (not kept || list_any is_attribute wanted.cells) && fits_from (fields_of shadow) wanted.cells 0 wanted.cells) h
+    ∙ fields_fit (fields_of shadow) wanted.cells 0 wanted.cells h h
+
+whole_paints : (app : Application) (shadow : Shadow) (panel : ℕ) (values : Values) (message : Message) → IsApplication app → IsPaintable app shadow (app.screen panel values message false)
+whole_paints app shadow panel values message is = record {
+  fits = whole_fits shadow (app.screen panel values message false) (is.whole panel values message);
+  showable = is.showable panel values message false;
+}
+
+paints : (app : Application) (conn : Conn) (panel : ℕ) (message : Message) (keep : Bool) (values : Values) → IsApplication app → IsPaintable app conn.shadow (wanted_by app conn panel message keep values)
+paints app conn panel message false values is = whole_paints app conn.shadow panel values message is
+paints app conn panel message true values is = by_fit (fits conn.shadow kept) refl
+  where
+    kept : WantedScreen
+    kept = app.screen panel values message true
+
+    by_fit : (b : Bool) → fits conn.shadow kept ≡ b → IsPaintable app conn.shadow (if b then kept else app.screen panel values message false)
+    by_fit true e = record { fits = e; showable = is.showable panel values message true }
+    by_fit false e = whole_paints app conn.shadow panel values message is
+
+pub acts_fit : ActsFit
+acts_fit app conn Act.Read is = tt
+acts_fit app conn (Act.Show panel message keep values) is = (paints app conn panel message keep values is, refl)

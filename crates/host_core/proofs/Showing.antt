@@ -1,0 +1,127 @@
+-- Panels are an application: each screen has the size, with its cursor on it, and keeps nothing where it isn't told to.
+use Rattle.panels.specs.Size.{message_start}
+use Rattle.std.proofs.Common.{length, ap, ◌∙◌, ◌≡◌, ◌==◌, nat_lt, ◌<◌, ◌-◌, ◌+◌, ℕ, Bool, true, false, Option, None, Some, List, [], ◌∷◌, map, refl, arith, if◌then◌else◌}
+use Rattle.std.specs.Prelude.{slice_get, slice_index_or, option_map, option_and_then, unwrap_or}
+use Rattle.std.specs.List.{list_any, position, range_with_len}
+use Rattle.std.specs.Option.{option_or, option_map_or}
+use Rattle.std.proofs.lemmas.List.FromFn.{length-map-range_with_len, get_or-map-range_with_len}
+use Rattle.std.proofs.lemmas.Option.{slice_get-get_or}
+use Rattle.codes3270.specs.Size.{cell_count}
+use Rattle.codes3270.specs.declared.attribute.Attr.{Attr}
+use Rattle.datastream.specs.declared.wanted.Want.{Want}
+use Rattle.datastream.specs.declared.wanted.Want.TheVariants as want
+use Rattle.shadow.specs.Fits.{is_keep}
+use Rattle.panels.specs.declared.message.Message.{Message}
+use Rattle.panels.specs.declared.message.Message.TheVariants.{Fresh, Plain, KeyNotActive, Required}
+use Rattle.panels.specs.declared.panel.Field.{Field}
+use Rattle.panels.specs.Panel.{PanelParts}
+use Rattle.panels.specs.Screen.{Values, distance_in, item_cell, autoskip_attr, shown, text_cell, field_attr, field_content, field_cell, stopper_cell, message_text, message_cell, first_some, wanted_cell, wanted_cursor}
+use Rattle.host_core.specs.Application.{IsShowable, KeepsNothing, screen_of, no_screen}
+use Rattle.host_core.specs.Laws.{IsOnScreen, PanelsAreShown, ScreensAreWanted}
+
+-- ---- cells
+
+-- what isn't Keep, if it is something
+abbrev NotKept : Option Want → Type 0
+NotKept None = Unit {0}
+NotKept (Some cell) = is_keep cell ≡ false
+
+or_kept : (first second : Option Want) → NotKept first → NotKept second → NotKept (option_or first second)
+or_kept None second n m = m
+or_kept (Some cell) second n m = n
+
+any_kept : {X : Type 0} (find : X → Option Want) → ((x : X) → NotKept (find x)) → (xs : List X) → NotKept (first_some find xs)
+any_kept find each [] = tt
+any_kept find each (x ∷ xs) = or_kept (find x) (first_some find xs) (each x) (any_kept find each xs)
+
+kept_or_null : (cell : Option Want) → NotKept cell → is_keep (unwrap_or cell (want.Char 0)) ≡ false
+kept_or_null None n = refl
+kept_or_null (Some cell) n = n
+
+item_kept : (attr : Attr) (content : List ℕ) (distance : ℕ) → is_keep (item_cell attr content distance) ≡ false
+item_kept attr content distance = by_test (distance == 0)
+  where
+    by_test : (b : Bool) → is_keep (if b then want.Attr attr else want.Char (slice_index_or content (distance - 1) 0)) ≡ false
+    by_test true = refl
+    by_test false = refl
+
+items_kept : (attr : Attr) (content : List ℕ) (distance : Option ℕ) → NotKept (option_map (item_cell attr content) distance)
+items_kept attr content None = tt
+items_kept attr content (Some distance) = item_kept attr content distance
+
+stoppers_kept : (cell : ℕ) (field : Field) → NotKept (stopper_cell cell field)
+stoppers_kept cell field = by_test (cell == field.extent.first + field.extent.length)
+  where
+    by_test : (b : Bool) → NotKept (if b then Some (want.Attr (autoskip_attr false)) else None)
+    by_test true = refl
+    by_test false = tt
+
+message_kept : (fields : List Field) (message : Message) (cell : ℕ) → NotKept (message_cell fields message cell)
+message_kept fields message cell = by_test (nat_lt cell message_start)
+  where
+    by_test : (b : Bool) → NotKept (if b then None else Some (item_cell (autoskip_attr true) (message_text fields message) (cell - message_start)))
+    by_test true = tt
+    by_test false = item_kept (autoskip_attr true) (message_text fields message) (cell - message_start)
+
+cell_kept : (panel : PanelParts) (values : Values) (message : Message) (cell : ℕ) → is_keep (wanted_cell panel values message false cell) ≡ false
+cell_kept panel values message cell =
+    kept_or_null _
+    (or_kept (first_some (text_cell values cell) panel.texts) _
+    (any_kept (text_cell values cell) (λ text. items_kept (autoskip_attr text.bright) (shown values text.content) (distance_in text.extent cell)) panel.texts)
+    (or_kept (first_some (field_cell values message false cell) panel.fields) _
+    (any_kept (field_cell values message false cell) (λ field. items_kept (field_attr values message false field) (field_content values message field) (distance_in field.extent cell)) panel.fields)
+    (or_kept (message_cell panel.fields message cell) (first_some (stopper_cell cell) panel.fields)
+    (message_kept panel.fields message cell)
+    (any_kept (stopper_cell cell) (stoppers_kept cell) panel.fields))))
+
+none_kept : (cell_of : ℕ → Want) → ((cell : ℕ) → is_keep (cell_of cell) ≡ false) → (cells : List ℕ) → list_any is_keep (map cell_of cells) ≡ false
+none_kept cell_of each [] = refl
+none_kept cell_of each (cell ∷ cells) = rw (each cell) (none_kept cell_of each cells)
+
+-- ---- cursors
+
+first_on : (fields : List Field) (cursor : ℕ) → ((place : ℕ) (field : Field) → slice_get fields place ≡ Some field → field.extent.first < cell_count) → cursor < cell_count
+    → (place : Option ℕ) → option_map_or (λ (field : Field). field.extent.first) (option_and_then (slice_get fields) place) cursor < cell_count
+first_on fields cursor each on None = on
+first_on fields cursor each on (Some place) = by_field (slice_get fields place) refl
+  where
+    by_field : (field : Option Field) → slice_get fields place ≡ field → option_map_or (λ (f : Field). f.extent.first) field cursor < cell_count
+    by_field None e = on
+    by_field (Some field) e = each place field e
+
+cursor_on : (panel : PanelParts) (message : Message) → IsOnScreen panel → wanted_cursor panel message < cell_count
+cursor_on panel Fresh is = is.cursor
+cursor_on panel Plain is = is.cursor
+cursor_on panel KeyNotActive is = is.cursor
+cursor_on panel (Required number) is = first_on panel.fields panel.cursor is.fields is.cursor (position (λ (field : Field). field.number == number) panel.fields)
+
+-- ---- screens
+
+shows : (panel : Option PanelParts) (values : Values) (message : Message) (keep : Bool) → ((parts : PanelParts) → panel ≡ Some parts → IsOnScreen parts)
+    → IsShowable cell_count (option_map_or (λ (parts : PanelParts). screen_of parts values message keep) panel (no_screen message))
+shows None values message keep is = record { cells = length-map-range_with_len (λ cell. want.Char 0) 0 cell_count; cursor = omega arith }
+shows (Some parts) values message keep is = record { cells = length-map-range_with_len (wanted_cell parts values message keep) 0 cell_count; cursor = cursor_on parts message (is parts refl) }
+
+whole : (panel : Option PanelParts) (values : Values) (message : Message) → KeepsNothing (option_map_or (λ (parts : PanelParts). screen_of parts values message false) panel (no_screen message))
+whole None values message = none_kept (λ cell. want.Char 0) (λ cell. refl) (range_with_len 0 cell_count)
+whole (Some parts) values message = none_kept (wanted_cell parts values message false) (cell_kept parts values message) (range_with_len 0 cell_count)
+
+pub panels_shown : PanelsAreShown
+panels_shown set is = record {
+  some = omega arith;
+  showable = λ number values message keep. shows (slice_get set.panels number) values message keep (is number);
+  whole = λ number values message. whole (slice_get set.panels number) values message;
+}
+
+-- ---- what panels ask for
+
+pub screens_wanted : ScreensAreWanted
+screens_wanted panel values message keep = record {
+  cells = λ cell within.
+      let cells : List Want = (screen_of panel values message keep).cells in
+      let long : length cells ≡ cell_count = length-map-range_with_len (wanted_cell panel values message keep) 0 cell_count in
+      slice_get-get_or cells cell (want.Char 0) (rw long within)
+      ∙ ap Some (get_or-map-range_with_len (wanted_cell panel values message keep) 0 cell_count cell cell (want.Char 0) within (omega arith));
+  cursor = refl;
+  reset = refl;
+}

@@ -1,0 +1,5 @@
+use Rattle.host_core.proofs.Showing.{panels_shown, screens_wanted}
+use Rattle.host_core.proofs.panels_are_shown.Goals as goal
+
+pub returns : goal.returns
+returns c = record { application = panels_shown; wanted = screens_wanted }

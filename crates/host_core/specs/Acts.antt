@@ -1,0 +1,161 @@
+-- What a host does in its turn (our profile): the five rules.
+use Rattle.std.specs.Prelude.{◌==◌, ◌-◌, ◌&&◌, not, ℕ, Bool, true, false, List, [], ◌∷◌, Option, Some, None, option_and_then, unwrap_or, if◌then◌else◌}
+use Rattle.std.specs.List.{list_any, list_all}
+use Rattle.std.specs.Option.{option_map_or}
+use Rattle.std.specs.BTreeMap.{insert_entry}
+use Rattle.std.specs.Ordering.{nat_cmp}
+use Rattle.codes3270.specs.declared.attention.Aid.{Aid}
+use Rattle.codes3270.specs.declared.attention.Aid.TheVariants.{Enter, Clear, Pa}
+use Rattle.datastream.specs.Wanted.{WantedScreen}
+use Rattle.shadow.specs.Asked.{field_at}
+use Rattle.shadow.specs.Belief.{Fact, Belief, Shadow}
+use Rattle.shadow.specs.Fits.{fits}
+use Rattle.shadow.specs.Meets.{told}
+use Rattle.panels.specs.declared.panel.Field.{Field}
+use Rattle.panels.specs.declared.message.Message.{Message}
+use Rattle.panels.specs.declared.message.Message.TheVariants.{Fresh, Plain, KeyNotActive, Required}
+use Rattle.panels.specs.declared.next.Next.{Next}
+use Rattle.panels.specs.declared.next.Next.TheVariants.{Go, Again}
+use Rattle.panels.specs.Screen.{Values}
+use Rattle.panels.specs.Values.{value_of}
+use Rattle.tn3270e_msg.specs.Header.{next_number}
+use Rattle.host_core.specs.Application.{Application}
+use Rattle.host_core.specs.Messages.{ToTerminal}
+use Rattle.host_core.specs.Session.{Conn, Turn, Pending, Occasion, is_agreed}
+
+-- what the host may do: read the whole screen, or show a panel with a message, with these values of fields; with `keep`, fields
+-- keep what the operator left in them where that can be
+pub data Act : Type 0 where
+  Read : Act
+  Show : (panel : ℕ) → Message → (keep : Bool) → Values → Act
+
+-- ---- what is known of the panel's fields
+
+-- what is believed of a panel's field
+abbrev pub belief_of : Shadow → Field → Option Belief
+belief_of shadow field = field_at (field.extent.first - 1) shadow
+
+abbrev pub is_settled_fact : Fact → Bool
+is_settled_fact (Fact.Exact value) = true
+is_settled_fact (Fact.Text value) = true
+is_settled_fact (Fact.ExactOrNulls value) = false
+is_settled_fact (Fact.TextOrNulls value) = false
+is_settled_fact (Fact.Any known) = false
+
+abbrev pub is_in_doubt : Shadow → Field → Bool
+is_in_doubt shadow field = not (option_map_or (λ belief. is_settled_fact belief.fact) (belief_of shadow field) false)
+
+-- the screen is to be read before a key is answered: after PA, or where some field of the panel is in doubt
+abbrev pub is_to_be_read : Application → Conn → Aid → Bool
+is_to_be_read app conn (Pa key) = true
+is_to_be_read app conn aid = list_any (is_in_doubt conn.shadow) (app.fields conn.panel)
+
+-- the text of a field, without nulls, where it is known
+abbrev pub text_known : Shadow → Field → Option (List ℕ)
+text_known shadow field = option_and_then (λ belief. told belief.fact) (belief_of shadow field)
+
+abbrev pub set_if : ℕ → Option (List ℕ) → Values → Values
+set_if field None values = values
+set_if field (Some text) values = insert_entry nat_cmp values field text
+
+-- the values of fields, once the known texts are set
+abbrev pub learned : Shadow → List Field → Values → Values
+learned shadow [] values = values
+learned shadow (field ∷ fields) values = learned shadow fields (set_if field.number (text_known shadow field) values)
+
+-- a value of blanks, or of nothing
+abbrev pub is_blank : List ℕ → Bool
+is_blank value = list_all (λ byte. byte == 0x40) value
+
+abbrev pub is_missing : Values → Field → Bool
+is_missing values field = field.required && is_blank (unwrap_or (value_of values field.number) [])
+
+-- the first required field that is missing
+abbrev pub first_missing : Values → List Field → Option ℕ
+first_missing values [] = None
+first_missing values (field ∷ fields) = if is_missing values field then Some field.number else first_missing values fields
+
+-- ---- the rules
+
+-- a target is shown anew; but after Enter, while a required field is missing, the panel is shown again
+abbrev pub unless_missing : ℕ → ℕ → Values → Option ℕ → Act
+unless_missing panel target values None = Act.Show target Fresh false values
+unless_missing panel target values (Some field) = Act.Show panel (Required field) true values
+
+abbrev pub gone_to : Application → Conn → ℕ → Values → Aid → Act
+gone_to app conn target values Enter = unless_missing conn.panel target values (first_missing values (app.fields conn.panel))
+gone_to app conn target values _ = Act.Show target Fresh false values
+
+-- a key without a target isn't active
+abbrev pub led : Application → Conn → Values → Aid → Next → Act
+led app conn values aid Again = Act.Show conn.panel KeyNotActive true values
+led app conn values aid (Go target) = gone_to app conn target values aid
+
+-- after Clear: the target of that key, else the same panel
+abbrev pub target_or : ℕ → Next → ℕ
+target_or panel Again = panel
+target_or panel (Go target) = target
+
+-- a message again, after a refusal
+abbrev pub repeated : Message → Message
+repeated Fresh = Plain
+repeated Plain = Plain
+repeated KeyNotActive = KeyNotActive
+repeated (Required field) = Required field
+
+abbrev pub after_key : Application → Conn → Aid → Bool → Act
+after_key app conn Clear buffered = Act.Show (target_or conn.panel (app.next conn.panel Clear)) Fresh false conn.values
+after_key app conn aid buffered =
+    if is_to_be_read app conn aid && not buffered then Act.Read
+    else led app conn (learned conn.shadow (app.fields conn.panel) conn.values) aid (app.next conn.panel aid)
+
+-- at agreement the first panel; after a refusal the same panel, whole
+abbrev pub act_on : Application → Conn → Occasion → Act
+act_on app conn Occasion.Agreement = Act.Show app.start Fresh false conn.values
+act_on app conn (Occasion.Key aid buffered) = after_key app conn aid buffered
+act_on app conn Occasion.Refusal = Act.Show conn.panel (repeated conn.message) false conn.values
+
+-- ---- what is sent
+
+-- the screen that is wanted: one that keeps fields where that fits what is believed
+abbrev pub wanted_if : Application → Conn → ℕ → Message → Values → WantedScreen → WantedScreen
+wanted_if app conn panel message values kept = if fits conn.shadow kept then kept else app.screen panel values message false
+
+abbrev pub wanted_by : Application → Conn → ℕ → Message → Bool → Values → WantedScreen
+wanted_by app conn panel message true values = wanted_if app conn panel message values (app.screen panel values message true)
+wanted_by app conn panel message false values = app.screen panel values message false
+
+pub record Sent : Type 0 where
+  pub conn : Conn
+  pub message : ToTerminal
+
+-- what is believed stays as it is until the command is answered
+abbrev pub done : Application → Conn → Act → Sent
+done app conn Act.Read = record {
+  conn = record conn { pending = Pending.Reading conn.number; number = next_number conn.number };
+  message = ToTerminal.ReadBuffer conn.number;
+}
+done app conn (Act.Show panel message keep values) =
+    let wanted = wanted_by app conn panel message keep values in
+    record {
+      conn = record conn {
+        turn = Turn.Terminal;
+        pending = Pending.Writing conn.number wanted;
+        number = next_number conn.number;
+        panel = panel;
+        message = message;
+        values = values;
+      };
+      message = ToTerminal.Paint conn.number wanted conn.shadow;
+    }
+
+-- it acts in its turn, once the session is agreed and its last command answered
+abbrev pub may_act : Turn → Pending → Bool → Bool
+may_act Turn.Host Pending.Nothing agreed = agreed
+may_act Turn.Host (Pending.Writing number wanted) agreed = false
+may_act Turn.Host (Pending.Reading number) agreed = false
+may_act Turn.Terminal pending agreed = false
+
+abbrev pub acted : Application → Conn → Option Sent
+acted app conn =
+    if may_act conn.turn conn.pending (is_agreed conn.talk.state) then Some (done app conn (act_on app conn conn.occasion)) else None

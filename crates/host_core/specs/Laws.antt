@@ -1,0 +1,43 @@
+-- What holds of a host's acts.
+use Rattle.std.specs.Prelude.{◌≡◌, ◌<◌, Bool, true, ℕ, Some, slice_get}
+use Rattle.codes3270.specs.Size.{cell_count}
+use Rattle.datastream.specs.Wanted.{WantedScreen}
+use Rattle.shadow.specs.Belief.{Shadow}
+use Rattle.shadow.specs.Fits.{fits}
+use Rattle.panels.specs.declared.panel.Field.{Field}
+use Rattle.panels.specs.Panel.{PanelParts, Panels}
+use Rattle.panels.specs.declared.message.Message.{Message}
+use Rattle.panels.specs.Screen.{Values, IsWantedOf}
+use Rattle.host_core.specs.Application.{screen_of, Application, application_of, IsApplication, IsShowable}
+use Rattle.host_core.specs.Messages.{ToTerminal}
+use Rattle.host_core.specs.Session.{Conn}
+use Rattle.host_core.specs.Acts.{Act, done}
+
+-- what is painted fits what is believed, and is a screen of the application's size
+pub record IsPaintable (app : Application) (shadow : Shadow) (wanted : WantedScreen) : Type 0 where
+  pub fits : fits shadow wanted ≡ true
+  pub showable : IsShowable app.size wanted
+
+abbrev pub PaintsWhatFits : Application → Shadow → ToTerminal → Type 0
+PaintsWhatFits app shadow (ToTerminal.Paint number wanted over) = IsPaintable app shadow wanted × (over ≡ shadow)
+PaintsWhatFits app shadow (ToTerminal.ReadBuffer number) = Unit {0}
+PaintsWhatFits app shadow (ToTerminal.TalksDown saying) = ⊥
+
+-- Whatever the host does, it paints what fits its belief.
+abbrev pub ActsFit : Type 0
+ActsFit = (app : Application) (conn : Conn) (act : Act) → IsApplication app → PaintsWhatFits app conn.shadow (done app conn act).message
+
+-- ---- panels
+
+-- the cursor and the fields of a panel are on the screen
+pub record IsOnScreen (panel : PanelParts) : Type 0 where
+  pub cursor : panel.cursor < cell_count
+  pub fields : (place : ℕ) (field : Field) → slice_get panel.fields place ≡ Some field → field.extent.first < cell_count
+
+-- What panels ask for is an application.
+abbrev pub PanelsAreShown : Type 0
+PanelsAreShown = (set : Panels) → ((number : ℕ) (panel : PanelParts) → slice_get set.panels number ≡ Some panel → IsOnScreen panel) → IsApplication (application_of set)
+
+-- Each screen of theirs is the one that the panel asks for, cell by cell.
+abbrev pub ScreensAreWanted : Type 0
+ScreensAreWanted = (panel : PanelParts) (values : Values) (message : Message) (keep : Bool) → IsWantedOf panel values message keep (screen_of panel values message keep)

@@ -1,0 +1,64 @@
+-- One connection as the host has it (our profile).
+use Rattle.std.specs.Prelude.{ℕ, Bool, true, false, []}
+use Rattle.codes3270.specs.declared.attention.Aid.{Aid}
+use Rattle.datastream.specs.Wanted.{WantedScreen}
+use Rattle.shadow.specs.Belief.{Shadow}
+use Rattle.panels.specs.declared.message.Message.{Message}
+use Rattle.panels.specs.declared.message.Message.TheVariants.{Fresh}
+use Rattle.panels.specs.Screen.{Values}
+use Rattle.tn3270e_msg.specs.Talk.{Talk}
+use Rattle.tn3270e_msg.specs.HostTable.{host_start}
+use Rattle.tn3270e_msg.specs.declared.host_talk.HostState.{HostState}
+use Rattle.tn3270e_msg.specs.declared.host_talk.HostState.TheVariants.{Offered, Asked, Asking, Named, Countered, Agreed, Closed}
+
+pub data Turn : Type 0 where
+  Host : Turn
+  Terminal : Turn
+
+-- the command that isn't answered yet, with its number
+pub data Pending : Type 0 where
+  Nothing : Pending
+  Writing : ℕ → WantedScreen → Pending
+  Reading : ℕ → Pending
+
+-- Why the host holds the turn: the session was agreed; a key was pressed, and whether a Read Buffer was answered since; or its
+-- last command was refused.
+pub data Occasion : Type 0 where
+  Agreement : Occasion
+  Key : Aid → (buffered : Bool) → Occasion
+  Refusal : Occasion
+
+pub record Conn : Type 0 where
+  pub talk : Talk HostState
+  pub turn : Turn
+  pub pending : Pending
+  pub number : ℕ  -- of the next command
+  pub shadow : Shadow
+  pub panel : ℕ  -- the one that is shown
+  pub message : Message  -- and with what message
+  pub values : Values  -- of the fields
+  pub occasion : Occasion
+
+-- at the begin of a connection, when the host has offered TN3270E
+abbrev pub new_conn : Conn
+new_conn = record {
+  talk = host_start;
+  turn = Turn.Host;
+  pending = Pending.Nothing;
+  number = 0;
+  shadow = Shadow.NothingKnown;
+  panel = 0;
+  message = Fresh;
+  values = [];
+  occasion = Occasion.Agreement;
+}
+
+-- both ends agreed
+abbrev pub is_agreed : HostState → Bool
+is_agreed (Agreed lu) = true
+is_agreed Offered = false
+is_agreed Asked = false
+is_agreed (Asking device) = false
+is_agreed (Named lu) = false
+is_agreed (Countered lu) = false
+is_agreed (Closed cause) = false

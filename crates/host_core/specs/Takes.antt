@@ -1,0 +1,162 @@
+-- What a host makes of what a terminal sends: the connection after it, what it says, the LU that it grants, and the cause by which it
+-- closes the connection, if it does (RFC 1647, sections 7, 8.1 and 10.4; turns, beliefs and causes are our profile).
+use Rattle.std.specs.Prelude.{◌==◌, ℕ, Bool, true, false, List, [], map, Option, Some, None, Result, Ok, Err, if◌then◌else◌}
+use Rattle.codes3270.specs.declared.attention.Aid.{Aid}
+use Rattle.codes3270.specs.declared.attention.Aid.TheVariants.{NoAid, Enter, Clear, Pf, Pa}
+use Rattle.datastream.specs.InboundText.{InboundParts}
+use Rattle.datastream.specs.Wanted.{WantedScreen}
+use Rattle.datastream.specs.declared.inbound_part.Form.{Form}
+use Rattle.datastream.specs.declared.inbound_part.Form.TheVariants.{Modified, All as AllModified, Buffer}
+use Rattle.shadow.specs.Belief.{Shadow}
+use Rattle.shadow.specs.Heard.{heard}
+use Rattle.shadow.specs.Paint.{paint}
+use Rattle.shadow.specs.Taken.{taken}
+use Rattle.shadow.specs.declared.fault.HeardFault.{HeardFault}
+use Rattle.tn3270e_msg.specs.Talk.{Talk, follow}
+use Rattle.tn3270e_msg.specs.HostTable.{host_line, answer_line}
+use Rattle.tn3270e_msg.specs.declared.cause.Cause.{Cause}
+use Rattle.tn3270e_msg.specs.declared.cause.Cause.TheVariants.{BadInbound, BadResponse, Negative as NegativeCause}
+use Rattle.tn3270e_msg.specs.declared.host_talk.HostState.{HostState}
+use Rattle.tn3270e_msg.specs.declared.host_talk.HostState.TheVariants.{Asking, Closed}
+use Rattle.tn3270e_msg.specs.declared.reply.After.TheVariants.{Close as CloseAfter}
+use Rattle.tn3270e_msg.specs.declared.reply.Reason.{Reason}
+use Rattle.tn3270e_msg.specs.declared.reply.Reply.{Reply}
+use Rattle.tn3270e_msg.specs.declared.reply.Reply.TheVariants as reply
+use Rattle.host_core.specs.Application.{Application}
+use Rattle.host_core.specs.Messages.{ToTerminal, ToHost, Saying, Verdict, says, sayings}
+use Rattle.host_core.specs.Session.{Conn, Turn, Pending, Occasion, is_agreed}
+
+pub record Step : Type 0 where
+  pub conn : Conn
+  pub sends : List ToTerminal
+  pub grants : Option (List ℕ)
+  pub closes : Option Cause
+
+-- it sends nothing
+abbrev pub quiet : Conn → Step
+quiet conn = record { conn = conn; sends = []; grants = None; closes = None }
+
+abbrev pub closed_by : Cause → Conn → Step
+closed_by cause conn = record { conn = conn; sends = []; grants = None; closes = Some cause }
+
+-- ---- the talk
+
+abbrev pub closing : Reply → Option Cause
+closing (reply.Close cause) = Some cause
+closing (reply.Sub sending (CloseAfter cause)) = Some cause
+closing _ = None
+
+abbrev pub with_talk : Conn → Talk HostState → Conn
+with_talk conn talk = record conn { talk = talk }
+
+abbrev pub replied : Conn → Option (List ℕ) → Talk HostState × Reply → Step
+replied conn grants talked = record {
+  conn = with_talk conn talked.0;
+  sends = map ToTerminal.TalksDown (sayings talked.1);
+  grants = grants;
+  closes = closing talked.1;
+}
+
+-- what a pool answers who asks it for an LU: by its name, or for any
+abbrev pub Answers : Type 0
+Answers = Option (List ℕ) → Result (List ℕ) Reason
+
+abbrev pub granted_by : Result (List ℕ) Reason → Option (List ℕ)
+granted_by (Ok lu) = Some lu
+granted_by (Err reason) = None
+
+-- the talk asks the pool, and goes on with its answer
+abbrev pub asked : Conn → Talk HostState → Result (List ℕ) Reason → HostState → Step
+asked conn talk answer (Asking device) = replied conn (granted_by answer) (follow Closed talk (answer_line device answer))
+asked conn talk answer _ = quiet conn
+
+abbrev pub talked_on : Answers → Conn → Talk HostState → Reply → Step
+talked_on pool conn talk (reply.AskPool name) = asked conn talk (pool name) talk.state
+talked_on pool conn talk reply = replied conn None (talk, reply)
+
+abbrev pub talked : Answers → Conn → Talk HostState → Saying → Step
+talked pool conn talk saying = let next = follow Closed talk (host_line talk.state (says saying)) in talked_on pool conn next.0 next.1
+
+-- ---- data
+
+-- what was heard is believed, and the turn is the host's
+abbrev pub believed : Occasion → Conn → Result Shadow HeardFault → Step
+believed occasion conn (Ok shadow) =
+    quiet (record conn { shadow = shadow; turn = Turn.Host; pending = Pending.Nothing; occasion = occasion })
+believed occasion conn (Err fault) = closed_by BadInbound conn
+
+-- the key that was pressed last, and its screen was read
+abbrev pub once_read : Occasion → Occasion
+once_read (Occasion.Key aid buffered) = Occasion.Key aid true
+once_read Occasion.Agreement = Occasion.Agreement
+once_read Occasion.Refusal = Occasion.Refusal
+
+-- the answer to Read Buffer
+abbrev pub buffer_came : Application → InboundParts → Form → Conn → Step
+buffer_came app parts Buffer conn = believed (once_read conn.occasion) conn (heard app.size conn.shadow parts)
+buffer_came app parts Modified conn = closed_by BadInbound conn
+buffer_came app parts AllModified conn = closed_by BadInbound conn
+
+-- a key was pressed
+abbrev pub key_came : Application → InboundParts → Aid → Conn → Step
+key_came app parts NoAid conn = closed_by BadInbound conn
+key_came app parts Enter conn = believed (Occasion.Key Enter false) conn (heard app.size conn.shadow parts)
+key_came app parts Clear conn = believed (Occasion.Key Clear false) conn (heard app.size conn.shadow parts)
+key_came app parts (Pf key) conn = believed (Occasion.Key (Pf key) false) conn (heard app.size conn.shadow parts)
+key_came app parts (Pa key) conn = believed (Occasion.Key (Pa key) false) conn (heard app.size conn.shadow parts)
+
+abbrev pub key_data_came : Application → InboundParts → Form → Conn → Step
+key_data_came app parts Modified conn = key_came app parts parts.aid conn
+key_data_came app parts AllModified conn = closed_by BadInbound conn
+key_data_came app parts Buffer conn = closed_by BadInbound conn
+
+-- While a read is pending, data is its answer. Otherwise it is a key's, in the terminal's turn with nothing pending.
+abbrev pub data_came : Application → InboundParts → Turn → Pending → Conn → Step
+data_came app parts turn (Pending.Reading number) conn = buffer_came app parts parts.form conn
+data_came app parts turn (Pending.Writing number wanted) conn = closed_by BadInbound conn
+data_came app parts Turn.Host Pending.Nothing conn = closed_by BadInbound conn
+data_came app parts Turn.Terminal Pending.Nothing conn = key_data_came app parts parts.form conn
+
+-- ---- responses
+
+-- the command is answered: what it wrote is believed now, not when it was sent
+abbrev pub answered : Application → WantedScreen → Conn → Conn
+answered app wanted conn =
+    record conn { shadow = taken app.size (paint app.size conn.shadow wanted) conn.shadow; pending = Pending.Nothing }
+
+-- the command was refused: nothing is known any more
+abbrev pub refused : Conn → Conn
+refused conn =
+    record conn { shadow = Shadow.NothingKnown; turn = Turn.Host; pending = Pending.Nothing; occasion = Occasion.Refusal }
+
+-- whether a paint on what is believed is an Erase/Write, after whose refusal the host has nothing left to try
+abbrev pub erases : Shadow → Bool
+erases Shadow.NothingKnown = true
+erases (Shadow.Unformatted known) = true
+erases (Shadow.Formatted beliefs) = false
+
+abbrev pub write_refused : Conn → Step
+write_refused conn = if erases conn.shadow then closed_by NegativeCause conn else quiet (refused conn)
+
+abbrev pub if_answers : Bool → Step → Conn → Step
+if_answers true step conn = step
+if_answers false step conn = closed_by BadResponse conn
+
+abbrev pub response_came : Application → ℕ → Verdict → Pending → Conn → Step
+response_came app number verdict Pending.Nothing conn = closed_by BadResponse conn
+response_came app number Verdict.Positive (Pending.Writing pending wanted) conn = if_answers (number == pending) (quiet (answered app wanted conn)) conn
+response_came app number Verdict.Negative (Pending.Writing pending wanted) conn = if_answers (number == pending) (write_refused conn) conn
+response_came app number Verdict.Positive (Pending.Reading pending) conn = closed_by BadResponse conn
+response_came app number Verdict.Negative (Pending.Reading pending) conn = if_answers (number == pending) (quiet (refused conn)) conn
+
+-- ---- any message
+
+-- before agreement records are dropped
+abbrev pub once_agreed : Bool → Step → Conn → Step
+once_agreed true step conn = step
+once_agreed false step conn = quiet conn
+
+abbrev pub took : Application → Answers → Conn → ToHost → Step
+took app pool conn (ToHost.TalksUp saying) = talked pool conn conn.talk saying
+took app pool conn (ToHost.Data parts) = once_agreed (is_agreed conn.talk.state) (data_came app parts conn.turn conn.pending conn) conn
+took app pool conn (ToHost.Response number verdict) = once_agreed (is_agreed conn.talk.state) (response_came app number verdict conn.pending conn) conn

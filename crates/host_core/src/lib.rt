@@ -1,0 +1,36 @@
+//! The host: what it makes of what terminals send, and what it does in its turn.
+#![tactic(auto)]
+
+ghost use Rattle.host_core.specs.Laws.{ActsFit, PanelsAreShown, ScreensAreWanted};
+ghost use Rattle.host_core.specs.PoolLaws.{PoolsAreSound, StaysSoundFree, StaysSoundGranted, StaysSoundBack, NobodyHolds, AnswersWhatIsFree, AnswersNames, AnswersTheName, GrantIsHeld, OthersStay, OthersKeep, BackIsFree, GrantsOneEntry, FreesOneEntry};
+
+/// Does nothing: its contract says that whatever a host does, it paints what fits its belief.
+pub fn what_is_shown_fits()
+    ensures { ActsFit }
+{}
+
+/// Does nothing: its contract says that the pool is a map from LUs to the connections that hold them. What it grants is free,
+/// is the one that was asked for, and is held then; and no other entry changes, as lu_pool's calls have it.
+pub fn the_pool_is_a_map()
+    ensures sound { PoolsAreSound }
+    ensures sound_free { StaysSoundFree }
+    ensures sound_granted { StaysSoundGranted }
+    ensures sound_back { StaysSoundBack }
+    ensures nobody { NobodyHolds }
+    ensures free { AnswersWhatIsFree }
+    ensures names { AnswersNames }
+    ensures asked { AnswersTheName }
+    ensures held { GrantIsHeld }
+    ensures others_stay { OthersStay }
+    ensures others_keep { OthersKeep }
+    ensures back { BackIsFree }
+    ensures grants { GrantsOneEntry }
+    ensures frees { FreesOneEntry }
+{}
+
+/// Does nothing: its contract says that panels whose cursors and fields are on the screen are an application, of 24 rows by 80,
+/// whose screens are those that the panels ask for.
+pub fn panels_are_shown()
+    ensures application { PanelsAreShown }
+    ensures wanted { ScreensAreWanted }
+{}

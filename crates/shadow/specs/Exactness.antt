@@ -1,0 +1,97 @@
+-- Where the fact of a field is exact (our profile): where all its characters are known, and in each protected field.
+use Rattle.std.specs.Prelude.{◌≡◌, ⊤, ℕ, Bool, true, false, List, length, map, Some, All, IfOk}
+use Rattle.datastream.specs.Fields.{Field, fields}
+use Rattle.datastream.specs.Inbound.{without_nulls}
+use Rattle.datastream.specs.InboundText.{InboundParts}
+use Rattle.datastream.specs.Grammar.{CommandParts}
+use Rattle.datastream.specs.Screen.{Screen}
+use Rattle.datastream.specs.declared.command_code.CommandCode.{CommandCode}
+use Rattle.datastream.specs.declared.command_code.CommandCode.TheVariants.{Write, EraseWrite, EraseWriteAlternate, ReadBuffer, ReadModified, ReadModifiedAll, EraseAllUnprotected}
+use Rattle.datastream.specs.Wanted.{WantedScreen}
+use Rattle.shadow.specs.Pairs.{Pairwise}
+use Rattle.shadow.specs.Belief.{Fact, Belief, Shadow, fields_of}
+use Rattle.shadow.specs.Meets.{Meets, told, IsTold}
+use Rattle.shadow.specs.Heard.{known_chars, heard}
+use Rattle.shadow.specs.Taken.{taken}
+use Rattle.shadow.specs.Fits.{fits}
+use Rattle.shadow.specs.Paint.{paint}
+
+-- the characters are a text
+abbrev pub IsExact : Fact → Type 0
+IsExact fact = (text : List ℕ) × (fact ≡ Fact.Exact text)
+
+-- Of so many characters each is known or open, and where all are known the fact is exactly that text.
+pub record IsExactWhereKnown (count : ℕ) (fact : Fact) : Type 0 where
+  pub whole : length (known_chars count fact) ≡ count
+  pub exact : (text : List ℕ) → known_chars count fact ≡ map Some text → fact ≡ Fact.Exact text
+
+abbrev pub FieldIsExact : Belief → Type 0
+FieldIsExact belief = IsExactWhereKnown belief.length belief.fact
+
+abbrev pub IsExactIfProtected : Belief → Type 0
+IsExactIfProtected belief = belief.attr.protected ≡ true → IsExact belief.fact
+
+-- so it is in each field
+abbrev pub KnownIsExact : Shadow → Type 0
+KnownIsExact shadow = All FieldIsExact (fields_of shadow)
+
+abbrev pub ProtectedIsExact : Shadow → Type 0
+ProtectedIsExact shadow = All IsExactIfProtected (fields_of shadow)
+
+-- ---- what is exact stays exact
+
+-- where nothing is known
+abbrev pub NothingIsExact : Type 0
+NothingIsExact = KnownIsExact Shadow.NothingKnown × ProtectedIsExact Shadow.NothingKnown
+
+-- whatever is heard
+abbrev pub HeardStaysExact : Type 0
+HeardStaysExact = (size : ℕ) (shadow : Shadow) (inbound : InboundParts) → KnownIsExact shadow → IfOk (heard size shadow inbound) KnownIsExact
+
+abbrev pub HeardStaysProtected : Type 0
+HeardStaysProtected = (size : ℕ) (shadow : Shadow) (inbound : InboundParts) → ProtectedIsExact shadow → IfOk (heard size shadow inbound) ProtectedIsExact
+
+-- whatever is written
+abbrev pub TakenStaysExact : Type 0
+TakenStaysExact = (size : ℕ) (command : CommandParts) (shadow : Shadow) → KnownIsExact shadow → KnownIsExact (taken size command shadow)
+
+abbrev pub is_erase : CommandCode → Bool
+is_erase Write = false
+is_erase EraseWrite = true
+is_erase EraseWriteAlternate = true
+is_erase ReadBuffer = false
+is_erase ReadModified = false
+is_erase ReadModifiedAll = false
+is_erase EraseAllUnprotected = false
+
+-- An erase makes each field exact.
+abbrev pub ErasedIsExact : Type 0
+ErasedIsExact = (size : ℕ) (command : CommandParts) (shadow : Shadow) → is_erase command.code ≡ true → ProtectedIsExact (taken size command shadow)
+
+-- A paint that fits makes each protected field exact, where the belief is one that a screen meets.
+abbrev pub PaintedIsExact : Type 0
+PaintedIsExact = (shadow : Shadow) (wanted : WantedScreen) (screen : Screen) → length wanted.cells ≡ length screen.cells → fits shadow wanted ≡ true → Meets shadow screen
+    → KnownIsExact shadow → ProtectedIsExact (taken (length screen.cells) (paint (length screen.cells) shadow wanted) shadow)
+
+-- ---- what it says of the screen
+
+-- of a protected field the host knows exactly the text
+abbrev pub ProtectedSeen : Belief → Field → Type 0
+ProtectedSeen belief field = field.attr.protected ≡ true → belief.fact ≡ Fact.Exact field.text
+
+-- each field so
+abbrev pub EachField : (Belief → Field → Type 0) → Shadow → Screen → Type 0
+EachField R Shadow.NothingKnown screen = ⊤
+EachField R (Shadow.Unformatted known) screen = ⊤
+EachField R (Shadow.Formatted beliefs) screen = Pairwise R beliefs (fields screen.cells)
+
+abbrev pub ProtectedIsSeen : Type 0
+ProtectedIsSeen = (shadow : Shadow) (screen : Screen) → Meets shadow screen → ProtectedIsExact shadow → EachField ProtectedSeen shadow screen
+
+-- the text of a field with MDT on is told, also where it is protected
+abbrev pub ReturnedTold : Belief → Field → Type 0
+ReturnedTold belief field = field.attr.mdt ≡ true → told belief.fact ≡ Some (without_nulls field.text)
+
+-- Where protected fields are exact, the texts of unprotected fields are all that is to be told.
+abbrev pub ReturnedIsTold : Type 0
+ReturnedIsTold = (shadow : Shadow) (screen : Screen) → Meets shadow screen → ProtectedIsExact shadow → IsTold shadow screen → EachField ReturnedTold shadow screen

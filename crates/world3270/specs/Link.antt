@@ -1,0 +1,90 @@
+-- One connection with its two ends, and what may happen on it (our profile).
+use Rattle.std.specs.Prelude.{◌||◌, not, ℕ, Bool, true, false, List, [], ◌∷◌, ◌++◌, Option, Some, None, if◌then◌else◌}
+use Rattle.telnet_wire.specs.declared.wire.Verb.TheVariants.{Do}
+use Rattle.tn3270e_msg.specs.declared.cause.Cause.{Cause}
+use Rattle.host_core.specs.Messages.{ToTerminal, ToHost, Saying}
+use Rattle.host_core.specs.Session.{Conn, new_conn}
+use Rattle.host_core.specs.Takes.{Step}
+use Rattle.host_core.specs.Acts.{Sent}
+use Rattle.world3270.specs.Terminal.{TermEnd, TermStep, new_end, is_some}
+
+-- What is under way in each direction, oldest first; the host's end and whether the host holds it; the terminal's end and which
+-- terminal holds it. An end that was left stays as it was, and no step reads it.
+pub record Link : Type 0 where
+  pub lost : Bool
+  pub down : List ToTerminal
+  pub up : List ToHost
+  pub host_here : Bool
+  pub host : Conn
+  pub term_here : Option ℕ
+  pub term : TermEnd
+
+-- a number that neither end holds
+abbrev pub is_free : Link → Bool
+is_free link = not (link.host_here || is_some link.term_here)
+
+-- it is up while an end holds it and it isn't lost
+abbrev pub is_up : Link → Bool
+is_up link = not (link.lost || is_free link)
+
+-- at the begin: the host has offered TN3270E; the terminal with that number wants an LU, if one
+abbrev pub begun : ℕ → ℕ → Option (List ℕ) → Link
+begun size terminal wanted = record {
+  lost = false;
+  down = ToTerminal.TalksDown (Saying.Opt Do 40) ∷ [];
+  up = [];
+  host_here = true;
+  host = new_conn;
+  term_here = Some terminal;
+  term = new_end size wanted;
+}
+
+-- a number that was never used: as if its connection was lost before anything was said
+abbrev pub unused : ℕ → Link
+unused size = record {
+  lost = true;
+  down = [];
+  up = [];
+  host_here = false;
+  host = new_conn;
+  term_here = None;
+  term = new_end size None;
+}
+
+-- on a lost connection new messages vanish
+abbrev pub sent : {X : Type 0} → Bool → List X → List X → List X
+sent lost queue messages = if lost then queue else queue ++ messages
+
+-- ---- the host's end
+
+-- the host leaves: the connection is lost
+abbrev pub host_left : Link → Link
+host_left link = record link { lost = true; host_here = false }
+
+-- an end that closes by a cause loses the connection and leaves it
+abbrev pub host_left_if : Option Cause → Link → Link
+host_left_if None link = link
+host_left_if (Some cause) link = host_left link
+
+abbrev pub host_stepped : Step → List ToHost → Link → Link
+host_stepped step rest link =
+    host_left_if step.closes (record link { up = rest; host = step.conn; down = sent link.lost link.down step.sends })
+
+-- ---- the terminal's end
+
+abbrev pub term_left : Link → Link
+term_left link = record link { lost = true; term_here = None }
+
+abbrev pub term_left_if : Option Cause → Link → Link
+term_left_if None link = link
+term_left_if (Some cause) link = term_left link
+
+abbrev pub term_stepped : TermStep → List ToTerminal → Link → Link
+term_stepped step rest link =
+    term_left_if step.closes (record link { down = rest; term = step.end; up = sent link.lost link.up step.sends })
+
+-- ---- what the host sends
+
+abbrev pub host_sent : Option Sent → Link → Link
+host_sent None link = link
+host_sent (Some sending) link = record link { host = sending.conn; down = sent link.lost link.down (sending.message ∷ []) }

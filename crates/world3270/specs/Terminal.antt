@@ -1,0 +1,139 @@
+-- A terminal, over messages: what it makes of what a host sends, and of keys (RFC 1647, sections 7, 8.1 and 10.4; locks are our profile).
+use Rattle.std.specs.Prelude.{◌||◌, ℕ, Bool, true, false, List, [], ◌∷◌, map, replicate, Option, Some, None}
+use Rattle.codes3270.specs.declared.attention.Aid.TheVariants.{NoAid}
+use Rattle.codes3270.specs.declared.attribute.Cell.TheVariants.{Char}
+use Rattle.datastream.specs.InboundFields.{modified_data, buffer_data}
+use Rattle.datastream.specs.Screen.{Screen}
+use Rattle.datastream.specs.Wanted.{WantedScreen}
+use Rattle.datastream.specs.declared.inbound_part.Form.TheVariants.{Modified}
+use Rattle.keyboard.specs.Keys.{pressed}
+use Rattle.keyboard.specs.Leaves.{erases}
+use Rattle.keyboard.specs.State.{Keyboard, fresh, freed}
+use Rattle.keyboard.specs.declared.key.Key.{Key}
+use Rattle.keyboard.specs.declared.key.Pressed.{Pressed}
+use Rattle.keyboard.specs.declared.key.Pressed.TheVariants.{Done, Refused, Send}
+use Rattle.shadow.specs.Painted.{plainly_painted}
+use Rattle.tn3270e_msg.specs.Talk.{Talk, follow}
+use Rattle.tn3270e_msg.specs.TermTable.{Term, term_start, term_line}
+use Rattle.tn3270e_msg.specs.declared.cause.Cause.{Cause}
+use Rattle.tn3270e_msg.specs.declared.reply.Reply.{Reply}
+use Rattle.tn3270e_msg.specs.declared.term_talk.TermState.{TermState}
+use Rattle.tn3270e_msg.specs.declared.term_talk.TermState.TheVariants.{Waiting, Willing, TypeAsked, FunctionsAsked, Agreed, Refused as RefusedState, Closed}
+use Rattle.host_core.specs.Messages.{ToTerminal, ToHost, Saying, Verdict, says, sayings}
+use Rattle.host_core.specs.Takes.{closing}
+
+-- What the operator has before him. `left` and `erased` are history, which no step reads: the screen just after the terminal last
+-- took a write on its latest connection, and whether Erase Input was done since.
+pub record Display : Type 0 where
+  pub screen : Screen
+  pub keyboard : Keyboard
+  pub left : Screen
+  pub erased : Bool
+
+-- all cells null, the cursor at 0, no AID; the keyboard waits
+abbrev pub blank : ℕ → Screen
+blank size = record { cells = replicate size (Char 0); cursor = 0; aid = NoAid }
+
+abbrev pub new_display : ℕ → Display
+new_display size = record { screen = blank size; keyboard = fresh; left = blank size; erased = false }
+
+-- the end of a connection that a terminal holds
+pub record TermEnd : Type 0 where
+  pub talk : Term
+  pub display : Display
+
+abbrev pub new_end : ℕ → Option (List ℕ) → TermEnd
+new_end size wanted = record { talk = term_start wanted; display = new_display size }
+
+-- the LU that it is bound to
+abbrev pub bound_to : TermState → Option (List ℕ)
+bound_to (Agreed lu) = Some lu
+bound_to Waiting = None
+bound_to Willing = None
+bound_to TypeAsked = None
+bound_to (FunctionsAsked lu) = None
+bound_to (RefusedState reason) = None
+bound_to (Closed cause) = None
+
+abbrev pub is_some : {X : Type 0} → Option X → Bool
+is_some None = false
+is_some (Some x) = true
+
+abbrev pub is_bound : TermEnd → Bool
+is_bound end = is_some (bound_to end.talk.talk.state)
+
+-- the end after a message or a key, what it sends, and the cause by which it closes the connection, if it does
+pub record TermStep : Type 0 where
+  pub end : TermEnd
+  pub sends : List ToHost
+  pub closes : Option Cause
+
+abbrev pub quiet : TermEnd → TermStep
+quiet end = record { end = end; sends = []; closes = None }
+
+-- ---- messages
+
+abbrev pub with_talk : TermEnd → Talk TermState → TermEnd
+with_talk end talk = record end { talk = record end.talk { talk = talk } }
+
+abbrev pub replied : TermEnd → Talk TermState × Reply → TermStep
+replied end talked = record { end = with_talk end talked.0; sends = map ToHost.TalksUp (sayings talked.1); closes = closing talked.1 }
+
+abbrev pub talked : TermEnd → Term → Saying → TermStep
+talked end talk saying = replied end (follow Closed talk.talk (term_line talk.wanted talk.talk.state (says saying)))
+
+-- the wanted screen is painted, and the keyboard freed
+abbrev pub painted : WantedScreen → Display → Display
+painted wanted display = record {
+  screen = plainly_painted wanted display.screen;
+  keyboard = freed display.keyboard;
+  left = plainly_painted wanted display.screen;
+  erased = false;
+}
+
+-- first it is painted, then answered
+abbrev pub paint_came : ℕ → WantedScreen → TermEnd → TermStep
+paint_came number wanted end =
+    record { end = record end { display = painted wanted end.display }; sends = ToHost.Response number Verdict.Positive ∷ []; closes = None }
+
+-- the whole screen is the answer
+abbrev pub read_came : TermEnd → TermStep
+read_came end = record { end = end; sends = ToHost.Data (buffer_data end.display.screen) ∷ []; closes = None }
+
+-- before it is bound a terminal drops records
+abbrev pub once_bound : Bool → TermStep → TermEnd → TermStep
+once_bound true step end = step
+once_bound false step end = quiet end
+
+abbrev pub took : TermEnd → ToTerminal → TermStep
+took end (ToTerminal.TalksDown saying) = talked end end.talk saying
+took end (ToTerminal.Paint number wanted over) = once_bound (is_bound end) (paint_came number wanted end) end
+took end (ToTerminal.ReadBuffer number) = once_bound (is_bound end) (read_came end) end
+
+-- ---- keys
+
+abbrev pub erases_if : Pressed → Key → Bool
+erases_if Done key = erases key
+erases_if (Refused why) key = false
+erases_if (Send aid) key = false
+
+abbrev pub after_key : ℕ → Key → Display → Display
+after_key columns key display =
+    let outcome = pressed columns key display.keyboard display.screen in
+    record display { screen = outcome.screen; keyboard = outcome.keyboard; erased = display.erased || erases_if outcome.answer key }
+
+-- a terminal that is bound sends its modified fields
+abbrev pub data_of : Bool → Pressed → Screen → List ToHost
+data_of true (Send aid) screen = ToHost.Data (modified_data Modified screen) ∷ []
+data_of false (Send aid) screen = []
+data_of bound Done screen = []
+data_of bound (Refused why) screen = []
+
+abbrev pub key_came : ℕ → Key → TermEnd → TermStep
+key_came columns key end =
+    let outcome = pressed columns key end.display.keyboard end.display.screen in
+    record {
+      end = record end { display = after_key columns key end.display };
+      sends = data_of (is_bound end) outcome.answer outcome.screen;
+      closes = None;
+    }

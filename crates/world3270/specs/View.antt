@@ -1,0 +1,32 @@
+-- What a connection is to the headline: what is under way, what the host has of it, and what stands before the operator.
+use Rattle.std.specs.Prelude.{Bool, List}
+use Rattle.datastream.specs.Screen.{Screen}
+use Rattle.keyboard.specs.declared.key.Lock.{Lock}
+use Rattle.tn3270e_msg.specs.TermTable.{Term}
+use Rattle.host_core.specs.Messages.{ToTerminal, ToHost}
+use Rattle.host_core.specs.Session.{Conn}
+use Rattle.world3270.specs.Link.{Link}
+
+pub record View : Type 0 where
+  pub lost : Bool
+  pub down : List ToTerminal
+  pub up : List ToHost
+  pub host : Conn
+  pub talk : Term
+  pub screen : Screen
+  pub lock : Lock
+  pub left : Screen
+  pub erased : Bool
+
+abbrev pub view_of : Link → View
+view_of link = record {
+  lost = link.lost;
+  down = link.down;
+  up = link.up;
+  host = link.host;
+  talk = link.term.talk;
+  screen = link.term.display.screen;
+  lock = link.term.display.keyboard.lock;
+  left = link.term.display.left;
+  erased = link.term.display.erased;
+}
