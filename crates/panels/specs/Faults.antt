@@ -9,6 +9,7 @@ use Rattle.panels.specs.declared.part.Part.TheVariants.{Top, Panel, Text, Field,
 use Rattle.panels.specs.declared.place.At.{At}
 use Rattle.panels.specs.declared.place.At.TheVariants as place
 use Rattle.panels.specs.Tree.{text_under, count_under, table_of, name_of, keys, texts}
+use Rattle.panels.specs.Limits.{most_panels, most_texts, most_fields}
 use Rattle.panels.specs.Shape.{has_unknown_key, lacks_key, has_bad_kind}
 use Rattle.panels.specs.Items.{is_panel_name, is_field_name, text_or_empty, is_on_screen, is_in_place, HasCell, lacks_code}
 use Rattle.panels.specs.Keys.{is_key_name}
@@ -34,10 +35,10 @@ abbrev pub has_no_panel : Part → Members → Bool
 has_no_panel Top table = is_empty (option_and_then as_array (get_member (codes "panel") table))
 has_no_panel _ table = false
 
--- more than 64 panels, 256 texts or 128 fields
+-- more panels in the text, or more texts or fields in a panel, than there may be
 abbrev pub has_too_many : Part → Members → Bool
-has_too_many Top table = nat_lt 64 (count_under (codes "panel") table)
-has_too_many (Panel p) table = nat_lt 256 (count_under (codes "text") table) || nat_lt 128 (count_under (codes "field") table)
+has_too_many Top table = nat_lt most_panels (count_under (codes "panel") table)
+has_too_many (Panel p) table = nat_lt most_texts (count_under (codes "text") table) || nat_lt most_fields (count_under (codes "field") table)
 has_too_many _ table = false
 
 abbrev pub has_bad_name : Part → Members → Bool

@@ -1,4 +1,5 @@
 pub mod Size
+pub mod Limits
 pub mod Characters
 pub mod Tree
 pub mod Shape
@@ -6,6 +7,7 @@ pub mod Rules
 pub mod Items
 pub mod Keys
 pub mod Faults
+pub mod Messages
 pub mod Passes
 pub mod Places
 pub mod Index

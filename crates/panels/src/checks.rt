@@ -23,11 +23,13 @@ use crate::survey::{Survey, is_met_earlier};
 use crate::tree::{count_at, table_at, table_of_part, text_at, value_at};
 use toml::Table;
 
-/// The most panels that a text may have, and the most texts and fields of a panel.
+/// The most panels of a text.
 const MOST_PANELS: usize = 64;
 
+/// The most texts of a panel.
 const MOST_TEXTS: usize = 256;
 
+/// The most fields of a panel.
 const MOST_FIELDS: usize = 128;
 
 /// Whether a text has an empty array of panels.

@@ -38,6 +38,11 @@ pub enum PanelFault {
 }
 
 impl fmt::Display for TreeFault {
+    ghost use Rattle.std.specs.Prelude.{Some};
+    ghost use Rattle.panels.specs.Messages.{tree_fault_text};
+
+    ghost output = { λ fault. Some (tree_fault_text fault) };
+
     fn fmt<W: fmt::Write>(&self, f: &mut fmt::Formatter<W>) -> fmt::Result {
         f.write_str(match self {
             TreeFault::UnknownKey => "UnknownKey",
@@ -56,6 +61,11 @@ impl fmt::Display for TreeFault {
 }
 
 impl fmt::Display for PanelFault {
+    ghost use Rattle.std.specs.Prelude.{Some};
+    ghost use Rattle.panels.specs.Messages.{fault_text};
+
+    ghost output = { λ fault. Some (fault_text fault) };
+
     fn fmt<W: fmt::Write>(&self, f: &mut fmt::Formatter<W>) -> fmt::Result {
         match self {
             PanelFault::Memory => f.write_str("no memory"),

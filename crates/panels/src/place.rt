@@ -13,6 +13,11 @@ pub enum At {
 }
 
 impl fmt::Display for At {
+    ghost use Rattle.std.specs.Prelude.{Some};
+    ghost use Rattle.panels.specs.Messages.{place_text};
+
+    ghost output = { λ place. Some (place_text place) };
+
     fn fmt<W: fmt::Write>(&self, f: &mut fmt::Formatter<W>) -> fmt::Result {
         match self {
             At::Top => f.write_str("top"),

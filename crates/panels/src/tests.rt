@@ -1,15 +1,18 @@
 //! Tests of what no clause says: texts and screens from outside, printed faults, sizes.
+mod first_faults;
 mod texts;
 
 use crate::{At, Message, Next, PanelFault, PanelSet, TreeFault, Values};
 use codes3270::{Aid, Attr, PaNo, PfNo};
 use datastream::Want;
+use first_faults::FIRST_FAULTS;
 use std::alloc::{AllocError, Global};
 use std::test::Fail;
 use texts::{AIRLINE, BANK, ONE_BELOW, ONE_OVER, SIGN_ON, TWO_BELOW};
 
 /// Panel texts, and the fault that each prints.
-static FAULTS: [(&str, &str); 65] = [
+static FAULTS: [(&str, &str); 66] = [
+    ("", "top: Missing"),
     ("x 1", "not TOML"),
     (
         "start = \"A\"\nlus = []\nx = 1\npanel = [{name = \"A\"}]",
@@ -286,6 +289,14 @@ fn faults_print_with_their_places(rt: HostRuntime) -> Result<(), Fail> {
     Ok(())
 }
 
+#[test]
+fn the_first_of_several_faults_is_answered(rt: HostRuntime) -> Result<(), Fail> {
+    for (text, fault) in &FIRST_FAULTS {
+        assert_eq!(rt; printed(rt.alloc(), *text)?.as_str(), *fault, "at {text}");
+    }
+    Ok(())
+}
+
 /// An item of a screen: the address of the attribute, its code, and the codes of the characters.
 type Item = (usize, u8, &'static [u8]);
 
@@ -478,6 +489,30 @@ fn values_are_kept(rt: HostRuntime) -> Result<(), Fail> {
     Ok(())
 }
 
+// `rt try --test --fail-alloc N` refuses the Nth growth of each test: the next two show what is left then.
+
+#[test]
+fn a_refused_growth_is_told(rt: HostRuntime) {
+    match PanelSet::read(rt.alloc(), SIGN_ON) {
+        Ok(set) => assert_eq!(rt; set.len(), 2),
+        Err(fault) => assert_eq!(rt; fault, PanelFault::Memory),
+    }
+}
+
+#[test]
+fn a_value_without_room_changes_nothing(rt: HostRuntime) {
+    let mut values = Values::new(rt.alloc());
+    let first = values.set(3, &[0xC1]).is_ok();
+    assert_eq!(rt; values.get(3).is_some(), first);
+    let second = values.set(1, &[0xC2, 0xC3]).is_ok();
+    assert_eq!(rt; values.get(1).is_some(), second);
+    assert_eq!(rt; values.get(3).is_some(), first);
+    let third = values.set(3, &[0xC4, 0xC5, 0xC6]).is_ok();
+    let length = values.get(3).map_or(0, |value| value.len());
+    assert_eq!(rt; length, if third { 3 } else { usize::from(first) });
+    assert_eq!(rt; values.get(1).is_some(), second);
+}
+
 #[test]
 fn fields_have_their_attributes_and_fills(rt: HostRuntime) -> Result<(), Fail> {
     let text =
@@ -497,6 +532,66 @@ fn fields_have_their_attributes_and_fills(rt: HostRuntime) -> Result<(), Fail> {
     ];
     assert!(rt; shows(screen.cells(), &items));
     assert_eq!(rt; screen.cursor().get(), 5);
+    Ok(())
+}
+
+#[test]
+fn a_field_may_end_before_the_message(rt: HostRuntime) -> Result<(), Fail> {
+    let text =
+        "start = \"A\"\nlus = []\npanel = [{name = \"A\", field = [{name = \"f\", row = 1, col = 2, length = 1838}, {name = \"g\", row = 23, col = 80, length = 1, fill = \"9\"}]}]";
+    assert_eq!(rt;
+        printed(rt.alloc(), text)?.as_str(),
+        "panel 0 field 1: Overlap"
+    );
+    let text =
+        "start = \"A\"\nlus = []\npanel = [{name = \"A\", cursor = \"g\", field = [{name = \"f\", row = 1, col = 2, length = 1837}, {name = \"g\", row = 23, col = 80, length = 1, fill = \"9\"}]}, {name = \"B\", field = [{name = \"h\", row = 1, col = 2, length = 1839}]}]";
+    let set = PanelSet::read(rt.alloc(), text)?;
+    let values = Values::new(rt.alloc());
+    let both = set.panel(0).ok_or("no panel")?;
+    let screen = both.wanted(&values, Message::Fresh, false);
+    assert!(rt;
+        shows(
+            screen.cells(),
+            &[(0, 0x40, &[]), (1838, 0x40, &[0xF9]), (1840, 0xF8, &[])]
+        )
+    );
+    assert_eq!(rt; screen.cursor().get(), 1839);
+    let one = set.panel(1).ok_or("no panel")?;
+    let screen = one.wanted(&values, Message::Fresh, false);
+    assert!(rt; shows(screen.cells(), &[(0, 0x40, &[]), (1840, 0xF8, &[])]));
+    assert_eq!(rt; screen.cursor().get(), 1);
+    Ok(())
+}
+
+/// Appends a text so many times.
+fn push_times(text: &mut String, item: &str, count: usize) -> Result<(), AllocError> {
+    for _ in 0..count {
+        text.push_str(item)?;
+    }
+    Ok(())
+}
+
+#[test]
+fn too_many_panels_come_before_too_many_items(rt: HostRuntime) -> Result<(), Fail> {
+    for (more, fault) in [(63, "panel 0: TooMany"), (64, "top: TooMany")] {
+        let mut text = String::from_str(
+            rt.alloc(),
+            "start = \"A\"\nlus = []\npanel = [{name = \"A\", field = [",
+        )?;
+        push_times(
+            &mut text,
+            "{name = \"f\", row = 1, col = 2, length = 1},",
+            129,
+        )?;
+        text.push_str("]}")?;
+        push_times(&mut text, ", {name = \"A\"}", more)?;
+        text.push_str("]")?;
+        assert_eq!(rt;
+            printed(rt.alloc(), text.as_str())?.as_str(),
+            fault,
+            "at {more}"
+        );
+    }
     Ok(())
 }
 
@@ -542,9 +637,7 @@ fn too_many_is_a_fault(rt: HostRuntime) -> Result<(), Fail> {
     ] {
         let mut text = String::from_str(rt.alloc(), "start = \"A\"\nlus = []\n")?;
         text.push_str(head)?;
-        for _ in 0..count {
-            text.push_str(item)?;
-        }
+        push_times(&mut text, item, count)?;
         text.push_str(tail)?;
         assert_eq!(rt;
             printed(rt.alloc(), text.as_str())?.as_str(),
