@@ -1,6 +1,9 @@
 //! Figures of speed. Without words each case is run once, small, and nothing is printed; with the word `figures` the cases
 //! are run long enough to measure, and a line is printed for each: what was done, how often a second, and the bytes a second.
+//! A last line says how large a terminal is.
 #![tactic(auto)]
+
+ghost use Rattle.std.specs.Prelude.{◌<◌};
 
 use codes3270::{Addr, Attr, CELLS, Display, Wcc};
 use datastream::{CommandCode, CommandWriter, Memory, read_command};
@@ -9,6 +12,8 @@ use std::alloc::Global;
 use std::time::{Duration, Instant};
 use std::{env, io};
 use telnet_wire::{Decoder, Step, put_record};
+use term_core::Terminal;
+use tn3270e_msg::{ALWAYS_RESPONSE, DataType, Header, Lu, Stop, header_bytes};
 
 /// The data bytes that a record may have.
 const RECORD_LIMIT: usize = 16_384;
@@ -138,6 +143,94 @@ fn wire(rt: &HostRuntime, scale: Scale) -> io::Result<()> {
     )
 }
 
+/// What a host says of an LU, in order: DO TN3270E, SEND DEVICE-TYPE, DEVICE-TYPE IS, FUNCTIONS IS.
+const HOST_TALK: [&[u8]; 4] = [
+    b"\xff\xfd\x28",
+    b"\xff\xfa\x28\x08\x02\xff\xf0",
+    b"\xff\xfa\x28\x02\x04IBM-3278-2\x01PNL01\xff\xf0",
+    b"\xff\xfa\x28\x03\x04\x02\xff\xf0",
+];
+
+/// The bytes of a response on the wire.
+const RESPONSE_LENGTH: usize = 8;
+
+/// How many records a stream has.
+const RECORDS: usize = 100;
+
+/// A terminal that is bound, with nothing to send.
+fn bound_terminal(alloc: Global) -> Result<Terminal, Memory> {
+    let mut terminal = Terminal::new(alloc)?;
+    terminal.connected(Lu::read(b"PNL01"));
+    for said in HOST_TALK {
+        let _fed = terminal.feed(said);
+    }
+    let count = terminal.out().len();
+    terminal.sent(count);
+    Ok(terminal)
+}
+
+/// A stream of the record of a command, as often as said, with ALWAYS-RESPONSE.
+fn records(alloc: Global, command: &[u8], count: usize) -> Result<Vec<u8>, Memory> {
+    let header = Header {
+        kind: DataType::Data3270,
+        request: 0,
+        flag: ALWAYS_RESPONSE,
+        seq: 0,
+    };
+    let mut data = Vec::new(alloc);
+    data.extend_from_slice(&header_bytes(&header))?;
+    data.extend_from_slice(command)?;
+    let mut stream = Vec::new(alloc);
+    for _ in 0..count {
+        put_record(&mut stream, data.as_slice())?;
+    }
+    Ok(stream)
+}
+
+/// Feeds a stream in pieces and drains what is sent; answers how many bytes that was.
+fn feed(terminal: &mut Terminal, stream: &[u8], piece: usize) -> usize
+    requires { 0 < piece }
+{
+    let mut drained = 0usize;
+    for bytes in stream.chunks(piece) {
+        if terminal.feed(bytes).stop != Stop::Going {
+            return drained;
+        }
+        let count = terminal.out().len();
+        if count > 0 {
+            terminal.sent(count);
+            drained = drained.saturating_add(count);
+        }
+    }
+    drained
+}
+
+/// Full-screen Erase/Writes with ALWAYS-RESPONSE through a terminal, in pieces of so many bytes.
+fn terminal(rt: &HostRuntime, scale: Scale, piece: u16) -> io::Result<()>
+    requires { 0 < piece }
+{
+    let command = full_screen(rt.alloc(), 20)?;
+    let stream = records(rt.alloc(), command.as_slice(), RECORDS)?;
+    let mut terminal = bound_terminal(rt.alloc())?;
+    let rounds = scale.rounds(200);
+    let mut drained = 0usize;
+    let start = Instant::now(rt)?;
+    for _ in 0..rounds {
+        let bytes = feed(&mut terminal, stream.as_slice(), usize::from(piece));
+        drained = drained.saturating_add(bytes);
+    }
+    let took = start.elapsed(rt)?;
+    report(
+        rt,
+        scale,
+        "full-screen Erase/Write through feed, 96 fields, bytes a piece",
+        u32::from(piece),
+        u32::try_from(drained / RESPONSE_LENGTH).unwrap_or(u32::MAX),
+        stream.len() / RECORDS,
+        took,
+    )
+}
+
 /// Prints what was done, if it was done for figures: the case and its size, how many a second, and megabytes a second.
 fn report(
     rt: &HostRuntime,
@@ -157,6 +250,15 @@ fn report(
     println!(rt; "{case} {size}: {each_second} a second, {megabytes} MB a second")
 }
 
+/// Prints how large a terminal is, without its buffers.
+fn terminal_size(rt: &HostRuntime, scale: Scale) -> io::Result<()> {
+    if let Scale::Once = scale {
+        return Ok(());
+    }
+    let size = size_of::<Terminal>();
+    println!(rt; "a terminal without its buffers: {size} bytes")
+}
+
 fn main(rt: HostRuntime) -> io::Result<()> {
     let scale = if env::args(&rt)?.count() > 1 {
         Scale::Measured
@@ -166,5 +268,9 @@ fn main(rt: HostRuntime) -> io::Result<()> {
     for field_every in [1, 2, 20, 80, 1919] {
         screens(&rt, scale, field_every)?;
     }
-    wire(&rt, scale)
+    wire(&rt, scale)?;
+    terminal(&rt, scale, 1)?;
+    terminal(&rt, scale, 100)?;
+    terminal(&rt, scale, 16_384)?;
+    terminal_size(&rt, scale)
 }

@@ -1,5 +1,5 @@
 -- What bytes make of a terminal is what the items that they say make of it.
-use Rattle.std.proofs.Common.{◌≡◌, ℕ, List, [], ◌∷◌, ◌++◌, sym, ◌∙◌, ap, subst, refl, Option, None, Some, append_assoc}
+use Rattle.std.proofs.Common.{◌≡◌, ℕ, List, [], ◌∷◌, ◌++◌, sym, ◌∙◌, ap, subst, refl, None, Some, append_assoc}
 use Rattle.std.proofs.lemmas.List.{append-nil}
 use Rattle.std.proofs.lemmas.Grind.{flat_map-append}
 use Rattle.telnet_wire.specs.Items.{WireItem, item_tokens}
@@ -12,7 +12,7 @@ use Rattle.tn3270e_msg.specs.declared.cause.Cause.TheVariants.{Wire}
 use Rattle.term_core.specs.State.{Station, Terminal, Link, Attached, Closed, record_limit}
 use Rattle.term_core.specs.Says.{sent_bytes}
 use Rattle.term_core.specs.Items.{TakesItem}
-use Rattle.term_core.specs.Bytes.{TakesByte, TakesBytes, before_byte, link_after}
+use Rattle.term_core.specs.Bytes.{TakesByte, TakesBytes, before_byte}
 use Rattle.term_core.specs.Laws.{TakesItems, IsByItems, BytesAreItems}
 
 -- whether the last byte completed a write makes no difference to what comes

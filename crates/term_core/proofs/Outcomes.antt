@@ -1,5 +1,5 @@
 -- What a record, an item, a byte and bytes make of a terminal is determined.
-use Rattle.std.proofs.Common.{◌≡◌, ◌≢◌, ℕ, List, [], ◌∷◌, ◌++◌, sym, ◌∙◌, ap, subst, refl, Option, None, Some}
+use Rattle.std.proofs.Common.{◌≡◌, ℕ, List, [], ◌∷◌, ◌++◌, sym, ◌∙◌, ap, subst, refl, Option}
 use Rattle.datastream.specs.Grammar.{CommandParts, IsCommand, IsNoCommand}
 use Rattle.datastream.specs.declared.fault.CommandFault.{CommandFault}
 use Rattle.datastream.proofs.Commands.{one_command, command_or_fault, one_command_fault}
@@ -8,20 +8,17 @@ use Rattle.telnet_wire.specs.Items.{WireItem, Record, Opt, Sub, Other}
 use Rattle.telnet_wire.specs.Reading.{Rest, Delivers, GoesWrong}
 use Rattle.telnet_wire.specs.Laws.{OneDelivery, WrongIsFinal}
 use Rattle.tn3270e_msg.specs.declared.cause.Cause.{Cause}
-use Rattle.tn3270e_msg.specs.declared.header.HeadFault.{HeadFault}
 use Rattle.tn3270e_msg.specs.declared.header.Header.{Header}
-use Rattle.tn3270e_msg.specs.declared.header.DataType.TheVariants.{Data3270}
 use Rattle.tn3270e_msg.specs.declared.reply.Reply.{Reply}
 use Rattle.tn3270e_msg.specs.declared.term_talk.TermState.{TermState}
 use Rattle.tn3270e_msg.specs.declared.term_talk.TermState.TheVariants as at
-use Rattle.tn3270e_msg.specs.Header.{Begins, HasFault}
 use Rattle.tn3270e_msg.specs.Talk.{Talk, items_sent, follow}
 use Rattle.tn3270e_msg.specs.TermTable.{Term, TermTakes, term_line}
 use Rattle.tn3270e_msg.specs.Laws.{OneHeader, FaultIsNoHeader, OneHearing}
 use Rattle.term_core.specs.State.{Station, Terminal, Link, Attached, record_limit}
 use Rattle.term_core.specs.Says.{sent_bytes}
 use Rattle.term_core.specs.Records.{TakesRecord, refused_response, refusal_of, answer_of, obeyed}
-use Rattle.term_core.specs.Items.{TakesItem, TakesItemIn, TalksOn, Talks, closing}
+use Rattle.term_core.specs.Items.{TakesItem, TakesItemIn, TalksOn, closing}
 use Rattle.term_core.specs.Bytes.{TakesByte, TakesBytes, before_byte, link_after}
 use Rattle.term_core.specs.Laws.{OneOutcome, PiecesCompose, PiecesPart}
 

@@ -1,5 +1,5 @@
 -- Rows of glyphs, one more at a time.
-use Rattle.std.proofs.Common.{◌≡◌, ℕ, ◌+◌, ◌<◌, ◌≤◌, ◌==◌, Bool, true, false, List, [], ◌∷◌, ◌++◌, length, suc, zero, arith, sym, ◌∙◌, ap, refl, if◌then◌else◌, append_assoc, add-one, add-zero}
+use Rattle.std.proofs.Common.{◌≡◌, ℕ, ◌+◌, ◌==◌, Bool, true, false, List, [], ◌∷◌, ◌++◌, suc, zero, arith, sym, ◌∙◌, ap, refl, if◌then◌else◌, append_assoc, add-one}
 use Rattle.std.specs.List.{flat_map}
 use Rattle.std.specs.Char.{encode_utf8}
 use Rattle.std.proofs.lemmas.Grind.{flat_map-append}

@@ -1,5 +1,5 @@
 -- A record, an item, a byte and bytes, as the code takes them.
-use Rattle.std.proofs.Common.{◌≡◌, ◌≢◌, ℕ, ◌+◌, ◌<◌, ◌≤◌, Bool, true, false, List, [], ◌∷◌, ◌++◌, length, take, drop, get_or, arith, sym, ◌∙◌, ap, subst, refl, inl, inr, Option, None, Some, Vec, append_assoc, lit≤}
+use Rattle.std.proofs.Common.{◌≡◌, ◌≢◌, ℕ, ◌+◌, ◌<◌, List, [], ◌∷◌, ◌++◌, length, take, get_or, sym, ◌∙◌, ap, subst, refl, Option, None, Some, Vec, lit≤}
 use Rattle.std.proofs.lemmas.List.{append-nil, take_more}
 use Rattle.std.proofs.lemmas.Bool.{ne_eqb}
 use Rattle.std.specs.Borrow.{Bor}
@@ -7,10 +7,10 @@ use Rattle.std.specs.declared.alloc.Global.{Global}
 use Rattle.std.specs.Option.{option_to_list}
 use Rattle.datastream.specs.Grammar.{CommandParts, IsCommand, IsNoCommand}
 use Rattle.datastream.specs.declared.fault.CommandFault.{CommandFault}
-use Rattle.telnet_wire.specs.declared.wire.Step.TheVariants.{More, Ready}
+use Rattle.telnet_wire.specs.declared.wire.Step.TheVariants.{More}
 use Rattle.telnet_wire.specs.declared.wire.WireFault.{WireFault}
 use Rattle.telnet_wire.specs.declared.wire.WireFault.TheVariants.{TooLong, BadSub, Failed, Memory}
-use Rattle.telnet_wire.specs.Token.{End, IsPartial}
+use Rattle.telnet_wire.specs.Token.{End}
 use Rattle.telnet_wire.specs.declared.wire.Item.{Item}
 use Rattle.telnet_wire.specs.declared.wire.Item.TheVariants as lent
 use Rattle.telnet_wire.specs.Items.{WireItem, Record, Opt, Sub, Other, item_of}
@@ -27,7 +27,7 @@ use Rattle.tn3270e_msg.specs.Header.{Begins, HasFault}
 use Rattle.tn3270e_msg.specs.declared.reply.Reply.{Reply}
 use Rattle.tn3270e_msg.specs.Talk.{items_sent}
 use Rattle.tn3270e_msg.specs.TermTable.{Term, TermTakes}
-use Rattle.term_core.specs.State.{Station, Terminal, Attached, Closed, record_limit}
+use Rattle.term_core.specs.State.{Station, Terminal, Attached, record_limit}
 use Rattle.term_core.specs.declared.outcome.Outcome.{Outcome}
 use Rattle.term_core.specs.Says.{sent_bytes, response}
 use Rattle.term_core.specs.Records.{TakesRecord, refused_response, refusal_of, answer_of, obeyed}

@@ -1,6 +1,6 @@
 -- What a terminal makes of what the stream hands out.
-use Rattle.std.specs.Prelude.{◌≡◌, ℕ, List, Option, None, Some}
-use Rattle.telnet_wire.specs.Items.{WireItem, Record, Opt, Sub, Other}
+use Rattle.std.specs.Prelude.{◌≡◌, List, Option, None, Some}
+use Rattle.telnet_wire.specs.Items.{WireItem, Record}
 use Rattle.tn3270e_msg.specs.TermTable.{Term, TermTakes}
 use Rattle.tn3270e_msg.specs.Talk.{items_sent}
 use Rattle.tn3270e_msg.specs.declared.cause.Cause.{Cause}

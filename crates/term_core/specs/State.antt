@@ -1,5 +1,5 @@
 -- A terminal, seen from outside (our profile).
-use Rattle.std.specs.Prelude.{ℕ, Bool, true, false, List, [], Option, None, Some, replicate}
+use Rattle.std.specs.Prelude.{ℕ, Bool, true, false, List, [], Option, replicate}
 use Rattle.codes3270.specs.Size.{cell_count}
 use Rattle.codes3270.specs.declared.attribute.Cell.TheVariants.{Char}
 use Rattle.codes3270.specs.declared.attention.Aid.TheVariants.{NoAid}

@@ -9,6 +9,8 @@ mod room;
 mod screen_text;
 mod station;
 mod terminal;
+#[cfg(test)]
+mod tests;
 
 pub use laws::one_machine;
 pub use outcome::Outcome;

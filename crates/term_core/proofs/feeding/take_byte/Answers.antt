@@ -1,4 +1,4 @@
-use Rattle.std.proofs.Common.{refl, sym, ◌∙◌}
+use Rattle.std.proofs.Common.{sym, ◌∙◌}
 use Rattle.term_core.proofs.Steps.{byte_breaks, byte_goes_on, byte_completes}
 use Rattle.term_core.proofs.feeding.take_byte.Goals as goal
 

@@ -1,4 +1,4 @@
-use Rattle.std.proofs.Common.{refl, sym, ◌∙◌, ap}
+use Rattle.std.proofs.Common.{sym, ◌∙◌, ap}
 use Rattle.telnet_wire.specs.Items.{item_of}
 use Rattle.term_core.proofs.Steps.{for_screen, for_talk, not_record}
 use Rattle.term_core.proofs.feeding.take_item.Goals as goal

@@ -1,4 +1,4 @@
-use Rattle.std.proofs.Common.{◌*◌, ◌++◌, List, ℕ, arith, ap, sym, ◌∙◌, string_bytes}
+use Rattle.std.proofs.Common.{◌*◌, ◌++◌, List, ℕ, ap, sym, ◌∙◌, string_bytes}
 use Rattle.std.specs.List.{flat_map}
 use Rattle.std.specs.Char.{encode_utf8}
 use Rattle.std.proofs.lemmas.List.{append-nil}

@@ -1,7 +1,4 @@
-use Rattle.std.proofs.Common.{◌∙◌, ◌≤◌, ◌+◌, ◌*◌, ℕ, arith, length, ap, length-append, vec_len}
-use Rattle.telnet_wire.specs.Token.{text}
-use Rattle.telnet_wire.specs.Items.{record_tokens}
-use Rattle.term_core.specs.Room.{record_room}
+use Rattle.std.proofs.Common.{ℕ, arith, length, ap, length-append}
 use Rattle.term_core.proofs.Lengths.{record_fits}
 use Rattle.term_core.proofs.station.Station.send.Goals as goal
 

@@ -1,4 +1,4 @@
-use Rattle.std.proofs.Common.{refl, ap, sym, ◌++◌, ◌∙◌, ◌≡◌, List, ℕ}
+use Rattle.std.proofs.Common.{ap, ◌++◌, ◌∙◌, List}
 use Rattle.telnet_wire.specs.Items.{WireItem}
 use Rattle.term_core.specs.Says.{sent_bytes}
 use Rattle.term_core.specs.Records.{refusal_of}
