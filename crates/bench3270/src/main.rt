@@ -3,6 +3,8 @@
 //! A last line says how large a terminal is.
 #![tactic(auto)]
 
+mod belief;
+
 ghost use Rattle.std.specs.Prelude.{◌<◌};
 
 use codes3270::{Addr, Attr, CELLS, Display, Wcc};
@@ -269,6 +271,7 @@ fn main(rt: HostRuntime) -> io::Result<()> {
         screens(&rt, scale, field_every)?;
     }
     wire(&rt, scale)?;
+    belief::beliefs(&rt, scale)?;
     terminal(&rt, scale, 1)?;
     terminal(&rt, scale, 100)?;
     terminal(&rt, scale, 16_384)?;

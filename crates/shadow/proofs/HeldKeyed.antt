@@ -1,16 +1,16 @@
 -- What is held cell by cell, in a walk from address 0, is held field by field.
-use Rattle.std.proofs.Common.{◌≡◌, ℕ, suc, ◌+◌, ◌<◌, Bool, true, false, List, [], ◌∷◌, ◌++◌, length, take, drop, get_or, Option, Some, None, refl, ap, sym, subst, arith, ◌∙◌, if◌then◌else◌}
+use Rattle.std.proofs.Common.{◌≡◌, ℕ, suc, ◌+◌, Bool, true, false, List, [], ◌∷◌, ◌++◌, length, Option, Some, None, refl, ap, sym, subst, ◌∙◌, if◌then◌else◌}
 use Rattle.std.specs.Prelude.{⊤}
 use Rattle.std.specs.Option.{option_or}
-use Rattle.std.proofs.lemmas.List.{take-append-drop}
 use Rattle.codes3270.specs.declared.attribute.Cell.{Cell}
 use Rattle.codes3270.specs.declared.attribute.Cell.TheVariants.{Char, Attr}
 use Rattle.codes3270.specs.declared.attribute.Attr.{Attr as Attribute}
-use Rattle.datastream.specs.Screen.{attribute_in, last_attribute, attribute_over, text_before_attribute}
+use Rattle.datastream.specs.Screen.{last_attribute, text_before_attribute}
 use Rattle.datastream.specs.Fields.{Field, fields_from}
-use Rattle.datastream.specs.Held.{Hold, hold_of, hold_under, CharHeld, CellHeld, Held}
+use Rattle.datastream.specs.Held.{Hold, hold_of, hold_under, CharHeld, Held}
 use Rattle.datastream.specs.HeldRound.{HeldFrom, HeldRound}
-use Rattle.datastream.proofs.Fields.{last_attribute-append, option_or-none, option_or_assoc}
+use Rattle.datastream.proofs.HeldRounds.{held_round}
+use Rattle.datastream.proofs.Fields.{option_or-none}
 use Rattle.shadow.specs.Pairs.{Pairwise}
 use Rattle.shadow.specs.Meets.{IsNull}
 use Rattle.shadow.proofs.Keyed.{Untouched, FieldKeyed, Keyed}
@@ -93,49 +93,6 @@ held_fields e wo wn w n h (Attr a ∷ ro) (Attr b ∷ rn) last r =
       },
       held_fields e wo wn w (n + 1) (hold_of e b) ro rn last r.1,
     )
-
--- the attribute over a cell, in a walk: the last one up to it, else the one before the first cell
-abbrev walked : Option Attribute → List Cell → ℕ → Option Attribute
-walked before cells place = option_or (last_attribute (take (place + 1) cells)) before
-
-walked_past : (before : Option Attribute) (cell : Cell) (cells : List Cell) (place : ℕ) → walked before (cell ∷ cells) (suc place) ≡ walked (option_or (attribute_in cell) before) cells place
-walked_past before cell cells place =
-    let onward : suc place + 1 ≡ suc (place + 1) = omega arith in
-    rw onward (option_or_assoc (last_attribute (take (place + 1) cells)) (attribute_in cell) before)
-
-over_is_walked : (cells : List Cell) (place : ℕ) → attribute_over cells place ≡ walked (last_attribute cells) cells place
-over_is_walked cells place =
-    let front : Option Attribute = last_attribute (take (place + 1) cells) in
-    let back : Option Attribute = last_attribute (drop (place + 1) cells) in
-    let whole : last_attribute cells ≡ option_or back front =
-    sym (ap last_attribute (take-append-drop (place + 1) cells)) ∙ last_attribute-append (take (place + 1) cells) (drop (place + 1) cells) in
-    last_attribute-append (drop (place + 1) cells) (take (place + 1) cells) ∙ sym (ap (λ (o : Option Attribute). option_or front o) whole ∙ around front back)
-  where
-    around : (f b : Option Attribute) → option_or f (option_or b f) ≡ option_or f b
-    around None b = option_or-none b
-    around (Some x) b = refl
-
-held_from : (erases : Bool) (before : Option Attribute) (lefts nows : List Cell) → length nows ≡ length lefts → ((place : ℕ) → place < length nows → CellHeld erases (walked before nows place) (get_or lefts place (Char 0)) (get_or nows place (Char 0))) → HeldFrom erases (hold_under erases before) lefts nows
-held_from erases before [] [] same each = tt
-held_from erases before [] (now ∷ nows) same each = absurd (omega arith)
-held_from erases before (left ∷ lefts) [] same each = absurd (omega arith)
-held_from erases before (Char left ∷ lefts) (Char now ∷ nows) same each = (
-  each 0 (omega arith),
-  held_from erases before lefts nows (omega arith)
-      (λ place below. subst (λ (o : Option Attribute). CellHeld erases o (get_or lefts place (Char 0)) (get_or nows place (Char 0))) (walked_past before (Char now) nows place) (each (suc place) (omega arith))),
-)
-held_from erases before (Char left ∷ lefts) (Attr now ∷ nows) same each = each 0 (omega arith)
-held_from erases before (Attr left ∷ lefts) (Char now ∷ nows) same each = each 0 (omega arith)
-held_from erases before (Attr left ∷ lefts) (Attr now ∷ nows) same each = (
-  each 0 (omega arith),
-  held_from erases (Some now) lefts nows (omega arith)
-      (λ place below. subst (λ (o : Option Attribute). CellHeld erases o (get_or lefts place (Char 0)) (get_or nows place (Char 0))) (walked_past before (Attr now) nows place) (each (suc place) (omega arith))),
-)
-
-held_round : (erases : Bool) (lefts nows : List Cell) → Held erases lefts nows → HeldRound erases lefts nows
-held_round erases lefts nows held =
-    held_from erases (last_attribute nows) lefts nows held.same_length
-    (λ place below. subst (λ (o : Option Attribute). CellHeld erases o (get_or lefts place (Char 0)) (get_or nows place (Char 0))) (over_is_walked nows place) (held.each place below))
 
 -- without attributes the start decides, with them it doesn't matter
 after_last : (e : Bool) (before : Option Attribute) (cells : List Cell) → hold_after e (hold_under e before) cells ≡ hold_under e (option_or (last_attribute cells) before)

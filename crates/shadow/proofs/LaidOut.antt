@@ -136,7 +136,7 @@ laid_out_fits size cells bs whole h some =
     (rw (take_at (from_attr cells) (char_cells (text_before_attribute cells)) (size - first_place bs) tail) at front))
 
 -- a screen without attributes
-bare_fits : (whole : List Cell) (n : ℕ) (known : List (Option ℕ)) (cells : List Cell) → fields_from whole n cells ≡ [] → Pairwise KnownIs known (text_before_attribute cells) → Pairwise CellFits (map old_char known) cells
+pub bare_fits : (whole : List Cell) (n : ℕ) (known : List (Option ℕ)) (cells : List Cell) → fields_from whole n cells ≡ [] → Pairwise KnownIs known (text_before_attribute cells) → Pairwise CellFits (map old_char known) cells
 bare_fits whole n [] [] e h = tt
 bare_fits whole n (k ∷ ks) [] e h = absurd h
 bare_fits whole n ks (Attr a ∷ cells) e h = absurd (cc)

@@ -25,3 +25,5 @@ pub mod PaintBytes
 pub mod ExactHeard
 pub mod Behind
 pub mod ExactTaken
+pub mod ExactPainted
+pub mod ExactWritten

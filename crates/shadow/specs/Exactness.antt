@@ -4,7 +4,8 @@ use Rattle.datastream.specs.Fields.{Field, fields}
 use Rattle.datastream.specs.Inbound.{without_nulls}
 use Rattle.datastream.specs.InboundText.{InboundParts}
 use Rattle.datastream.specs.Grammar.{CommandParts}
-use Rattle.datastream.specs.Screen.{Screen}
+use Rattle.codes3270.specs.declared.attribute.Cell.{Cell}
+use Rattle.datastream.specs.Screen.{Screen, is_char, is_char_at}
 use Rattle.datastream.specs.declared.command_code.CommandCode.{CommandCode}
 use Rattle.datastream.specs.declared.command_code.CommandCode.TheVariants.{Write, EraseWrite, EraseWriteAlternate, ReadBuffer, ReadModified, ReadModifiedAll, EraseAllUnprotected}
 use Rattle.datastream.specs.Wanted.{WantedScreen}
@@ -12,6 +13,7 @@ use Rattle.shadow.specs.Pairs.{Pairwise}
 use Rattle.shadow.specs.Belief.{Fact, Belief, Shadow, fields_of}
 use Rattle.shadow.specs.Meets.{Meets, told, IsTold}
 use Rattle.shadow.specs.Heard.{known_chars, heard}
+use Rattle.shadow.specs.Stores.{Store, stores}
 use Rattle.shadow.specs.Taken.{taken}
 use Rattle.shadow.specs.Fits.{fits}
 use Rattle.shadow.specs.Paint.{paint}
@@ -20,7 +22,7 @@ use Rattle.shadow.specs.Paint.{paint}
 abbrev pub IsExact : Fact → Type 0
 IsExact fact = (text : List ℕ) × (fact ≡ Fact.Exact text)
 
--- Of so many characters each is known or open, and where all are known the fact is exactly that text.
+-- A fact of so many characters, each known or open: where all are known it is exactly that text.
 pub record IsExactWhereKnown (count : ℕ) (fact : Fact) : Type 0 where
   pub whole : length (known_chars count fact) ≡ count
   pub exact : (text : List ℕ) → known_chars count fact ≡ map Some text → fact ≡ Fact.Exact text
@@ -28,10 +30,11 @@ pub record IsExactWhereKnown (count : ℕ) (fact : Fact) : Type 0 where
 abbrev pub FieldIsExact : Belief → Type 0
 FieldIsExact belief = IsExactWhereKnown belief.length belief.fact
 
+-- a protected field's fact is exact
 abbrev pub IsExactIfProtected : Belief → Type 0
 IsExactIfProtected belief = belief.attr.protected ≡ true → IsExact belief.fact
 
--- so it is in each field
+-- it is so of each field
 abbrev pub KnownIsExact : Shadow → Type 0
 KnownIsExact shadow = All FieldIsExact (fields_of shadow)
 
@@ -64,7 +67,7 @@ is_erase ReadModified = false
 is_erase ReadModifiedAll = false
 is_erase EraseAllUnprotected = false
 
--- An erase makes each field exact.
+-- An erase makes each field exact, protected ones too.
 abbrev pub ErasedIsExact : Type 0
 ErasedIsExact = (size : ℕ) (command : CommandParts) (shadow : Shadow) → is_erase command.code ≡ true → ProtectedIsExact (taken size command shadow)
 
@@ -73,13 +76,23 @@ abbrev pub PaintedIsExact : Type 0
 PaintedIsExact = (shadow : Shadow) (wanted : WantedScreen) (screen : Screen) → length wanted.cells ≡ length screen.cells → fits shadow wanted ≡ true → Meets shadow screen
     → KnownIsExact shadow → ProtectedIsExact (taken (length screen.cells) (paint (length screen.cells) shadow wanted) shadow)
 
+-- a character that is stored over one
+abbrev pub IsOverCharacter : List Cell → Store → Type 0
+IsOverCharacter cells store = (is_char store.cell ≡ true) × (is_char_at cells store.at ≡ true)
+
+-- A Write of characters alone, none of them over an attribute, leaves protected fields exact. (One that stores an attribute
+-- need not: the field behind it may have characters that aren't known.)
+abbrev pub WrittenStaysProtected : Type 0
+WrittenStaysProtected = (command : CommandParts) (shadow : Shadow) (screen : Screen) → command.code ≡ Write → All (IsOverCharacter screen.cells) (stores (length screen.cells) 0 command.orders) → Meets shadow screen
+    → KnownIsExact shadow → ProtectedIsExact shadow → ProtectedIsExact (taken (length screen.cells) command shadow)
+
 -- ---- what it says of the screen
 
 -- of a protected field the host knows exactly the text
 abbrev pub ProtectedSeen : Belief → Field → Type 0
 ProtectedSeen belief field = field.attr.protected ≡ true → belief.fact ≡ Fact.Exact field.text
 
--- each field so
+-- a relation between each field as it is believed and as it is
 abbrev pub EachField : (Belief → Field → Type 0) → Shadow → Screen → Type 0
 EachField R Shadow.NothingKnown screen = ⊤
 EachField R (Shadow.Unformatted known) screen = ⊤
@@ -92,6 +105,6 @@ ProtectedIsSeen = (shadow : Shadow) (screen : Screen) → Meets shadow screen �
 abbrev pub ReturnedTold : Belief → Field → Type 0
 ReturnedTold belief field = field.attr.mdt ≡ true → told belief.fact ≡ Some (without_nulls field.text)
 
--- Where protected fields are exact, the texts of unprotected fields are all that is to be told.
+-- Where protected fields are exact, and the texts of unprotected fields with MDT on are told, so are those of protected ones.
 abbrev pub ReturnedIsTold : Type 0
 ReturnedIsTold = (shadow : Shadow) (screen : Screen) → Meets shadow screen → ProtectedIsExact shadow → IsTold shadow screen → EachField ReturnedTold shadow screen

@@ -1,6 +1,6 @@
 //! What holds of beliefs. The functions are empty: their contracts are the laws.
 ghost use Rattle.shadow.specs.Laws.{HearsModified, HearsAll, HearsBuffer, WrittenIsTaken, WantedIsPainted, PaintIsTaken, PaintedIsKnown, PaintIsPlain};
-ghost use Rattle.shadow.specs.Exactness.{NothingIsExact, HeardStaysExact, HeardStaysProtected, TakenStaysExact, ErasedIsExact, PaintedIsExact, ProtectedIsSeen, ReturnedIsTold};
+ghost use Rattle.shadow.specs.Exactness.{NothingIsExact, HeardStaysExact, HeardStaysProtected, TakenStaysExact, ErasedIsExact, PaintedIsExact, WrittenStaysProtected, ProtectedIsSeen, ReturnedIsTold};
 
 /// What a terminal sends after keys isn't refused, and what the host then believes is so.
 pub fn what_is_sent_is_heard()
@@ -34,12 +34,13 @@ pub fn what_is_known_is_exact()
 {}
 
 /// The fact of each protected field is exact where nothing is known, after each erase and after each paint that fits; and it
-/// stays so whatever is heard.
+/// stays so whatever is heard, and where characters alone are written over characters.
 pub fn what_is_protected_is_exact()
     ensures nothing { NothingIsExact }
     ensures heard { HeardStaysProtected }
     ensures erased { ErasedIsExact }
     ensures painted { PaintedIsExact }
+    ensures written { WrittenStaysProtected }
 {}
 
 /// Where the facts of protected fields are exact, the host knows their texts, and is told the text of each returned field.
