@@ -1,1 +1,6 @@
-pub mod Status
+pub mod ScreenText
+pub mod HexLines
+pub mod Pages
+pub mod Faults
+pub mod Runs
+pub mod Words

@@ -1,21 +1,20 @@
 //! Why a run ended early, as it is told and as an exit status.
 ghost use Rattle.std.specs.Prelude.{◌≡◌};
-ghost use Rattle.panel3270.specs.Status.{status_of};
+ghost use Rattle.panel3270.specs.Faults.{status_of};
 
+use std::fmt;
 use thiserror::Error;
 
 /// Why a run ended before its end. It prints as the line that standard error gets.
 #[derive(Debug, Drop, PartialEq, Eq, Error)]
 pub enum Fault {
     /// The input could not be read, is too long, or isn't UTF-8.
-    #[error("input not read")]
     InputNotRead,
     /// The line with this number, from 1 on, isn't pairs of hexadecimal digits.
-    #[error("line {0}: not hex")]
     NotHex(usize),
-    #[error("no memory")]
+    /// A growth was refused.
     NoMemory,
-    #[error("output failed")]
+    /// The output didn't take all that was printed.
     OutputFailed,
 }
 
@@ -28,6 +27,23 @@ impl Fault {
             Fault::InputNotRead | Fault::NotHex(_) => 1,
             Fault::NoMemory => 3,
             Fault::OutputFailed => 6,
+        }
+    }
+}
+
+// By hand, since a derived `Display` has no contract.
+impl fmt::Display for Fault {
+    ghost use Rattle.std.specs.Prelude.{Some};
+    ghost use Rattle.panel3270.specs.Faults.{fault_text};
+
+    ghost output = { λ fault. Some (fault_text fault) };
+
+    fn fmt<W: fmt::Write>(&self, f: &mut fmt::Formatter<W>) -> fmt::Result {
+        match self {
+            Fault::InputNotRead => f.write_str("input not read"),
+            Fault::NotHex(line) => write!(f, "line {line}: not hex"),
+            Fault::NoMemory => f.write_str("no memory"),
+            Fault::OutputFailed => f.write_str("output failed"),
         }
     }
 }

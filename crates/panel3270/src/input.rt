@@ -1,4 +1,7 @@
 //! The input, read whole before anything is done with it.
+ghost use Rattle.std.specs.Prelude.{◌≡◌, ◌⊎◌, IfOk, IfErr, string_bytes};
+ghost use Rattle.panel3270.specs.Runs.{IsInput};
+ghost use Rattle.panel3270.specs.declared.fault.Fault.TheVariants.{InputNotRead, NoMemory};
 
 use crate::fault::Fault;
 use std::alloc::Global;
@@ -15,7 +18,10 @@ const CHUNK: usize = 4096;
 
 /// The whole input as text. It is refused if a read fails, if it has more than `MOST_BYTES` bytes or takes more than
 /// `MOST_READS` reads, and if it isn't UTF-8.
-pub(crate) fn read_whole<R: Read>(alloc: Global, input: &mut R) -> Result<String, Fault> {
+pub(crate) fn read_whole<R: Read>(alloc: Global, input: &mut R) -> Result<String, Fault>
+    ensures whole { IfOk result (λ text. IsInput (R.remaining input.old) (R.remaining input.new) (string_bytes text)) }
+    ensures fault { IfErr result (λ fault. (fault ≡ InputNotRead) ⊎ (fault ≡ NoMemory)) }
+{
     let mut bytes = Vec::new(alloc);
     let mut chunk = [0u8; CHUNK];
     for _ in 0..MOST_READS {

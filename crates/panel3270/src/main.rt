@@ -2,16 +2,25 @@
 //! and prints what the screen then shows.
 #![tactic(auto)]
 
+ghost use Rattle.std.specs.Prelude.{◌≡◌, map, string_bytes};
+ghost use Rattle.panel3270.specs.Words.{ask_for_show, words_refused};
+
 mod fault;
+mod hex_line;
 mod input;
+mod page;
+mod screen_text;
 mod show;
 #[cfg(test)]
 mod tests;
 
 pub use fault::Fault;
+pub use page::{Page, page_of};
+use show::end_by;
 pub use show::run_show;
+use std::env;
+use std::io::{self, ErrorKind, Write};
 use std::process::ExitCode;
-use std::{env, io};
 
 /// The exit status of words that the program doesn't take.
 const WORDS_REFUSED: u8 = 2;
@@ -19,8 +28,15 @@ const WORDS_REFUSED: u8 = 2;
 const USAGE: &str = "usage: panel3270 [show] < COMMANDS
   show  apply commands, one a line in hexadecimal, to a blank screen and print it";
 
-/// Whether the words, without the program's name, ask for `show`: none, or that one.
-fn asks_for_show(words: &[String]) -> bool {
+/// The words behind the program's name.
+fn given_words(rt: &HostRuntime) -> io::Result<Vec<String>> {
+    Ok(env::args(rt)?.skip(1).collect(rt.alloc())?)
+}
+
+/// Whether the words ask for `show`: none, or that one.
+fn ask_for_show(words: &[String]) -> bool
+    ensures { result ≡ ask_for_show (map string_bytes words.now) }
+{
     match words {
         [] => true,
         [word] => word.as_str() == "show",
@@ -28,13 +44,28 @@ fn asks_for_show(words: &[String]) -> bool {
     }
 }
 
-fn main(rt: HostRuntime) -> io::Result<ExitCode> {
-    let alloc = rt.alloc();
-    let words: Vec<String> = env::args(&rt)?.skip(1).collect(alloc)?;
-    if !asks_for_show(words.as_slice()) {
-        eprintln!(rt; "{USAGE}")?;
-        return Ok(ExitCode::from(WORDS_REFUSED));
-    }
-    let status = run_show(alloc, &mut rt.stdin(), &mut rt.stdout(), &mut rt.stderr());
-    Ok(ExitCode::from(status))
+/// Tells which words the program takes, and answers its exit status. What can't be told is told by the status alone.
+fn refuse_words<E: Write>(faults: &mut E) -> u8
+    ensures { result ≡ words_refused }
+{
+    let _ = faults.writeln(USAGE);
+    WORDS_REFUSED
+}
+
+fn main(rt: HostRuntime) -> ExitCode {
+    let mut faults = rt.stderr();
+    let status = match given_words(&rt) {
+        Ok(words) => {
+            if ask_for_show(words.as_slice()) {
+                run_show(rt.alloc(), &mut rt.stdin(), &mut rt.stdout(), &mut faults)
+            } else {
+                refuse_words(&mut faults)
+            }
+        }
+        Err(error) => match error.kind() {
+            ErrorKind::OutOfMemory => end_by(Fault::NoMemory, &mut faults),
+            _ => refuse_words(&mut faults),
+        },
+    };
+    ExitCode::from(status)
 }

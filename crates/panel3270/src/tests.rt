@@ -192,6 +192,18 @@ fn prints_the_screen(rt: HostRuntime) -> Result<(), Fail> {
 }
 
 #[test]
+fn keeps_no_break_spaces(rt: HostRuntime) -> Result<(), Fail> {
+    shows(
+        &rt,
+        rt.alloc(),
+        "F5 C3 11 40 40 C1 41 40 13",
+        &[],
+        &[(1, "A\u{a0}")],
+        "cursor 3",
+    )
+}
+
+#[test]
 fn goes_on_after_each_command(rt: HostRuntime) -> Result<(), Fail> {
     let check = "refused OPERATION-CHECK";
     let erased = "F5 C3 11 40 40 1D 40 C1 C2 1D 60 C3 1D C1 C4 13\nF1 C3 11 40 C2 12 40 C6\n";

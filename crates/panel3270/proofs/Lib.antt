@@ -1,0 +1,5 @@
+pub mod Rows
+pub mod Pieces
+pub mod Words
+pub mod Commands
+pub mod OnePage
