@@ -6,3 +6,4 @@ pub mod Acts
 pub mod Pool
 pub mod PoolLaws
 pub mod Laws
+pub mod Answering

@@ -1,6 +1,7 @@
 //! The host: what it makes of what terminals send, and what it does in its turn.
 #![tactic(auto)]
 
+ghost use Rattle.host_core.specs.Answering.{BelievesNoSooner, OnlyItsResponse};
 ghost use Rattle.host_core.specs.Laws.{ActsFit, PanelsAreShown, ScreensAreWanted};
 ghost use Rattle.host_core.specs.PoolLaws.{PoolsAreSound, StaysSoundFree, StaysSoundGranted, StaysSoundBack, NobodyHolds, AnswersWhatIsFree, AnswersNames, AnswersTheName, GrantIsHeld, OthersStay, OthersKeep, BackIsFree, GrantsOneEntry, FreesOneEntry};
 
@@ -33,4 +34,11 @@ pub fn the_pool_is_a_map()
 pub fn panels_are_shown()
     ensures application { PanelsAreShown }
     ensures wanted { ScreensAreWanted }
+{}
+
+/// Does nothing: its contract says that what a host shows changes its belief no sooner than it is answered, and that a response
+/// with another number than the pending command's closes the connection.
+pub fn what_is_shown_is_answered()
+    ensures no_sooner { BelievesNoSooner }
+    ensures only_its { OnlyItsResponse }
 {}

@@ -5,3 +5,14 @@ pub mod Acting
 pub mod Keys
 pub mod Worlds
 pub mod Headline
+pub mod Runs
+pub mod StandsFits
+pub mod Stands
+pub mod StandsLinks
+pub mod StandsScreens
+pub mod StandsComing
+pub mod Places
+pub mod Others
+pub mod Skipped
+pub mod Ends
+pub mod Losses

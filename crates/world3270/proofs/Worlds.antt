@@ -34,14 +34,14 @@ use Rattle.world3270.proofs.Keys.{keys}
 -- ---- one of many
 
 -- what holds of each number, after one changed
-all_with : {X : Type 0} (P : ℕ → X → Type 0) (number : ℕ) (x : X) (old : ℕ → X) → P number x → ((other : ℕ) → P other (old other)) → (other : ℕ) → P other (with_at number x old other)
+pub all_with : {X : Type 0} (P : ℕ → X → Type 0) (number : ℕ) (x : X) (old : ℕ → X) → P number x → ((other : ℕ) → P other (old other)) → (other : ℕ) → P other (with_at number x old other)
 all_with {X} P number x old new rest other = by_test (other == number) refl
   where
     by_test : (b : Bool) → (other == number) ≡ b → P other (if b then x else old other)
     by_test true e = subst (λ n. P n x) (sym (eqb-true other number e)) new
     by_test false e = rest other
 
-differs : (other number : ℕ) → (other == number) ≡ false → other ≡ number → ⊥
+pub differs : (other number : ℕ) → (other == number) ≡ false → other ≡ number → ⊥
 differs other number e same = let yes = (Decides-eqb other number).1 same in absurd (cc)
 
 -- ---- what is kept
@@ -77,7 +77,7 @@ replaced app pool link causes number new g r = record {
 -- ---- the host takes a message
 
 -- nobody else has what is granted
-granted_other : Given → (pool : List Entry) (number other : ℕ) (lu have : List ℕ) → holder pool lu ≡ None → holder pool have ≡ Some other → holder (granted_to number lu pool) have ≡ Some other
+pub granted_other : Given → (pool : List Entry) (number other : ℕ) (lu have : List ℕ) → holder pool lu ≡ None → holder pool have ≡ Some other → holder (granted_to number lu pool) have ≡ Some other
 granted_other given pool number other lu have free held = given.others_stay pool number lu have (λ same. let x = ap (holder pool) same in absurd (cc)) ∙ held
 
 took_with : Given → (app : Application) (world : World) (number : ℕ) (step : Step) (new : Link) → GoodWorld app world → (world.link number).host_here ≡ true → Kept app (view_of new) → new.host ≡ step.conn

@@ -6,7 +6,7 @@ use Rattle.shadow.specs.Exactness.{NothingIsExact, HeardStaysExact, HeardStaysPr
 use Rattle.shadow.specs.Laws.{HearsModified, HearsBuffer, PaintIsTaken, PaintedIsKnown}
 use Rattle.tn3270e_msg.specs.Laws.{NameIsReadAsItself}
 use Rattle.host_core.specs.Laws.{ActsFit}
-use Rattle.host_core.specs.PoolLaws.{PoolsAreSound, StaysSoundFree, StaysSoundGranted, StaysSoundBack, NobodyHolds, AnswersWhatIsFree, AnswersNames, AnswersTheName, GrantIsHeld, OthersStay, OthersKeep}
+use Rattle.host_core.specs.PoolLaws.{PoolsAreSound, StaysSoundFree, StaysSoundGranted, StaysSoundBack, NobodyHolds, AnswersWhatIsFree, AnswersNames, AnswersTheName, GrantIsHeld, OthersStay, OthersKeep, BackIsFree}
 
 pub record Given : Type 0 where
   pub hears : HearsModified
@@ -36,3 +36,4 @@ pub record Given : Type 0 where
   pub held : GrantIsHeld
   pub others_stay : OthersStay
   pub others_keep : OthersKeep
+  pub back : BackIsFree

@@ -5,3 +5,9 @@ pub mod Headline
 pub mod Given
 pub mod View
 pub mod Stages
+pub mod Example
+pub mod Stands
+pub mod StandsLaws
+pub mod Places
+pub mod Skipped
+pub mod Losses

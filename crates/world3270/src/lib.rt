@@ -1,16 +1,40 @@
 //! The world on paper: a host, its connections and its terminals, and what always holds between them.
 #![tactic(auto)]
 
+ghost use Rattle.world3270.specs.Example.{TheRunsEndSo};
 ghost use Rattle.world3270.specs.Given.{Given};
 ghost use Rattle.world3270.specs.Headline.{Headline, NobodyRefuses, Always};
+ghost use Rattle.world3270.specs.Losses.{LostTakesNothing};
+ghost use Rattle.world3270.specs.Places.{EndsAgree, UpIsHeld, HoldersAreHere, LinksStay, HoldersStay, PoolIsSound};
+ghost use Rattle.world3270.specs.Skipped.{SkippedChangesNothing};
+ghost use Rattle.world3270.specs.Stands.{StandsDown, StandsUp};
+ghost use Rattle.world3270.specs.StandsLaws.{
+  BeginStands,
+  DownStands,
+  HostLeaves,
+  HostSends,
+  LossStands,
+  NothingStands,
+  PaintStands,
+  PressStands,
+  StandsCompose,
+  StandsGoOn,
+  TakesKeepSendable,
+  TermLeaves,
+  TermPresses,
+  TermTakes,
+  UpStands,
+  WhatComesMayCome,
+};
 
-use datastream::kept_since_the_write;
+use datastream::{fields_both_ways, kept_since_the_write, sent_is_read};
 use host_core::{the_pool_is_a_map, what_is_shown_fits};
 use keyboard::keys_keep_what_was_left;
 use shadow::{
     what_is_exact_is_so, what_is_known_is_exact, what_is_protected_is_exact, what_is_read_is_heard,
     what_is_sent_is_heard, what_is_wanted_is_painted,
 };
+use term_core::one_machine;
 use tn3270e_msg::one_reading;
 
 /// Does nothing: its contract is what the crates below promise, by their own laws.
@@ -46,4 +70,81 @@ pub fn nobody_refuses()
     ensures { Always NobodyRefuses }
 {
     what_is_given();
+}
+
+/// Does nothing: its contract says that over the same lists a terminal is at a connection exactly where it holds that
+/// connection's end, so that the display there is its own; that a connection that isn't lost has somebody at both ends; and
+/// that no LU is held by a connection that the host has left.
+pub fn the_ends_agree()
+    ensures agree { Always EndsAgree }
+    ensures up { Always UpIsHeld }
+    ensures holders { Always HoldersAreHere }
+{
+    what_is_given();
+}
+
+/// Does nothing: its contract says that an event leaves each connection that it doesn't concern as it is; and that such a
+/// connection holds the same LUs as before, in any world with a sound pool, as each is over the same lists of events.
+pub fn the_others_stay()
+    ensures links { LinksStay }
+    ensures holders { HoldersStay }
+    ensures sound { Always PoolIsSound }
+{
+    what_is_given();
+}
+
+/// Does nothing: its contract says that an event that is skipped leaves each part of the world as it was.
+pub fn what_is_skipped_changes_nothing()
+    ensures { SkippedChangesNothing }
+{}
+
+/// Does nothing: its contract says that a lost connection only delivers what was under way: no event adds to either queue.
+pub fn a_lost_connection_takes_nothing()
+    ensures { LostTakesNothing }
+{}
+
+/// Does nothing: its contract is an example, two runs of a small host that are computed to their ends. In the stored run the
+/// operator leaves out a required field, is asked for it with what was typed kept, fills it in, and sees the next panel show it. In
+/// the reconnecting run the connection is lost, and the terminal's LU is refused until the host sees that, then granted. In both
+/// the host comes to decide and knows what was typed, as the headline supposes.
+pub fn the_runs_end_so()
+    ensures { TheRunsEndSo }
+{}
+
+/// Does nothing: its contract says what holds where bytes stand for messages: a terminal makes of the bytes what it makes of the
+/// messages, and a connection over bytes stands for one over messages, step by step.
+pub fn bytes_stand_for_messages()
+    // A paint that fits what is believed stands for what is wanted.
+    ensures paint { PaintStands }
+    // A terminal makes of an item, and of a key, what it makes of them over messages.
+    ensures takes { TermTakes }
+    ensures sendable { TakesKeepSendable }
+    ensures presses { TermPresses }
+    // Bytes stand for messages however they are cut, and as they come and go.
+    ensures down_empty { NothingStands StandsDown }
+    ensures up_empty { NothingStands StandsUp }
+    ensures down_more { StandsCompose StandsDown }
+    ensures up_more { StandsCompose StandsUp }
+    ensures down_taken { StandsGoOn StandsDown }
+    ensures up_taken { StandsGoOn StandsUp }
+    // A connection that begins stands for one over messages that begins, and goes on so: with keys, with what comes down and up,
+    // with what the host says, as it is lost, and as an end leaves it.
+    ensures begin { BeginStands }
+    ensures press { PressStands }
+    ensures down { DownStands }
+    ensures host_sends { HostSends }
+    ensures up { UpStands }
+    ensures loss { LossStands }
+    ensures host_leaves { HostLeaves }
+    ensures term_leaves { TermLeaves }
+    // What comes down in the world is as these steps want it.
+    ensures coming { Always WhatComesMayCome }
+{
+    what_is_given();
+    what_is_wanted_is_painted();
+    sent_is_read();
+    fields_both_ways();
+    one_reading();
+    telnet_wire::one_reading();
+    one_machine();
 }

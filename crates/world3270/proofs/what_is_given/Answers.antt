@@ -29,4 +29,5 @@ returns c = record {
   held = c.the_pool_is_a_map.ensures.held;
   others_stay = c.the_pool_is_a_map.ensures.others_stay;
   others_keep = c.the_pool_is_a_map.ensures.others_keep;
+  back = c.the_pool_is_a_map.ensures.back;
 }

@@ -1,0 +1,35 @@
+-- What a host believes of a command, and which response answers it.
+use Rattle.std.proofs.Common.{◌≡◌, ◌==◌, ℕ, Bool, true, false, Some, refl, ap, sym, ◌∙◌}
+use Rattle.std.proofs.lemmas.Bool.{eqb-true}
+use Rattle.tn3270e_msg.specs.declared.cause.Cause.TheVariants.{BadResponse}
+use Rattle.host_core.specs.Acts.{Act}
+use Rattle.host_core.specs.Application.{Application}
+use Rattle.host_core.specs.Answering.{BelievesNoSooner, number_of, OnlyItsResponse}
+use Rattle.host_core.specs.Messages.{Verdict}
+use Rattle.host_core.specs.Session.{Conn, Pending}
+use Rattle.host_core.specs.Takes.{Step, closed_by, if_answers, response_came, once_agreed}
+
+pub believes_no_sooner : BelievesNoSooner
+believes_no_sooner app conn Act.Read = refl
+believes_no_sooner app conn (Act.Show panel message keep values) = refl
+
+differs : (number pending : ℕ) → (Some pending ≡ Some number → ⊥) → (number == pending) ≡ false
+differs number pending other = by_test (number == pending) refl
+  where
+    by_test : (b : Bool) → (number == pending) ≡ b → b ≡ false
+    by_test true e = absurd (other (ap Some (sym (eqb-true number pending e))))
+    by_test false e = refl
+
+no_answer : (number pending : ℕ) (step : Step) (conn : Conn) → (Some pending ≡ Some number → ⊥) → if_answers (number == pending) step conn ≡ closed_by BadResponse conn
+no_answer number pending step conn other = ap (λ b. if_answers b step conn) (differs number pending other)
+
+closes : (app : Application) (conn : Conn) (number : ℕ) (verdict : Verdict) (pending : Pending) → (number_of pending ≡ Some number → ⊥) → response_came app number verdict pending conn ≡ closed_by BadResponse conn
+closes app conn number verdict Pending.Nothing other = refl
+closes app conn number Verdict.Positive (Pending.Writing pending wanted) other = no_answer number pending _ conn other
+closes app conn number Verdict.Negative (Pending.Writing pending wanted) other = no_answer number pending _ conn other
+closes app conn number Verdict.Positive (Pending.Reading pending) other = refl
+closes app conn number Verdict.Negative (Pending.Reading pending) other = no_answer number pending _ conn other
+
+pub only_its_response : OnlyItsResponse
+only_its_response app pool conn number verdict agreed other =
+    ap (λ b. once_agreed b (response_came app number verdict conn.pending conn) conn) agreed ∙ closes app conn number verdict conn.pending other

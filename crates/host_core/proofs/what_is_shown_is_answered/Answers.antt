@@ -1,0 +1,8 @@
+use Rattle.host_core.proofs.Answering.{believes_no_sooner, only_its_response}
+use Rattle.host_core.proofs.what_is_shown_is_answered.Goals as goal
+
+pub returns-clause-no_sooner : goal.returns-clause-no_sooner
+returns-clause-no_sooner c = believes_no_sooner
+
+pub returns-clause-only_its : goal.returns-clause-only_its
+returns-clause-only_its c = only_its_response

@@ -1,0 +1,158 @@
+-- A lost connection takes nothing new.
+use Rattle.std.proofs.Common.{◌≡◌, ◌==◌, ◌&&◌, ◌++◌, ℕ, Bool, true, false, Option, None, Some, List, [], ◌∷◌, refl, sym, subst, if◌then◌else◌}
+use Rattle.std.proofs.lemmas.Bool.{eqb-true}
+use Rattle.keyboard.specs.declared.key.Key.{Key}
+use Rattle.lu_pool.specs.Asking.{answer_to}
+use Rattle.tn3270e_msg.specs.declared.cause.Cause.{Cause}
+use Rattle.host_core.specs.Acts.{Sent, acted}
+use Rattle.host_core.specs.Application.{Application}
+use Rattle.host_core.specs.Messages.{ToTerminal, ToHost}
+use Rattle.host_core.specs.Pool.{granted_if, given_back}
+use Rattle.host_core.specs.Takes.{Step, took as host_took}
+use Rattle.world3270.specs.Link.{Link, is_up, begun, sent, host_left, host_left_if, host_stepped, host_sent, term_left, term_left_if, term_stepped}
+use Rattle.world3270.specs.Losses.{IsRest, NothingNew, LostTakesNothing}
+use Rattle.world3270.specs.Terminal.{TermStep, key_came, took as term_took}
+use Rattle.world3270.specs.World.{Place, World, Event, with_at, with_link, freed_if, came_up, went_up, host_acted, left_alone, came_down, went_down, key_went, lost_if, host_saw, parted, term_saw, free_number, joined, connected, term_anew, host_left_from, there, is_link, is_terminal}
+use Rattle.world3270.proofs.Others.{noted_link}
+
+abbrev Fades : Link → Link → Type 0
+Fades old new = old.lost ≡ true → new.lost ≡ true → NothingNew old new
+
+whole : {X : Type 0} (queue : List X) → IsRest queue queue
+whole queue = ([], refl)
+
+as_it_is : (link : Link) → Fades link link
+as_it_is link = λ before after. record { down = whole link.down; up = whole link.up }
+
+-- a lost connection sends nothing
+nothing_out : {X : Type 0} (lost : Bool) (queue messages : List X) → lost ≡ true → IsRest queue (sent lost queue messages)
+nothing_out true queue messages e = whole queue
+nothing_out false queue messages e = absurd (cc)
+
+-- one of many
+at_number : (link : ℕ → Link) (at number : ℕ) (new : Link) → Fades (link at) new → Fades (link number) (with_at at new link number)
+at_number link at number new fades = by_test (number == at) refl
+  where
+    by_test : (b : Bool) → (number == at) ≡ b → Fades (link number) (if b then new else link number)
+    by_test true e = subst (λ n. Fades (link n) new) (sym (eqb-true number at e)) fades
+    by_test false e = as_it_is (link number)
+
+-- ---- the ends
+
+host_steps : (link : Link) (step : Step) (message : ToHost) (rest : List ToHost) (cause : Option Cause) → link.up ≡ message ∷ rest
+    → Fades link (host_left_if cause (record link { up = rest; host = step.conn; down = sent link.lost link.down step.sends }))
+host_steps link step message rest None e = λ before after. record { down = nothing_out link.lost link.down step.sends before; up = (message ∷ [], e) }
+host_steps link step message rest (Some cause) e = λ before after. record { down = nothing_out link.lost link.down step.sends before; up = (message ∷ [], e) }
+
+term_steps : (link : Link) (step : TermStep) (taken rest : List ToTerminal) (cause : Option Cause) → link.down ≡ taken ++ rest
+    → Fades link (term_left_if cause (record link { down = rest; term = step.end; up = sent link.lost link.up step.sends }))
+term_steps link step taken rest None e = λ before after. record { down = (taken, e); up = nothing_out link.lost link.up step.sends before }
+term_steps link step taken rest (Some cause) e = λ before after. record { down = (taken, e); up = nothing_out link.lost link.up step.sends before }
+
+sends : (link : Link) (sending : Option Sent) → Fades link (host_sent sending link)
+sends link None = as_it_is link
+sends link (Some sending) = λ before after. record { down = nothing_out link.lost link.down (sending.message ∷ []) before; up = whole link.up }
+
+-- ---- the events
+
+came_up_fades : (app : Application) (world : World) (at number : ℕ) (up : List ToHost) → (world.link at).up ≡ up → Fades (world.link number) ((came_up app at up world).link number)
+came_up_fades app world at number [] e = as_it_is (world.link number)
+came_up_fades app world at number (message ∷ rest) e =
+    let link : Link = world.link at in
+    let step : Step = host_took app (answer_to world.pool) link.host message in
+    let new : Link = host_stepped step rest link in
+    subst (λ (links : ℕ → Link). Fades (world.link number) (links number)) (sym (noted_link step.closes (record world { pool = freed_if at step.closes (granted_if at step.grants world.pool); link = with_at at new world.link })))
+    (at_number world.link at number new (host_steps link step message rest step.closes e))
+
+went_up_fades : (app : Application) (world : World) (at number : ℕ) → Fades (world.link number) ((went_up app at world).link number)
+went_up_fades app world at number = by_here (world.link at).host_here
+  where
+    by_here : (b : Bool) → Fades (world.link number) (World.link (if b then came_up app at (world.link at).up world else world) number)
+    by_here true = came_up_fades app world at number (world.link at).up refl
+    by_here false = as_it_is (world.link number)
+
+came_down_fades : (world : World) (at terminal number : ℕ) (down : List ToTerminal) → (world.link at).down ≡ down → Fades (world.link number) ((came_down at terminal down world).link number)
+came_down_fades world at terminal number [] e = as_it_is (world.link number)
+came_down_fades world at terminal number (message ∷ rest) e =
+    let link : Link = world.link at in
+    let step : TermStep = term_took link.term message in
+    subst (λ (links : ℕ → Link). Fades (world.link number) (links number)) (sym (noted_link step.closes _))
+    (at_number world.link at number (term_stepped step rest link) (term_steps link step (message ∷ []) rest step.closes e))
+
+went_down_fades : (world : World) (at number : ℕ) (here : Option ℕ) → Fades (world.link number) ((went_down at here world).link number)
+went_down_fades world at number None = as_it_is (world.link number)
+went_down_fades world at number (Some terminal) = came_down_fades world at terminal number (world.link at).down refl
+
+host_acted_fades : (app : Application) (world : World) (at number : ℕ) → Fades (world.link number) ((host_acted app at world).link number)
+host_acted_fades app world at number = by_here (world.link at).host_here
+  where
+    link : Link
+    link = world.link at
+
+    by_here : (b : Bool) → Fades (world.link number) (World.link (if b then with_link at (host_sent (acted app link.host) link) world else world) number)
+    by_here true = at_number world.link at number (host_sent (acted app link.host) link) (sends link (acted app link.host))
+    by_here false = as_it_is (world.link number)
+
+key_went_fades : (app : Application) (world : World) (terminal number : ℕ) (key : Key) (place : Place) → Fades (world.link number) ((key_went app terminal key place world).link number)
+key_went_fades app world terminal number key (Place.At at) =
+    let link : Link = world.link at in
+    at_number world.link at number (term_stepped (key_came app.columns key link.term) link.down link) (term_steps link (key_came app.columns key link.term) [] link.down None refl)
+key_went_fades app world terminal number key (Place.Alone display) = as_it_is (world.link number)
+
+host_saw_fades : (world : World) (at number : ℕ) → Fades (world.link number) ((host_saw at (world.link at) world).link number)
+host_saw_fades world at number = by_test ((world.link at).lost && (world.link at).host_here)
+  where
+    by_test : (b : Bool) → Fades (world.link number) (World.link (if b then record world { pool = given_back at world.pool; link = with_at at (host_left (world.link at)) world.link } else world) number)
+    by_test true = at_number world.link at number (host_left (world.link at)) (λ before after. record { down = whole _; up = whole _ })
+    by_test false = as_it_is (world.link number)
+
+leaves : (world : World) (at number : ℕ) → Fades (world.link number) (with_at at (term_left (world.link at)) world.link number)
+leaves world at number = at_number world.link at number (term_left (world.link at)) (λ before after. record { down = whole _; up = whole _ })
+
+term_saw_fades : (world : World) (terminal number : ℕ) (place : Place) → Fades (world.link number) ((term_saw terminal place world).link number)
+term_saw_fades world terminal number (Place.At at) = by_test (world.link at).lost
+  where
+    by_test : (b : Bool) → Fades (world.link number) (World.link (if b then parted terminal at (left_alone (world.link at).term.display) world else world) number)
+    by_test true = leaves world at number
+    by_test false = as_it_is (world.link number)
+term_saw_fades world terminal number (Place.Alone display) = as_it_is (world.link number)
+
+term_anew_fades : (app : Application) (world : World) (terminal number : ℕ) (place : Place) → Fades (world.link number) ((term_anew app terminal place world).link number)
+term_anew_fades app world terminal number (Place.At at) = leaves world at number
+term_anew_fades app world terminal number (Place.Alone display) = as_it_is (world.link number)
+
+lose_fades : (link : Link) (b : Bool) → Fades link (lost_if b link)
+lose_fades link true = λ before after. record { down = whole _; up = whole _ }
+lose_fades link false = as_it_is link
+
+-- a connection that begins isn't lost
+joined_fades : (app : Application) (world : World) (terminal number : ℕ) (wanted : Option (List ℕ)) (free : Option ℕ) → Fades (world.link number) ((joined app terminal wanted free world).link number)
+joined_fades app world terminal number wanted None = as_it_is (world.link number)
+joined_fades app world terminal number wanted (Some found) = at_number world.link found number (begun app.size terminal wanted) (λ before after. absurd (cc))
+
+connected_fades : (app : Application) (world : World) (terminal number : ℕ) (wanted : Option (List ℕ)) (place : Place) → Fades (world.link number) ((connected app terminal wanted place world).link number)
+connected_fades app world terminal number wanted (Place.At at) = as_it_is (world.link number)
+connected_fades app world terminal number wanted (Place.Alone display) = joined_fades app world terminal number wanted (free_number world.link)
+
+host_anew_fades : (link : Link) → Fades link (host_left_from link)
+host_anew_fades link = by_here link.host_here
+  where
+    by_here : (b : Bool) → Fades link (if b then host_left link else link)
+    by_here true = λ before after. record { down = whole _; up = whole _ }
+    by_here false = as_it_is link
+
+there_fades : (b : Bool) (new old : World) (number : ℕ) → Fades (old.link number) (new.link number) → Fades (old.link number) ((there b new old).link number)
+there_fades true new old number fades = fades
+there_fades false new old number fades = as_it_is (old.link number)
+
+pub lost_takes_nothing : LostTakesNothing
+lost_takes_nothing app (Event.Press terminal key) world number = there_fades (is_terminal world terminal) _ world number (key_went_fades app world terminal number key (world.place terminal))
+lost_takes_nothing app (Event.Up at) world number = there_fades (is_link at) _ world number (went_up_fades app world at number)
+lost_takes_nothing app (Event.Down at) world number = there_fades (is_link at) _ world number (went_down_fades world at number (world.link at).term_here)
+lost_takes_nothing app (Event.Act at) world number = there_fades (is_link at) _ world number (host_acted_fades app world at number)
+lost_takes_nothing app (Event.Lose at) world number = there_fades (is_link at) _ world number (at_number world.link at number _ (lose_fades (world.link at) (is_up (world.link at))))
+lost_takes_nothing app (Event.HostSees at) world number = there_fades (is_link at) _ world number (host_saw_fades world at number)
+lost_takes_nothing app (Event.TermSees terminal) world number = there_fades (is_terminal world terminal) _ world number (term_saw_fades world terminal number (world.place terminal))
+lost_takes_nothing app (Event.Connect terminal wanted) world number = there_fades (is_terminal world terminal) _ world number (connected_fades app world terminal number wanted (world.place terminal))
+lost_takes_nothing app (Event.RestartTerm terminal) world number = there_fades (is_terminal world terminal) _ world number (term_anew_fades app world terminal number (world.place terminal))
+lost_takes_nothing app Event.RestartHost world number = host_anew_fades (world.link number)

@@ -1,0 +1,239 @@
+-- Both ends agree, after every event.
+use Rattle.std.proofs.Common.{◌≡◌, ◌↔◌, ◌==◌, ◌||◌, ◌&&◌, not, find, ℕ, Bool, true, false, Option, None, Some, List, [], ◌∷◌, refl, sym, subst, ◌∙◌, if◌then◌else◌}
+use Rattle.std.proofs.lemmas.Bool.{eqb-true}
+use Rattle.std.specs.List.{range_with_len}
+use Rattle.keyboard.specs.declared.key.Key.{Key}
+use Rattle.lu_pool.specs.Asking.{answer_to}
+use Rattle.tn3270e_msg.specs.declared.cause.Cause.{Cause}
+use Rattle.host_core.specs.Acts.{Sent, acted}
+use Rattle.host_core.specs.Application.{Application}
+use Rattle.host_core.specs.Messages.{ToTerminal, ToHost}
+use Rattle.host_core.specs.Pool.{granted_if, given_back}
+use Rattle.host_core.specs.Takes.{Step, took as host_took}
+use Rattle.world3270.specs.Headline.{Always}
+use Rattle.world3270.specs.Link.{Link, is_free, is_up, begun, host_left, host_left_if, host_stepped, host_sent, term_left, term_left_if, term_stepped}
+use Rattle.world3270.specs.Places.{EndsAgree}
+use Rattle.world3270.specs.Terminal.{Display, TermStep, new_display, after_key, key_came, took as term_took, is_some}
+use Rattle.world3270.specs.World.{Place, World, Event, new_world, link_count, with_at, with_link, noted, freed_if, came_up, went_up, host_acted, left_alone, place_after, came_down, went_down, key_went, lost_if, host_saw, parted, term_saw, free_number, joined, connected, term_anew, host_left_from, host_anew, there, is_link, is_terminal, happens, run}
+use Rattle.world3270.proofs.Worlds.{differs}
+
+abbrev Agree : (ℕ → Link) → (ℕ → Place) → Type 0
+Agree link place = (terminal number : ℕ) → (place terminal ≡ Place.At number) ↔ ((link number).term_here ≡ Some terminal)
+
+-- ---- one of many changes
+
+-- a connection changes, but not who holds its terminal end
+link_changed : (link : ℕ → Link) (place : ℕ → Place) (number : ℕ) (new : Link) → new.term_here ≡ (link number).term_here → Agree link place → Agree (with_at number new link) place
+link_changed link place number new same a terminal other = by_test (other == number) refl
+  where
+    by_test : (b : Bool) → (other == number) ≡ b → (place terminal ≡ Place.At other) ↔ (Link.term_here (if b then new else link other) ≡ Some terminal)
+    by_test true e =
+        subst (λ n. (place terminal ≡ Place.At n) ↔ (new.term_here ≡ Some terminal)) (sym (eqb-true other number e))
+        (subst (λ h. (place terminal ≡ Place.At number) ↔ (h ≡ Some terminal)) (sym same) (a terminal number))
+    by_test false e = a terminal other
+
+-- a terminal that is alone stays so
+alone_changed : (link : ℕ → Link) (place : ℕ → Place) (terminal : ℕ) (old new : Display) → place terminal ≡ Place.Alone old → Agree link place → Agree link (with_at terminal (Place.Alone new) place)
+alone_changed link place terminal old new alone a other number = by_test (other == terminal) refl
+  where
+    by_test : (b : Bool) → (other == terminal) ≡ b → ((if b then Place.Alone new else place other) ≡ Place.At number) ↔ ((link number).term_here ≡ Some other)
+    by_test true e = (λ wrong. absurd (cc), λ held. let at = (a terminal number).1 (subst (λ t. (link number).term_here ≡ Some t) (eqb-true other terminal e) held) in absurd (cc))
+    by_test false e = a other number
+
+-- a terminal goes to a place, and a connection's end is held by it or by nobody
+record Moved (link : ℕ → Link) (place : ℕ → Place) (terminal number : ℕ) (new : Link) (goes : Place) : Type 0 where
+  here : (goes ≡ Place.At number) ↔ (new.term_here ≡ Some terminal)
+  elsewhere : (n : ℕ) → (n ≡ number → ⊥) → (goes ≡ Place.At n) ↔ ((link n).term_here ≡ Some terminal)
+  others : (t : ℕ) → (t ≡ terminal → ⊥) → (place t ≡ Place.At number) ↔ (new.term_here ≡ Some t)
+
+moved : (link : ℕ → Link) (place : ℕ → Place) (terminal number : ℕ) (new : Link) (goes : Place) → Agree link place → Moved link place terminal number new goes → Agree (with_at number new link) (with_at terminal goes place)
+moved link place terminal number new goes a m t n = by_terminal (t == terminal) refl
+  where
+    its_own : (b : Bool) → (n == number) ≡ b → (goes ≡ Place.At n) ↔ (Link.term_here (if b then new else link n) ≡ Some terminal)
+    its_own true e = subst (λ x. (goes ≡ Place.At x) ↔ (new.term_here ≡ Some terminal)) (sym (eqb-true n number e)) m.here
+    its_own false e = m.elsewhere n (differs n number e)
+
+    another's : (t ≡ terminal → ⊥) → (b : Bool) → (n == number) ≡ b → (place t ≡ Place.At n) ↔ (Link.term_here (if b then new else link n) ≡ Some t)
+    another's other true e = subst (λ x. (place t ≡ Place.At x) ↔ (new.term_here ≡ Some t)) (sym (eqb-true n number e)) (m.others t other)
+    another's other false e = a t n
+
+    by_terminal : (b : Bool) → (t == terminal) ≡ b → ((if b then goes else place t) ≡ Place.At n) ↔ (Link.term_here (with_at number new link n) ≡ Some t)
+    by_terminal true e = subst (λ x. (goes ≡ Place.At n) ↔ (Link.term_here (with_at number new link n) ≡ Some x)) (sym (eqb-true t terminal e)) (its_own (n == number) refl)
+    by_terminal false e = another's (differs t terminal e) (n == number) refl
+
+stays : (link : ℕ → Link) (place : ℕ → Place) (terminal number : ℕ) (new : Link) → place terminal ≡ Place.At number → (link number).term_here ≡ Some terminal → new.term_here ≡ Some terminal → Agree link place
+    → Moved link place terminal number new (Place.At number)
+stays link place terminal number new is held holds a = record {
+  here = (λ _. holds, λ _. refl);
+  elsewhere = λ n other. (λ e. absurd (other (cc)), λ e. let at = (a terminal n).1 e in absurd (other (cc)));
+  others = λ t other. (λ e. let too = (a t number).0 e in absurd (other (cc)), λ e. absurd (other (cc)));
+}
+
+leaves : (link : ℕ → Link) (place : ℕ → Place) (terminal number : ℕ) (new : Link) (display : Display) → place terminal ≡ Place.At number → (link number).term_here ≡ Some terminal → new.term_here ≡ None → Agree link place
+    → Moved link place terminal number new (Place.Alone display)
+leaves link place terminal number new display is held gone a = record {
+  here = (λ e. absurd (cc), λ e. absurd (cc));
+  elsewhere = λ n other. (λ e. absurd (cc), λ e. let at = (a terminal n).1 e in absurd (other (cc)));
+  others = λ t other. (λ e. let too = (a t number).0 e in absurd (other (cc)), λ e. absurd (cc));
+}
+
+joins : (link : ℕ → Link) (place : ℕ → Place) (terminal number : ℕ) (new : Link) (display : Display) → place terminal ≡ Place.Alone display → (link number).term_here ≡ None → new.term_here ≡ Some terminal → Agree link place
+    → Moved link place terminal number new (Place.At number)
+joins link place terminal number new display is free holds a = record {
+  here = (λ _. holds, λ _. refl);
+  elsewhere = λ n other. (λ e. absurd (other (cc)), λ e. let at = (a terminal n).1 e in absurd (cc));
+  others = λ t other. (λ e. let too = (a t number).0 e in absurd (cc), λ e. absurd (other (cc)));
+}
+
+-- ---- the host
+
+noted_agrees : (cause : Option Cause) (world : World) → EndsAgree world → EndsAgree (noted cause world)
+noted_agrees None world a = a
+noted_agrees (Some cause) world a = a
+
+host_leaves_it : (cause : Option Cause) (link : Link) → (host_left_if cause link).term_here ≡ link.term_here
+host_leaves_it None link = refl
+host_leaves_it (Some cause) link = refl
+
+came_up_agrees : (app : Application) (world : World) (number : ℕ) (up : List ToHost) → EndsAgree world → EndsAgree (came_up app number up world)
+came_up_agrees app world number [] a = a
+came_up_agrees app world number (message ∷ rest) a =
+    let step : Step = host_took app (answer_to world.pool) (world.link number).host message in
+    let new : Link = host_stepped step rest (world.link number) in
+    noted_agrees step.closes (record world { pool = freed_if number step.closes (granted_if number step.grants world.pool); link = with_at number new world.link })
+    (link_changed world.link world.place number new (host_leaves_it step.closes _) a)
+
+went_up_agrees : (app : Application) (world : World) (number : ℕ) → EndsAgree world → EndsAgree (went_up app number world)
+went_up_agrees app world number a = by_here (world.link number).host_here
+  where
+    by_here : (b : Bool) → EndsAgree (if b then came_up app number (world.link number).up world else world)
+    by_here true = came_up_agrees app world number (world.link number).up a
+    by_here false = a
+
+sends_from : (sending : Option Sent) (link : Link) → (host_sent sending link).term_here ≡ link.term_here
+sends_from None link = refl
+sends_from (Some sending) link = refl
+
+host_acted_agrees : (app : Application) (world : World) (number : ℕ) → EndsAgree world → EndsAgree (host_acted app number world)
+host_acted_agrees app world number a = by_here (world.link number).host_here
+  where
+    by_here : (b : Bool) → EndsAgree (if b then with_link number (host_sent (acted app (world.link number).host) (world.link number)) world else world)
+    by_here true = link_changed world.link world.place number (host_sent (acted app (world.link number).host) (world.link number)) (sends_from (acted app (world.link number).host) (world.link number)) a
+    by_here false = a
+
+host_saw_agrees : (world : World) (number : ℕ) → EndsAgree world → EndsAgree (host_saw number (world.link number) world)
+host_saw_agrees world number a = by_test ((world.link number).lost && (world.link number).host_here)
+  where
+    by_test : (b : Bool) → EndsAgree (if b then record world { pool = given_back number world.pool; link = with_at number (host_left (world.link number)) world.link } else world)
+    by_test true = link_changed world.link world.place number (host_left (world.link number)) refl a
+    by_test false = a
+
+host_left_from_it : (link : Link) → (host_left_from link).term_here ≡ link.term_here
+host_left_from_it link = by_here link.host_here
+  where
+    by_here : (b : Bool) → Link.term_here (if b then host_left link else link) ≡ link.term_here
+    by_here true = refl
+    by_here false = refl
+
+host_anew_agrees : (world : World) → EndsAgree world → EndsAgree (host_anew world)
+host_anew_agrees world a terminal number = subst (λ h. (world.place terminal ≡ Place.At number) ↔ (h ≡ Some terminal)) (sym (host_left_from_it (world.link number))) (a terminal number)
+
+-- ---- terminals
+
+took_it : (world : World) (number terminal : ℕ) (next : Link) (display : Display) (cause : Option Cause) → (world.link number).term_here ≡ Some terminal → next.term_here ≡ (world.link number).term_here → EndsAgree world
+    → Agree (with_at number (term_left_if cause next) world.link) (with_at terminal (place_after cause number display) world.place)
+took_it world number terminal next display None held same a =
+    moved world.link world.place terminal number next (Place.At number) a
+    (stays world.link world.place terminal number next ((a terminal number).1 held) held (same ∙ held) a)
+took_it world number terminal next display (Some cause) held same a =
+    moved world.link world.place terminal number (term_left next) (Place.Alone (left_alone display)) a
+    (leaves world.link world.place terminal number (term_left next) (left_alone display) ((a terminal number).1 held) held refl a)
+
+came_down_agrees : (world : World) (number terminal : ℕ) (down : List ToTerminal) → (world.link number).term_here ≡ Some terminal → EndsAgree world → EndsAgree (came_down number terminal down world)
+came_down_agrees world number terminal [] held a = a
+came_down_agrees world number terminal (message ∷ rest) held a =
+    let step : TermStep = term_took (world.link number).term message in
+    noted_agrees step.closes (record world { link = with_at number (term_stepped step rest (world.link number)) world.link; place = with_at terminal (place_after step.closes number step.end.display) world.place })
+    (took_it world number terminal _ step.end.display step.closes held refl a)
+
+went_down_agrees : (world : World) (number : ℕ) (here : Option ℕ) → (world.link number).term_here ≡ here → EndsAgree world → EndsAgree (went_down number here world)
+went_down_agrees world number None e a = a
+went_down_agrees world number (Some terminal) e a = came_down_agrees world number terminal (world.link number).down e a
+
+key_went_agrees : (app : Application) (world : World) (terminal : ℕ) (key : Key) (place : Place) → world.place terminal ≡ place → EndsAgree world → EndsAgree (key_went app terminal key place world)
+key_went_agrees app world terminal key (Place.At number) e a = link_changed world.link world.place number (term_stepped (key_came app.columns key (world.link number).term) (world.link number).down (world.link number)) refl a
+key_went_agrees app world terminal key (Place.Alone display) e a = alone_changed world.link world.place terminal display (after_key app.columns key display) e a
+
+parted_agrees : (world : World) (terminal number : ℕ) (display : Display) → world.place terminal ≡ Place.At number → EndsAgree world → EndsAgree (parted terminal number display world)
+parted_agrees world terminal number display e a =
+    moved world.link world.place terminal number (term_left (world.link number)) (Place.Alone display) a
+    (leaves world.link world.place terminal number (term_left (world.link number)) display e ((a terminal number).0 e) refl a)
+
+term_saw_agrees : (world : World) (terminal : ℕ) (place : Place) → world.place terminal ≡ place → EndsAgree world → EndsAgree (term_saw terminal place world)
+term_saw_agrees world terminal (Place.At number) e a = by_test (world.link number).lost
+  where
+    by_test : (b : Bool) → EndsAgree (if b then parted terminal number (left_alone (world.link number).term.display) world else world)
+    by_test true = parted_agrees world terminal number (left_alone (world.link number).term.display) e a
+    by_test false = a
+term_saw_agrees world terminal (Place.Alone display) e a = a
+
+term_anew_agrees : (app : Application) (world : World) (terminal : ℕ) (place : Place) → world.place terminal ≡ place → EndsAgree world → EndsAgree (term_anew app terminal place world)
+term_anew_agrees app world terminal (Place.At number) e a = parted_agrees world terminal number (new_display app.size) e a
+term_anew_agrees app world terminal (Place.Alone display) e a = alone_changed world.link world.place terminal display (new_display app.size) e a
+
+-- ---- connections
+
+lose_agrees : (world : World) (number : ℕ) (b : Bool) → EndsAgree world → EndsAgree (with_link number (lost_if b (world.link number)) world)
+lose_agrees world number true a = link_changed world.link world.place number (lost_if true (world.link number)) refl a
+lose_agrees world number false a = link_changed world.link world.place number (world.link number) refl a
+
+-- what is found passes
+found_passes : {X : Type 0} (p : X → Bool) (xs : List X) (x : X) → find p xs ≡ Some x → p x ≡ true
+found_passes p [] x e = absurd (cc)
+found_passes p (y ∷ ys) x e = by_test (p y) refl e (found_passes p ys x)
+  where
+    by_test : (b : Bool) → p y ≡ b → (if b then Some y else find p ys) ≡ Some x → (find p ys ≡ Some x → p x ≡ true) → p x ≡ true
+    by_test true h e more = let same : y ≡ x = cc in subst (λ z. p z ≡ true) same h
+    by_test false h e more = more e
+
+nobody_there : (here : Bool) (held : Option ℕ) → not (here || is_some held) ≡ true → held ≡ None
+nobody_there true held e = absurd (cc)
+nobody_there false None e = refl
+nobody_there false (Some terminal) e = absurd (cc)
+
+joined_agrees : (app : Application) (world : World) (terminal : ℕ) (wanted : Option (List ℕ)) (number : Option ℕ) (display : Display) → free_number world.link ≡ number → world.place terminal ≡ Place.Alone display
+    → EndsAgree world → EndsAgree (joined app terminal wanted number world)
+joined_agrees app world terminal wanted None display e is a = a
+joined_agrees app world terminal wanted (Some number) display e is a =
+    let free = found_passes (λ n. is_free (world.link n)) (range_with_len 0 link_count) number e in
+    moved world.link world.place terminal number (begun app.size terminal wanted) (Place.At number) a
+    (joins world.link world.place terminal number (begun app.size terminal wanted) display is (nobody_there (world.link number).host_here (world.link number).term_here free) refl a)
+
+connected_agrees : (app : Application) (world : World) (terminal : ℕ) (wanted : Option (List ℕ)) (place : Place) → world.place terminal ≡ place → EndsAgree world → EndsAgree (connected app terminal wanted place world)
+connected_agrees app world terminal wanted (Place.At number) e a = a
+connected_agrees app world terminal wanted (Place.Alone display) e a = joined_agrees app world terminal wanted (free_number world.link) display refl e a
+
+-- ---- any event
+
+there_agrees : (b : Bool) (new old : World) → EndsAgree new → EndsAgree old → EndsAgree (there b new old)
+there_agrees true new old n o = n
+there_agrees false new old n o = o
+
+happens_agrees : (app : Application) (event : Event) (world : World) → EndsAgree world → EndsAgree (happens app event world)
+happens_agrees app (Event.Press terminal key) world a = there_agrees (is_terminal world terminal) _ world (key_went_agrees app world terminal key (world.place terminal) refl a) a
+happens_agrees app (Event.Up number) world a = there_agrees (is_link number) _ world (went_up_agrees app world number a) a
+happens_agrees app (Event.Down number) world a = there_agrees (is_link number) _ world (went_down_agrees world number (world.link number).term_here refl a) a
+happens_agrees app (Event.Act number) world a = there_agrees (is_link number) _ world (host_acted_agrees app world number a) a
+happens_agrees app (Event.Lose number) world a = there_agrees (is_link number) _ world (lose_agrees world number (is_up (world.link number)) a) a
+happens_agrees app (Event.HostSees number) world a = there_agrees (is_link number) _ world (host_saw_agrees world number a) a
+happens_agrees app (Event.TermSees terminal) world a = there_agrees (is_terminal world terminal) _ world (term_saw_agrees world terminal (world.place terminal) refl a) a
+happens_agrees app (Event.Connect terminal wanted) world a = there_agrees (is_terminal world terminal) _ world (connected_agrees app world terminal wanted (world.place terminal) refl a) a
+happens_agrees app (Event.RestartTerm terminal) world a = there_agrees (is_terminal world terminal) _ world (term_anew_agrees app world terminal (world.place terminal) refl a) a
+happens_agrees app Event.RestartHost world a = host_anew_agrees world a
+
+run_agrees : (app : Application) (events : List Event) (world : World) → EndsAgree world → EndsAgree (run app events world)
+run_agrees app [] world a = a
+run_agrees app (event ∷ events) world a = run_agrees app events (happens app event world) (happens_agrees app event world a)
+
+pub ends_agree : Always EndsAgree
+ends_agree app pool terminals events is lists few are = run_agrees app events (new_world app pool terminals) (λ terminal number. (λ e. absurd (cc), λ e. absurd (cc)))

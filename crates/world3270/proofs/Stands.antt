@@ -1,0 +1,425 @@
+-- Bytes that stand for messages: each end makes of them what it makes of the messages.
+use Rattle.std.proofs.Common.{◌≡◌, ℕ, Bool, true, false, Option, None, List, [], ◌∷◌, ◌++◌, length, map, refl, ap, sym, subst, ◌∙◌, arith}
+use Rattle.std.proofs.lemmas.Grind.{flat_map-append}
+use Rattle.std.proofs.lemmas.Bool.{and_parts}
+use Rattle.std.specs.List.{flat_map, AllByRecursion}
+use Rattle.codes3270.specs.Size.{columns}
+use Rattle.datastream.specs.Grammar.{CommandParts, IsCommand, IsNoCommand, is_write}
+use Rattle.datastream.specs.Inbound.{read_buffer, read_modified}
+use Rattle.datastream.specs.FieldLaws.{FieldsAscend, FieldsAreListed, FieldsTakeAll}
+use Rattle.datastream.specs.InboundFields.{SentIsRead, IsSendable, buffer_data}
+use Rattle.datastream.specs.InboundText.{IsInbound}
+use Rattle.datastream.specs.Meaning.{after_command}
+use Rattle.datastream.specs.Screen.{Screen}
+use Rattle.datastream.specs.Wanted.{WantedScreen}
+use Rattle.datastream.specs.declared.command_code.CommandCode.{CommandCode}
+use Rattle.datastream.specs.declared.command_code.CommandCode.TheVariants.{Write, EraseWrite, EraseWriteAlternate, ReadBuffer, ReadModified, ReadModifiedAll, EraseAllUnprotected}
+use Rattle.datastream.proofs.Commands.{one_command, command_or_fault}
+use Rattle.keyboard.specs.Keys.{Outcome, pressed}
+use Rattle.keyboard.specs.State.{Keyboard, freed}
+use Rattle.keyboard.specs.declared.key.Pressed.{Pressed}
+use Rattle.keyboard.specs.declared.key.Pressed.TheVariants.{Done, Refused, Send}
+use Rattle.presentation.specs.Applied.{asked_by}
+use Rattle.shadow.specs.Belief.{Shadow}
+use Rattle.shadow.specs.Laws.{WantedIsPainted}
+use Rattle.shadow.specs.Paint.{paint}
+use Rattle.shadow.specs.Pairs.{Pairwise}
+use Rattle.telnet_wire.specs.Items.{WireItem, Record, Opt as OptItem, item_tokens, CanCome}
+use Rattle.telnet_wire.specs.Laws.{NothingIsRest, ReadingNothing, DeliveriesCompose, DeliveryGoesOn, ItemIsRead, ItemsAreRead}
+use Rattle.telnet_wire.specs.Reading.{nothing, Delivers}
+use Rattle.telnet_wire.specs.Token.{text, spelling}
+use Rattle.telnet_wire.specs.declared.wire.Verb.TheVariants.{Do}
+use Rattle.tn3270e_msg.specs.Header.{Begins}
+use Rattle.tn3270e_msg.specs.Laws.{OneHeader, FaultIsNoHeader}
+use Rattle.tn3270e_msg.specs.Talk.{Comes, NoTalk, Hears, Talk, items_sent, follow}
+use Rattle.tn3270e_msg.specs.TermTable.{Term, term_line, term_start}
+use Rattle.tn3270e_msg.specs.declared.cause.Cause.{Cause}
+use Rattle.tn3270e_msg.specs.declared.header.Header.{Header}
+use Rattle.tn3270e_msg.specs.declared.header.DataType.TheVariants.{Data3270}
+use Rattle.tn3270e_msg.specs.declared.hearing.Line.{Line}
+use Rattle.tn3270e_msg.specs.declared.hearing.Line.TheVariants.{Stays}
+use Rattle.tn3270e_msg.specs.declared.reply.After.TheVariants as after
+use Rattle.tn3270e_msg.specs.declared.reply.Reply.{Reply}
+use Rattle.tn3270e_msg.specs.declared.reply.Reply.TheVariants as reply
+use Rattle.tn3270e_msg.specs.declared.term_talk.TermState.{TermState}
+use Rattle.tn3270e_msg.specs.declared.term_talk.TermState.TheVariants as at
+use Rattle.tn3270e_msg.proofs.Hearings.{sent_is_heard}
+use Rattle.term_core.specs.Items.{TakesItem, TakesItemIn, TalksOn, closing as core_closing}
+use Rattle.term_core.specs.Presses.{key_outcome, data_pressed, says_of_key}
+use Rattle.term_core.specs.Records.{TakesRecord, is_restoring_write, data_read, data_sent, done_response, freed_if, answer_of, obeyed}
+use Rattle.term_core.specs.Says.{sent_bytes}
+use Rattle.term_core.specs.State.{Station, phase_of, talk_phase, record_limit, is_bound as core_is_bound}
+use Rattle.term_core.specs.declared.outcome.Outcome.TheVariants.{DeviceEnd}
+use Rattle.host_core.specs.Messages.{ToTerminal, ToHost, Saying, Verdict, says, sayings, item_of}
+use Rattle.host_core.specs.Takes.{closing}
+use Rattle.term_core.proofs.Lengths.{read_buffer_fits, read_modified_fits}
+use Rattle.world3270.proofs.StandsFits.{talk_comes}
+use Rattle.world3270.specs.Stands.{command_header, always, when_refused, IsPaint, IsRead, read_buffer_command, StandsUp, IsEnd}
+use Rattle.world3270.specs.StandsLaws.{PaintStands, IsSaid, NamesWanted, IsOpen, IsBelieved, SameStep, TermTakes, TermPresses, NothingStands, StandsCompose, StandsGoOn, BeginStands}
+use Rattle.world3270.specs.Terminal.{TermEnd, TermStep, bound_to, is_some, is_bound, quiet, replied, paint_came, read_came, once_bound, took, data_of}
+
+-- ---- what is painted
+
+paint_writes : (size : ℕ) (believed : Shadow) (wanted : WantedScreen) → is_restoring_write (paint size believed wanted) ≡ true
+paint_writes size Shadow.NothingKnown wanted = refl
+paint_writes size (Shadow.Unformatted known) wanted = refl
+paint_writes size (Shadow.Formatted beliefs) wanted = refl
+
+pub paint_stands : WantedIsPainted → PaintStands
+paint_stands painted number wanted believed bytes body begins spelt fit = record {
+  bytes = bytes;
+  body = body;
+  command = paint (length wanted.cells) believed wanted;
+  is_record = refl;
+  begins = begins;
+  spelt = spelt;
+  paints = record {
+    writes = paint_writes (length wanted.cells) believed wanted;
+    paints = λ screen same meets. ap (λ n. after_command (paint n believed wanted) screen) same ∙ painted believed wanted screen same fit meets;
+  };
+}
+
+-- ---- the talk
+
+said_is_heard : (saying : Saying) → IsSaid saying → (comes : Comes) → Hears (item_of saying) comes → comes ≡ says saying
+said_is_heard (Saying.Opt verb code) h comes k = k
+said_is_heard (Saying.Sub sending) h comes k = sent_is_heard sending h comes k
+
+same_closing : (answer : Reply) → core_closing answer ≡ closing answer
+same_closing reply.Nothing = refl
+same_closing (reply.Opt verb code) = refl
+same_closing (reply.Sub sending after.Going) = refl
+same_closing (reply.Sub sending after.Agreed) = refl
+same_closing (reply.Sub sending (after.Close cause)) = refl
+same_closing (reply.AskPool name) = refl
+same_closing reply.Agreed = refl
+same_closing (reply.Refused reason) = refl
+same_closing (reply.Close cause) = refl
+
+sayings_stand : (answer : Reply) → Pairwise StandsUp (items_sent answer) (map ToHost.TalksUp (sayings answer))
+sayings_stand reply.Nothing = tt
+sayings_stand (reply.Opt verb code) = (refl, tt)
+sayings_stand (reply.Sub sending behind) = (refl, tt)
+sayings_stand (reply.AskPool name) = tt
+sayings_stand reply.Agreed = tt
+sayings_stand (reply.Refused reason) = tt
+sayings_stand (reply.Close cause) = tt
+
+term_same : (one other : Term) → one.wanted ≡ other.wanted → one.talk ≡ other.talk → one ≡ other
+term_same one other wanted talk =
+    ap (λ (w : Option (List ℕ)). record { wanted = w; talk = one.talk }) wanted
+    ∙ ap (λ (t : Talk TermState). record { wanted = other.wanted; talk = t }) talk
+
+replied_same : (end : TermEnd) (talk next : Term) (old new : Station) (answer : Reply) (p : Talk TermState × Reply) (sent : List WireItem) (closes : Option Cause)
+    → IsEnd talk old end → next.wanted ≡ talk.wanted → (next.talk, answer) ≡ p → sent ≡ items_sent answer → closes ≡ core_closing answer → new ≡ old
+    → AllByRecursion (CanCome record_limit) (items_sent p.1)
+    → SameStep next new sent closes (replied end p)
+replied_same end talk next old new answer p sent closes is wanted gives said ends same fit = record {
+  is_end = record {
+    talk_is = term_same next (record end.talk { talk = p.0 }) (wanted ∙ ap (λ (t : Term). t.wanted) is.talk_is) (ap (λ (q : Talk TermState × Reply). q.0) gives);
+    screen_is = ap (λ (s : Station). s.screen) same ∙ is.screen_is;
+    keyboard_is = ap (λ (s : Station). s.keyboard) same ∙ is.keyboard_is;
+  };
+  said = subst (λ (r : Reply). Pairwise StandsUp sent (map ToHost.TalksUp (sayings r))) (ap (λ (q : Talk TermState × Reply). q.1) gives)
+      (subst (λ (items : List WireItem). Pairwise StandsUp items (map ToHost.TalksUp (sayings answer))) (sym said) (sayings_stand answer));
+  fit = subst (λ (items : List WireItem). AllByRecursion (CanCome record_limit) items)
+      (sym (said ∙ ap (λ (q : Talk TermState × Reply). items_sent q.1) gives)) fit;
+  closed = ends ∙ same_closing answer ∙ ap (λ (q : Talk TermState × Reply). closing q.1) gives;
+}
+
+-- a negotiation or a subnegotiation is for the talk, however far it is
+saying_talks : (state : TermState) (saying : Saying) (talk next : Term) (old new : Station) (sent : List WireItem) (closes : Option Cause)
+    → TakesItemIn state talk old (item_of saying) sent closes next new → TalksOn talk old (item_of saying) sent closes next new
+saying_talks at.Waiting saying talk next old new sent closes taken = taken
+saying_talks at.Willing saying talk next old new sent closes taken = taken
+saying_talks at.TypeAsked saying talk next old new sent closes taken = taken
+saying_talks (at.FunctionsAsked lu) saying talk next old new sent closes taken = taken
+saying_talks (at.Agreed lu) (Saying.Opt verb code) talk next old new sent closes taken = taken
+saying_talks (at.Agreed lu) (Saying.Sub sending) talk next old new sent closes taken = taken
+saying_talks (at.Refused reason) saying talk next old new sent closes taken = taken
+saying_talks (at.Closed cause) saying talk next old new sent closes taken = taken
+
+takes_talk : (saying : Saying) (talk next : Term) (old new : Station) (end : TermEnd) (sent : List WireItem) (closes : Option Cause)
+    → IsSaid saying → NamesWanted end.talk.talk.state end.talk.wanted → IsEnd talk old end → TakesItem talk old (item_of saying) sent closes next new
+    → SameStep next new sent closes (took end (ToTerminal.TalksDown saying))
+takes_talk saying talk next old new end sent closes h wish is taken =
+    let talks = saying_talks talk.talk.state saying talk next old new sent closes taken in
+    let heard = said_is_heard saying h talks.0.takes.comes talks.0.takes.hears in
+    let gives : (next.talk, talks.0.reply) ≡ follow at.Closed end.talk.talk (term_line end.talk.wanted end.talk.talk.state (says saying)) =
+    talks.0.takes.gives
+    ∙ ap (λ comes. follow at.Closed talk.talk (term_line talk.wanted talk.talk.state comes)) heard
+    ∙ ap (λ (t : Term). follow at.Closed t.talk (term_line t.wanted t.talk.state (says saying))) is.talk_is in
+    replied_same end talk next old new talks.0.reply _ sent closes is talks.0.takes.wanted gives talks.0.sends talks.0.ends talks.1
+    (talk_comes end.talk.talk end.talk.wanted wish (says saying))
+
+-- ---- records
+
+-- before it is bound a terminal drops a record
+dropped : (talk next : Term) (old new : Station) (bytes : List ℕ) (end : TermEnd) (sent : List WireItem) (closes : Option Cause)
+    → IsEnd talk old end → term_line talk.wanted talk.talk.state NoTalk ≡ Stays reply.Nothing → TalksOn talk old (Record bytes) sent closes next new
+    → SameStep next new sent closes (quiet end)
+dropped talk next old new bytes end sent closes is stays talks =
+    let gives : (next.talk, talks.0.reply) ≡ (talk.talk, reply.Nothing) =
+    talks.0.takes.gives
+    ∙ ap (λ comes. follow at.Closed talk.talk (term_line talk.wanted talk.talk.state comes)) talks.0.takes.hears
+    ∙ ap (λ (line : Line TermState). follow at.Closed talk.talk line) stays in
+    let answer : talks.0.reply ≡ reply.Nothing = ap (λ (q : Talk TermState × Reply). q.1) gives in
+    record {
+      is_end = record {
+        talk_is = term_same next talk talks.0.takes.wanted (ap (λ (q : Talk TermState × Reply). q.0) gives) ∙ is.talk_is;
+        screen_is = ap (λ (s : Station). s.screen) talks.1 ∙ is.screen_is;
+        keyboard_is = ap (λ (s : Station). s.keyboard) talks.1 ∙ is.keyboard_is;
+      };
+      said = subst (λ (items : List WireItem). Pairwise StandsUp items []) (sym (talks.0.sends ∙ ap items_sent answer)) tt;
+      fit = subst (λ (items : List WireItem). AllByRecursion (CanCome record_limit) items) (sym (talks.0.sends ∙ ap items_sent answer)) tt;
+      closed = talks.0.ends ∙ ap core_closing answer;
+    }
+
+record_came : (state : TermState) (talk next : Term) (old new : Station) (bytes : List ℕ) (end : TermEnd) (sent : List WireItem) (closes : Option Cause) (step : TermStep)
+    → talk.talk.state ≡ state → IsOpen state → IsEnd talk old end
+    → (TakesRecord old bytes sent closes new → next ≡ talk → SameStep next new sent closes step)
+    → TakesItemIn state talk old (Record bytes) sent closes next new
+    → SameStep next new sent closes (once_bound (is_some (bound_to state)) step end)
+record_came at.Waiting talk next old new bytes end sent closes step e o is bound taken =
+    dropped talk next old new bytes end sent closes is (ap (λ (s : TermState). term_line talk.wanted s NoTalk) e) taken
+record_came at.Willing talk next old new bytes end sent closes step e o is bound taken =
+    dropped talk next old new bytes end sent closes is (ap (λ (s : TermState). term_line talk.wanted s NoTalk) e) taken
+record_came at.TypeAsked talk next old new bytes end sent closes step e o is bound taken =
+    dropped talk next old new bytes end sent closes is (ap (λ (s : TermState). term_line talk.wanted s NoTalk) e) taken
+record_came (at.FunctionsAsked lu) talk next old new bytes end sent closes step e o is bound taken =
+    dropped talk next old new bytes end sent closes is (ap (λ (s : TermState). term_line talk.wanted s NoTalk) e) taken
+record_came (at.Refused reason) talk next old new bytes end sent closes step e o is bound taken =
+    dropped talk next old new bytes end sent closes is (ap (λ (s : TermState). term_line talk.wanted s NoTalk) e) taken
+record_came (at.Agreed lu) talk next old new bytes end sent closes step e o is bound taken = bound taken.0 taken.1
+record_came (at.Closed cause) talk next old new bytes end sent closes step e o is bound taken = absurd o
+
+record_comes : (talk next : Term) (old new : Station) (bytes : List ℕ) (end : TermEnd) (sent : List WireItem) (closes : Option Cause) (step : TermStep)
+    → IsOpen end.talk.talk.state → IsEnd talk old end
+    → (TakesRecord old bytes sent closes new → next ≡ talk → SameStep next new sent closes step)
+    → TakesItem talk old (Record bytes) sent closes next new
+    → SameStep next new sent closes (once_bound (is_bound end) step end)
+record_comes talk next old new bytes end sent closes step o is bound taken =
+    let state : talk.talk.state ≡ end.talk.talk.state = ap (λ (t : Term). t.talk.state) is.talk_is in
+    subst (λ (s : TermState). SameStep next new sent closes (once_bound (is_some (bound_to s)) step end)) state
+    (record_came talk.talk.state talk next old new bytes end sent closes step refl (subst IsOpen (sym state) o) is bound taken)
+
+-- the command of a record is obeyed
+record Obeys (old new : Station) (sent : List WireItem) (closes : Option Cause) (header : Header) (command : CommandParts) : Type 0 where
+  said : sent ≡ answer_of header command old
+  closed : closes ≡ None
+  left : new ≡ obeyed command old
+
+module _ (one_header : OneHeader) (fault_or_header : FaultIsNoHeader) where
+  obeys : (old new : Station) (bytes body : List ℕ) (sent : List WireItem) (closes : Option Cause) (header : Header) (command : CommandParts)
+      → header.kind ≡ Data3270 → Begins bytes header body → IsCommand command body → TakesRecord old bytes sent closes new
+      → Obeys old new sent closes header command
+  obeys old new bytes body sent closes header command kind begins spelt (TakesRecord.no_header fault has a b c) =
+      absurd (fault_or_header bytes fault header body has begins)
+  obeys old new bytes body sent closes header command kind begins spelt (TakesRecord.dropped other rest begins' k a b c) =
+      absurd (k (ap (λ (h : Header). h.kind) (one_header bytes other header rest body begins' begins).0 ∙ kind))
+  obeys old new bytes body sent closes header command kind begins spelt (TakesRecord.refused other rest fault begins' k bad a b c) =
+      let both = one_header bytes other header rest body begins' begins in
+      absurd (command_or_fault command fault body spelt (subst (λ (b : List ℕ). IsNoCommand fault b) both.1 bad))
+  obeys old new bytes body sent closes header command kind begins spelt (TakesRecord.obeys other rest command' begins' k good a b c) =
+      let both = one_header bytes other header rest body begins' begins in
+      let commands = one_command command' command body (subst (λ (x : List ℕ). IsCommand command' x) both.1 good) spelt in
+      record {
+        said = a ∙ ap (λ (h : Header). answer_of h command' old) both.0 ∙ ap (λ (x : CommandParts). answer_of header x old) commands;
+        closed = b;
+        left = c ∙ ap (λ (x : CommandParts). obeyed x old) commands;
+      }
+
+  -- ---- a paint
+
+  no_data : (code : CommandCode) (screen : Screen) → is_write code ≡ true → data_read code screen ≡ None
+  no_data Write screen h = refl
+  no_data EraseWrite screen h = refl
+  no_data EraseWriteAlternate screen h = refl
+  no_data ReadBuffer screen h = absurd (cc)
+  no_data ReadModified screen h = absurd (cc)
+  no_data ReadModifiedAll screen h = absurd (cc)
+  no_data EraseAllUnprotected screen h = absurd (cc)
+
+  painted_same : (number : ℕ) (wanted : WantedScreen) (believed : Shadow) (talk next : Term) (old new : Station) (end : TermEnd) (sent : List WireItem) (closes : Option Cause)
+      (item : WireItem) (p : IsPaint item number wanted believed) → IsBelieved wanted believed end → IsEnd talk old end
+      → TakesRecord old p.bytes sent closes new → next ≡ talk → SameStep next new sent closes (paint_came number wanted end)
+  painted_same number wanted believed talk next old new end sent closes item p b is taken same =
+      let done = obeys old new p.bytes p.body sent closes (command_header always number) p.command refl p.begins p.spelt taken in
+      let parts = and_parts (is_write p.command.code) (asked_by p.command).restore p.paints.writes in
+      let silent = no_data p.command.code (after_command p.command old.screen) parts.0 in
+      record {
+        is_end = record {
+          talk_is = same ∙ is.talk_is;
+          screen_is = ap (λ (s : Station). s.screen) done.left ∙ ap (after_command p.command) is.screen_is ∙ p.paints.paints end.display.screen b.size b.meets;
+          keyboard_is = ap (λ (s : Station). s.keyboard) done.left ∙ ap (λ (r : Bool). freed_if r old.keyboard) parts.1 ∙ ap freed is.keyboard_is;
+        };
+        said = subst (λ (items : List WireItem). Pairwise StandsUp items (ToHost.Response number Verdict.Positive ∷ []))
+            (sym (done.said ∙ ap (λ (d : Option (List ℕ)). data_sent old.number d ++ done_response always number) silent))
+            ((DeviceEnd, refl, p.begins.number, refl), tt);
+        fit = subst (λ (items : List WireItem). AllByRecursion (CanCome record_limit) items)
+            (sym (done.said ∙ ap (λ (d : Option (List ℕ)). data_sent old.number d ++ done_response always number) silent))
+            (omega arith, tt);
+        closed = done.closed;
+      }
+
+  -- ---- a read
+
+  read_same : SentIsRead → (number : ℕ) (talk next : Term) (old new : Station) (end : TermEnd) (sent : List WireItem) (closes : Option Cause)
+      (item : WireItem) (p : IsRead item number) → IsSendable end.display.screen → IsEnd talk old end
+      → TakesRecord old p.bytes sent closes new → next ≡ talk → SameStep next new sent closes (read_came end)
+  read_same reads number talk next old new end sent closes item p r is taken same =
+      let done = obeys old new p.bytes p.body sent closes (command_header when_refused number) read_buffer_command refl p.begins p.spelt taken in
+      let inbound : IsInbound (buffer_data end.display.screen) (read_buffer old.screen) =
+      subst (λ (s : Screen). IsInbound (buffer_data end.display.screen) (read_buffer s)) (sym is.screen_is) (reads.buffer end.display.screen r) in
+      record {
+        is_end = record {
+          talk_is = same ∙ is.talk_is;
+          screen_is = ap (λ (s : Station). s.screen) done.left ∙ is.screen_is;
+          keyboard_is = ap (λ (s : Station). s.keyboard) done.left ∙ is.keyboard_is;
+        };
+        said = subst (λ (items : List WireItem). Pairwise StandsUp items (ToHost.Data (buffer_data end.display.screen) ∷ []))
+            (sym done.said) ((old.number, read_buffer old.screen, refl, inbound), tt);
+        fit = subst (λ (items : List WireItem). AllByRecursion (CanCome record_limit) items)
+            (sym done.said) (omega (arith, read_buffer_fits old.screen (ap (λ (s : Screen). length s.cells) is.screen_is ∙ r.size)), tt);
+        closed = done.closed;
+      }
+
+  -- ---- any message
+
+  pub term_takes : SentIsRead → TermTakes
+  term_takes reads (ToTerminal.TalksDown saying) item talk next old new end sent closes stands may can is taken =
+      takes_talk saying talk next old new end sent closes may.0 may.1 is (subst (λ (i : WireItem). TakesItem talk old i sent closes next new) stands taken)
+  term_takes reads (ToTerminal.Paint number wanted believed) item talk next old new end sent closes stands may can is taken =
+      record_comes talk next old new stands.bytes end sent closes (paint_came number wanted end) may.is_open is
+      (painted_same number wanted believed talk next old new end sent closes item stands may is)
+      (subst (λ (i : WireItem). TakesItem talk old i sent closes next new) stands.is_record taken)
+  term_takes reads (ToTerminal.ReadBuffer number) item talk next old new end sent closes stands may can is taken =
+      record_comes talk next old new stands.bytes end sent closes (read_came end) may is
+      (read_same reads number talk next old new end sent closes item stands can is)
+      (subst (λ (i : WireItem). TakesItem talk old i sent closes next new) stands.is_record taken)
+
+-- ---- keys
+
+same_bound : (state : TermState) → core_is_bound (talk_phase state) ≡ is_some (bound_to state)
+same_bound at.Waiting = refl
+same_bound at.Willing = refl
+same_bound at.TypeAsked = refl
+same_bound (at.FunctionsAsked lu) = refl
+same_bound (at.Agreed lu) = refl
+same_bound (at.Refused reason) = refl
+same_bound (at.Closed cause) = refl
+
+key_says : SentIsRead → (bound : Bool) (answer : Pressed) (screen : Screen) (number : ℕ) → IsSendable screen
+    → Pairwise StandsUp (data_sent number (data_pressed bound answer screen)) (data_of bound answer screen)
+key_says reads true (Send aid) screen number is = ((number, read_modified false screen, refl, reads.modified screen is), tt)
+key_says reads false (Send aid) screen number is = tt
+key_says reads true Done screen number is = tt
+key_says reads false Done screen number is = tt
+key_says reads true (Refused why) screen number is = tt
+key_says reads false (Refused why) screen number is = tt
+
+key_comes : FieldsAscend → FieldsAreListed → FieldsTakeAll → (bound : Bool) (answer : Pressed) (screen : Screen) (number : ℕ) → IsSendable screen
+    → AllByRecursion (CanCome record_limit) (data_sent number (data_pressed bound answer screen))
+key_comes ascend listed whole true (Send aid) screen number is = (omega (arith, read_modified_fits ascend listed whole screen is.size false), tt)
+key_comes ascend listed whole false (Send aid) screen number is = tt
+key_comes ascend listed whole true Done screen number is = tt
+key_comes ascend listed whole false Done screen number is = tt
+key_comes ascend listed whole true (Refused why) screen number is = tt
+key_comes ascend listed whole false (Refused why) screen number is = tt
+
+pub term_presses : FieldsAscend → FieldsAreListed → FieldsTakeAll → SentIsRead → TermPresses
+term_presses ascend listed whole reads key old rest talk end attached is sendable =
+    let bound : core_is_bound (phase_of old.link) ≡ is_bound end =
+    ap (λ l. core_is_bound (phase_of l)) attached ∙ same_bound talk.talk.state ∙ ap (λ (t : Term). is_some (bound_to t.talk.state)) is.talk_is in
+    let outcome : key_outcome key old.station ≡ pressed columns key end.display.keyboard end.display.screen =
+    ap (λ (k : Keyboard). pressed columns key k old.station.screen) is.keyboard_is ∙ ap (pressed columns key end.display.keyboard) is.screen_is in
+    record {
+      attached = attached;
+      is_end = record {
+        talk_is = is.talk_is;
+        screen_is = ap (λ (o : Outcome). o.screen) outcome;
+        keyboard_is = ap (λ (o : Outcome). o.keyboard) outcome;
+      };
+      items = says_of_key key (core_is_bound (phase_of old.link)) old.station;
+      sent = refl;
+      said = subst (λ (b : Bool). Pairwise StandsUp (says_of_key key (core_is_bound (phase_of old.link)) old.station) (data_of b (pressed columns key end.display.keyboard end.display.screen).answer (pressed columns key end.display.keyboard end.display.screen).screen)) bound
+          (subst (λ (o : Outcome). Pairwise StandsUp (says_of_key key (core_is_bound (phase_of old.link)) old.station) (data_of (core_is_bound (phase_of old.link)) o.answer o.screen)) outcome
+          (key_says reads (core_is_bound (phase_of old.link)) (key_outcome key old.station).answer (key_outcome key old.station).screen old.station.number sendable));
+      fit = key_comes ascend listed whole (core_is_bound (phase_of old.link)) (key_outcome key old.station).answer (key_outcome key old.station).screen old.station.number sendable;
+      closed = refl;
+    }
+
+-- ---- queues
+
+pub nothing_stands : {X : Type 0} (Stands : WireItem → X → Type 0) → ReadingNothing → NothingIsRest → NothingStands Stands
+nothing_stands Stands reads is_rest = record {
+  is_rest = is_rest record_limit;
+  items = [];
+  delivers = record { tokens = []; reads = reads record_limit nothing; is_rest = is_rest record_limit; said = refl };
+  each = tt;
+}
+
+sent_text : (items : List WireItem) → text (flat_map item_tokens items) ≡ sent_bytes items
+sent_text [] = refl
+sent_text (item ∷ items) =
+    flat_map-append spelling (item_tokens item) (flat_map item_tokens items) ∙ ap (λ (bytes : List ℕ). text (item_tokens item) ++ bytes) (sent_text items)
+
+pub pairs_more : {X Y : Type 0} (R : X → Y → Type 0) (xs us : List X) (ys vs : List Y) → Pairwise R xs ys → Pairwise R us vs → Pairwise R (xs ++ us) (ys ++ vs)
+pairs_more R [] us [] vs h k = k
+pairs_more R [] us (y ∷ ys) vs h k = absurd h
+pairs_more R (x ∷ xs) us [] vs h k = absurd h
+pairs_more R (x ∷ xs) us (y ∷ ys) vs h k = (h.0, pairs_more R xs us ys vs h.1 k)
+
+pub stands_compose : {X : Type 0} (Stands : WireItem → X → Type 0) → DeliveriesCompose → ItemsAreRead → StandsCompose Stands
+stands_compose Stands compose written rest bytes messages more items stands can each = record {
+  is_rest = stands.is_rest;
+  items = stands.items ++ items;
+  delivers = compose record_limit rest nothing nothing bytes (sent_bytes items) stands.items items stands.delivers
+      (subst (λ (b : List ℕ). Delivers record_limit nothing b items nothing) (sent_text items) (written record_limit items can));
+  each = pairs_more Stands stands.items items messages more stands.each each;
+}
+
+-- the items behind these stand for the messages behind
+record Parts {X Y : Type 0} (R : X → Y → Type 0) (xs us : List X) (ys : List Y) : Type 0 where
+  taken : List Y
+  others : List Y
+  whole : ys ≡ taken ++ others
+  first : Pairwise R xs taken
+  second : Pairwise R us others
+
+pairs_part : {X Y : Type 0} (R : X → Y → Type 0) (xs us : List X) (ys : List Y) → Pairwise R (xs ++ us) ys → Parts R xs us ys
+pairs_part R [] us ys h = record { taken = []; others = ys; whole = refl; first = tt; second = h }
+pairs_part R (x ∷ xs) us [] h = absurd h
+pairs_part R (x ∷ xs) us (y ∷ ys) h =
+    let p = pairs_part R xs us ys h.1 in
+    record { taken = y ∷ p.taken; others = p.others; whole = ap (λ l. y ∷ l) p.whole; first = (h.0, p.first); second = p.second }
+
+pub stands_go_on : {X : Type 0} (Stands : WireItem → X → Type 0) → DeliveryGoesOn → StandsGoOn Stands
+stands_go_on Stands goes_on rest mid bytes behind items messages stands delivers =
+    let more = goes_on record_limit rest mid nothing bytes behind items stands.items delivers stands.delivers in
+    let parts = pairs_part Stands items more.0 messages (subst (λ l. Pairwise Stands l messages) more.1 stands.each) in
+    record {
+      taken = parts.taken;
+      others = parts.others;
+      whole = parts.whole;
+      each = parts.first;
+      stands = record { is_rest = delivers.is_rest; items = more.0; delivers = more.2; each = parts.second };
+    }
+
+-- ---- a connection at its begin
+
+pub begin_stands : ItemIsRead → NothingIsRest → NothingStands StandsUp → BeginStands
+begin_stands written is_rest empty terminal wanted = record {
+  lost = refl;
+  host_here = refl;
+  term_here = refl;
+  host = λ here. record { host = refl; up = empty };
+  term = λ which here. record {
+    rest = nothing;
+    talk = term_start wanted;
+    attached = refl;
+    is_end = record { talk_is = refl; screen_is = refl; keyboard_is = refl };
+    silent = refl;
+    down = record { is_rest = is_rest record_limit; items = OptItem Do 40 ∷ []; delivers = written record_limit (OptItem Do 40) tt; each = (refl, tt) };
+  };
+}

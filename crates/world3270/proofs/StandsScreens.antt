@@ -1,0 +1,136 @@
+-- A screen that can be sent stays one, whatever a command does to it.
+use Rattle.std.proofs.Common.{◌≡◌, ◌<◌, ◌+◌, ◌%◌, ℕ, Bool, true, false, Option, None, Some, List, [], ◌∷◌, length, arith, refl, sym, subst, ◌∙◌, if◌then◌else◌, drop, map, position}
+use Rattle.std.specs.List.{All, prefix_len}
+use Rattle.std.proofs.lemmas.List.Elements.{All-head, All-tail, All-replicate}
+use Rattle.std.proofs.lemmas.List.{length-replicate}
+use Rattle.std.proofs.Math.Nat.{mod-lt}
+use Rattle.codes3270.specs.Size.{cell_count}
+use Rattle.codes3270.specs.declared.attribute.Cell.{Cell}
+use Rattle.codes3270.specs.declared.attribute.Cell.TheVariants.{Char, Attr}
+use Rattle.codes3270.specs.declared.attention.Aid.TheVariants.{NoAid}
+use Rattle.codes3270.specs.declared.write_control.Wcc.{Wcc}
+use Rattle.datastream.specs.Grammar.{IsProper, is_write}
+use Rattle.datastream.specs.InboundFields.{IsStorableCell, IsSendable}
+use Rattle.datastream.specs.Meaning.{Draft, stored, ordered, nulls_after, all_ordered, cleared, prepared, written, filled, unmodified, after_open_attribute, after_code}
+use Rattle.datastream.specs.Screen.{Screen, is_char, is_open_attribute}
+use Rattle.datastream.specs.Span.{distance}
+use Rattle.datastream.specs.Wanted.{WantedScreen}
+use Rattle.datastream.specs.declared.command_code.CommandCode.{CommandCode}
+use Rattle.datastream.specs.declared.command_code.CommandCode.TheVariants.{Write, EraseWrite, EraseWriteAlternate, ReadBuffer, ReadModified, ReadModifiedAll, EraseAllUnprotected}
+use Rattle.datastream.specs.declared.order.Order.{Order}
+use Rattle.datastream.specs.declared.order.Order.TheVariants.{Sf, Sba, Ic, Pt, Ra, Eua, Char as Data}
+use Rattle.datastream.proofs.Commands.{command_proper}
+use Rattle.presentation.proofs.Storable.{storable_unmodified, with_filled, with_opened, with_mapped, with_stored, with_cursor}
+use Rattle.presentation.specs.Applied.{asked_by}
+use Rattle.std.proofs.lemmas.Bool.{and_parts}
+use Rattle.host_core.specs.Messages.{ToTerminal}
+use Rattle.shadow.specs.Belief.{Shadow}
+use Rattle.shadow.specs.Painted.{plainly_painted}
+use Rattle.telnet_wire.specs.Items.{WireItem}
+use Rattle.world3270.specs.Stands.{IsPaint}
+use Rattle.world3270.specs.StandsLaws.{IsBelieved, TakesKeepSendable}
+use Rattle.world3270.specs.Terminal.{TermEnd, TermStep, is_bound, paint_came, read_came, once_bound}
+
+-- ---- orders
+
+record IsDraft (draft : Draft) : Type 0 where
+  screen : IsSendable draft.screen
+  address : draft.address < cell_count
+
+next_below : (size at : ℕ) → size ≡ cell_count → at % size < cell_count
+next_below size at same = subst (λ (n : ℕ). at % n < cell_count) (sym same) (mod-lt at {m = cell_count} (omega arith))
+
+tab_below : (size at : ℕ) (found : Option ℕ) → size ≡ cell_count → after_open_attribute found at size < cell_count
+tab_below size at None same = omega arith
+tab_below size at (Some away) same = next_below size (at + away + 1) same
+
+one_stored : (draft : Draft) (cell : Cell) → IsStorableCell cell → IsDraft draft → IsDraft (stored draft cell)
+one_stored draft cell p is = record {
+  screen = with_stored draft.screen draft.address cell p is.screen;
+  address = next_below (length draft.screen.cells) (draft.address + 1) is.screen.size;
+}
+
+filled_if : (nulls : Bool) (screen : Screen) (from count : ℕ) → IsSendable screen
+    → IsSendable (record screen { cells = if nulls then filled from count (Char 0) screen.cells else screen.cells })
+filled_if true screen from count is = with_filled screen from count (Char 0) refl is
+filled_if false screen from count is = is
+
+order_keeps : (order : Order) (nulls : Bool) (draft : Draft) → IsProper order → IsDraft draft → IsDraft (ordered order nulls draft)
+order_keeps (Data byte) nulls draft p is = one_stored draft (Char byte) p is
+order_keeps (Sf attribute) nulls draft p is = one_stored draft (Attr attribute) tt is
+order_keeps (Sba address) nulls draft p is = record { screen = is.screen; address = p }
+order_keeps Ic nulls draft p is = record { screen = with_cursor draft.screen draft.address is.address is.screen; address = is.address }
+order_keeps Pt nulls draft p is = record {
+  screen = filled_if nulls draft.screen draft.address (prefix_len is_char (drop draft.address draft.screen.cells)) is.screen;
+  address = tab_below (length draft.screen.cells) draft.address (position is_open_attribute (drop draft.address draft.screen.cells)) is.screen.size;
+}
+order_keeps (Ra stop byte) nulls draft p is = record {
+  screen = with_filled draft.screen draft.address (distance (length draft.screen.cells) draft.address stop) (Char byte) p.1 is.screen;
+  address = p.0;
+}
+order_keeps (Eua stop) nulls draft p is = record {
+  screen = with_opened draft.screen draft.address (distance (length draft.screen.cells) draft.address stop) is.screen;
+  address = p;
+}
+
+orders_keep : (orders : List Order) (nulls : Bool) (draft : Draft) → All IsProper orders → IsDraft draft → IsDraft (all_ordered orders nulls draft)
+orders_keep [] nulls draft all is = is
+orders_keep (order ∷ orders) nulls draft all is =
+    orders_keep orders (nulls_after order nulls draft) (ordered order nulls draft) (All-tail IsProper order orders all)
+    (order_keeps order nulls draft (All-head IsProper order orders all) is)
+
+-- ---- writes
+
+prepared_if : (reset : Bool) (screen : Screen) → IsSendable screen → IsSendable (record screen { cells = if reset then map unmodified screen.cells else screen.cells })
+prepared_if true screen is = with_mapped screen unmodified storable_unmodified is
+prepared_if false screen is = is
+
+restored_if : (restore : Bool) (screen : Screen) → IsSendable screen → IsSendable (record screen { aid = if restore then NoAid else screen.aid })
+restored_if true screen is = record { size = is.size; cursor = is.cursor; aid = tt; storable = is.storable }
+restored_if false screen is = is
+
+write_keeps : (wcc : Option Wcc) (orders : List Order) (screen : Screen) → All IsProper orders → IsSendable screen → IsSendable (written wcc orders screen)
+write_keeps None orders screen all is = is
+write_keeps (Some wcc) orders screen all is =
+    restored_if wcc.restore _
+    (orders_keep orders false (record { screen = prepared wcc screen; address = screen.cursor }) all
+    (record { screen = prepared_if wcc.reset screen is; address = is.cursor })).screen
+
+clear_keeps : (screen : Screen) → IsSendable screen → IsSendable (cleared screen)
+clear_keeps screen is = record {
+  size = length-replicate (length screen.cells) (Char 0) ∙ is.size;
+  cursor = omega arith;
+  aid = is.aid;
+  storable = All-replicate IsStorableCell (length screen.cells) (Char 0) refl;
+}
+
+-- a write leaves a screen that can be sent
+code_keeps : (code : CommandCode) (wcc : Option Wcc) (orders : List Order) (screen : Screen) → is_write code ≡ true → All IsProper orders → IsSendable screen
+    → IsSendable (after_code code wcc orders screen)
+code_keeps Write wcc orders screen writes all is = write_keeps wcc orders screen all is
+code_keeps EraseWrite wcc orders screen writes all is = write_keeps wcc orders (cleared screen) all (clear_keeps screen is)
+code_keeps EraseWriteAlternate wcc orders screen writes all is = write_keeps wcc orders (cleared screen) all (clear_keeps screen is)
+code_keeps ReadBuffer wcc orders screen writes all is = is
+code_keeps ReadModified wcc orders screen writes all is = is
+code_keeps ReadModifiedAll wcc orders screen writes all is = is
+code_keeps EraseAllUnprotected wcc orders screen writes all is = absurd (cc)
+
+-- ---- a paint
+
+pub paint_keeps : (number : ℕ) (wanted : WantedScreen) (believed : Shadow) (item : WireItem) (end : TermEnd) (p : IsPaint item number wanted believed)
+    → IsBelieved wanted believed end → IsSendable end.display.screen → IsSendable (plainly_painted wanted end.display.screen)
+paint_keeps number wanted believed item end p b is =
+    let writes = (and_parts (is_write p.command.code) (asked_by p.command).restore p.paints.writes).0 in
+    subst (λ (s : Screen). IsSendable s) (p.paints.paints end.display.screen b.size b.meets)
+    (code_keeps p.command.code p.command.wcc p.command.orders end.display.screen writes (command_proper p.command (p.body, p.spelt)) is)
+
+bound_keeps : (bound : Bool) (step : TermStep) (end : TermEnd) → IsSendable step.end.display.screen → IsSendable end.display.screen
+    → IsSendable (once_bound bound step end).end.display.screen
+bound_keeps true step end is old = is
+bound_keeps false step end is old = old
+
+pub takes_keep_sendable : TakesKeepSendable
+takes_keep_sendable (ToTerminal.TalksDown saying) item end stands may is = is
+takes_keep_sendable (ToTerminal.Paint number wanted believed) item end stands may is =
+    bound_keeps (is_bound end) (paint_came number wanted end) end (paint_keeps number wanted believed item end stands may is) is
+takes_keep_sendable (ToTerminal.ReadBuffer number) item end stands may is = bound_keeps (is_bound end) (read_came end) end is is

@@ -1,0 +1,144 @@
+-- When bytes stand for messages: what is under way in each direction spells them, one item each, and nothing besides (RFC 1647,
+-- sections 8.1 and 10.4; what is sent when is our profile).
+use Rattle.std.specs.Prelude.{◌≡◌, ◌≢◌, ◌<◌, ◌^◌, ℕ, Bool, true, List, [], length, Option, Some, None}
+use Rattle.datastream.specs.Grammar.{CommandParts, IsCommand}
+use Rattle.datastream.specs.InboundText.{IsInbound}
+use Rattle.datastream.specs.Meaning.{after_command}
+use Rattle.datastream.specs.Screen.{Screen}
+use Rattle.datastream.specs.Wanted.{WantedScreen}
+use Rattle.datastream.specs.declared.command_code.CommandCode.TheVariants.{ReadBuffer as ReadBufferCode}
+use Rattle.shadow.specs.Belief.{Shadow}
+use Rattle.shadow.specs.Meets.{Meets}
+use Rattle.shadow.specs.Painted.{plainly_painted}
+use Rattle.shadow.specs.Pairs.{Pairwise}
+use Rattle.telnet_wire.specs.Items.{WireItem, Record}
+use Rattle.telnet_wire.specs.Reading.{Rest, IsRest, nothing, Delivers}
+use Rattle.tn3270e_msg.specs.Header.{Begins}
+use Rattle.tn3270e_msg.specs.TermTable.{Term}
+use Rattle.tn3270e_msg.specs.declared.header.Header.{Header}
+use Rattle.tn3270e_msg.specs.declared.header.DataType.TheVariants.{Data3270}
+use Rattle.term_core.specs.Records.{is_restoring_write}
+use Rattle.term_core.specs.Says.{response, data_record}
+use Rattle.term_core.specs.State.{Station, Terminal, Attached, record_limit}
+use Rattle.term_core.specs.declared.outcome.Outcome.{Outcome}
+use Rattle.term_core.specs.declared.outcome.Outcome.TheVariants.{DeviceEnd}
+use Rattle.host_core.specs.Messages.{ToTerminal, ToHost, Verdict, item_of}
+use Rattle.host_core.specs.Session.{Conn}
+use Rattle.world3270.specs.Link.{Link}
+use Rattle.world3270.specs.Terminal.{TermEnd}
+
+-- ---- one item down
+
+-- the header of a command's record
+abbrev pub command_header : ℕ → ℕ → Header
+command_header flag number = record { kind = Data3270; request = 0; flag = flag; seq = number }
+
+-- ERROR-RESPONSE and ALWAYS-RESPONSE
+abbrev pub when_refused : ℕ
+when_refused = 1
+
+abbrev pub always : ℕ
+always = 2
+
+-- The command is a write that restores, and leaves the wanted screen of every screen of its size that meets what is believed.
+pub record Paints (command : CommandParts) (wanted : WantedScreen) (believed : Shadow) : Type 0 where
+  pub writes : is_restoring_write command ≡ true
+  pub paints : (screen : Screen) → length wanted.cells ≡ length screen.cells → Meets believed screen
+      → after_command command screen ≡ plainly_painted wanted screen
+
+-- a record that asks for a response in any case, with any command that paints
+pub record IsPaint (item : WireItem) (number : ℕ) (wanted : WantedScreen) (believed : Shadow) : Type 0 where
+  pub bytes : List ℕ
+  pub body : List ℕ
+  pub command : CommandParts
+  pub is_record : item ≡ Record bytes
+  pub begins : Begins bytes (command_header always number) body
+  pub spelt : IsCommand command body
+  pub paints : Paints command wanted believed
+
+abbrev pub read_buffer_command : CommandParts
+read_buffer_command = record { code = ReadBufferCode; wcc = None; orders = [] }
+
+-- a record that asks for a response where its Read Buffer is refused
+pub record IsRead (item : WireItem) (number : ℕ) : Type 0 where
+  pub bytes : List ℕ
+  pub body : List ℕ
+  pub is_record : item ≡ Record bytes
+  pub begins : Begins bytes (command_header when_refused number) body
+  pub spelt : IsCommand read_buffer_command body
+
+abbrev pub StandsDown : WireItem → ToTerminal → Type 0
+StandsDown item (ToTerminal.TalksDown saying) = item ≡ item_of saying
+StandsDown item (ToTerminal.Paint number wanted believed) = IsPaint item number wanted believed
+StandsDown item (ToTerminal.ReadBuffer number) = IsRead item number
+
+-- ---- one item up
+
+abbrev pub OutcomeIs : Verdict → Outcome → Type 0
+OutcomeIs Verdict.Positive outcome = outcome ≡ DeviceEnd
+OutcomeIs Verdict.Negative outcome = outcome ≢ DeviceEnd
+
+-- data has any number; a response has that of its command
+abbrev pub StandsUp : WireItem → ToHost → Type 0
+StandsUp item (ToHost.TalksUp saying) = item ≡ item_of saying
+StandsUp item (ToHost.Data parts) = (number : ℕ) × (body : List ℕ) × (item ≡ data_record number body) × IsInbound parts body
+StandsUp item (ToHost.Response number verdict) =
+    (outcome : Outcome) × (item ≡ response number outcome) × (number < 2 ^ 16) × OutcomeIs verdict outcome
+
+-- ---- what is under way
+
+-- With what the receiving decoder holds before them, the bytes spell items that stand for the messages, one by one, and nothing of
+-- one more. What it holds is the beginning of one, within the limits.
+pub record BytesStand {X : Type 0} (Stands : WireItem → X → Type 0) (rest : Rest) (bytes : List ℕ) (messages : List X) : Type 0 where
+  pub is_rest : IsRest record_limit rest
+  pub items : List WireItem
+  pub delivers : Delivers record_limit rest bytes items nothing
+  pub each : Pairwise Stands items messages
+
+abbrev pub BytesDown : Rest → List ℕ → List ToTerminal → Type 0
+BytesDown rest bytes messages = BytesStand StandsDown rest bytes messages
+
+abbrev pub BytesUp : Rest → List ℕ → List ToHost → Type 0
+BytesUp rest bytes messages = BytesStand StandsUp rest bytes messages
+
+-- ---- a connection
+
+-- One connection over bytes: what is under way in each direction; the host's end with what its decoder holds, and whether the host
+-- holds it; the terminal, and which one it is.
+pub record ByteLink : Type 0 where
+  pub lost : Bool
+  pub down : List ℕ
+  pub up : List ℕ
+  pub host_here : Bool
+  pub host : Conn
+  pub host_rest : Rest
+  pub term_here : Option ℕ
+  pub term : Terminal
+
+-- the terminal's talk, screen and keyboard are those of the end; `left` and `erased` are history, which bytes don't have
+pub record IsEnd (talk : Term) (station : Station) (end : TermEnd) : Type 0 where
+  pub talk_is : talk ≡ end.talk
+  pub screen_is : station.screen ≡ end.display.screen
+  pub keyboard_is : station.keyboard ≡ end.display.keyboard
+
+-- the host's end, and what comes up to it
+pub record HostStands (bytes : ByteLink) (link : Link) : Type 0 where
+  pub host : bytes.host ≡ link.host
+  pub up : BytesUp bytes.host_rest bytes.up link.up
+
+-- the terminal's end, and what comes down to it; all that the terminal said is under way
+pub record TermStands (bytes : ByteLink) (link : Link) : Type 0 where
+  pub rest : Rest
+  pub talk : Term
+  pub attached : bytes.term.link ≡ Attached rest talk
+  pub is_end : IsEnd talk bytes.term.station link.term
+  pub silent : bytes.term.out ≡ []
+  pub down : BytesDown rest bytes.down link.down
+
+-- Of an end that was left nothing is said: no step reads it, or what is under way to it.
+pub record LinkStands (bytes : ByteLink) (link : Link) : Type 0 where
+  pub lost : bytes.lost ≡ link.lost
+  pub host_here : bytes.host_here ≡ link.host_here
+  pub term_here : bytes.term_here ≡ link.term_here
+  pub host : link.host_here ≡ true → HostStands bytes link
+  pub term : (terminal : ℕ) → link.term_here ≡ Some terminal → TermStands bytes link
