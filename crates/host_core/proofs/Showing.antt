@@ -17,7 +17,7 @@ use Rattle.panels.specs.declared.panel.Field.{Field}
 use Rattle.panels.specs.Panel.{PanelParts}
 use Rattle.panels.specs.Screen.{Values, distance_in, item_cell, autoskip_attr, shown, text_cell, field_attr, field_content, field_cell, stopper_cell, message_text, message_cell, first_some, wanted_cell, wanted_cursor}
 use Rattle.host_core.specs.Application.{IsShowable, KeepsNothing, screen_of, no_screen}
-use Rattle.host_core.specs.Laws.{IsOnScreen, PanelsAreShown, ScreensAreWanted}
+use Rattle.host_core.specs.Laws.{PanelsAreShown, ScreensAreWanted}
 
 -- ---- cells
 
@@ -80,24 +80,28 @@ none_kept cell_of each (cell ∷ cells) = rw (each cell) (none_kept cell_of each
 
 -- ---- cursors
 
-first_on : (fields : List Field) (cursor : ℕ) → ((place : ℕ) (field : Field) → slice_get fields place ≡ Some field → field.extent.first < cell_count) → cursor < cell_count
-    → (place : Option ℕ) → option_map_or (λ (field : Field). field.extent.first) (option_and_then (slice_get fields) place) cursor < cell_count
-first_on fields cursor each on None = on
-first_on fields cursor each on (Some place) = by_field (slice_get fields place) refl
-  where
-    by_field : (field : Option Field) → slice_get fields place ≡ field → option_map_or (λ (f : Field). f.extent.first) field cursor < cell_count
-    by_field None e = on
-    by_field (Some field) e = each place field e
+-- a field lies above the row for messages
+field_on : (field : Field) → field.extent.first < cell_count
+field_on field = let some = field.extent.has_cells in let above = field.extent.above_message in omega arith
 
-cursor_on : (panel : PanelParts) (message : Message) → IsOnScreen panel → wanted_cursor panel message < cell_count
-cursor_on panel Fresh is = is.cursor
-cursor_on panel Plain is = is.cursor
-cursor_on panel KeyNotActive is = is.cursor
-cursor_on panel (Required number) is = first_on panel.fields panel.cursor is.fields is.cursor (position (λ (field : Field). field.number == number) panel.fields)
+first_on : (fields : List Field) (cursor : ℕ) → cursor < cell_count → (place : Option ℕ)
+    → option_map_or (λ (field : Field). field.extent.first) (option_and_then (slice_get fields) place) cursor < cell_count
+first_on fields cursor on None = on
+first_on fields cursor on (Some place) = by_field (slice_get fields place)
+  where
+    by_field : (field : Option Field) → option_map_or (λ (f : Field). f.extent.first) field cursor < cell_count
+    by_field None = on
+    by_field (Some field) = field_on field
+
+cursor_on : (panel : PanelParts) (message : Message) → panel.cursor < cell_count → wanted_cursor panel message < cell_count
+cursor_on panel Fresh on = on
+cursor_on panel Plain on = on
+cursor_on panel KeyNotActive on = on
+cursor_on panel (Required number) on = first_on panel.fields panel.cursor on (position (λ (field : Field). field.number == number) panel.fields)
 
 -- ---- screens
 
-shows : (panel : Option PanelParts) (values : Values) (message : Message) (keep : Bool) → ((parts : PanelParts) → panel ≡ Some parts → IsOnScreen parts)
+shows : (panel : Option PanelParts) (values : Values) (message : Message) (keep : Bool) → ((parts : PanelParts) → panel ≡ Some parts → parts.cursor < cell_count)
     → IsShowable cell_count (option_map_or (λ (parts : PanelParts). screen_of parts values message keep) panel (no_screen message))
 shows None values message keep is = record { cells = length-map-range_with_len (λ cell. want.Char 0) 0 cell_count; cursor = omega arith }
 shows (Some parts) values message keep is = record { cells = length-map-range_with_len (wanted_cell parts values message keep) 0 cell_count; cursor = cursor_on parts message (is parts refl) }

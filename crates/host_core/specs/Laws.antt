@@ -4,7 +4,6 @@ use Rattle.codes3270.specs.Size.{cell_count}
 use Rattle.datastream.specs.Wanted.{WantedScreen}
 use Rattle.shadow.specs.Belief.{Shadow}
 use Rattle.shadow.specs.Fits.{fits}
-use Rattle.panels.specs.declared.panel.Field.{Field}
 use Rattle.panels.specs.Panel.{PanelParts, Panels}
 use Rattle.panels.specs.declared.message.Message.{Message}
 use Rattle.panels.specs.Screen.{Values, IsWantedOf}
@@ -29,14 +28,13 @@ ActsFit = (app : Application) (conn : Conn) (act : Act) → IsApplication app �
 
 -- ---- panels
 
--- the cursor and the fields of a panel are on the screen
-pub record IsOnScreen (panel : PanelParts) : Type 0 where
-  pub cursor : panel.cursor < cell_count
-  pub fields : (place : ℕ) (field : Field) → slice_get panel.fields place ≡ Some field → field.extent.first < cell_count
+-- the cursor of each panel is on the screen
+abbrev pub CursorsAreOnTheScreen : Panels → Type 0
+CursorsAreOnTheScreen set = (number : ℕ) (panel : PanelParts) → slice_get set.panels number ≡ Some panel → panel.cursor < cell_count
 
 -- What panels ask for is an application.
 abbrev pub PanelsAreShown : Type 0
-PanelsAreShown = (set : Panels) → ((number : ℕ) (panel : PanelParts) → slice_get set.panels number ≡ Some panel → IsOnScreen panel) → IsApplication (application_of set)
+PanelsAreShown = (set : Panels) → CursorsAreOnTheScreen set → IsApplication (application_of set)
 
 -- Each screen of theirs is the one that the panel asks for, cell by cell.
 abbrev pub ScreensAreWanted : Type 0

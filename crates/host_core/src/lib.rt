@@ -29,8 +29,8 @@ pub fn the_pool_is_a_map()
     ensures frees { FreesOneEntry }
 {}
 
-/// Does nothing: its contract says that panels whose cursors and fields are on the screen are an application, of 24 rows by 80,
-/// whose screens are those that the panels ask for.
+/// Does nothing: its contract says that panels whose cursors are on the screen are an application, of 24 rows by 80, whose
+/// screens are those that the panels ask for.
 pub fn panels_are_shown()
     ensures application { PanelsAreShown }
     ensures wanted { ScreensAreWanted }

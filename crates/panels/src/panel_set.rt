@@ -24,6 +24,7 @@ impl Model for PanelSet {
 }
 
 impl PanelSet {
+    ghost use Rattle.codes3270.specs.Size.{cell_count};
     ghost use Rattle.codes3270.specs.declared.attention.Aid.{Aid};
     ghost use Rattle.panels.specs.Keys.{IsKey};
     ghost use Rattle.panels.specs.Panel.{target_of};
@@ -56,7 +57,16 @@ impl PanelSet {
 
         // Its keys lead to panels of the set.
         ensures targets { IfSome result (λ panel. (aid : Aid) (target : ℕ) → IsKey aid → target_of panel.now aid ≡ Some target → target < length self.now.panels) }
+
+        // Its cursor is on the screen.
+        ensures cursor { IfSome result (λ panel. panel.now.cursor < cell_count) }
     {
-        self.panels.as_slice().get(index)
+        match self.panels.as_slice().get(index) {
+            Some(panel) => {
+                panel.cursor_is_on_the_screen();
+                Some(panel)
+            }
+            None => None,
+        }
     }
 }

@@ -16,3 +16,4 @@ pub mod Others
 pub mod Skipped
 pub mod Ends
 pub mod Losses
+pub mod Forms

@@ -36,6 +36,7 @@ use Rattle.world3270.specs.Terminal.{bound_to, replied}
 use Rattle.world3270.specs.World.{World, Event, IsEvent, AreEvents, new_world, happens, run, host_took_it, came_up, term_took_it, came_down, went_down}
 use Rattle.world3270.specs.Example.{example, screen_of, l1, l2, example_pool, rounds, settle, connects, presses, connected, after, end_on, bound_and_shows, refused_l1, fresh_sign_on, incomplete_sign_on, greeting_seen, incomplete_entry, answered_again, complete_entry, lost_entry, connected_again, entered_again, Decides, TheRunsEndSo}
 use Rattle.world3270.proofs.Down.{responses_alone}
+use Rattle.world3270.proofs.Worlds.{run-append}
 
 -- ---- the talk's last steps, over what both ends want
 
@@ -74,12 +75,6 @@ agreed app world is =
     ap (λ (here : Option ℕ). went_down 0 here world) is.here
     ∙ ap (λ (down : List ToTerminal). came_down 0 0 down world) is.down
     ∙ ap (λ (wanted : Wants). agreement_taken wanted world) responses_alone
-
--- ---- runs in parts
-
-run-append : (app : Application) (events more : List Event) (world : World) → run app (events ++ more) world ≡ run app more (run app events world)
-run-append app [] more world = refl
-run-append app (event ∷ events) more world = run-append app events more (happens app event world)
 
 -- the host has taken the request, and acted
 acted_on : Application → World → World

@@ -184,7 +184,7 @@ either : (P : InboundParts → Type 0) (b : Bool) (first second : InboundParts) 
 either P true first second p q = p
 either P false first second p q = q
 
-key_form : (screen : Screen) → (modified_data Modified screen).form ≡ Modified
+pub key_form : (screen : Screen) → (modified_data Modified screen).form ≡ Modified
 key_form screen =
     either (λ (parts : InboundParts). parts.form ≡ Modified) (is_short_aid screen.aid)
     (record { form = Modified; aid = screen.aid; cursor = None; parts = [] })

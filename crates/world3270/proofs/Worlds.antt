@@ -24,7 +24,7 @@ use Rattle.world3270.specs.Stages.Moment.{offered}
 use Rattle.world3270.specs.Stages.Stage.{talking}
 use Rattle.world3270.specs.Terminal.{Display, TermStep, new_display, key_came, took as term_took}
 use Rattle.world3270.specs.View.{view_of}
-use Rattle.world3270.specs.World.{Place, World, Event, IsEvent, AreEvents, new_world, with_at, with_link, noted, freed_if, came_up, went_up, host_acted, left_alone, place_after, came_down, went_down, key_went, lost_if, host_saw, parted, term_saw, free_number, joined, connected, term_anew, host_left_from, host_anew, there, is_link, is_terminal, happens, run}
+use Rattle.world3270.specs.World.{Place, World, Event, IsEvent, AreEvents, new_world, with_at, with_link, noted, freed_if, came_up, went_up, host_acted, left_alone, place_after, came_down, went_down, key_went, lost_if, host_saw, parted, term_saw, free_number, joined, connected, term_anew, host_left_from, host_anew, there, is_link, is_terminal, happens, run, RunsCompose}
 use Rattle.world3270.specs.Given.{Given}
 use Rattle.world3270.proofs.Down.{term_view, obeys}
 use Rattle.world3270.proofs.Up.{claim, Grants, host_view, answers}
@@ -295,6 +295,11 @@ happens_good given app is Event.RestartHost world e g = host_anew_good given app
 pub run_good : Given → (app : Application) → IsApplication app → (events : List Event) (world : World) → AreEvents events → GoodWorld app world → GoodWorld app (run app events world)
 run_good given app is [] world e g = g
 run_good given app is (event ∷ events) world e g = run_good given app is events (happens app event world) e.1 (happens_good given app is event world e.0 g)
+
+-- ---- runs in parts
+pub run-append : RunsCompose
+run-append app [] more world = refl
+run-append app (event ∷ events) more world = run-append app events more (happens app event world)
 
 pub new_good : Given → (app : Application) → IsApplication app → (pool : List Entry) (terminals : ℕ) → IsPool pool → GoodWorld app (new_world app pool terminals)
 new_good given app is pool terminals lists = record {

@@ -11,3 +11,4 @@ pub mod StandsLaws
 pub mod Places
 pub mod Skipped
 pub mod Losses
+pub mod Forms

@@ -1,5 +1,5 @@
 -- The world: a host, its connections, and terminals; and what each event makes of it (our profile).
-use Rattle.std.specs.Prelude.{◌==◌, ◌&&◌, nat_lt, ⊤, ℕ, Bool, true, false, List, [], ◌∷◌, ◌++◌, find, Option, Some, None, if◌then◌else◌}
+use Rattle.std.specs.Prelude.{◌≡◌, ◌==◌, ◌&&◌, nat_lt, ⊤, ℕ, Bool, true, false, List, [], ◌∷◌, ◌++◌, find, Option, Some, None, if◌then◌else◌}
 use Rattle.std.specs.List.{range_with_len}
 use Rattle.keyboard.specs.declared.key.Key.{Key}
 use Rattle.keyboard.specs.State.{fresh}
@@ -219,6 +219,10 @@ happens app Event.RestartHost world = host_anew world
 abbrev pub run : Application → List Event → World → World
 run app [] world = world
 run app (event ∷ events) world = run app events (happens app event world)
+
+-- a run in pieces is one run
+abbrev pub RunsCompose : Type 0
+RunsCompose = (app : Application) (first second : List Event) (world : World) → run app (first ++ second) world ≡ run app second (run app first world)
 
 abbrev pub AreEvents : List Event → Type 0
 AreEvents [] = ⊤

@@ -2,6 +2,7 @@
 #![tactic(auto)]
 
 ghost use Rattle.world3270.specs.Example.{TheRunsEndSo};
+ghost use Rattle.world3270.specs.Forms.{FormsAreAwaited};
 ghost use Rattle.world3270.specs.Given.{Given};
 ghost use Rattle.world3270.specs.Headline.{Headline, NobodyRefuses, Always};
 ghost use Rattle.world3270.specs.Losses.{LostTakesNothing};
@@ -26,6 +27,7 @@ ghost use Rattle.world3270.specs.StandsLaws.{
   UpStands,
   WhatComesMayCome,
 };
+ghost use Rattle.world3270.specs.World.{RunsCompose};
 
 use datastream::{fields_both_ways, kept_since_the_write, sent_is_read};
 use host_core::{the_pool_is_a_map, what_is_shown_fits};
@@ -57,9 +59,10 @@ fn what_is_given()
 /// Does nothing: its contract is the headline. After any list of events on a new world, with any application, any pool of LUs
 /// and up to 16 terminals: no two live sessions have one LU; and whenever the host holds the turn with its last command
 /// answered, the screen is as it believes, it has the text of each field that was returned, and each field that wasn't has
-/// what the host left there, or nulls since Erase Input.
+/// what the host left there, or nulls since Erase Input. And a run in pieces is one run.
 pub fn the_headline_holds()
-    ensures { Always Headline }
+    ensures headline { Always Headline }
+    ensures pieces { RunsCompose }
 {
     what_is_given();
 }
@@ -68,6 +71,14 @@ pub fn the_headline_holds()
 /// closes a connection by a cause.
 pub fn nobody_refuses()
     ensures { Always NobodyRefuses }
+{
+    what_is_given();
+}
+
+/// Does nothing: its contract says that over the same lists the data that comes up to the host next has the form that it awaits:
+/// the whole screen while a read is pending, else modified fields. (The bytes of inbound data don't say their form.)
+pub fn what_comes_is_awaited()
+    ensures { Always FormsAreAwaited }
 {
     what_is_given();
 }

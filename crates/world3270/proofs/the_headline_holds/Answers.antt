@@ -1,5 +1,6 @@
 use Rattle.world3270.proofs.Headline.{headline}
+use Rattle.world3270.proofs.Worlds.{run-append}
 use Rattle.world3270.proofs.the_headline_holds.Goals as goal
 
 pub returns : goal.returns
-returns c = headline c.what_is_given.ensures
+returns c = record { headline = headline c.what_is_given.ensures; pieces = run-append }
