@@ -1,3 +1,4 @@
 pub mod Tables
 pub mod SixBitCodes
 pub mod RoundTrips
+pub mod CodeRange

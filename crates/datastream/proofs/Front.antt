@@ -1,5 +1,5 @@
 -- The order at the front of bytes: reading it agrees with the grammar.
-use Rattle.std.proofs.Common.{◌≡◌, ◌==◌, ℕ, ◌<◌, ◌≤◌, List, [], ◌∷◌, ◌++◌, length, Bool, true, false, cond, refl, ap, sym, ◌∙◌, Result, Ok, Err, nat_lt, arith, inl, inr, subst}
+use Rattle.std.proofs.Common.{◌≡◌, ◌==◌, ℕ, ◌<◌, ◌≤◌, List, [], ◌∷◌, ◌++◌, length, Bool, true, false, refl, ap, sym, ◌∙◌, Result, Ok, Err, nat_lt, arith, inl, inr, subst}
 use Rattle.std.specs.Prelude.{◌||◌}
 use Rattle.std.proofs.lemmas.Bool.{cond_both, eqb-true, ltb-true, ltb-false, lt-ltb, le-ltb, or_cases, false≢true}
 use Rattle.codes3270.specs.Size.{cell_count}
@@ -12,18 +12,7 @@ use Rattle.datastream.specs.declared.fault.CommandFault.{CommandFault}
 use Rattle.datastream.specs.declared.fault.CommandFault.TheVariants.{BadOrder, BadAddress, Truncated}
 use Rattle.datastream.specs.Grammar.{start_field, set_buffer_address, insert_cursor, program_tab, repeat_to_address, erase_unprotected_to_address, IsAddress, IsOrder, has_address, is_order_code, IsNoOrder, unknown_code, cut_attribute, cut_address, address_too_large, cut_character, unstorable_character}
 use Rattle.datastream.specs.Reading.{◌>>=◌, byte_at, address_at, character_at, order_after, order_at}
-
-cond_when : {X : Type 0} (b : Bool) (x y : X) → b ≡ true → cond b x y ≡ x
-cond_when true x y e = refl
-cond_when false x y e = absurd (false≢true e)
-
-cond_unless : {X : Type 0} (b : Bool) (x y : X) → b ≡ false → cond b x y ≡ y
-cond_unless true x y e = absurd (false≢true (sym e))
-cond_unless false x y e = refl
-
-neither : (x y : Bool) → x ≡ false → y ≡ false → (x || y) ≡ false
-neither false y e f = f
-neither true y e f = absurd (false≢true (sym e))
+use Rattle.datastream.proofs.Decisions.{cond_when, cond_unless, neither}
 
 -- ---- what is read is in the grammar
 

@@ -1,5 +1,5 @@
 -- Bytes are one inbound data of a form, or have one first fault.
-use Rattle.std.proofs.Common.{◌≡◌, ℕ, ◌<◌, ◌≤◌, List, [], ◌∷◌, ◌-◌, length, get_or, take, drop, Bool, true, false, cond, refl, ap, sym, ◌∙◌, Result, Ok, Err, Option, Some, None, nat_lt, subst, arith, ◌⊎◌, inl, inr}
+use Rattle.std.proofs.Common.{◌≡◌, ℕ, ◌<◌, ◌≤◌, List, [], ◌∷◌, ◌-◌, length, get_or, take, drop, true, false, refl, ap, sym, ◌∙◌, Result, Ok, Err, Option, Some, None, nat_lt, subst, arith, ◌⊎◌, inl, inr}
 use Rattle.std.specs.Prelude.{MatchOption, MatchResult, All, if◌then◌else◌, IfSome}
 use Rattle.std.proofs.lemmas.Bool.{cases_lt, false≢true, lt-ltb, le-ltb}
 use Rattle.std.proofs.lemmas.List.{take_all}
@@ -18,14 +18,7 @@ use Rattle.datastream.specs.InboundText.IsInbound.{alone, long}
 use Rattle.datastream.specs.InboundText.IsNoInbound.{no_bytes, unknown_aid, not_alone, no_cursor, cursor_too_large, faulty_text}
 use Rattle.datastream.specs.InboundReading.{parts_in}
 use Rattle.datastream.proofs.InboundSequences.{parts_in-nil, parts_in-whole, whole_or_faulty, one_part_fault, parts_proper}
-
-cond_when : {X : Type 0} (b : Bool) (x y : X) → b ≡ true → cond b x y ≡ x
-cond_when true x y e = refl
-cond_when false x y e = absurd (false≢true e)
-
-cond_unless : {X : Type 0} (b : Bool) (x y : X) → b ≡ false → cond b x y ≡ y
-cond_unless true x y e = absurd (false≢true (sym e))
-cond_unless false x y e = refl
+use Rattle.datastream.proofs.Decisions.{cond_when, cond_unless}
 
 -- ---- the fault, if any, before the parts
 

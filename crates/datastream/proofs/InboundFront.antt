@@ -1,5 +1,5 @@
 -- The part at the front of inbound bytes: reading it agrees with what bytes stand for parts.
-use Rattle.std.proofs.Common.{◌≡◌, ◌==◌, ℕ, ◌<◌, List, [], ◌∷◌, ◌++◌, length, Bool, true, false, cond, refl, ap, sym, ◌∙◌, Result, Ok, Err, nat_lt, arith}
+use Rattle.std.proofs.Common.{◌≡◌, ◌==◌, ℕ, ◌<◌, List, [], ◌∷◌, ◌++◌, length, Bool, true, false, refl, ap, sym, ◌∙◌, Result, Ok, Err, nat_lt, arith}
 use Rattle.std.specs.Prelude.{◌||◌}
 use Rattle.std.proofs.lemmas.Bool.{cond_both, eqb-true, ltb-true, ltb-false, lt-ltb, le-ltb, false≢true}
 use Rattle.codes3270.specs.Size.{cell_count}
@@ -16,18 +16,7 @@ use Rattle.datastream.specs.InboundText.{is_text_char, IsTextPart, IsCellPart, I
 use Rattle.datastream.specs.InboundText.IsNoTextPart.{out_of_place as text_out_of_place, cut_address, address_too_large}
 use Rattle.datastream.specs.InboundText.IsNoCell.{at_end, cut_attribute, out_of_place as cell_out_of_place}
 use Rattle.datastream.specs.InboundReading.{address_at, attribute_at, text_part_at, cell_part_at, part_at}
-
-cond_when : {X : Type 0} (b : Bool) (x y : X) → b ≡ true → cond b x y ≡ x
-cond_when true x y e = refl
-cond_when false x y e = absurd (false≢true e)
-
-cond_unless : {X : Type 0} (b : Bool) (x y : X) → b ≡ false → cond b x y ≡ y
-cond_unless true x y e = absurd (false≢true (sym e))
-cond_unless false x y e = refl
-
-neither : (x y : Bool) → x ≡ false → y ≡ false → (x || y) ≡ false
-neither false y e f = f
-neither true y e f = absurd (false≢true (sym e))
+use Rattle.datastream.proofs.Decisions.{cond_when, cond_unless, neither}
 
 none_of : (x y : Bool) → (x || y) ≡ false → (x ≡ false) × (y ≡ false)
 none_of false y e = (refl, e)

@@ -1,8 +1,10 @@
+pub mod Decisions
 pub mod Front
 pub mod Sequences
 pub mod Commands
 pub mod Written
 pub mod Rounds
+pub mod Spans
 pub mod Places
 pub mod Fields
 pub mod OrderPlaces

@@ -4,6 +4,7 @@ pub mod Writing
 pub mod Screen
 pub mod Fields
 pub mod Span
+pub mod SpanLaws
 pub mod Meaning
 pub mod Inbound
 pub mod Held

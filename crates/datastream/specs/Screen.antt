@@ -1,10 +1,11 @@
 -- A screen, and its fields as GA23-0059 sees them: the cells lie on a ring, and an attribute governs
 -- the cells after it up to the next attribute.
-use Rattle.std.specs.Prelude.{◌≡◌, ◌+◌, ◌-◌, ◌%◌, ◌<◌, not, slice_index_or, ℕ, Bool, true, false, List, [], ◌∷◌, ◌++◌, length, take, drop, Option, Some, None, if◌then◌else◌}
+use Rattle.std.specs.Prelude.{◌≡◌, ◌+◌, ◌-◌, ◌%◌, ◌<◌, not, slice_index_or, ℕ, Bool, true, false, List, [], ◌∷◌, ◌++◌, length, take, drop, replicate, Option, Some, None, if◌then◌else◌}
 use Rattle.std.specs.Option.{option_or}
 use Rattle.codes3270.specs.declared.attribute.Cell.{Cell}
 use Rattle.codes3270.specs.declared.attribute.Cell.TheVariants.{Char, Attr}
 use Rattle.codes3270.specs.declared.attention.Aid.{Aid}
+use Rattle.codes3270.specs.declared.attention.Aid.TheVariants.{NoAid}
 use Rattle.codes3270.specs.declared.attribute.Attr.{Attr as Attribute}
 
 -- the cells by address, the cursor's address, and the AID
@@ -12,6 +13,10 @@ pub record Screen : Type 0 where
   pub cells : List Cell
   pub cursor : ℕ
   pub aid : Aid
+
+-- all cells null, the cursor at 0, no AID, on a screen of this size
+abbrev pub blank_screen : ℕ → Screen
+blank_screen size = record { cells = replicate size (Char 0); cursor = 0; aid = NoAid }
 
 -- the attribute that a cell holds
 abbrev pub attribute_in : Cell → Option Attribute

@@ -8,10 +8,12 @@ ghost use Rattle.datastream.specs.InboundReturned.{returned_of_field};
 use codes3270::{Addr, addr_from_bytes, storable};
 use std::marker::Model;
 
-/// A field that came: the address of its first cell, below `CELLS`, and its characters, of which none is null.
-#[derive(Clone, Copy)]
+/// A field that came (GA23-0059, "Read Modified").
+#[derive(Clone, Copy, Debug, PartialEq, Eq)]
 pub struct ReturnedField<'a> {
+    /// The address of its first cell: the one behind its attribute, round the end.
     pub first: Addr,
+    /// Its characters, of which none is null.
     pub text: &'a [u8],
 }
 

@@ -3,6 +3,7 @@ ghost use Rattle.std.specs.Prelude.{◌≡◌};
 ghost use Rattle.datastream.specs.InboundFields.{cell_of_part};
 
 use codes3270::{Addr, Attr, Cell};
+use std::error::Error;
 use std::fmt;
 
 /// Which read the data answers (GA23-0059, "Read commands").
@@ -28,7 +29,7 @@ pub enum Part {
 }
 
 impl Part {
-    /// The cell that it is; None for an address.
+    /// The cell that it is, or `None` for an address.
     pub fn cell(self) -> Option<Cell>
         ensures { result ≡ cell_of_part self }
     {
@@ -40,14 +41,14 @@ impl Part {
     }
 }
 
-/// Why bytes are no inbound data of a form: the first fault from left to right.
-#[derive(Clone, Copy, Debug, PartialEq, Eq)]
+/// Why bytes are no inbound data of a form: the first fault in reading order (our profile).
+#[derive(Clone, Copy, Debug, PartialEq, Eq, Hash)]
 pub enum InboundFault {
     /// There are no bytes, no whole cursor address where one belongs, or fewer cells than the screen has.
     Short,
     /// The first byte is no key's AID.
     BadAid,
-    /// The cursor's or a field's address is 1920 or more.
+    /// The cursor's or a field's address isn't below [`CELLS`](codes3270::CELLS). It is judged when both its bytes are there.
     BadAddress,
     /// A byte is out of place or can't be stored, a field's text has a null, an address is cut short, there are more cells
     /// than the screen has, or something follows an AID that stands alone.
@@ -71,3 +72,5 @@ impl fmt::Display for InboundFault {
         }
     }
 }
+
+impl Error for InboundFault {}

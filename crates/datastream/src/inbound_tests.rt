@@ -116,7 +116,7 @@ fn a_field_that_wraps_comes_last(rt: HostRuntime) -> Result<(), Fail> {
 fn parts_are_in_the_order_of_the_bytes(rt: HostRuntime) -> Result<(), Fail> {
     let first = Addr::new(1).ok_or("not an address")?;
     let bytes = [0x7D, 0x40, 0xC4, 0xC9, 0x11, 0x40, 0xC1, 0xC1, 0xC2];
-    let inbound = read_inbound(&bytes, Form::Modified).map_err(|_| "refused")?;
+    let inbound = read_inbound(&bytes, Form::Modified)?;
     let parts = [
         Part::Char(0xC9),
         Part::At(first),
@@ -132,13 +132,13 @@ fn parts_are_in_the_order_of_the_bytes(rt: HostRuntime) -> Result<(), Fail> {
 #[test]
 fn a_short_aid_stands_alone_only_for_read_modified(rt: HostRuntime) -> Result<(), Fail> {
     let first = PaNo::new(1).ok_or("not a key")?;
-    let alone = read_inbound(&[0x6C], Form::Modified).map_err(|_| "refused")?;
+    let alone = read_inbound(&[0x6C], Form::Modified)?;
     assert_eq!(rt; alone.aid(), Aid::Pa(first));
     assert_eq!(rt; alone.cursor(), None);
     assert!(rt; has_parts(&alone, &[]));
-    let clear = read_inbound(&[0x6D], Form::Modified).map_err(|_| "refused")?;
+    let clear = read_inbound(&[0x6D], Form::Modified)?;
     assert_eq!(rt; clear.aid(), Aid::Clear);
-    let long = read_inbound(&[0x6C, 0x40, 0x40], Form::All).map_err(|_| "refused")?;
+    let long = read_inbound(&[0x6C, 0x40, 0x40], Form::All)?;
     assert_eq!(rt; long.aid(), Aid::Pa(first));
     assert_eq!(rt; long.cursor(), Addr::new(0));
     Ok(())
@@ -201,7 +201,7 @@ fn buffer(alloc: Global, count: u16, more: &[u8]) -> Result<Vec<u8>, AllocError>
 fn a_buffer_has_every_cell(rt: HostRuntime) -> Result<(), Fail> {
     // The last cell is null.
     let bytes = buffer(rt.alloc(), CELLS - 2, &[0x00])?;
-    let inbound = read_inbound(&bytes, Form::Buffer).map_err(|_| "refused")?;
+    let inbound = read_inbound(&bytes, Form::Buffer)?;
     assert_eq!(rt; inbound.cursor(), Addr::new(169));
     let mut parts = inbound.parts();
     assert_eq!(rt; parts.next(), Some(Part::Attr(Attr::from_code(0xF0))));
@@ -248,6 +248,20 @@ fn a_buffer_has_no_other_number_of_cells(rt: HostRuntime) -> Result<(), Fail> {
         Some(InboundFault::BadForm)
     );
     Ok(())
+}
+
+#[test]
+fn an_address_is_no_cell(rt: HostRuntime) {
+    let attr = Attr::from_code(0xF0);
+    assert_eq!(rt; Part::Attr(attr).cell(), Some(Cell::Attr(attr)));
+    assert_eq!(rt; Part::Char(0xC1).cell(), Some(Cell::Char(0xC1)));
+    assert_eq!(rt; Part::At(Addr::first()).cell(), None);
+}
+
+#[test]
+fn laws_do_nothing(_rt: HostRuntime) {
+    parts_are_fields();
+    sent_is_read();
 }
 
 #[test]

@@ -2,6 +2,7 @@
 ghost use Rattle.datastream.specs.FieldLaws.{EachCellHasOneField, FieldsAreListed, FieldsAscend, FieldsTakeAll, Unformatted};
 ghost use Rattle.datastream.specs.HeldLaws.{EraseInputHolds, HeldAtFirst, HeldComposes, HeldIsRound};
 ghost use Rattle.datastream.specs.Laws.{OnlyByPlace, TabsByPlace, WrittenIsRead};
+ghost use Rattle.datastream.specs.SpanLaws.{DistancesLead, SpansAreSteps};
 
 /// Does nothing: its contract says that what a [`CommandWriter`](crate::CommandWriter) wrote in any calls is the command
 /// of the orders that the calls name.
@@ -14,6 +15,14 @@ pub fn written_is_read()
 pub fn tabs_by_place()
     ensures by_place { TabsByPlace }
     ensures only { OnlyByPlace }
+{}
+
+/// Does nothing: its contract says that the addresses which Repeat to Address and Erase Unprotected to Address act on are
+/// those that single steps lead to, from the current address up to the stop, round the end; all of them where the two are
+/// equal.
+pub fn spans_are_steps()
+    ensures steps { SpansAreSteps }
+    ensures lead { DistancesLead }
 {}
 
 /// Does nothing: its contract says that the two views of fields agree (GA23-0059, "Fields"): the list of fields by the

@@ -1,4 +1,5 @@
-//! The commands of the 3270 data stream (GA23-0059), read and written, and what they mean.
+//! The commands of the 3270 data stream (GA23-0059), read and written, what they mean, and the inbound data that terminals
+//! send.
 //!
 //! [`read_command`] reads a command whole before anything comes of it: it answers the command, which lends its orders one
 //! by one, or the first fault in reading order. A [`CommandWriter`] appends commands to a vector.
@@ -14,8 +15,11 @@
 //! }
 //! ```
 //!
+//! [`read_inbound`] reads what the terminal sends, in one of three [`Form`]s, and answers it or the first fault in it.
+//!
 //! `specs/` has the definitions: `Grammar` says which bytes are commands and where others go wrong, `Writing` what is
-//! written, `Screen`, `Fields` and `Span` what a screen is, `Meaning` what a command makes of it, and `Laws` what joins
+//! written, `InboundText` which bytes are inbound data, `Screen`, `Fields` and `Span` what a screen is, `Meaning` what a
+//! command makes of it, `Inbound` what is sent of it, `Held` what keys keep of it, and `Laws` with its like what joins
 //! these. The functions [`written_is_read`] and those beside it have the laws as their contracts.
 #![tactic(auto)]
 
@@ -46,8 +50,11 @@ pub use inbound_fields::{ReturnedField, ReturnedFields};
 pub use inbound_laws::{parts_are_fields, sent_is_read};
 pub use inbound_part::{Form, InboundFault, Part};
 pub use inbound_reader::{Cells, Parts};
-pub use laws::{fields_both_ways, kept_since_the_write, tabs_by_place, written_is_read};
+pub use laws::{
+    fields_both_ways, kept_since_the_write, spans_are_steps, tabs_by_place, written_is_read,
+};
 pub use order::Order;
+pub use order_codes::{SET_BUFFER_ADDRESS, START_FIELD};
 pub use orders::Orders;
 pub use wanted::{Want, Wanted};
 pub use writer::{CommandWriter, Memory};

@@ -1,10 +1,10 @@
-//! The codes of the orders (GA23-0059, "Orders"), for reading and for writing.
+//! The codes of the orders (GA23-0059, "Orders"), for reading and for writing. Inbound data has two of them.
 
 /// Start Field (SF): an attribute follows.
-pub(crate) const START_FIELD: u8 = 0x1D;
+pub const START_FIELD: u8 = 0x1D;
 
 /// Set Buffer Address (SBA): an address follows.
-pub(crate) const SET_BUFFER_ADDRESS: u8 = 0x11;
+pub const SET_BUFFER_ADDRESS: u8 = 0x11;
 
 /// Insert Cursor (IC).
 pub(crate) const INSERT_CURSOR: u8 = 0x13;

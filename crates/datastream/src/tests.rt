@@ -1,4 +1,7 @@
-//! Commands read and written, byte for byte.
+//! Commands read and written, byte for byte, and wanted screens.
+ghost use Rattle.std.specs.Prelude.{All};
+ghost use Rattle.datastream.specs.Wanted.{IsProper};
+
 use super::*;
 use codes3270::{Addr, Attr, CELLS, COLUMNS, Wcc};
 use std::test::Fail;
@@ -60,6 +63,7 @@ fn writes_alone_have_a_write_control_character(rt: HostRuntime) -> Result<(), Fa
     ];
     for (code, bytes, wcc) in table {
         assert_eq!(rt; read_command(bytes)?.wcc(), wcc, "reading {bytes:?}");
+        assert_eq!(rt; code.has_orders(), wcc.is_some(), "{code:?}");
         let mut out = Vec::new(rt.alloc());
         CommandWriter::new(&mut out).begin(code, CLEARED_WCC)?;
         assert_eq!(rt; out.as_slice(), bytes);
@@ -297,6 +301,41 @@ fn a_call_appends_its_bytes_or_changes_nothing(rt: HostRuntime) -> Result<(), Fa
     Ok(())
 }
 
+// ---- wanted screens
+
+fn all_kept() -> [Want; CELLS as usize]
+    ensures { All IsProper result }
+{
+    [Want::Keep; CELLS as usize]
+}
+
+fn put_want(wants: &mut [Want; CELLS as usize], place: Addr, want: Want)
+    requires proper { All IsProper wants.old }
+    requires fits { IsProper want }
+    ensures { All IsProper wants.new }
+{
+    wants[place.get() as usize] = want;
+}
+
+#[test]
+fn a_wanted_screen_names_each_cell(rt: HostRuntime) -> Result<(), Fail> {
+    let attr = Want::Attr(attribute(0x60));
+    let mut wants = all_kept();
+    put_want(&mut wants, address(0)?, attr);
+    put_want(&mut wants, address(CELLS - 1)?, Want::Char(0xC1));
+    let wanted = Wanted::new(wants, address(7)?, true);
+    assert_eq!(rt; wanted.want(address(0)?), attr);
+    assert_eq!(rt; wanted.want(address(1)?), Want::Keep);
+    assert_eq!(rt; wanted.want(address(CELLS - 1)?), Want::Char(0xC1));
+    assert_eq!(rt; wanted.cells().len(), CELLS as usize);
+    assert_eq!(rt; wanted.cells().first(), Some(&attr));
+    assert_eq!(rt; wanted.cursor().get(), 7);
+    assert!(rt; wanted.reset());
+    assert!(rt; wanted == Wanted::new(wants, address(7)?, true));
+    assert!(rt; wanted != Wanted::new(wants, address(7)?, false));
+    Ok(())
+}
+
 #[test]
 fn faults_have_texts(rt: HostRuntime) -> Result<(), Fail> {
     let table = [
@@ -315,6 +354,7 @@ fn faults_have_texts(rt: HostRuntime) -> Result<(), Fail> {
 fn laws_do_nothing(_rt: HostRuntime) {
     written_is_read();
     tabs_by_place();
+    spans_are_steps();
     fields_both_ways();
     kept_since_the_write();
 }

@@ -6,10 +6,12 @@ ghost use Rattle.datastream.specs.Wanted.{IsProper, WantedScreen};
 use codes3270::{Addr, Attr, CELLS};
 use std::marker::Model;
 
-/// What a cell is wanted to have.
+/// What a cell is wanted to have (our profile).
 #[derive(Clone, Copy, Debug, PartialEq, Eq)]
 pub enum Want {
+    /// This character.
     Char(u8),
+    /// This attribute.
     Attr(Attr),
     /// What it has.
     Keep,
@@ -20,7 +22,7 @@ const SIZE: usize = CELLS as usize;
 
 /// A wanted screen: a [`Want`] for each cell, where the cursor shall be, and whether all fields are
 /// marked as unmodified first. Each wanted character is storable.
-#[derive(Clone, Copy, Debug)]
+#[derive(Clone, Copy, Debug, PartialEq, Eq)]
 pub struct Wanted {
     cells: [Want; SIZE],
     cursor: Addr,

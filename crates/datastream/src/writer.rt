@@ -20,7 +20,7 @@ pub type Memory = AllocError;
 #[derive(Drop)]
 pub struct CommandWriter<'a> {
     /// The vector that the calls append to. What stands in it already stays. It is public so that a caller's proof can
-    /// say that it is still the caller's own.
+    /// say that it is still the caller's own, which a model of the writer wouldn't tell.
     pub out: &'a mut Vec<u8>,
 }
 

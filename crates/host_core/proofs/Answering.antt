@@ -1,10 +1,10 @@
--- What a host believes of a command, and which response answers it.
+-- What a host believes of a command, by which numbers commands go, and which response answers one.
 use Rattle.std.proofs.Common.{◌≡◌, ◌==◌, ℕ, Bool, true, false, Some, refl, ap, sym, ◌∙◌}
 use Rattle.std.proofs.lemmas.Bool.{eqb-true}
 use Rattle.tn3270e_msg.specs.declared.cause.Cause.TheVariants.{BadResponse}
 use Rattle.host_core.specs.Acts.{Act}
 use Rattle.host_core.specs.Application.{Application}
-use Rattle.host_core.specs.Answering.{BelievesNoSooner, number_of, OnlyItsResponse}
+use Rattle.host_core.specs.Answering.{BelievesNoSooner, CommandsAreNumbered, number_of, OnlyItsResponse}
 use Rattle.host_core.specs.Messages.{Verdict}
 use Rattle.host_core.specs.Session.{Conn, Pending}
 use Rattle.host_core.specs.Takes.{Step, closed_by, if_answers, response_came, once_agreed}
@@ -12,6 +12,10 @@ use Rattle.host_core.specs.Takes.{Step, closed_by, if_answers, response_came, on
 pub believes_no_sooner : BelievesNoSooner
 believes_no_sooner app conn Act.Read = refl
 believes_no_sooner app conn (Act.Show panel message keep values) = refl
+
+pub commands_are_numbered : CommandsAreNumbered
+commands_are_numbered app conn Act.Read = record { carried = refl; awaited = refl; next = refl }
+commands_are_numbered app conn (Act.Show panel message keep values) = record { carried = refl; awaited = refl; next = refl }
 
 differs : (number pending : ℕ) → (Some pending ≡ Some number → ⊥) → (number == pending) ≡ false
 differs number pending other = by_test (number == pending) refl

@@ -93,7 +93,7 @@ first_on fields cursor on (Some place) = by_field (slice_get fields place)
     by_field None = on
     by_field (Some field) = field_on field
 
-cursor_on : (panel : PanelParts) (message : Message) → panel.cursor < cell_count → wanted_cursor panel message < cell_count
+pub cursor_on : (panel : PanelParts) (message : Message) → panel.cursor < cell_count → wanted_cursor panel message < cell_count
 cursor_on panel Fresh on = on
 cursor_on panel Plain on = on
 cursor_on panel KeyNotActive on = on

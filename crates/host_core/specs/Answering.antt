@@ -1,9 +1,11 @@
--- What a host believes of a command, and which response answers it (our profile).
+-- What a host believes of a command, by which numbers commands go, and which response answers one (RFC 1647, section 8.1:
+-- SEQ-NUMBER; the rest is our profile).
 use Rattle.std.specs.Prelude.{◌≡◌, ◌≢◌, true, ℕ, Option, None, Some}
 use Rattle.tn3270e_msg.specs.declared.cause.Cause.TheVariants.{BadResponse}
-use Rattle.host_core.specs.Acts.{Act, done}
+use Rattle.tn3270e_msg.specs.Header.{next_number}
+use Rattle.host_core.specs.Acts.{Act, Sent, done}
 use Rattle.host_core.specs.Application.{Application}
-use Rattle.host_core.specs.Messages.{ToHost, Verdict}
+use Rattle.host_core.specs.Messages.{ToTerminal, ToHost, Verdict}
 use Rattle.host_core.specs.Session.{Conn, Pending, is_agreed}
 use Rattle.host_core.specs.Takes.{Answers, closed_by, took}
 
@@ -16,6 +18,21 @@ abbrev pub number_of : Pending → Option ℕ
 number_of Pending.Nothing = None
 number_of (Pending.Writing number wanted) = Some number
 number_of (Pending.Reading number) = Some number
+
+-- the number that a command carries
+abbrev pub number_in : ToTerminal → Option ℕ
+number_in (ToTerminal.TalksDown saying) = None
+number_in (ToTerminal.Paint number wanted over) = Some number
+number_in (ToTerminal.ReadBuffer number) = Some number
+
+-- A command carries its connection's number, by which its response is awaited; the number behind it is for the next one.
+pub record IsNumbered (old : Conn) (sent : Sent) : Type 0 where
+  pub carried : number_in sent.message ≡ Some old.number
+  pub awaited : number_of sent.conn.pending ≡ Some old.number
+  pub next : sent.conn.number ≡ next_number old.number
+
+abbrev pub CommandsAreNumbered : Type 0
+CommandsAreNumbered = (app : Application) (conn : Conn) (act : Act) → IsNumbered conn (done app conn act)
 
 -- In a session a response with another number than the pending command's closes the connection.
 abbrev pub OnlyItsResponse : Type 0

@@ -1,16 +1,18 @@
 -- What a host shows, and where its keys lead (our profile).
-use Rattle.std.specs.Prelude.{◌≡◌, ◌<◌, ℕ, Bool, false, List, [], length, map, slice_get}
+use Rattle.std.specs.Prelude.{◌≡◌, ◌<◌, ℕ, Bool, false, List, [], length, map, slice_get, All}
 use Rattle.std.specs.List.{list_any, range_with_len}
+use Rattle.std.specs.Map.{values_of}
 use Rattle.std.specs.Option.{option_map_or}
 use Rattle.codes3270.specs.Size.{cell_count, columns}
 use Rattle.codes3270.specs.declared.attention.Aid.{Aid}
-use Rattle.datastream.specs.Wanted.{WantedScreen}
+use Rattle.datastream.specs.Wanted.{WantedScreen, IsScreen}
 use Rattle.datastream.specs.declared.wanted.Want.TheVariants.{Char}
 use Rattle.shadow.specs.Fits.{is_keep}
 use Rattle.panels.specs.declared.panel.Field.{Field}
 use Rattle.panels.specs.declared.message.Message.{Message}
 use Rattle.panels.specs.declared.next.Next.{Next}
 use Rattle.panels.specs.declared.next.Next.TheVariants.{Again}
+use Rattle.panels.specs.Characters.{AreCharacters}
 use Rattle.panels.specs.Panel.{PanelParts, Panels}
 use Rattle.panels.specs.Next.{next_of}
 use Rattle.panels.specs.Screen.{Values, wanted_cell, wanted_cursor, is_fresh}
@@ -38,6 +40,16 @@ pub record IsApplication (app : Application) : Type 0 where
   pub some : 0 < app.size
   pub showable : (panel : ℕ) (values : Values) (message : Message) (keep : Bool) → IsShowable app.size (app.screen panel values message keep)
   pub whole : (panel : ℕ) (values : Values) (message : Message) → KeepsNothing (app.screen panel values message false)
+
+-- values of characters that a cell can hold
+abbrev pub AreTexts : Values → Type 0
+AreTexts values = All AreCharacters (values_of values)
+
+-- Where the values are such, each screen that is asked for is one of the profile's: it has its size, with the cursor on it, and
+-- each of its cells can hold what is wanted of it.
+abbrev pub AsksForScreens : Application → Type 0
+AsksForScreens app =
+    (panel : ℕ) (values : Values) (message : Message) (keep : Bool) → AreTexts values → IsScreen (app.screen panel values message keep)
 
 -- ---- the application that panels are
 

@@ -1,13 +1,16 @@
 -- What holds of a host's acts.
-use Rattle.std.specs.Prelude.{◌≡◌, ◌<◌, Bool, true, ℕ, Some, slice_get}
+use Rattle.std.specs.Prelude.{◌≡◌, ◌<◌, Bool, true, ℕ, Some, slice_get, All}
 use Rattle.codes3270.specs.Size.{cell_count}
 use Rattle.datastream.specs.Wanted.{WantedScreen}
 use Rattle.shadow.specs.Belief.{Shadow}
 use Rattle.shadow.specs.Fits.{fits}
+use Rattle.panels.specs.Characters.{AreCharacters}
 use Rattle.panels.specs.Panel.{PanelParts, Panels}
 use Rattle.panels.specs.declared.message.Message.{Message}
+use Rattle.panels.specs.declared.panel.Content.{Content}
+use Rattle.panels.specs.declared.panel.Content.TheVariants.{Literal, Show}
 use Rattle.panels.specs.Screen.{Values, IsWantedOf}
-use Rattle.host_core.specs.Application.{screen_of, Application, application_of, IsApplication, IsShowable}
+use Rattle.host_core.specs.Application.{screen_of, Application, application_of, AsksForScreens, IsApplication, IsShowable}
 use Rattle.host_core.specs.Messages.{ToTerminal}
 use Rattle.host_core.specs.Session.{Conn}
 use Rattle.host_core.specs.Acts.{Act, done}
@@ -35,6 +38,23 @@ CursorsAreOnTheScreen set = (number : ℕ) (panel : PanelParts) → slice_get se
 -- What panels ask for is an application.
 abbrev pub PanelsAreShown : Type 0
 PanelsAreShown = (set : Panels) → CursorsAreOnTheScreen set → IsApplication (application_of set)
+
+-- what a text shows by itself is characters that a cell can hold
+abbrev pub HasCharacters : Content → Type 0
+HasCharacters (Literal text) = AreCharacters text
+HasCharacters (Show number) = Unit {0}
+
+-- so is what the texts and the fields of a panel have by themselves
+pub record IsOfCharacters (panel : PanelParts) : Type 0 where
+  pub texts : All (λ text. HasCharacters text.content) panel.texts
+  pub fills : All (λ field. AreCharacters field.fill) panel.fields
+
+abbrev pub AreOfCharacters : Panels → Type 0
+AreOfCharacters set = (number : ℕ) (panel : PanelParts) → slice_get set.panels number ≡ Some panel → IsOfCharacters panel
+
+-- Then what they ask for are screens of the profile, where the values are characters too.
+abbrev pub PanelsAskForScreens : Type 0
+PanelsAskForScreens = (set : Panels) → CursorsAreOnTheScreen set → AreOfCharacters set → AsksForScreens (application_of set)
 
 -- Each screen of theirs is the one that the panel asks for, cell by cell.
 abbrev pub ScreensAreWanted : Type 0

@@ -12,18 +12,17 @@ use Rattle.shadow.specs.Heard.{heard}
 use Rattle.shadow.specs.Paint.{paint}
 use Rattle.shadow.specs.Taken.{taken}
 use Rattle.shadow.specs.declared.fault.HeardFault.{HeardFault}
-use Rattle.tn3270e_msg.specs.Talk.{Talk, follow}
+use Rattle.tn3270e_msg.specs.Talk.{Talk, follow, Saying, says, sayings, closing}
 use Rattle.tn3270e_msg.specs.HostTable.{host_line, answer_line}
 use Rattle.tn3270e_msg.specs.declared.cause.Cause.{Cause}
 use Rattle.tn3270e_msg.specs.declared.cause.Cause.TheVariants.{BadInbound, BadResponse, Negative as NegativeCause}
 use Rattle.tn3270e_msg.specs.declared.host_talk.HostState.{HostState}
 use Rattle.tn3270e_msg.specs.declared.host_talk.HostState.TheVariants.{Asking, Closed}
-use Rattle.tn3270e_msg.specs.declared.reply.After.TheVariants.{Close as CloseAfter}
 use Rattle.tn3270e_msg.specs.declared.reply.Reason.{Reason}
 use Rattle.tn3270e_msg.specs.declared.reply.Reply.{Reply}
 use Rattle.tn3270e_msg.specs.declared.reply.Reply.TheVariants as reply
 use Rattle.host_core.specs.Application.{Application}
-use Rattle.host_core.specs.Messages.{ToTerminal, ToHost, Saying, Verdict, says, sayings}
+use Rattle.host_core.specs.Messages.{ToTerminal, ToHost, Verdict}
 use Rattle.host_core.specs.Session.{Conn, Turn, Pending, Occasion, is_agreed}
 
 pub record Step : Type 0 where
@@ -40,11 +39,6 @@ abbrev pub closed_by : Cause → Conn → Step
 closed_by cause conn = record { conn = conn; sends = []; grants = None; closes = Some cause }
 
 -- ---- the talk
-
-abbrev pub closing : Reply → Option Cause
-closing (reply.Close cause) = Some cause
-closing (reply.Sub sending (CloseAfter cause)) = Some cause
-closing _ = None
 
 abbrev pub with_talk : Conn → Talk HostState → Conn
 with_talk conn talk = record conn { talk = talk }

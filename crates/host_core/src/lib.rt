@@ -1,8 +1,8 @@
 //! The host: what it makes of what terminals send, and what it does in its turn.
 #![tactic(auto)]
 
-ghost use Rattle.host_core.specs.Answering.{BelievesNoSooner, OnlyItsResponse};
-ghost use Rattle.host_core.specs.Laws.{ActsFit, PanelsAreShown, ScreensAreWanted};
+ghost use Rattle.host_core.specs.Answering.{BelievesNoSooner, CommandsAreNumbered, OnlyItsResponse};
+ghost use Rattle.host_core.specs.Laws.{ActsFit, PanelsAreShown, PanelsAskForScreens, ScreensAreWanted};
 ghost use Rattle.host_core.specs.PoolLaws.{PoolsAreSound, StaysSoundFree, StaysSoundGranted, StaysSoundBack, NobodyHolds, AnswersWhatIsFree, AnswersNames, AnswersTheName, GrantIsHeld, OthersStay, OthersKeep, BackIsFree, GrantsOneEntry, FreesOneEntry};
 
 /// Does nothing: its contract says that whatever a host does, it paints what fits its belief.
@@ -30,15 +30,19 @@ pub fn the_pool_is_a_map()
 {}
 
 /// Does nothing: its contract says that panels whose cursors are on the screen are an application, of 24 rows by 80, whose
-/// screens are those that the panels ask for.
+/// screens are those that the panels ask for. Where panels and values have characters alone that a cell can hold, so have the
+/// screens.
 pub fn panels_are_shown()
     ensures application { PanelsAreShown }
     ensures wanted { ScreensAreWanted }
+    ensures screens { PanelsAskForScreens }
 {}
 
-/// Does nothing: its contract says that what a host shows changes its belief no sooner than it is answered, and that a response
-/// with another number than the pending command's closes the connection.
+/// Does nothing: its contract says that what a host shows changes its belief no sooner than it is answered; that a command
+/// carries the connection's number, by which its response is awaited, and the next command the number behind it; and that a
+/// response with another number than the pending command's closes the connection.
 pub fn what_is_shown_is_answered()
     ensures no_sooner { BelievesNoSooner }
+    ensures numbered { CommandsAreNumbered }
     ensures only_its { OnlyItsResponse }
 {}

@@ -6,5 +6,7 @@ pub mod Leaving
 pub mod Keeping
 pub mod Locks
 pub mod Replaced
+pub mod Marked
 pub mod Inside
 pub mod Homes
+pub mod Sendable

@@ -1,8 +1,10 @@
 -- Laws of the keys, for proofs in the crates above.
-use Rattle.std.specs.Prelude.{◌≡◌, ◌+◌, ◌-◌, ◌%◌, ◌<◌, ◌≤◌, ◌==◌, ◌++◌, ◌∷◌, [], ℕ, Bool, true, false, not, List, Some, None, length, drop}
+use Rattle.std.specs.Prelude.{◌≡◌, ◌+◌, ◌-◌, ◌%◌, ◌<◌, ◌≤◌, ◌==◌, ◌++◌, ◌∷◌, [], ℕ, Bool, true, false, not, if◌then◌else◌, List, Some, None, length, drop, slice_index_or}
 use Rattle.std.specs.List.{list_all}
 use Rattle.codes3270.specs.declared.attribute.Cell.{Cell}
-use Rattle.datastream.specs.Screen.{Screen}
+use Rattle.codes3270.specs.declared.attribute.Cell.TheVariants.{Char}
+use Rattle.datastream.specs.Screen.{Screen, IsGoverned}
+use Rattle.datastream.specs.Span.{is_within}
 use Rattle.datastream.specs.Held.{Held, erased_input}
 use Rattle.datastream.specs.HeldRound.{erased_round}
 use Rattle.keyboard.specs.declared.key.Key.{Key}
@@ -12,7 +14,7 @@ use Rattle.keyboard.specs.declared.key.Pressed.TheVariants.{Refused}
 use Rattle.keyboard.specs.declared.key.Refusal.{Refusal}
 use Rattle.keyboard.specs.declared.key.Refusal.TheVariants.{Locked}
 use Rattle.keyboard.specs.State.{Keyboard}
-use Rattle.datastream.specs.Meaning.{home}
+use Rattle.datastream.specs.Meaning.{home, modified}
 use Rattle.keyboard.specs.Places.{onward, backward, first_or_zero, next_start}
 use Rattle.keyboard.specs.Edits.{text_from, rewritten, with_room, deleted}
 use Rattle.keyboard.specs.Keys.{pressed, refused}
@@ -91,6 +93,15 @@ abbrev pub EditsRewriteTheText : Type 0
 EditsRewriteTheText = (text : List ℕ) (screen : Screen)
     → screen.cursor < length screen.cells → length text ≤ length (text_from screen.cells screen.cursor)
     → text_from (rewritten text screen).cells screen.cursor ≡ text ++ drop (length text) (text_from screen.cells screen.cursor)
+
+-- It changes no other cell, but for the attribute that governs the cursor's, where it turns MDT on.
+abbrev pub EditsMarkTheirField : Type 0
+EditsMarkTheirField = (text : List ℕ) (screen : Screen) (attr place : ℕ)
+    → screen.cursor < length screen.cells → length text ≤ length (text_from screen.cells screen.cursor)
+    → IsGoverned screen.cells screen.cursor attr → place < length screen.cells
+    → is_within (length screen.cells) screen.cursor (length text) place ≡ false
+    → let old = slice_index_or screen.cells place (Char 0) in
+    slice_index_or (rewritten text screen).cells place (Char 0) ≡ (if place == attr then modified old else old)
 
 -- An inserted character takes the room of the first null.
 abbrev pub FirstNullMakesRoom : Type 0

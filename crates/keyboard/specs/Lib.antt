@@ -5,3 +5,4 @@ pub mod Edits
 pub mod Keys
 pub mod Leaves
 pub mod Laws
+pub mod Sendable

@@ -1,3 +1,4 @@
+//! The keyboard, and what each key does.
 ghost use Rattle.std.specs.Prelude.{◌≡◌, false};
 ghost use Rattle.codes3270.specs.Size.{columns};
 ghost use Rattle.keyboard.specs.State.{fresh, freed};

@@ -1,5 +1,6 @@
 //! Laws of the keys, for proofs in the crates above. Each is the contract of a function that does nothing.
-ghost use Rattle.keyboard.specs.Laws.{KeysLeave, KeysKeep, EraseInputIsWalked, KeysStayOnTheScreen, RefusalsSetTheLockAlone, ResetAloneActsUnderALock, NoKeyEndsWait, NearestOnward, NearestBackward, NoneOnward, NoneBackward, HomeIsTabFromTheEnd, EditsRewriteTheText, FirstNullMakesRoom, NoNullNoRoom, DeleteBringsInANull};
+ghost use Rattle.keyboard.specs.Laws.{KeysLeave, KeysKeep, EraseInputIsWalked, KeysStayOnTheScreen, RefusalsSetTheLockAlone, ResetAloneActsUnderALock, NoKeyEndsWait, NearestOnward, NearestBackward, NoneOnward, NoneBackward, HomeIsTabFromTheEnd, EditsMarkTheirField, EditsRewriteTheText, FirstNullMakesRoom, NoNullNoRoom, DeleteBringsInANull};
+ghost use Rattle.keyboard.specs.Sendable.{KeysKeepSendable};
 
 use datastream::kept_since_the_write;
 
@@ -14,6 +15,13 @@ pub fn keys_keep_what_was_left()
     ensures on_screen { KeysStayOnTheScreen }
 {
     kept_since_the_write();
+}
+
+/// Does nothing: its contract says that a key leaves a screen that can be sent where it found one.
+pub fn what_keys_leave_can_be_sent()
+    ensures { KeysKeepSendable }
+{
+    keys_keep_what_was_left();
 }
 
 /// Does nothing: its contract says that a refused key changes the lock alone, if that, and that at a lock only Reset acts,
@@ -36,10 +44,11 @@ pub fn keys_go_to_the_nearest()
 {}
 
 /// Does nothing: its contract says what edits make of the text from the cursor on. A text comes in place of as many
-/// characters, what of the field lies behind them stays, an inserted character takes the room of the first null, and
-/// Delete brings in a null at the end.
+/// characters, what of the field lies behind them stays, MDT is turned on in their field and no other cell changes, an inserted
+/// character takes the room of the first null, and Delete brings in a null at the end.
 pub fn edits_rewrite_the_text()
     ensures rewritten { EditsRewriteTheText }
+    ensures marked { EditsMarkTheirField }
     ensures inserted { FirstNullMakesRoom }
     ensures full { NoNullNoRoom }
     ensures deleted { DeleteBringsInANull }

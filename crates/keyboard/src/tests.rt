@@ -1,5 +1,5 @@
 //! Keys on screens that commands laid out: what each key answers, where the cursor goes, and what is read afterwards.
-use crate::{Key, Keyboard, Lock, PaNo, PfNo, Pressed, Refusal};
+use crate::*;
 use codes3270::{Aid, CELLS};
 use datastream::read_command;
 use presentation::Screen;
@@ -436,6 +436,36 @@ fn sends_function_keys_and_clear(rt: HostRuntime) -> Result<(), Fail> {
     let wanted = bytes(alloc, "6D 40 40")?;
     assert_eq!(rt; out.as_slice(), wanted.as_slice());
     Ok(())
+}
+
+#[test]
+fn a_command_erases_what_was_typed(rt: HostRuntime) -> Result<(), Fail> {
+    let alloc = rt.alloc();
+    let mut screen = shown(&rt, alloc, "F5 C3 11 40 40 1D 60 C8 C9 1D 40 13")?;
+    let mut keyboard = free();
+    type_text(&mut keyboard, &mut screen, "A");
+    assert_reads(&rt, alloc, &screen, "60 40 C5 11 40 C4 C1")?;
+    // Erase All Unprotected.
+    let restore = match read_command(&[0x6F]) {
+        Ok(command) => screen.apply(&command).restore,
+        Err(_) => false,
+    };
+    assert!(rt; restore);
+    assert_reads(&rt, alloc, &screen, "60 40 C4")?;
+    let mut out = Vec::new(alloc);
+    screen.put_read_buffer(&mut out)?;
+    let start = bytes(alloc, "60 40 C4 1D 60 C8 C9 1D 40 00 00")?;
+    assert_eq!(rt; out.get(..11), Some(start.as_slice()));
+    Ok(())
+}
+
+#[test]
+fn laws_do_nothing(_rt: HostRuntime) {
+    keys_keep_what_was_left();
+    what_keys_leave_can_be_sent();
+    locks_hold();
+    keys_go_to_the_nearest();
+    edits_rewrite_the_text();
 }
 
 #[test]

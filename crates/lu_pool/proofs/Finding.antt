@@ -1,6 +1,7 @@
 -- What `position` finds.
-use Rattle.std.proofs.Common.{◌≡◌, ℕ, zero, suc, ◌+◌, ◌<◌, ◌≤◌, Bool, true, false, cond, ltb, List, [], ◌∷◌, length, Option, None, Some, Err, refl, ap, ◌∙◌, arith}
-use Rattle.std.specs.Prelude.{find, position, slice_get, is_none}
+use Rattle.std.proofs.Common.{◌≡◌, ℕ, zero, suc, ◌+◌, ◌<◌, ◌≤◌, Bool, true, false, cond, ltb, List, [], ◌∷◌, length, Option, None, Some, Err, refl, sym, ap, ◌∙◌, arith}
+use Rattle.std.specs.Prelude.{find, position, slice_get, is_none, IfOk, IfErr}
+use Rattle.std.specs.Option.{ok_or}
 use Rattle.std.specs.List.{position_or_len}
 use Rattle.std.specs.Str.{bytes_eq}
 use Rattle.std.proofs.lemmas.Bool.{ltb-true, ltb-false}
@@ -98,6 +99,12 @@ any_granted pool place h =
 
 pub any_refused : (pool : List Entry) → position (λ at. is_none at.holder) pool ≡ None → answer_to pool None ≡ Err device_in_use
 any_refused pool h = let f = finds_none (λ (at : Entry). is_none at.holder) pool h in rw f.found refl
+
+-- the first place that nobody holds, or none, is the answer to one who names no LU
+pub any_place_by : (pool : List Entry) (place : Option ℕ) → place ≡ position (λ at. is_none at.holder) pool
+    → IfOk (ok_or place device_in_use) (IsFreePlace pool (answer_to pool None)) × IfErr (ok_or place device_in_use) (λ reason. answer_to pool None ≡ Err reason)
+any_place_by pool None h = (tt, any_refused pool (sym h))
+any_place_by pool (Some place) h = (any_granted pool place (sym h), tt)
 
 -- the entry of an LU answers one who names it, if it is free
 pub named_granted : (pool : List Entry) (lu : List ℕ) (place : ℕ) → position (λ at. bytes_eq at.lu lu) pool ≡ Some place

@@ -4,18 +4,19 @@ use Rattle.std.specs.Prelude.{slice_get, IsTrue}
 use Rattle.std.specs.Option.{option_map}
 use Rattle.std.specs.Str.{bytes_eq}
 use Rattle.std.proofs.lemmas.Option.{slice_get-map, slice_get_within, get_or_from_slice_get}
-use Rattle.std.proofs.lemmas.List.{take_all, take_more, length-map}
+use Rattle.std.proofs.lemmas.List.{take_all, take_more, length-map, map-append}
 use Rattle.std.proofs.lemmas.Slice.Eq.{bytes_eq-Decides}
 use Rattle.std.proofs.lemmas.Bool.{false≢true}
 use Rattle.tn3270e_msg.specs.Lu.{is_lu}
 use Rattle.lu_pool.specs.declared.entry.Entry.{Entry}
 use Rattle.lu_pool.specs.declared.fault.PoolFault.{PoolFault}
+use Rattle.lu_pool.specs.declared.fault.PoolFault.TheVariants.{BadName, Twice, BadCount, Memory}
 use Rattle.lu_pool.specs.Pool.{entry, IsCount, IsPool, AreLus, ListedOnce}
 use Rattle.std.specs.Prelude.{String}
 use Rattle.std.specs.String.{string_bytes}
 use Rattle.std.proofs.lemmas.Option.{slice_get_read}
 use Rattle.tn3270e_msg.specs.Lu.{lu_of}
-use Rattle.lu_pool.specs.Reading.{readings, IsReadFrom, IsRightBelow, IsFirstFault, IsTextFault, no_name, named_before, IsNew}
+use Rattle.lu_pool.specs.Reading.{readings, IsReadFrom, IsRight, IsRightBelow, IsFirstFault, IsTextFault, no_name, named_before, IsNew}
 
 -- what stands at a place of a list that grew by one
 push_get : {X : Type 0} (xs : List X) (y : X) (j : ℕ) (e : X) → slice_get (xs ++ y ∷ []) j ≡ Some e → (slice_get xs j ≡ Some e) ⊎ ((j ≡ length xs) × (y ≡ e))
@@ -34,10 +35,6 @@ take_get (suc n) (x ∷ xs) (suc j) h = take_get n xs j (omega (arith, h))
 -- one more is taken
 take_one_more : {X : Type 0} (n : ℕ) (xs : List X) (x : X) → slice_get xs n ≡ Some x → take (n + 1) xs ≡ take n xs ++ x ∷ []
 take_one_more n xs x h = take_more xs n x (slice_get_within xs n x h) ∙ (rw (get_or_from_slice_get xs n x x h) refl)
-
-map_push : {X Y : Type 0} (f : X → Y) (xs : List X) (x : X) → map f (xs ++ x ∷ []) ≡ map f xs ++ f x ∷ []
-map_push f [] x = refl
-map_push f (y ∷ xs) x = ap (λ (zs : List _). f y ∷ zs) (map_push f xs x)
 
 -- the entries that were made of the texts so far
 pub record IsListed (read : List (Option (List ℕ))) (place : ℕ) (entries : List Entry) : Type 0 where
@@ -79,8 +76,8 @@ one_more_listed read place entries lu text l at new =
     let here : slice_get read place ≡ Some (Some lu) = at ∙ ap (λ (x : Option (List ℕ)). Some x) new.read_as in
     let before = l.lus in
     record {
-      lus = take_one_more place read (Some lu) here ∙ (rw before (sym (map_push (λ (at : Entry). Some at.lu) entries (entry lu None))));
-      free = ap (λ (xs : List Entry). xs ++ entry lu None ∷ []) l.free ∙ sym (map_push (λ (at : Entry). entry at.lu None) entries (entry lu None));
+      lus = take_one_more place read (Some lu) here ∙ (rw before (sym (map-append (λ (at : Entry). Some at.lu) entries (entry lu None ∷ []))));
+      free = ap (λ (xs : List Entry). xs ++ entry lu None ∷ []) l.free ∙ sym (map-append (λ (at : Entry). entry at.lu None) entries (entry lu None ∷ []));
       are_lus = lus_pushed entries lu l.are_lus new.is_lu;
       listed_once = once_pushed entries lu l.listed_once new.absent;
     }
@@ -144,6 +141,13 @@ listed_pool read place entries count l all =
 
 pub read_from : (read : List (Option (List ℕ))) (place : ℕ) (entries : List Entry) → IsListed read place entries → length read ≤ place → IsReadFrom read entries
 read_from read place entries l all = record { lus = sym (take_all place read all) ∙ l.lus; free = l.free }
+
+-- where all texts are listed none of them is wrong, nor is their count
+pub all_right : (read : List (Option (List ℕ))) (place : ℕ) (entries : List Entry) → IsCount (length read) → IsListed read place entries → length read ≤ place → IsRight read
+all_right read place entries count l all BadCount h = h count
+all_right read place entries count l all (BadName at) h = (right_below read place entries l at (omega (arith, all, slice_get_within read at None h))).0 h
+all_right read place entries count l all (Twice at) h = (right_below read place entries l at (omega (arith, all, slice_get_within read at _ h.4))).1 h
+all_right read place entries count l all Memory h = h
 
 -- an entry that passes for an LU's is its
 pub passes_lu : (at lu : List ℕ) → bytes_eq at lu ≡ true → at ≡ lu

@@ -24,6 +24,10 @@ HasFault read (Twice place) =
     (earlier : ℕ) × (lu : List ℕ) × (earlier < place) × (slice_get read earlier ≡ Some (Some lu)) × (slice_get read place ≡ Some (Some lu))
 HasFault read Memory = ⊥
 
+-- nothing is wrong
+abbrev pub IsRight : List (Option (List ℕ)) → Type 0
+IsRight read = (fault : PoolFault) → HasFault read fault → ⊥
+
 -- no text before this place is wrong
 abbrev pub IsRightBelow : List (Option (List ℕ)) → ℕ → Type 0
 IsRightBelow read place = (before : ℕ) → before < place → (HasFault read (BadName before) → ⊥) × (HasFault read (Twice before) → ⊥)

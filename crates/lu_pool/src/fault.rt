@@ -3,6 +3,7 @@ ghost use Rattle.std.specs.Prelude.{◌≡◌};
 ghost use Rattle.lu_pool.specs.declared.fault.PoolFault.TheVariants.{Memory};
 
 use std::alloc::AllocError;
+use std::error::Error;
 use std::fmt;
 
 /// Why a list of names is no pool. Places count from 0.
@@ -33,6 +34,8 @@ impl fmt::Display for PoolFault {
         }
     }
 }
+
+impl Error for PoolFault {}
 
 impl From<AllocError> for PoolFault {
     ghost from_gives = { λ _ fault. fault ≡ Memory };

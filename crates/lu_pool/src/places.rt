@@ -46,10 +46,7 @@ fn any_place(entries: &[Entry]) -> Result<usize, Reason>
     ensures granted { IfOk result (IsFreePlace entries.now (answer_to entries.now None)) }
     ensures refused { IfErr result (λ reason. answer_to entries.now None ≡ Err reason) }
 {
-    match free_place(entries) {
-        Some(place) => Ok(place),
-        None => Err(Reason::DEVICE_IN_USE),
-    }
+    free_place(entries).ok_or(Reason::DEVICE_IN_USE)
 }
 
 fn place_named(entries: &[Entry], name: &[u8]) -> Result<usize, Reason>

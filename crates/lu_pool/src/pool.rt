@@ -4,7 +4,7 @@ ghost use Rattle.std.specs.Option.{option_copied};
 ghost use Rattle.tn3270e_msg.specs.Lu.{is_lu, lu_of};
 ghost use Rattle.lu_pool.specs.Asking.{answer_to, Grants, Frees};
 ghost use Rattle.lu_pool.specs.Pool.{Holds, HoldsNone, OneHolder, OneLu, IsCount, entry};
-ghost use Rattle.lu_pool.specs.Reading.{readings, IsReadFrom, IsFirstFault, IsTextFault, IsNew};
+ghost use Rattle.lu_pool.specs.Reading.{readings, IsReadFrom, IsRight, IsFirstFault, IsTextFault, IsNew};
 ghost use Rattle.lu_pool.specs.declared.fault.PoolFault.{PoolFault};
 
 use crate::entry::Entry;
@@ -19,7 +19,7 @@ const MOST_LUS: usize = 64;
 
 /// A host's logical units, 1 to 64, and which connection holds which. Contracts see it as the list of
 /// its entries, each an LU and the number of its holder.
-#[derive(Drop)]
+#[derive(Drop, Debug)]
 pub struct Pool {
     entries: Vec<Entry>,
 }
@@ -42,6 +42,7 @@ impl Pool {
     /// (BadName), or is read as an LU that an earlier one is read as (Twice).
     pub fn read(alloc: Global, names: &[String]) -> Result<Pool, PoolFault>
         ensures read { IfOk result (IsReadFrom (readings names.now)) }
+        ensures right { OnOk result (IsRight (readings names.now)) }
         ensures one_holder { IfOk result OneHolder }
         ensures one_lu { IfOk result OneLu }
         ensures fault { IfErr result (IsFirstFault (readings names.now)) }
@@ -87,11 +88,8 @@ impl Pool {
         ensures one_holder { OneHolder self.new }
         ensures one_lu { OneLu self.new }
     {
-        match place_held_by(&self.entries, conn) {
-            Some(place) => {
-                let _ = set_holder(&mut self.entries, place, None);
-            }
-            None => {}
+        if let Some(place) = place_held_by(&self.entries, conn) {
+            set_holder(&mut self.entries, place, None);
         }
     }
 
@@ -100,17 +98,15 @@ impl Pool {
         ensures held { IfSome result (Holds self.now conn) }
         ensures none { IfNone result (HoldsNone self.now conn) }
     {
-        match place_held_by(&self.entries, conn) {
-            Some(place) => Some(self.entries[place].lu),
-            None => None,
-        }
+        let place = place_held_by(&self.entries, conn)?;
+        Some(self.entries[place].lu)
     }
 }
 
 fn is_count(count: usize) -> bool
     ensures { IsTrue result ↔ IsCount count }
 {
-    count >= 1 && count <= MOST_LUS
+    (1..=MOST_LUS).contains(&count)
 }
 
 fn add_free(entries: &mut Vec<Entry>, lu: Lu) -> Result<(), AllocError>

@@ -4,7 +4,7 @@ use Rattle.std.specs.List.{onto_first, slice_split}
 use Rattle.hex.specs.Hex.{decode_of}
 use Rattle.hex.specs.declared.error.FromHexError.{FromHexError}
 use Rattle.presentation.specs.Glyph.{blank}
-use Rattle.panel3270.specs.ScreenText.{newline}
+use Rattle.term_core.specs.ScreenText.{newline}
 
 -- the lines, each without the newline that ends it; the last may lack one
 abbrev pub lines_of : List ℕ → List (List ℕ)

@@ -1,19 +1,18 @@
 -- What is printed of commands that come in lines of hexadecimal (our profile).
-use Rattle.std.specs.Prelude.{◌≡◌, ℕ, ◌+◌, List, [], ◌∷◌, ◌++◌, replicate, codes, Option, Some, None}
+use Rattle.std.specs.Prelude.{◌≡◌, ℕ, ◌+◌, List, [], ◌∷◌, ◌++◌, codes, Option, Some, None}
 use Rattle.codes3270.specs.Size.{cell_count}
-use Rattle.codes3270.specs.declared.attribute.Cell.TheVariants.{Char}
-use Rattle.codes3270.specs.declared.attention.Aid.TheVariants.{NoAid}
-use Rattle.datastream.specs.Screen.{Screen}
+use Rattle.datastream.specs.Screen.{Screen, blank_screen}
 use Rattle.datastream.specs.Grammar.{CommandParts, IsCommand, IsNoCommand}
 use Rattle.datastream.specs.Meaning.{after_command}
 use Rattle.datastream.specs.declared.fault.CommandFault.{CommandFault}
 use Rattle.datastream.specs.declared.fault.CommandFault.TheVariants.{BadCommand, BadOrder, BadAddress, Truncated}
 use Rattle.panel3270.specs.HexLines.{lines_of, bytes_of_line}
-use Rattle.panel3270.specs.ScreenText.{newline, screen_text}
+use Rattle.term_core.specs.ScreenText.{newline}
+use Rattle.panel3270.specs.ScreenText.{screen_text}
 
--- all cells null, the cursor at 0
-unfoldable pub blank_screen : Screen
-blank_screen = record { cells = replicate cell_count (Char 0); cursor = 0; aid = NoAid }
+-- the screen before the first command
+unfoldable pub first_screen : Screen
+first_screen = blank_screen cell_count
 
 -- the negative response to a command with a fault (RFC 1647, section 10.4)
 abbrev pub response_to : CommandFault → List ℕ
@@ -46,4 +45,4 @@ Prints number (line ∷ lines) screen printed not_hex =
 -- What is printed of an input; `not_hex` is the number of the first line that isn't hexadecimal, if there is one. The
 -- lines before it have said their refusals, and no screen is printed then.
 abbrev pub IsPage : List ℕ → List ℕ → Option ℕ → Type 0
-IsPage input printed not_hex = Prints 1 (lines_of input) blank_screen printed not_hex
+IsPage input printed not_hex = Prints 1 (lines_of input) first_screen printed not_hex

@@ -3,7 +3,8 @@
 #![tactic(auto)]
 
 ghost use Rattle.std.specs.Prelude.{◌≡◌, map, string_bytes};
-ghost use Rattle.panel3270.specs.Words.{ask_for_show, words_refused};
+ghost use Rattle.panel3270.specs.Runs.{IsToldIn};
+ghost use Rattle.panel3270.specs.Words.{ask_for_show, usage, words_refused};
 
 mod fault;
 mod hex_line;
@@ -11,6 +12,7 @@ mod input;
 mod page;
 mod screen_text;
 mod show;
+mod streams;
 #[cfg(test)]
 mod tests;
 
@@ -19,8 +21,9 @@ pub use page::{Page, page_of};
 use show::end_by;
 pub use show::run_show;
 use std::env;
-use std::io::{self, ErrorKind, Write};
+use std::io::{self, ErrorKind};
 use std::process::ExitCode;
+pub use streams::{Answer, CountedReader, CountedWriter, Sink, Source, WriteFailed};
 
 /// The exit status of words that the program doesn't take.
 const WORDS_REFUSED: u8 = 2;
@@ -45,19 +48,22 @@ fn ask_for_show(words: &[String]) -> bool
 }
 
 /// Tells which words the program takes, and answers its exit status. What can't be told is told by the status alone.
-fn refuse_words<E: Write>(faults: &mut E) -> u8
-    ensures { result ≡ words_refused }
+fn refuse_words<E: Sink>(faults: &mut E) -> u8
+    ensures status { result ≡ words_refused }
+    ensures told { IsToldIn (E.seen faults.old) (E.seen faults.new) usage }
 {
-    let _ = faults.writeln(USAGE);
+    let _ = faults.write_line(USAGE);
     WORDS_REFUSED
 }
 
 fn main(rt: HostRuntime) -> ExitCode {
-    let mut faults = rt.stderr();
+    let mut faults = CountedWriter::new(rt.stderr());
     let status = match given_words(&rt) {
         Ok(words) => {
             if ask_for_show(words.as_slice()) {
-                run_show(rt.alloc(), &mut rt.stdin(), &mut rt.stdout(), &mut faults)
+                let mut input = CountedReader::new(rt.stdin());
+                let mut out = CountedWriter::new(rt.stdout());
+                run_show(rt.alloc(), &mut input, &mut out, &mut faults)
             } else {
                 refuse_words(&mut faults)
             }

@@ -1,6 +1,6 @@
 //! What is printed of commands that come in lines of hexadecimal.
 ghost use Rattle.std.specs.Prelude.{◌≡◌, ◌++◌, ℕ, List, Option, IfOk, OnOk, string_bytes};
-ghost use Rattle.panel3270.specs.Pages.{blank_screen, response_to, TakesCommand, IsPage};
+ghost use Rattle.panel3270.specs.Pages.{first_screen, response_to, TakesCommand, IsPage};
 
 use crate::hex_line::bytes_of_line;
 use crate::screen_text::put_screen;
@@ -18,8 +18,8 @@ pub struct Page {
 }
 
 /// A screen that nothing was written on.
-fn blank_screen() -> Screen
-    ensures { result ≡ blank_screen }
+fn first_screen() -> Screen
+    ensures { result ≡ first_screen }
 {
     Screen::blank()
 }
@@ -65,7 +65,7 @@ pub fn page_of(alloc: Global, input: &str) -> Result<Page, AllocError>
         → IfOk result (λ page. (string_bytes page.text ≡ printed) × (page.not_hex ≡ not_hex)) }
 {
     let mut text = String::new(alloc);
-    let mut screen = blank_screen();
+    let mut screen = first_screen();
     for (index, line) in input.split_terminator('\n').enumerate() {
         let Some(bytes) = bytes_of_line(alloc, line)? else {
             return Ok(Page {
@@ -75,7 +75,7 @@ pub fn page_of(alloc: Global, input: &str) -> Result<Page, AllocError>
         };
         take_command(&mut screen, bytes.as_slice(), &mut text)?;
     }
-    put_screen(&mut text, &screen)?;
+    put_screen(alloc, &mut text, &screen)?;
     Ok(Page {
         text,
         not_hex: None,

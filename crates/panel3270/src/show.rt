@@ -1,63 +1,66 @@
 //! `show`: commands in hexadecimal come in, the printed screen comes out.
-ghost use Rattle.std.specs.Prelude.{◌≡◌, ◌⊎◌, ℕ, OnOk, IfErr, None, Some};
-ghost use Rattle.std.specs.Io.KnownBytes.{Keeps};
-ghost use Rattle.panel3270.specs.Faults.{status_of};
-ghost use Rattle.panel3270.specs.Runs.{HasRead, HasShown, HasPrinted, EndsPrinting};
+ghost use Rattle.std.specs.Prelude.{◌≡◌, None, OnOk, IfErr};
+ghost use Rattle.panel3270.specs.Faults.{status_of, fault_text};
+ghost use Rattle.panel3270.specs.Runs.{IsEnd, HasCause, IsToldIn, RefusesPage, Shows, ending_of};
 
 use crate::fault::Fault;
 use crate::input::read_whole;
 use crate::page::page_of;
+use crate::streams::{Sink, Source};
 use std::alloc::Global;
-use std::io::{Read, Write};
 
 /// Applies the commands of an input, one a line in hexadecimal, in order to one blank screen, and prints that screen and
-/// the cursor. A command that is refused is told and changes nothing. Answers the exit status; what ended the run early is
-/// told in one line of `faults`.
-pub fn run_show<R: Read, O: Write, E: Write>(
+/// the cursor. A command that is refused is told and changes nothing. What ends the run early is told in one line of
+/// `faults`.
+///
+/// Answers the exit status: 0 where all went well; 1 where the input can't be read, has more than `MOST_BYTES` bytes, takes
+/// more than `MOST_READS` reads, isn't UTF-8, or has a line that isn't hexadecimal; 3 where a growth was refused; 6 where
+/// the output failed.
+pub fn run_show<I: Source, O: Sink, E: Sink>(
     alloc: Global,
-    input: &mut R,
+    input: &mut I,
     out: &mut O,
     faults: &mut E,
 ) -> u8
-    ensures status { (result ≡ 0) ⊎ (result ≡ 1) ⊎ (result ≡ 3) ⊎ (result ≡ 6) }
-    // Where nothing went wrong nothing is told.
-    ensures quiet { result ≡ 0 → E.contents faults.new ≡ E.contents faults.old }
-    // The whole input was read, all its lines were hexadecimal, and its page was written.
-    ensures shown { result ≡ 0 → HasShown (R.remaining input.old) (R.remaining input.new) (O.contents out.old) (O.contents out.new) None }
-    // Nothing was written, or what comes before the first line that isn't hexadecimal.
-    ensures refused { result ≡ 1 → Keeps (O.contents out.old) (O.contents out.new)
-        ⊎ ((line : ℕ) × HasShown (R.remaining input.old) (R.remaining input.new) (O.contents out.old) (O.contents out.new) (Some line)) }
-    // Without memory nothing is written.
-    ensures no_memory { result ≡ 3 → Keeps (O.contents out.old) (O.contents out.new) }
-    // The output fails only once the whole input was read.
-    ensures output_failed { result ≡ 6 → HasRead (R.remaining input.old) (R.remaining input.new) }
+    ensures { IsEnd (I.seen input.old) (I.seen input.new) (O.seen out.old) (O.seen out.new) (E.seen faults.old) (E.seen faults.new) result }
 {
-    match read_whole(alloc, input) {
-        Ok(text) => match print_page(alloc, text.as_str(), out) {
-            Ok(()) => 0,
-            Err(fault) => end_by(fault, faults),
-        },
+    match show(alloc, input, out) {
+        Ok(()) => 0,
         Err(fault) => end_by(fault, faults),
     }
 }
 
 /// Tells a fault in one line and answers its exit status. What can't be told is told by the status alone.
-pub(crate) fn end_by<E: Write>(fault: Fault, faults: &mut E) -> u8
-    ensures { result ≡ status_of fault }
+pub(crate) fn end_by<E: Sink>(fault: Fault, faults: &mut E) -> u8
+    ensures status { result ≡ status_of fault }
+    ensures told { IsToldIn (E.seen faults.old) (E.seen faults.new) (fault_text fault) }
 {
     let status = fault.status();
-    let _ = faults.writeln(fault);
+    let _ = faults.write_line(fault);
     status
 }
 
-/// Prints the page of a text.
-fn print_page<O: Write>(alloc: Global, text: &str, out: &mut O) -> Result<(), Fault>
-    ensures printed { OnOk result (HasPrinted text.now (O.contents out.old) (O.contents out.new) None) }
-    ensures fault { IfErr result (λ fault. EndsPrinting fault text.now (O.contents out.old) (O.contents out.new)) }
+/// Reads the input, and prints its page.
+fn show<I: Source, O: Sink>(alloc: Global, input: &mut I, out: &mut O) -> Result<(), Fault>
+    ensures { HasCause (ending_of result) (I.seen input.old) (I.seen input.new) (O.seen out.old) (O.seen out.new) }
 {
-    let page = page_of(alloc, text).map_err(|_| Fault::NoMemory)?;
-    out.write_all(page.text.as_bytes())
-        .map_err(|_| Fault::OutputFailed)?;
+    match read_whole(alloc, input) {
+        Ok(text) => print_page(alloc, text.as_str(), out),
+        Err(fault) => Err(fault),
+    }
+}
+
+/// Prints the page of a text.
+fn print_page<O: Sink>(alloc: Global, text: &str, out: &mut O) -> Result<(), Fault>
+    ensures shows { OnOk result (Shows text.now (O.seen out.old) (O.seen out.new) None) }
+    ensures fault { IfErr result (λ fault. RefusesPage fault text.now (O.seen out.old) (O.seen out.new)) }
+{
+    let Ok(page) = page_of(alloc, text) else {
+        return Err(Fault::NoMemory);
+    };
+    if out.write_all(page.text.as_bytes()).is_err() {
+        return Err(Fault::OutputFailed);
+    }
     match page.not_hex {
         Some(line) => Err(Fault::NotHex(line)),
         None => Ok(()),

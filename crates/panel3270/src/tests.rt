@@ -1,6 +1,7 @@
 //! Whole runs of `show`: what comes in, what goes out, and the exit status.
 use crate::input::{MOST_BYTES, MOST_READS};
 use crate::run_show;
+use crate::streams::{CountedReader, CountedWriter};
 use std::alloc::Global;
 use std::io;
 use std::io::{ErrorKind, Read, Write};
@@ -70,20 +71,21 @@ struct Outcome {
     faults: Vec<u8>,
 }
 
-fn run_with(alloc: Global, mut input: Pieces<'_>, room: usize) -> Outcome {
-    let mut out = Paper {
+fn run_with(alloc: Global, input: Pieces<'_>, room: usize) -> Outcome {
+    let mut input = CountedReader::new(input);
+    let mut out = CountedWriter::new(Paper {
         text: Vec::new(alloc),
         room,
-    };
-    let mut faults = Paper {
+    });
+    let mut faults = CountedWriter::new(Paper {
         text: Vec::new(alloc),
         room: usize::MAX,
-    };
+    });
     let status = run_show(alloc, &mut input, &mut out, &mut faults);
     Outcome {
         status,
-        out: out.text,
-        faults: faults.text,
+        out: out.into_inner().text,
+        faults: faults.into_inner().text,
     }
 }
 

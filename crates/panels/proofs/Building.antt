@@ -1,8 +1,8 @@
 -- Lists that are built one for one.
-use Rattle.std.proofs.Common.{◌≡◌, ℕ, ◌+◌, ◌<◌, List, [], ◌∷◌, ◌++◌, length, Some, ap, get_or, set, subst, sym, ◌∙◌, inl, inr, arith, length-append}
-use Rattle.std.specs.Prelude.{slice_get, ◌⊎◌, ◌≢◌}
+use Rattle.std.proofs.Common.{◌≡◌, ℕ, ◌+◌, ◌<◌, List, [], ◌∷◌, ◌++◌, length, Some, ap, get_or, subst, sym, ◌∙◌, inl, inr, arith, length-append}
+use Rattle.std.specs.Prelude.{slice_get, ◌⊎◌}
 use Rattle.std.proofs.Math.Seq.{get_or-append_seam}
-use Rattle.std.proofs.lemmas.List.{get_or_append_left, get_or-set_same, get_or-set_other}
+use Rattle.std.proofs.lemmas.List.{get_or_append_left}
 use Rattle.std.proofs.lemmas.Option.{slice_get_within, get_or_from_slice_get, slice_get-get_or}
 use Rattle.panels.specs.Survey.{AreEach}
 
@@ -33,14 +33,3 @@ each_more IsAt n xs new size are is i x at_i =
 
 pub size_more : {X : Type 0} (n : ℕ) (xs : List X) (new : X) → length xs ≡ n → length (xs ++ new ∷ []) ≡ n + 1
 size_more n xs new size = length-append xs (new ∷ []) ∙ ap (λ k. k + 1) size
-
--- one more element of a list that is filled in place
-pub set_more : {X : Type 0} (P : ℕ → X → Type 0) (xs : List X) (i : ℕ) (x : X) → i < length xs → ((k : ℕ) (d : X) → k < i → P k (get_or xs k d)) → P i x
-    → (k : ℕ) (d : X) → k < i + 1 → P k (get_or (set xs i x) k d)
-set_more {X} P xs i x fits before here k d below =
-    elim (below_or_last k i below) [
-      | inl less ↦
-          let apart : k ≢ i = λ same. absurd (omega (arith, less, same)) in
-          subst (P k) (sym (get_or-set_other xs i k x d apart)) (before k d less)
-      | inr same ↦ subst (λ j. P j (get_or (set xs i x) j d)) (sym same) (subst (P i) (sym (get_or-set_same xs i x d fits)) here)
-    ]

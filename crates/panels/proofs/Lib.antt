@@ -1,7 +1,6 @@
 pub mod Trees
 pub mod PartLists
 pub mod Standing
-pub mod FirstSome
 pub mod Building
 pub mod Codes
 pub mod Indexing
@@ -10,3 +9,4 @@ pub mod Overlapping
 pub mod Sound
 pub mod Linking
 pub mod Leading
+pub mod Putting

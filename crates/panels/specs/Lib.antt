@@ -16,5 +16,6 @@ pub mod Values
 pub mod Panel
 pub mod Next
 pub mod Screen
+pub mod Put
 pub mod Defines
 pub mod Link

@@ -1,11 +1,12 @@
 //! The screen that a panel asks for.
-ghost use Rattle.std.specs.Prelude.{◌≡◌, ◌==◌, ◌<◌, position, true, false, IfSome, slice_index_or, option_copied, unwrap_or};
+ghost use Rattle.std.specs.Prelude.{◌≡◌, ◌==◌, ◌<◌, position, true, false, IfSome, All, length, option_map, slice_index_or, option_copied, unwrap_or};
 ghost use Rattle.codes3270.specs.Size.{cell_count};
 ghost use Rattle.codes3270.specs.CodePage.{code_of};
 ghost use Rattle.codes3270.specs.Storable.{is_storable};
 ghost use Rattle.datastream.specs.Wanted.{IsProper};
 ghost use Rattle.panels.specs.Characters.{AreCharacters};
-ghost use Rattle.panels.specs.Screen.{distance_in, item_cell, autoskip_attr, text_cell, shown, first_some, field_attr, is_filled, field_content, field_cell, stopper_cell, coded, message_text, message_cell, field_numbered, wanted_cell, wanted_cursor};
+ghost use Rattle.panels.specs.Screen.{distance_in, item_cell, autoskip_attr, text_cell, shown, first_some, field_attr, is_filled, field_content, field_cell, stopper_cell, coded, message_cell, field_numbered, wanted_cursor};
+ghost use Rattle.panels.specs.Put.{IsPut, cell_with, name_spoken, text_with};
 
 use crate::extent::Extent;
 use crate::message::Message;
@@ -17,18 +18,6 @@ use datastream::{Want, Wanted};
 
 /// How many cells a screen has, as a length.
 const SIZE: usize = CELLS as usize;
-
-/// How far behind the attribute of an item a cell is, where the item has it.
-fn distance(extent: Extent, cell: u16) -> Option<u16>
-    requires { cell < cell_count }
-    ensures { result ≡ distance_in extent cell }
-{
-    if extent.first <= cell + 1 && cell + 1 <= extent.first + extent.length {
-        Some(cell + 1 - extent.first)
-    } else {
-        None
-    }
-}
 
 /// A byte of a text, a null behind its end.
 fn byte_at(content: &[u8], index: usize) -> u8
@@ -42,16 +31,32 @@ fn byte_at(content: &[u8], index: usize) -> u8
     }
 }
 
-/// A cell of an item with a content.
-fn cell_of(attr: Attr, content: &[u8], distance: u16) -> Want
-    requires { AreCharacters content.now }
-    ensures cell { result ≡ item_cell attr content.now distance }
+/// A cell of an item with a content; without one it keeps what it has.
+fn cell_of(attr: Attr, content: Option<&[u8]>, distance: u16) -> Want
+    requires { IfSome content (λ bytes. AreCharacters bytes.now) }
+    ensures cell { result ≡ cell_with attr (option_map (λ bytes. bytes.now) content.entry) distance }
     ensures proper { IsProper result }
 {
     if distance == 0 {
-        Want::Attr(attr)
-    } else {
-        Want::Char(byte_at(content, distance as usize - 1))
+        return Want::Attr(attr);
+    }
+    match content {
+        Some(bytes) => Want::Char(byte_at(bytes, distance as usize - 1)),
+        None => Want::Keep,
+    }
+}
+
+/// Puts the cells of an item, its attribute first, over what stood there.
+fn put_item(cells: &mut [Want], extent: Extent, attr: Attr, content: Option<&[u8]>)
+    requires size { length cells.old ≡ cell_count }
+    requires characters { IfSome content (λ bytes. AreCharacters bytes.now) }
+    requires proper { All IsProper cells.old }
+    ensures put { IsPut (λ cell. option_map (cell_with attr (option_map (λ bytes. bytes.now) content.entry)) (distance_in extent cell)) cells.old cells.new }
+    ensures proper { All IsProper cells.new }
+{
+    let start = extent.first - 1;
+    for distance in 0..extent.length + 1 {
+        cells[(start + distance) as usize] = cell_of(attr, content, distance);
     }
 }
 
@@ -85,34 +90,27 @@ fn shown_bytes<'a>(values: &'a Values, content: &'a Content) -> &'a [u8]
     }
 }
 
-/// The cell of a text, where it has it.
-fn cell_of_text(values: &Values, cell: u16, text: &TextItem) -> Option<Want>
-    requires { cell < cell_count }
-    ensures cell { result ≡ text_cell values.now cell text.now }
-    ensures proper { IfSome result IsProper }
+/// Puts the cells of a text.
+fn put_text(cells: &mut [Want], values: &Values, text: &TextItem)
+    requires size { length cells.old ≡ cell_count }
+    requires proper { All IsProper cells.old }
+    ensures put { IsPut (λ cell. text_cell values.now cell text.now) cells.old cells.new }
+    ensures proper { All IsProper cells.new }
 {
-    match distance(text.extent, cell) {
-        Some(distance) => Some(cell_of(
-            skipped_attr(text.bright),
-            shown_bytes(values, &text.content),
-            distance,
-        )),
-        None => None,
-    }
+    let content = shown_bytes(values, &text.content);
+    put_item(cells, text.extent, skipped_attr(text.bright), Some(content));
 }
 
-/// The cell of the first of some texts that has it.
-fn cell_of_texts(values: &Values, cell: u16, texts: &[TextItem]) -> Option<Want>
-    requires { cell < cell_count }
-    ensures cell { result ≡ first_some (text_cell values.now cell) texts.now }
-    ensures proper { IfSome result IsProper }
+/// Puts the cells of texts, the first over all others.
+fn put_texts(cells: &mut [Want], values: &Values, texts: &[TextItem])
+    requires size { length cells.old ≡ cell_count }
+    requires proper { All IsProper cells.old }
+    ensures put { IsPut (λ cell. first_some (text_cell values.now cell) texts.now) cells.old cells.new }
+    ensures proper { All IsProper cells.new }
 {
-    for text in texts {
-        if let Some(want) = cell_of_text(values, cell, text) {
-            return Some(want);
-        }
+    for index in (0..texts.len()).rev() {
+        put_text(cells, values, &texts[index]);
     }
-    None
 }
 
 /// The attribute of a field.
@@ -155,75 +153,55 @@ fn content_of_field<'a>(values: &'a Values, message: Message, field: &'a Field) 
     }
 }
 
-/// The cell of a field, where it has it.
-fn cell_of_field(
-    values: &Values,
-    message: Message,
-    keep: bool,
-    cell: u16,
-    field: &Field,
-) -> Option<Want>
-    requires { cell < cell_count }
-    ensures cell { result ≡ field_cell values.now message keep cell field.now }
-    ensures proper { IfSome result IsProper }
+/// Puts the cells of a field.
+fn put_field(cells: &mut [Want], values: &Values, message: Message, keep: bool, field: &Field)
+    requires size { length cells.old ≡ cell_count }
+    requires proper { All IsProper cells.old }
+    ensures put { IsPut (λ cell. field_cell values.now message keep cell field.now) cells.old cells.new }
+    ensures proper { All IsProper cells.new }
 {
     let attr = attr_of_field(values, message, keep, field);
-    match distance(field.extent, cell) {
-        Some(0) => Some(Want::Attr(attr)),
-        Some(distance) => {
-            if keep {
-                Some(Want::Keep)
-            } else {
-                Some(cell_of(attr, content_of_field(values, message, field), distance))
-            }
-        }
-        None => None,
-    }
-}
-
-/// The cell of the first of some fields that has it.
-fn cell_of_fields(
-    values: &Values,
-    message: Message,
-    keep: bool,
-    cell: u16,
-    fields: &[Field],
-) -> Option<Want>
-    requires { cell < cell_count }
-    ensures cell { result ≡ first_some (field_cell values.now message keep cell) fields.now }
-    ensures proper { IfSome result IsProper }
-{
-    for field in fields {
-        if let Some(want) = cell_of_field(values, message, keep, cell, field) {
-            return Some(want);
-        }
-    }
-    None
-}
-
-/// The stopper of a field, where it stands in a cell.
-fn stopper_of_field(cell: u16, field: &Field) -> Option<Want>
-    ensures cell { result ≡ stopper_cell cell field.now }
-    ensures proper { IfSome result IsProper }
-{
-    if cell == field.extent.first + field.extent.length {
-        Some(Want::Attr(skipped_attr(false)))
-    } else {
+    let content = if keep {
         None
+    } else {
+        Some(content_of_field(values, message, field))
+    };
+    put_item(cells, field.extent, attr, content);
+}
+
+/// Puts the cells of fields, the first over all others.
+fn put_fields(cells: &mut [Want], values: &Values, message: Message, keep: bool, fields: &[Field])
+    requires size { length cells.old ≡ cell_count }
+    requires proper { All IsProper cells.old }
+    ensures put { IsPut (λ cell. first_some (field_cell values.now message keep cell) fields.now) cells.old cells.new }
+    ensures proper { All IsProper cells.new }
+{
+    for index in (0..fields.len()).rev() {
+        put_field(cells, values, message, keep, &fields[index]);
     }
 }
 
-/// The stopper of the first of some fields that ends at a cell.
-fn stopper_of_fields(cell: u16, fields: &[Field]) -> Option<Want>
-    ensures cell { result ≡ first_some (stopper_cell cell) fields.now }
-    ensures proper { IfSome result IsProper }
+/// Puts the attribute behind a field, where it ends.
+fn put_stopper(cells: &mut [Want], field: &Field)
+    requires size { length cells.old ≡ cell_count }
+    requires proper { All IsProper cells.old }
+    ensures put { IsPut (λ cell. stopper_cell cell field.now) cells.old cells.new }
+    ensures proper { All IsProper cells.new }
 {
-    for field in fields {
-        if let Some(want) = stopper_of_field(cell, field) {
-            return Some(want);
-        }
+    let end = field.extent.first + field.extent.length;
+    cells[end as usize] = Want::Attr(skipped_attr(false));
+}
+
+/// Puts the attributes behind fields.
+fn put_stoppers(cells: &mut [Want], fields: &[Field])
+    requires size { length cells.old ≡ cell_count }
+    requires proper { All IsProper cells.old }
+    ensures put { IsPut (λ cell. first_some (stopper_cell cell) fields.now) cells.old cells.new }
+    ensures proper { All IsProper cells.new }
+{
+    for index in (0..fields.len()).rev() {
+        put_stopper(cells, &fields[index]);
     }
-    None
 }
 
 /// A character of a text of ASCII characters in the host's code, a null behind the end.
@@ -269,66 +247,65 @@ const KEY_NOT_ACTIVE: &[u8; 14] = b"KEY NOT ACTIVE";
 
 const REQUIRED: &[u8; 10] = b"REQUIRED: ";
 
-/// A byte of the message's text, a null behind its end.
-fn message_byte(fields: &[Field], message: Message, index: usize) -> u8
-    ensures byte { result ≡ slice_index_or (message_text fields.now message) index 0 }
+/// The name of the field that a message speaks of.
+fn name_in(message: Message, fields: &[Field]) -> &[u8]
+    ensures { result.now ≡ name_spoken fields.now message }
+{
+    match message {
+        Message::Fresh | Message::Plain | Message::KeyNotActive => &[],
+        Message::Required(number) => match numbered(number, fields) {
+            Some(field) => field.name.as_bytes(),
+            None => &[],
+        },
+    }
+}
+
+/// A byte of the text of a message that speaks of a field with a name, a null behind its end.
+fn message_byte(message: Message, name: &[u8], index: usize) -> u8
+    ensures byte { result ≡ slice_index_or (text_with name.now message) index 0 }
     ensures storable { is_storable result ≡ true }
 {
     match message {
         Message::Fresh | Message::Plain => 0,
         Message::KeyNotActive => coded_byte(KEY_NOT_ACTIVE, index),
-        Message::Required(number) => {
+        Message::Required(_) => {
             if index < REQUIRED.len() {
                 coded_byte(REQUIRED, index)
             } else {
-                match numbered(number, fields) {
-                    Some(field) => coded_byte(field.name.as_bytes(), index - REQUIRED.len()),
-                    None => 0,
-                }
+                coded_byte(name, index - REQUIRED.len())
             }
         }
     }
 }
 
-/// The cell of the message's row.
-fn cell_of_message(fields: &[Field], message: Message, cell: u16) -> Option<Want>
-    ensures cell { result ≡ message_cell fields.now message cell }
-    ensures proper { IfSome result IsProper }
+/// A cell of the message's row; `name` is that of the field that the message speaks of.
+fn cell_of_message(message: Message, name: &[u8], distance: u16) -> Want
+    ensures cell { result ≡ item_cell (autoskip_attr true) (text_with name.now message) distance }
+    ensures proper { IsProper result }
 {
-    if cell < MESSAGE_START {
-        None
-    } else if cell == MESSAGE_START {
-        Some(Want::Attr(skipped_attr(true)))
+    if distance == 0 {
+        Want::Attr(skipped_attr(true))
     } else {
-        Some(Want::Char(message_byte(fields, message, (cell - MESSAGE_START) as usize - 1)))
+        Want::Char(message_byte(message, name, distance as usize - 1))
+    }
+}
+
+/// Puts the message's row.
+fn put_message(cells: &mut [Want], fields: &[Field], message: Message)
+    requires size { length cells.old ≡ cell_count }
+    requires proper { All IsProper cells.old }
+    ensures put { IsPut (message_cell fields.now message) cells.old cells.new }
+    ensures proper { All IsProper cells.new }
+{
+    let name = name_in(message, fields);
+    for distance in 0..CELLS - MESSAGE_START {
+        cells[(MESSAGE_START + distance) as usize] = cell_of_message(message, name, distance);
     }
 }
 
 impl Panel {
     ghost use Rattle.panels.specs.Screen.{IsWantedOf};
     ghost use Rattle.panels.specs.declared.message.Message.TheVariants.{Fresh};
-
-    /// What a cell is wanted to have.
-    fn want_at(&self, values: &Values, message: Message, keep: bool, cell: u16) -> Want
-        requires { cell < cell_count }
-        ensures cell { result ≡ wanted_cell self.now values.now message keep cell }
-        ensures proper { IsProper result }
-    {
-        let fields = self.fields.as_slice();
-        if let Some(want) = cell_of_texts(values, cell, self.texts.as_slice()) {
-            return want;
-        }
-        if let Some(want) = cell_of_fields(values, message, keep, cell, fields) {
-            return want;
-        }
-        if let Some(want) = cell_of_message(fields, message, cell) {
-            return want;
-        }
-        match stopper_of_fields(cell, fields) {
-            Some(want) => want,
-            None => Want::Char(0),
-        }
-    }
 
     /// Where the cursor is wanted.
     fn cursor_for(&self, message: Message) -> Addr
@@ -349,10 +326,12 @@ impl Panel {
         requires { (message ≡ Fresh) → keep ≡ false }
         ensures { IsWantedOf self.now values.now message keep result }
     {
-        let mut cells = [Want::Keep; SIZE];
-        for cell in 0..SIZE {
-            cells[cell] = self.want_at(values, message, keep, cell as u16);
-        }
+        let fields = self.fields.as_slice();
+        let mut cells = [Want::Char(0); SIZE];
+        put_stoppers(&mut cells, fields);
+        put_message(&mut cells, fields, message);
+        put_fields(&mut cells, values, message, keep, fields);
+        put_texts(&mut cells, values, self.texts.as_slice());
         Wanted::new(cells, self.cursor_for(message), message == Message::Fresh)
     }
 }

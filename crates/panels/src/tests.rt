@@ -695,3 +695,39 @@ fn the_examples_are_read(rt: HostRuntime) -> Result<(), Fail> {
     assert_eq!(rt; book.next(Aid::Enter), Next::Go(2));
     Ok(())
 }
+
+#[test]
+fn fields_are_written_from_their_values(rt: HostRuntime) -> Result<(), Fail> {
+    let text =
+        "start = \"A\"\nlus = []\npanel = [{name = \"A\", text = [{row = 2, col = 2, show = \"f\", length = 2}], field = [{name = \"f\", row = 1, col = 2, length = 3, fill = \"7\"}, {name = \"g\", row = 1, col = 6, length = 2, fill = \"AB\"}, {name = \"h\", row = 1, col = 9, length = 2, fill = \"9\", marked = true}]}]";
+    let set = PanelSet::read(rt.alloc(), text)?;
+    let panel = set.panel(0).ok_or("no panel")?;
+    let mut values = Values::new(rt.alloc());
+    values.set(0, &[0xC1, 0xC2, 0xC3, 0xC4])?;
+    values.set(1, &[])?;
+    let screen = panel.wanted(&values, Message::Plain, false);
+    // a value is cut to the field's length, an empty one isn't the fill, and a field without one has its fill
+    let items: [(usize, u8, &'static [u8]); 6] = [
+        (0, 0xC1, &[0xC1, 0xC2, 0xC3]),
+        (4, 0x40, &[]),
+        (7, 0xC1, &[0xF9]),
+        (10, 0xF0, &[]),
+        (80, 0xF0, &[0xC1, 0xC2]),
+        (1840, 0xF8, &[]),
+    ];
+    assert!(rt; shows(screen.cells(), &items));
+    assert_eq!(rt; screen.cursor().get(), 1);
+    assert!(rt; !screen.reset());
+    // what is kept is marked only where the panel says so
+    let kept = panel.wanted(&values, Message::Plain, true);
+    for (position, cell) in kept.cells().iter().enumerate() {
+        if position == 0 || position == 4 {
+            assert_eq!(rt; *cell, Want::Attr(Attr::from_code(0x40)));
+        } else if position == 7 {
+            assert_eq!(rt; *cell, Want::Attr(Attr::from_code(0xC1)));
+        } else if position < 10 {
+            assert_eq!(rt; *cell, Want::Keep);
+        }
+    }
+    Ok(())
+}

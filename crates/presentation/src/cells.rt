@@ -1,3 +1,4 @@
+//! What is read off cells, and what is changed in them.
 ghost use Rattle.std.specs.Prelude.{◌≡◌, ◌<◌, ◌≤◌, ◌-◌, map, zip, length, position, IfSome, if◌then◌else◌};
 ghost use Rattle.codes3270.specs.Size.{cell_count};
 ghost use Rattle.std.specs.List.{list_all, prefix_len};

@@ -1,3 +1,4 @@
+//! The fields of a screen.
 ghost use Rattle.std.specs.Prelude.{◌≡◌, ◌+◌, ◌<◌, ◌∷◌, [], length, slice_index_or, false, IsTrue, IfSome, IfNone, MatchOption};
 ghost use Rattle.codes3270.specs.Size.{cell_count};
 ghost use Rattle.std.specs.List.{list_all};

@@ -1,5 +1,16 @@
 //! The screen of a 3278 model 2: what commands make of it, what is printed of it, what its reads answer, and the changes that
 //! keys make. No call takes memory but the two that append a read's answer.
+//!
+//! ```text
+//! let mut screen = Screen::blank();
+//! let applied = screen.apply(&read_command(bytes)?);
+//! let glyph = screen.glyph_at(screen.cursor());
+//! screen.put_read_modified(&mut out, false)?;
+//! ```
+//!
+//! What commands, reads and fields mean is defined in datastream's `specs/`. Those here add what a command asks of the
+//! keyboard (`Applied`), what is printed (`Glyph`), how fields are listed (`Fields`), and what an appending call leaves
+//! (`Appending`).
 #![tactic(auto)]
 
 mod cells;

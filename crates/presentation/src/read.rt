@@ -1,3 +1,4 @@
+//! What reads answer.
 ghost use Rattle.std.specs.Prelude.{◌≡◌, ◌+◌, ◌%◌, ◌<◌, ◌∷◌, [], ◌++◌, length, take, drop, is_ok, OnOk, OnErr, ◌&&◌, not};
 ghost use Rattle.codes3270.specs.Size.{cell_count};
 ghost use Rattle.std.specs.List.{flat_map};
@@ -12,11 +13,7 @@ ghost use Rattle.presentation.specs.Appending.{Appends, AppendsOrStops};
 
 use crate::{Screen, cells};
 use codes3270::{Addr, Aid, CELLS, Cell, addr_to_bytes, aid_byte, attr_code};
-use datastream::Memory;
-
-const SBA: u8 = 0x11;
-
-const SF: u8 = 0x1D;
+use datastream::{Memory, SET_BUFFER_ADDRESS, START_FIELD};
 
 fn put_byte(out: &mut Vec<u8>, byte: u8) -> Result<(), Memory>
     ensures { AppendsOrStops (is_ok result) out.old out.new (byte ∷ []) }
@@ -74,7 +71,7 @@ fn put_field(out: &mut Vec<u8>, cells: &[Cell], at: Addr) -> Result<(), Memory>
     ensures { AppendsOrStops (is_ok result) out.old out.new (modified_field cells.now at) }
 {
     let [high, low] = addr_to_bytes(at.next());
-    put_bytes(out, &[SBA, high, low])?;
+    put_bytes(out, &[SET_BUFFER_ADDRESS, high, low])?;
     put_field_text(out, cells, at)
 }
 
@@ -134,7 +131,7 @@ fn put_cell(out: &mut Vec<u8>, cell: Cell) -> Result<(), Memory>
 {
     match cell {
         Cell::Char(byte) => put_byte(out, byte),
-        Cell::Attr(attr) => put_bytes(out, &[SF, attr_code(attr)]),
+        Cell::Attr(attr) => put_bytes(out, &[START_FIELD, attr_code(attr)]),
     }
 }
 

@@ -1,10 +1,11 @@
+//! The screen, and the changes to it that keys are made of.
 ghost use Rattle.std.specs.Prelude.{◌≡◌, ◌<◌, false, true, length, replicate, slice_get, slice_index_or, slice_set, Some, IsTrue};
 ghost use Rattle.codes3270.specs.Size.{cell_count};
 ghost use Rattle.codes3270.specs.Storable.{is_storable};
 ghost use Rattle.codes3270.specs.declared.attention.Aid.TheVariants.{NoAid};
 ghost use Rattle.codes3270.specs.declared.attribute.Cell.TheVariants.{Char};
 ghost use Rattle.datastream.specs.Meaning.{modified, home};
-ghost use Rattle.datastream.specs.Screen.{is_char_at};
+ghost use Rattle.datastream.specs.Screen.{is_char_at, blank_screen};
 ghost use Rattle.codes3270.specs.Aid.{IsRealAid};
 ghost use Rattle.datastream.specs.InboundFields.{IsSendable, IsStorableCell};
 
@@ -60,7 +61,7 @@ fn with_real_key(aid: Aid) -> Aid
 impl Screen {
     /// All cells null, the cursor at 0, no AID.
     pub fn blank() -> Screen
-        ensures { result ≡ record { cells = replicate cell_count (Char 0); cursor = 0; aid = NoAid } }
+        ensures { result ≡ blank_screen cell_count }
     {
         Screen {
             cells: [Cell::Char(0); SIZE],

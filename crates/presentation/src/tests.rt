@@ -3,7 +3,7 @@ ghost use Rattle.std.specs.Prelude.{◌<◌};
 ghost use Rattle.codes3270.specs.Size.{rows};
 
 use crate::{Applied, Field, Screen};
-use codes3270::{Addr, Aid, COLUMNS, Cell, PaNo, ROWS};
+use codes3270::{Addr, Aid, Attr, COLUMNS, Cell, PaNo, ROWS};
 use datastream::read_command;
 use std::alloc::{AllocError, Global};
 use std::process::Abort;
@@ -161,13 +161,13 @@ fn a_tab_passes_on_that_it_nulls(rt: HostRuntime) -> Result<(), Fail> {
     let alloc = rt.alloc();
     let command = "F5 C3 3C 40 40 5C 11 40 C3 1D 60 11 5D 7A 1D 40 C1 05 05 C2 13";
     let screen = after(&rt, alloc, &[command])?;
+    let first = "    ****************************************************************************";
+    assert_eq!(rt; row(alloc, &screen, 0)?.as_str(), first);
     for place in 1..ROWS - 1 {
         assert_eq!(rt; row(alloc, &screen, place)?.as_str(), STARS);
     }
-    let first = row(alloc, &screen, 0)?;
-    assert_eq!(rt; first.as_str().trim_start_matches(' ').len(), 76);
-    let last = row(alloc, &screen, ROWS - 1)?;
-    assert_eq!(rt; last.as_str().trim_start_matches('*'), " B    ");
+    let last = "************************************************************************** B    ";
+    assert_eq!(rt; row(alloc, &screen, ROWS - 1)?.as_str(), last);
     assert_eq!(rt; screen.cursor().get(), 1916);
     Ok(())
 }
@@ -316,6 +316,52 @@ fn lists_and_finds_fields(rt: HostRuntime) -> Result<(), Fail> {
     ] {
         assert_eq!(rt; screen.field_at(at(place)?), Some(field), "at {place}");
     }
+    Ok(())
+}
+
+#[test]
+fn home_is_the_lowest_start(rt: HostRuntime) -> Result<(), Fail> {
+    let table = [
+        // No field, a protected one, and an unprotected one without cells before another attribute.
+        ("F5 C3", 0),
+        ("F5 C3 11 40 C1 1D 60", 0),
+        ("F5 C3 11 40 C1 1D 40 1D 60", 0),
+        // The second field of two, and the first of three.
+        ("F5 C3 1D 60 C1 1D 40", 3),
+        ("F5 C3 11 40 C5 1D 40 00 1D 40 00 1D 60", 6),
+        // Behind an attribute at the last cell.
+        ("F5 C3 11 40 C1 1D 60 11 5D 7F 1D 40", 0),
+        ("F5 C3 1D 60 00 1D 40 11 5D 7F 1D 40", 3),
+    ];
+    for (command, home) in table {
+        let screen = after(&rt, rt.alloc(), &[command])?;
+        assert_eq!(rt; screen.home().get(), home, "{command}");
+    }
+    Ok(())
+}
+
+// ---- what keys change
+
+#[test]
+fn each_change_is_that_alone(rt: HostRuntime) -> Result<(), Fail> {
+    let shown = after(&rt, rt.alloc(), &["F5 C3 1D 40 C1 1D 60 C2"])?;
+    let mut screen = shown.clone()?;
+    screen.set_cursor(at(1919)?);
+    assert_eq!(rt; screen.cursor().get(), 1919);
+    screen.set_cursor(at(0)?);
+    screen.set_aid(Aid::Enter);
+    assert_eq!(rt; screen.aid(), Aid::Enter);
+    screen.set_aid(Aid::NoAid);
+    assert!(rt; screen == shown);
+    type_at(&mut screen, at(1)?, &[0xC3]);
+    assert_eq!(rt; screen.cell(at(0)?), Cell::Attr(Attr::from_code(0x41)));
+    assert_eq!(rt; screen.cell(at(1)?), Cell::Char(0xC3));
+    assert_eq!(rt; screen.cell(at(2)?), Cell::Attr(Attr::from_code(0x60)));
+    assert_eq!(rt; screen.cell(at(3)?), Cell::Char(0xC2));
+    assert_eq!(rt; screen.cell(at(1919)?), Cell::Char(0x00));
+    screen.clear();
+    screen.set_cursor(at(0)?);
+    assert!(rt; screen == Screen::blank());
     Ok(())
 }
 

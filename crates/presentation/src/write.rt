@@ -1,3 +1,4 @@
+//! What commands make of the screen.
 ghost use Rattle.std.specs.Prelude.{◌≡◌, All, false, true};
 ghost use Rattle.codes3270.specs.Storable.{is_storable};
 ghost use Rattle.datastream.specs.Grammar.{IsProper};

@@ -7,14 +7,14 @@ use Rattle.codes3270.specs.declared.attribute.Cell.{Cell}
 use Rattle.codes3270.specs.declared.attribute.Cell.TheVariants.{Char}
 use Rattle.codes3270.specs.declared.write_control.Wcc.{Wcc}
 use Rattle.datastream.specs.Grammar.{CommandParts, IsSpelt, is_write}
-use Rattle.datastream.specs.Screen.{Screen}
+use Rattle.datastream.specs.Screen.{Screen, blank_screen}
 use Rattle.datastream.specs.declared.command_code.CommandCode.{CommandCode}
 use Rattle.datastream.specs.declared.command_code.CommandCode.TheVariants.{Write, EraseWrite, EraseWriteAlternate, ReadBuffer, ReadModified, ReadModifiedAll, EraseAllUnprotected}
 use Rattle.datastream.specs.Meaning.{unmodified, prepared, written, cleared, after_code, after_command}
 use Rattle.datastream.specs.declared.order.Order.{Order}
 use Rattle.shadow.specs.Heard.{seen}
 use Rattle.shadow.specs.Stores.{stores, is_plain_order, is_plain}
-use Rattle.shadow.specs.Taken.{blank_screen, taken_erase}
+use Rattle.shadow.specs.Taken.{taken_erase}
 use Rattle.shadow.proofs.Stored.{stored}
 use Rattle.shadow.proofs.LaidOut.{cells_written, has_wcc}
 

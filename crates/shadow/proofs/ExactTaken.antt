@@ -12,7 +12,8 @@ use Rattle.shadow.specs.declared.known.Known.{Known}
 use Rattle.shadow.specs.declared.known.Known.TheVariants.{Attr as KnownAttr, Char as KnownChar}
 use Rattle.shadow.specs.Belief.{Fact, Belief, Shadow, fields_of}
 use Rattle.shadow.specs.Stores.{stores_unplaced}
-use Rattle.shadow.specs.Taken.{old_char, laid_out, known_ahead, fresh_ahead, and_char, whole_text, exact_or_any, fact_known, fact_before, fact_after, belief_after, beliefs_from, formatted_as, believed, known_after, after_write, taken_write, taken, blank_screen}
+use Rattle.shadow.specs.Taken.{old_char, laid_out, known_ahead, fresh_ahead, and_char, whole_text, exact_or_any, fact_known, fact_before, fact_after, belief_after, beliefs_from, formatted_as, believed, known_after, after_write, taken_write, taken}
+use Rattle.datastream.specs.Screen.{blank_screen}
 use Rattle.shadow.specs.Exactness.{is_erase, IsExactWhereKnown, FieldIsExact, IsExactIfProtected, TakenStaysExact, ErasedIsExact}
 use Rattle.shadow.proofs.Seen.{whole_fresh}
 use Rattle.shadow.proofs.ExactHeard.{exact_fact, seen_exact, seen_protected}

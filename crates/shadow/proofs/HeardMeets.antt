@@ -8,7 +8,7 @@ use Rattle.datastream.specs.Fields.{Field, fields}
 use Rattle.datastream.specs.Inbound.{without_nulls}
 use Rattle.shadow.specs.Pairs.{Pairwise}
 use Rattle.shadow.specs.Belief.{Belief, Shadow, nulls}
-use Rattle.shadow.specs.Meets.{FieldMeets, KnownIs, Meets, Knows, told, FieldTold, IsTold}
+use Rattle.shadow.specs.Meets.{FieldMeets, KnownIs, Meets, Knows, told, FieldTold, IsTold, ListsFields}
 use Rattle.datastream.specs.InboundFields.{lead_of, returned_of}
 use Rattle.shadow.specs.Heard.{contradicts, was_erased, after_long, unprotected_fact, text_fact, heard_long}
 use Rattle.shadow.proofs.Keyed.{Keyed, FieldKeyed}
@@ -101,16 +101,16 @@ unfolding new_beliefs
 tell erased bs fs h = all_told (list_any was_erased (given bs fs)) bs fs (all_meet erased (list_any was_erased (given bs fs)) (loss_shows erased bs fs h) bs fs h)
 
 pub heard_meets : (size : ℕ) (erased : Bool) (shadow : Shadow) (left now : Screen) → Knows shadow → length now.cells ≡ size → Meets shadow left → Keyed erased left.cells now.cells
-    → IsOkAnd (heard_long size shadow (lead_of now.cells) (returned_of now.cells)) (λ new. Meets new now × IsTold new now)
+    → IsOkAnd (heard_long size shadow (lead_of now.cells) (returned_of now.cells)) (λ new. Meets new now × ListsFields new now × IsTold new now)
 heard_meets size erased Shadow.NothingKnown left now knows whole meets keyed = absurd knows
 heard_meets size erased (Shadow.Unformatted known) left now knows whole meets keyed =
     let none : fields now.cells ≡ [] = none_now (FieldKeyed erased) (fields left.cells) (fields now.cells) keyed.1 meets.0 in
     let fits : nat_lt (length known) (length (without_nulls (text_before_attribute now.cells))) ≡ false =
     le-ltb _ _ (omega (arith, length-without_nulls (text_before_attribute now.cells), length-text_before_attribute now.cells, unformatted-length left.cells 0 left.cells meets.0, pairwise-length KnownIs known (text_before_attribute left.cells) meets.1, keyed.0)) in
-    rw (all_lead now.cells none, returned_is (length now.cells) (fields now.cells), none, fits) (tt, tt)
+    rw (all_lead now.cells none, returned_is (length now.cells) (fields now.cells), none, fits) (tt, (λ some. absurd (some refl)), tt)
 heard_meets size erased (Shadow.Formatted bs) left now knows whole meets keyed =
     let h = followed erased bs (fields left.cells) (fields now.cells) meets.1 keyed.1 in
     let some : fields now.cells ≡ [] → ⊥ = λ e. meets.0 (none_left (FieldKeyed erased) (fields left.cells) (fields now.cells) keyed.1 e) in
     let came : returned_of now.cells ≡ returned size (fields now.cells) = returned_is (length now.cells) (fields now.cells) ∙ ap (λ n. returned n (fields now.cells)) whole in
     rw (came, heard_formatted size 0 erased bs (fields now.cells) (lead_of now.cells) (no_lead now.cells some) h (ascending now.cells size 0 now.cells (omega arith)))
-    ((some, meet erased bs (fields now.cells) h), tell erased bs (fields now.cells) h)
+    ((some, meet erased bs (fields now.cells) h), (λ _. tt), tell erased bs (fields now.cells) h)

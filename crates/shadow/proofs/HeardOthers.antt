@@ -10,13 +10,13 @@ use Rattle.datastream.specs.Held.{without_mdt}
 use Rattle.shadow.specs.declared.mark.Mark.TheVariants.{Unknown}
 use Rattle.shadow.specs.Pairs.{Pairwise}
 use Rattle.shadow.specs.Belief.{Fact, Belief, Shadow}
-use Rattle.shadow.specs.Meets.{FieldMeets, MarkIs, Holds, KnownIs, Meets, FieldTold, IsTold}
+use Rattle.shadow.specs.Meets.{FieldMeets, MarkIs, Holds, KnownIs, Meets, Knows, ListsFields, IsFormatted, FieldTold, IsTold}
 use Rattle.shadow.specs.Heard.{heard_attention, after_attention, unknown_fact, mark_seen, belief_seen, formatted_or, seen, same_attr, misses, differs, known_chars, is_other, others, denies_buffer}
 use Rattle.shadow.proofs.Keyed.{Keyed, FieldKeyed}
 use Rattle.shadow.proofs.Pairs.{nothing_known, all_known}
 use Rattle.shadow.proofs.FieldPlaces.{or_neither}
 use Rattle.shadow.proofs.FieldStep.{Followed, and_if}
-use Rattle.shadow.proofs.HeardMeets.{followed, none_left}
+use Rattle.shadow.proofs.HeardMeets.{followed, none_left, none_now}
 
 unknown_holds : (n : ℕ) (text : List ℕ) → length text ≡ n → Holds (unknown_fact n) text
 unknown_holds n text e = cases (nat_eq n 0) refl
@@ -63,8 +63,14 @@ attention_meets erased (Shadow.Unformatted known) left now meets keyed = tt
 attention_meets erased (Shadow.Formatted bs) left now meets keyed =
     ((λ e. meets.0 (none_left (FieldKeyed erased) (fields left.cells) (fields now.cells) keyed.1 e)), attention_fields erased bs (fields now.cells) (followed erased bs (fields left.cells) (fields now.cells) meets.1 keyed.1))
 
+pub attention_lists : (erased : Bool) (shadow : Shadow) (left now : Screen) → Knows shadow → Meets shadow left → Keyed erased left.cells now.cells → ListsFields (heard_attention shadow) now
+attention_lists erased Shadow.NothingKnown left now knows meets keyed = absurd knows
+attention_lists erased (Shadow.Unformatted known) left now knows meets keyed =
+    λ some. absurd (some (none_now (FieldKeyed erased) (fields left.cells) (fields now.cells) keyed.1 meets.0))
+attention_lists erased (Shadow.Formatted bs) left now knows meets keyed = λ _. tt
+
 -- a screen of nulls
-no_field : (whole : List Cell) (n size : ℕ) → fields_from whole n (replicate size (Char 0)) ≡ []
+pub no_field : (whole : List Cell) (n size : ℕ) → fields_from whole n (replicate size (Char 0)) ≡ []
 no_field whole n zero = refl
 no_field whole n (suc size) = no_field whole (n + 1) size
 
@@ -90,6 +96,13 @@ seen_meets s = cases (fields s.cells) refl
     cases : (fs : List Field) → fields s.cells ≡ fs → Meets (formatted_or fs (text_before_attribute s.cells)) s
     cases [] e = (e, all_known (text_before_attribute s.cells))
     cases (f ∷ fs) e = ((λ none. absurd (cc)), subst (Pairwise FieldMeets (map belief_seen (f ∷ fs))) (sym e) (seen_fields (f ∷ fs)))
+
+pub seen_lists : (s : Screen) → ListsFields (seen s.cells) s
+seen_lists s = cases (fields s.cells) refl
+  where
+    cases : (fs : List Field) → fields s.cells ≡ fs → (fields s.cells ≡ [] → ⊥) → IsFormatted (formatted_or fs (text_before_attribute s.cells))
+    cases [] e some = absurd (some e)
+    cases (f ∷ fs) e some = tt
 
 same_attr-refl : (one other : Attribute) → without_mdt one ≡ other → same_attr one other ≡ true
 same_attr-refl one other e = eq-eqb _ _ (ap attr_byte (ap without_mdt e))

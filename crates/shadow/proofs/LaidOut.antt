@@ -7,7 +7,7 @@ use Rattle.codes3270.specs.declared.attribute.Cell.TheVariants.{Char, Attr}
 use Rattle.codes3270.specs.declared.write_control.Wcc.{Wcc}
 use Rattle.codes3270.specs.WriteControl.{wcc_of}
 use Rattle.datastream.specs.Grammar.{CommandParts, IsCommand, write, other, IsSpelt, is_write}
-use Rattle.datastream.specs.Screen.{Screen, text_before_attribute}
+use Rattle.datastream.specs.Screen.{Screen, text_before_attribute, blank_screen}
 use Rattle.datastream.specs.Fields.{Field, fields, fields_from}
 use Rattle.datastream.specs.Meaning.{unmodified, prepared, written, cleared, after_code, after_command}
 use Rattle.datastream.specs.declared.order.Order.{Order}
@@ -19,7 +19,7 @@ use Rattle.shadow.specs.Belief.{Belief, Shadow}
 use Rattle.shadow.specs.Meets.{FieldMeets, KnownIs, Meets}
 use Rattle.shadow.specs.Heard.{known_chars, seen}
 use Rattle.shadow.specs.Stores.{stores, stores_unplaced, is_plain_order, is_plain}
-use Rattle.shadow.specs.Taken.{old_char, field_cells, first_place, laid_out, marks_off_if, believed, known_after, after_write, taken_write, taken, blank_screen}
+use Rattle.shadow.specs.Taken.{old_char, field_cells, first_place, laid_out, marks_off_if, believed, known_after, after_write, taken_write, taken}
 use Rattle.shadow.specs.Laws.{WrittenIsTaken}
 use Rattle.shadow.proofs.Pairs.{pairwise-append, pairwise-drop, pairwise-take}
 use Rattle.shadow.proofs.HeardMeets.{none_left}

@@ -22,8 +22,12 @@ pub mod Paired
 pub mod Others
 pub mod Appendings
 pub mod PaintBytes
+pub mod Spelling
 pub mod ExactHeard
 pub mod Behind
 pub mod ExactTaken
 pub mod ExactPainted
 pub mod ExactWritten
+pub mod Starting
+pub mod Skipping
+pub mod KnownCells

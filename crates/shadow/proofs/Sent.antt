@@ -15,12 +15,12 @@ use Rattle.datastream.specs.declared.inbound_part.Part.{Part}
 use Rattle.datastream.specs.declared.inbound_part.Part.TheVariants.{Char}
 use Rattle.shadow.specs.declared.fault.HeardFault.{HeardFault}
 use Rattle.shadow.specs.Belief.{Shadow}
-use Rattle.shadow.specs.Meets.{Meets, Knows, IsTold}
+use Rattle.shadow.specs.Meets.{Meets, Knows, IsTold, ListsFields}
 use Rattle.shadow.specs.Heard.{heard, heard_long, heard_parts}
 use Rattle.shadow.specs.Laws.{IsSentFrom, Believed, HearsModified, HearsAll, HearsBuffer}
 use Rattle.shadow.proofs.HeldKeyed.{held_keyed}
 use Rattle.shadow.proofs.HeardMeets.{heard_meets}
-use Rattle.shadow.proofs.HeardOthers.{attention_meets, cleared_meets, seen_meets, seen_told, not_denied}
+use Rattle.shadow.proofs.HeardOthers.{attention_meets, attention_lists, cleared_meets, seen_meets, seen_lists, seen_told, not_denied}
 
 -- fields come back from their parts
 lead_fields : (fields : List Returned) → lead (flat_map field_parts fields) ≡ []
@@ -59,13 +59,13 @@ long_heard size shadow now =
     ∙ ap (heard_long size shadow (lead_of now.cells)) (returned_back (lead_of now.cells) (returned_of now.cells))
 
 long_believed : (size : ℕ) (erased : Bool) (shadow : Shadow) (left now : Screen) → Knows shadow → length now.cells ≡ size → Meets shadow left → Held erased left.cells now.cells
-    → IsOkAnd (heard_parts size shadow (parts_of_fields (lead_of now.cells) (returned_of now.cells))) (λ new. Meets new now × IsTold new now)
+    → IsOkAnd (heard_parts size shadow (parts_of_fields (lead_of now.cells) (returned_of now.cells))) (λ new. Meets new now × ListsFields new now × IsTold new now)
 long_believed size erased shadow left now knows whole meets held =
-    subst (λ r. IsOkAnd r (λ new. Meets new now × IsTold new now)) (sym (long_heard size shadow now))
+    subst (λ r. IsOkAnd r (λ new. Meets new now × ListsFields new now × IsTold new now)) (sym (long_heard size shadow now))
     (heard_meets size erased shadow left now knows whole meets (held_keyed erased left.cells now.cells held))
 
-believed_long : (now : Screen) (r : Result Shadow HeardFault) → IsOkAnd r (λ new. Meets new now × IsTold new now) → IsOkAnd r (Believed false now)
-believed_long now (Ok new) h = (h.0, λ _. h.1)
+believed_long : (now : Screen) (r : Result Shadow HeardFault) → IsOkAnd r (λ new. Meets new now × ListsFields new now × IsTold new now) → IsOkAnd r (Believed false now)
+believed_long now (Ok new) h = (h.0, h.1, λ _. h.2)
 believed_long now (Err fault) h = h
 
 cleared_length : (size : ℕ) (cells : List Cell) → cells ≡ replicate size (CharCell 0) → length cells ≡ size
@@ -79,12 +79,14 @@ hears_modified erased shadow left now knows meets sent = cases now.aid sent
     cases NoAid sent = believed_long now _ (long_believed (length now.cells) erased shadow left now knows refl meets sent)
     cases Enter sent = believed_long now _ (long_believed (length now.cells) erased shadow left now knows refl meets sent)
     cases (Pf key) sent = believed_long now _ (long_believed (length now.cells) erased shadow left now knows refl meets sent)
-    cases (Pa key) sent = (attention_meets erased shadow left now meets (held_keyed erased left.cells now.cells sent), λ e. absurd (cc))
-    cases Clear sent = (cleared_meets _ now (sent ∙ ap (λ n. replicate n (CharCell 0)) (sym (cleared_length _ now.cells sent))), λ e. absurd (cc))
+    cases (Pa key) sent = let keyed = held_keyed erased left.cells now.cells sent in (attention_meets erased shadow left now meets keyed, attention_lists erased shadow left now knows meets keyed, λ e. absurd (cc))
+    cases Clear sent =
+        let null = sent ∙ ap (λ n. replicate n (CharCell 0)) (sym (cleared_length _ now.cells sent)) in
+        (cleared_meets _ now null, (λ some. absurd (some (cleared_meets _ now null).0)), λ e. absurd (cc))
 
 pub hears_all : HearsAll
 hears_all erased shadow left now knows meets held = believed_long now _ (long_believed (length now.cells) erased shadow left now knows refl meets held)
 
 pub hears_buffer : HearsBuffer
 hears_buffer shadow now meets =
-    rw (cells_back now.cells, not_denied shadow now meets) (seen_meets now, λ _. seen_told now)
+    rw (cells_back now.cells, not_denied shadow now meets) (seen_meets now, seen_lists now, λ _. seen_told now)

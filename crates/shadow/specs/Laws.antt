@@ -1,25 +1,28 @@
 -- What holds of beliefs: what is heard, taken and painted is so.
-use Rattle.std.specs.Prelude.{◌≡◌, ℕ, Bool, true, false, List, length, replicate, IsOkAnd}
+use Rattle.std.specs.Prelude.{◌≡◌, ℕ, Bool, true, false, List, length, replicate, Some, slice_get, IsOkAnd}
 use Rattle.codes3270.specs.declared.attention.Aid.{Aid}
 use Rattle.codes3270.specs.declared.attention.Aid.TheVariants.{NoAid, Enter, Clear, Pf, Pa}
 use Rattle.codes3270.specs.declared.attribute.Cell.{Cell}
-use Rattle.codes3270.specs.declared.attribute.Cell.TheVariants.{Char}
+use Rattle.codes3270.specs.declared.attribute.Attr.{Attr as Attribute}
+use Rattle.codes3270.specs.declared.attribute.Cell.TheVariants.{Char, Attr}
 use Rattle.codes3270.specs.Aid.{is_short_aid}
+use Rattle.codes3270.specs.Size.{cell_count}
 use Rattle.datastream.specs.Screen.{Screen}
-use Rattle.datastream.specs.Held.{Held}
+use Rattle.datastream.specs.Held.{Held, without_mdt}
 use Rattle.datastream.specs.InboundFields.{modified_data, buffer_data}
 use Rattle.datastream.specs.declared.inbound_part.Form.TheVariants.{Modified, All as AllModified}
 use Rattle.shadow.specs.Belief.{Shadow}
-use Rattle.shadow.specs.Meets.{Meets, Knows, IsTold}
-use Rattle.datastream.specs.Grammar.{CommandParts, IsSpelt}
+use Rattle.shadow.specs.Meets.{Meets, Knows, ListsFields, IsTold}
+use Rattle.datastream.specs.Grammar.{CommandParts, IsCommand, IsSpelt}
 use Rattle.datastream.specs.Meaning.{after_command}
+use Rattle.shadow.specs.Asked.{known_at}
 use Rattle.shadow.specs.Heard.{heard}
 use Rattle.shadow.specs.Stores.{is_plain}
 use Rattle.shadow.specs.Taken.{taken}
-use Rattle.datastream.specs.Wanted.{WantedScreen}
+use Rattle.datastream.specs.Wanted.{WantedScreen, IsScreen}
 use Rattle.shadow.specs.Painted.{plainly_painted}
 use Rattle.shadow.specs.Fits.{fits}
-use Rattle.shadow.specs.Paint.{paint}
+use Rattle.shadow.specs.Paint.{paint, paint_bytes}
 
 -- all null
 abbrev pub IsCleared : List Cell → List Cell → Type 0
@@ -34,9 +37,9 @@ IsSentFrom erased left now Enter = Held erased left now
 IsSentFrom erased left now (Pf key) = Held erased left now
 IsSentFrom erased left now NoAid = Held erased left now
 
--- what was heard of a screen: the screen meets it, and where fields were sent their texts are told
+-- what was heard of a screen: the screen meets it, its fields are listed, and where fields were sent their texts are told
 abbrev pub Believed : Bool → Screen → Shadow → Type 0
-Believed sent screen shadow = Meets shadow screen × (sent ≡ false → IsTold shadow screen)
+Believed sent screen shadow = Meets shadow screen × ListsFields shadow screen × (sent ≡ false → IsTold shadow screen)
 
 -- A key's data is heard, and then believed as it is. A host that knows nothing refuses any field.
 abbrev pub HearsModified : Type 0
@@ -74,3 +77,23 @@ PaintedIsKnown = (size : ℕ) (shadow : Shadow) (wanted : WantedScreen) → Know
 -- A paint is a plain write.
 abbrev pub PaintIsPlain : Type 0
 PaintIsPlain = (size : ℕ) (shadow : Shadow) (wanted : WantedScreen) → is_plain (paint size shadow wanted) ≡ true
+
+-- A paint of a screen of the profile can be spelt, whatever is believed: its bytes are that very command.
+abbrev pub PaintIsSpelt : Type 0
+PaintIsSpelt = (shadow : Shadow) (wanted : WantedScreen) → IsScreen wanted → IsCommand (paint cell_count shadow wanted) (paint_bytes cell_count shadow wanted)
+
+-- the same cell, but for the MDT of an attribute
+abbrev pub IsSameCell : Cell → Cell → Type 0
+IsSameCell (Char byte) there = there ≡ Char byte
+IsSameCell (Attr attribute) (Char byte) = ⊥
+IsSameCell (Attr attribute) (Attr other) = without_mdt other ≡ without_mdt attribute
+
+-- A cell that is known is the one that stands there, on every screen that meets what is believed.
+abbrev pub KnownIsThere : Type 0
+KnownIsThere = (shadow : Shadow) (screen : Screen) (at : ℕ) (cell : Cell) → Meets shadow screen → known_at (length screen.cells) shadow at ≡ Some cell
+    → (there : Cell) × (slice_get screen.cells at ≡ Some there) × IsSameCell cell there
+
+-- Where something is known, each attribute of the screen is.
+abbrev pub AttributesAreKnown : Type 0
+AttributesAreKnown = (shadow : Shadow) (screen : Screen) (at : ℕ) (attribute : Attribute) → Knows shadow → Meets shadow screen → slice_get screen.cells at ≡ Some (Attr attribute)
+    → (cell : Cell) × (known_at (length screen.cells) shadow at ≡ Some cell)

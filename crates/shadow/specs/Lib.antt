@@ -4,6 +4,7 @@ pub mod Meets
 pub mod Heard
 pub mod Stores
 pub mod Taken
+pub mod Skips
 pub mod Painted
 pub mod Fits
 pub mod Paint

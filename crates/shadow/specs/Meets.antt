@@ -48,6 +48,16 @@ Knows Shadow.NothingKnown = ⊥
 Knows (Shadow.Unformatted known) = ⊤
 Knows (Shadow.Formatted beliefs) = ⊤
 
+-- the belief has fields
+abbrev pub IsFormatted : Shadow → Type 0
+IsFormatted Shadow.NothingKnown = ⊥
+IsFormatted (Shadow.Unformatted known) = ⊥
+IsFormatted (Shadow.Formatted beliefs) = ⊤
+
+-- Where the screen has fields, so has the belief. (That they are the same follows, where the screen meets it.)
+abbrev pub ListsFields : Shadow → Screen → Type 0
+ListsFields shadow screen = (fields screen.cells ≡ [] → ⊥) → IsFormatted shadow
+
 -- the text without nulls that a fact tells
 abbrev pub told : Fact → Option (List ℕ)
 told (Fact.Exact value) = Some (without_nulls value)

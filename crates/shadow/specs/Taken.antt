@@ -1,12 +1,11 @@
 -- What a host believes once a plain write was taken.
-use Rattle.std.specs.Prelude.{◌==◌, ◌+◌, ◌-◌, ◌&&◌, ◌||◌, ℕ, Bool, true, false, List, [], ◌∷◌, ◌++◌, length, map, replicate, flat_map, slice_set, take, drop, Option, Some, None, option_map, unwrap_or, if◌then◌else◌}
+use Rattle.std.specs.Prelude.{◌==◌, ◌+◌, ◌-◌, ◌&&◌, ◌||◌, ℕ, Bool, true, false, List, [], ◌∷◌, ◌++◌, length, map, flat_map, slice_set, take, drop, Option, Some, None, option_map, unwrap_or, if◌then◌else◌}
 use Rattle.codes3270.specs.declared.attribute.Attr.{Attr as Attribute}
 use Rattle.codes3270.specs.declared.attribute.Cell.{Cell}
 use Rattle.codes3270.specs.declared.attribute.Cell.TheVariants.{Char, Attr}
-use Rattle.codes3270.specs.declared.attention.Aid.TheVariants.{NoAid}
 use Rattle.codes3270.specs.declared.write_control.Wcc.{Wcc}
 use Rattle.datastream.specs.Grammar.{CommandParts}
-use Rattle.datastream.specs.Screen.{Screen}
+use Rattle.datastream.specs.Screen.{blank_screen}
 use Rattle.datastream.specs.Meaning.{after_command}
 use Rattle.datastream.specs.Held.{without_mdt}
 use Rattle.datastream.specs.declared.order.Order.{Order}
@@ -134,10 +133,6 @@ abbrev pub taken_write : ℕ → Option Wcc → List Order → Shadow → Shadow
 taken_write size wcc orders Shadow.NothingKnown = Shadow.NothingKnown
 taken_write size wcc orders (Shadow.Unformatted known) = after_write size wcc orders [] (map old_char known)
 taken_write size wcc orders (Shadow.Formatted beliefs) = after_write size wcc orders beliefs (laid_out size beliefs)
-
--- a screen of nulls
-abbrev pub blank_screen : ℕ → Screen
-blank_screen size = record { cells = replicate size (Char 0); cursor = 0; aid = NoAid }
 
 -- after an erase all cells are known
 abbrev pub taken_erase : ℕ → CommandParts → Shadow

@@ -1,9 +1,10 @@
 //! What is known of each cell, and the fields that the cells make.
-ghost use Rattle.std.specs.Prelude.{◌≡◌, ◌≤◌, ◌<◌, ◌+◌, ◌++◌, ◌∷◌, [], suc, length, map, option_map, option_and_then, slice_get, IfSome, slice_index_or, drop, None, Some, replicate, flat_map, if◌then◌else◌};
+ghost use Rattle.std.specs.Prelude.{◌≡◌, ◌≤◌, ◌<◌, ◌+◌, ◌++◌, ◌∷◌, [], suc, length, map, option_map, option_and_then, slice_get, IfSome, IsTrue, slice_index_or, drop, None, Some, replicate, flat_map, if◌then◌else◌};
 ghost use Rattle.codes3270.specs.Size.{cell_count};
 ghost use Rattle.shadow.specs.Asked.{known_cell, belief_with};
 ghost use Rattle.shadow.specs.Taken.{known_ahead, fresh_ahead, whole_text, fact_before as before_at, belief_after, beliefs_from, old_char, field_cells, laid_out as laid_out_at};
 ghost use Rattle.shadow.specs.Held.{fact_of, belief_of, IsSized, Sized, cells_in};
+ghost use Rattle.shadow.specs.Skips.{AreSkips};
 
 use crate::fields::{CELL_COUNT, Fields, append};
 use crate::held::{Field, Lent, Telling};
@@ -12,18 +13,30 @@ use crate::mark::Mark;
 use arrayvec::ArrayVec;
 use codes3270::{Attr, Cell};
 
+/// Characters, where they are known.
+pub(crate) type Chars = ArrayVec<Option<u8>, CELL_COUNT>;
+
+/// Gathers the characters up to the first attribute, in place of those that were gathered before.
+fn gather_chars(chars: &mut Chars, cells: &[Known])
+    requires { length (known_ahead cells.now) ≤ cell_count }
+    ensures { chars.new.items ≡ known_ahead cells.now }
+{
+    chars.clear();
+    for cell in cells {
+        match cell {
+            Known::Attr(_, _) => return,
+            Known::Char(char, _) => chars.push(*char),
+        }
+    }
+}
+
 /// The characters up to the first attribute.
-pub(crate) fn chars_behind(cells: &[Known]) -> ArrayVec<Option<u8>, CELL_COUNT>
+pub(crate) fn chars_behind(cells: &[Known]) -> Chars
     requires { length (known_ahead cells.now) ≤ cell_count }
     ensures { result.items ≡ known_ahead cells.now }
 {
     let mut chars = ArrayVec::new();
-    for cell in cells {
-        match cell {
-            Known::Attr(_, _) => return chars,
-            Known::Char(char, _) => chars.push(*char),
-        }
-    }
+    gather_chars(&mut chars, cells);
     chars
 }
 
@@ -44,28 +57,55 @@ fn any_fresh(cells: &[Known]) -> bool
     false
 }
 
-/// The characters, if all are known.
-fn text_known(chars: &[Option<u8>]) -> Option<ArrayVec<u8, CELL_COUNT>>
+/// Gathers characters if all of them are known, in place of those that were gathered before; else answers false.
+fn gather_text(text: &mut ArrayVec<u8, CELL_COUNT>, chars: &[Option<u8>]) -> bool
     requires { length chars.now ≤ cell_count }
-    ensures text { option_map (λ text. text.items) result ≡ whole_text chars.now }
-    ensures sized { IfSome result (λ text. length text.items ≡ length chars.now) }
+    ensures text { whole_text chars.now ≡ (if result then Some text.new.items else None) }
+    ensures sized { IsTrue result → length text.new.items ≡ length chars.now }
 {
-    let mut text = ArrayVec::new();
+    text.clear();
     for char in chars {
         match char {
             Some(char) => text.push(*char),
-            None => return None,
+            None => return false,
         }
     }
-    Some(text)
+    true
+}
+
+/// For each address, how many fields stand before the first whose attribute is there: all of them, where none is.
+fn skips_of(fields: &Fields) -> [usize; CELL_COUNT]
+    ensures { AreSkips result fields.now }
+{
+    let count = fields.len();
+    let mut skips = [count; CELL_COUNT];
+    for index in (0..count).rev() {
+        skips[fields.get(index).place] = index;
+    }
+    skips
+}
+
+/// How many fields stand before the first at an address, by what `skips_of` says.
+fn skip_to(skips: &[usize; CELL_COUNT], place: usize) -> usize
+    requires { place < cell_count }
+    ensures { result ≡ slice_index_or skips.now place 0 }
+{
+    skips[place]
 }
 
 /// The fact of the field that had this address and length.
-fn fact_before(before: &Fields, place: usize, length: usize) -> Option<Lent<'_>>
+fn fact_before<'a>(
+    before: &'a Fields,
+    skips: &[usize; CELL_COUNT],
+    place: usize,
+    length: usize,
+) -> Option<Lent<'a>>
+    requires placed { place < cell_count }
+    requires skips { AreSkips skips.now before.now }
     ensures fact { option_map fact_of result ≡ before_at before.now place length }
     ensures sized { IfSome result (λ fact. IsSized length (fact_of fact)) }
 {
-    for index in 0..before.len() {
+    for index in skip_to(skips, place)..before.len() {
         let field = before.get(index);
         if field.place == place && field.length == length {
             return Some(field.fact);
@@ -77,10 +117,13 @@ fn fact_before(before: &Fields, place: usize, length: usize) -> Option<Lent<'_>>
 /// The fact that a field keeps, if none of its characters was just stored.
 fn fact_kept<'a>(
     before: &'a Fields,
+    skips: &[usize; CELL_COUNT],
     place: usize,
     length: usize,
     behind: &[Known],
 ) -> Option<Lent<'a>>
+    requires placed { place < cell_count }
+    requires skips { AreSkips skips.now before.now }
     ensures fact { option_map fact_of result
         ≡ (if fresh_ahead behind.now then None else before_at before.now place length) }
     ensures sized { IfSome result (λ fact. IsSized length (fact_of fact)) }
@@ -88,7 +131,7 @@ fn fact_kept<'a>(
     if any_fresh(behind) {
         None
     } else {
-        fact_before(before, place, length)
+        fact_before(before, skips, place, length)
     }
 }
 
@@ -99,27 +142,41 @@ pub(crate) fn cell_at(cells: &[Known], place: usize) -> Known
     cells[place]
 }
 
+/// Room to gather a field's characters in, used for one field after another.
+#[derive(Drop)]
+struct Gathered {
+    chars: Chars,
+    text: ArrayVec<u8, CELL_COUNT>,
+}
+
 /// Adds the field of an attribute, behind which these cells stand.
 fn push_field(
     after: &mut Fields,
+    gathered: &mut Gathered,
     before: &Fields,
+    skips: &[usize; CELL_COUNT],
     place: usize,
     attr: Attr,
     mark: Mark,
     behind: &[Known],
 )
     requires placed { place < cell_count }
+    requires skips { AreSkips skips.now before.now }
     requires room { cells_in after.old + suc (length (known_ahead behind.now)) ≤ cell_count }
     ensures { after.new ≡ after.old ++ belief_after before.now place attr mark behind.now ∷ [] }
 {
-    let chars = chars_behind(behind);
-    let text = text_known(&chars);
-    let length = chars.len();
-    let kept = fact_kept(before, place, length, behind);
-    let fact = match (kept, &text) {
-        (Some(fact), _) => fact,
-        (None, Some(text)) => Lent::Told(Telling::Exact, text),
-        (None, None) => Lent::Partly(&chars),
+    gather_chars(&mut gathered.chars, behind);
+    let is_whole = gather_text(&mut gathered.text, &gathered.chars);
+    let length = gathered.chars.len();
+    let fact = match fact_kept(before, skips, place, length, behind) {
+        Some(fact) => fact,
+        None => {
+            if is_whole {
+                Lent::Told(Telling::Exact, &gathered.text)
+            } else {
+                Lent::Partly(&gathered.chars)
+            }
+        }
     };
     after.push(Field {
         place,
@@ -157,12 +214,26 @@ pub(crate) fn fields_of(before: &Fields, cells: &[Known]) -> Fields
     ensures { result ≡ beliefs_from before.now cells.now 0 cells.now }
 {
     let ring = ring_of(cells);
+    let skips = skips_of(before);
+    let mut gathered = Gathered {
+        chars: ArrayVec::new(),
+        text: ArrayVec::new(),
+    };
     let mut after = Fields::new();
     for place in 0..cells.len() {
         match cell_at(cells, place) {
             Known::Attr(attr, mark) => {
                 let behind = cells_behind(&ring, place);
-                push_field(&mut after, before, place, attr, mark, behind);
+                push_field(
+                    &mut after,
+                    &mut gathered,
+                    before,
+                    &skips,
+                    place,
+                    attr,
+                    mark,
+                    behind,
+                );
             }
             Known::Char(_, _) => {}
         }

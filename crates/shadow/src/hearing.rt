@@ -1,5 +1,5 @@
 //! The fields of a shadow after what a terminal sent.
-ghost use Rattle.std.specs.Prelude.{◌≡◌, ◌<◌, List, length, slice_index_or, map, MatchOption, Some, None, false};
+ghost use Rattle.std.specs.Prelude.{◌≡◌, ◌<◌, ℕ, List, length, slice_index_or, map, MatchOption, Some, None, false};
 ghost use Rattle.std.specs.List.{list_any};
 ghost use Rattle.codes3270.specs.Size.{cell_count};
 ghost use Rattle.datastream.specs.InboundFields.{Returned};
@@ -11,6 +11,7 @@ ghost use Rattle.shadow.specs.Held.{text_of, paired, cells_in};
 use crate::blank::Blank;
 use crate::fields::{CELL_COUNT, Fields};
 use arrayvec::ArrayVec;
+use codes3270::Addr;
 use datastream::ReturnedFields;
 
 /// The text that came for each field.
@@ -39,24 +40,32 @@ fn first_address(place: usize) -> usize
     (place + 1) % CELL_COUNT
 }
 
-/// Whether a field begins at an address.
-fn begins_field(fields: &Fields, first: usize) -> bool
-    ensures { result ≡ list_any (λ belief. starts_at cell_count belief first) fields.now }
+/// For each address, whether a field begins there.
+fn starts_of(fields: &Fields) -> [bool; CELL_COUNT]
+    ensures { (first : ℕ) → first < cell_count → slice_index_or result first false ≡ list_any (λ belief. starts_at cell_count belief first) fields.now }
 {
+    let mut starts = [false; CELL_COUNT];
     for index in 0..fields.len() {
-        if first_address(fields.get(index).place) == first {
-            return true;
-        }
+        starts[first_address(fields.get(index).place)] = true;
     }
-    false
+    starts
+}
+
+/// Whether a field begins at an address, by what `starts_of` says.
+fn begins_field(starts: &[bool; CELL_COUNT], first: Addr) -> bool
+    ensures begins { result ≡ slice_index_or starts.now first false }
+    ensures in_range { first < cell_count }
+{
+    starts[first.get() as usize]
 }
 
 /// Whether one of those that came begins where no field does.
 pub(crate) fn any_nowhere(fields: &Fields, came: ReturnedFields<'_>) -> bool
     ensures { result ≡ list_any (is_nowhere cell_count fields.now) came.entry }
 {
+    let starts = starts_of(fields);
     for field in came {
-        if !begins_field(fields, field.first.get() as usize) {
+        if !begins_field(&starts, field.first) {
             return true;
         }
     }

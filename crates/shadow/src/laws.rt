@@ -1,6 +1,8 @@
 //! What holds of beliefs. The functions are empty: their contracts are the laws.
-ghost use Rattle.shadow.specs.Laws.{HearsModified, HearsAll, HearsBuffer, WrittenIsTaken, WantedIsPainted, PaintIsTaken, PaintedIsKnown, PaintIsPlain};
+ghost use Rattle.shadow.specs.Laws.{HearsModified, HearsAll, HearsBuffer, WrittenIsTaken, WantedIsPainted, PaintIsTaken, PaintedIsKnown, PaintIsPlain, PaintIsSpelt, KnownIsThere, AttributesAreKnown};
 ghost use Rattle.shadow.specs.Exactness.{NothingIsExact, HeardStaysExact, HeardStaysProtected, TakenStaysExact, ErasedIsExact, PaintedIsExact, WrittenStaysProtected, ProtectedIsSeen, ReturnedIsTold};
+
+use datastream::written_is_read;
 
 /// What a terminal sends after keys isn't refused, and what the host then believes is so.
 pub fn what_is_sent_is_heard()
@@ -18,13 +20,23 @@ pub fn what_is_written_is_taken()
     ensures { WrittenIsTaken }
 {}
 
-/// A paint is a plain write, makes the wanted screen of every screen that meets what is believed, and leaves what the wanted
-/// screen meets, and so something known.
+/// A paint is a plain write, is spelt by its bytes, makes the wanted screen of every screen that meets what is believed, and
+/// leaves what the wanted screen meets, and so something known.
 pub fn what_is_wanted_is_painted()
     ensures plain { PaintIsPlain }
+    ensures spelt { PaintIsSpelt }
     ensures painted { WantedIsPainted }
     ensures taken { PaintIsTaken }
     ensures known { PaintedIsKnown }
+{
+    written_is_read();
+}
+
+/// A cell that is known is that of every screen which meets what is believed, but for the MDT of an attribute; and where
+/// something is known, so is each attribute.
+pub fn what_is_known_is_there()
+    ensures cells { KnownIsThere }
+    ensures attributes { AttributesAreKnown }
 {}
 
 /// Where all characters of a field are known its fact is exact. This stays so, whatever is heard or written.

@@ -17,7 +17,7 @@ use std::marker::Model;
 const SUB_LIMIT: usize = 256;
 
 /// Where in a token the stream stands.
-#[derive(Clone, Copy)]
+#[derive(Clone, Copy, Debug)]
 enum Place {
     /// Behind a whole token that is no item, or before the first byte.
     Between,
@@ -31,7 +31,7 @@ enum Place {
 }
 
 /// The item that the last byte completed.
-#[derive(Clone, Copy)]
+#[derive(Clone, Copy, Debug)]
 enum Completed {
     Record,
     Opt(Verb, u8),
@@ -161,7 +161,7 @@ impl Place {
 ///
 /// A byte costs the same however long the record is, and takes no memory: the room for a record of `limit` bytes and a
 /// subnegotiation of 256 is made by `new`. Where the stream is cut into pieces makes no difference.
-#[derive(Drop)]
+#[derive(Drop, Debug)]
 pub struct Decoder {
     place: Place,
     record_buffer: Buffer,

@@ -203,6 +203,7 @@ fn a_subnegotiation_is_written_in_parts(rt: HostRuntime) -> Result<(), Fail> {
 
 #[test]
 fn a_record_is_the_same_however_it_is_cut(rt: HostRuntime) -> Result<(), Fail> {
+    one_reading();
     let bytes = b"\x00\x00\x02\x00\x00\xf5\xc3\x11\x40\x40\x1d\x60\xc8\xc9\x1d\x40\x13\xff\xef";
     let data = Item::Record(
         b"\x00\x00\x02\x00\x00\xf5\xc3\x11\x40\x40\x1d\x60\xc8\xc9\x1d\x40\x13",

@@ -12,13 +12,13 @@ use Rattle.tn3270e_msg.specs.declared.header.Header.{Header}
 use Rattle.tn3270e_msg.specs.declared.reply.Reply.{Reply}
 use Rattle.tn3270e_msg.specs.declared.term_talk.TermState.{TermState}
 use Rattle.tn3270e_msg.specs.declared.term_talk.TermState.TheVariants as at
-use Rattle.tn3270e_msg.specs.Talk.{Talk, items_sent, follow}
+use Rattle.tn3270e_msg.specs.Talk.{Talk, items_sent, follow, closing}
 use Rattle.tn3270e_msg.specs.TermTable.{Term, TermTakes, term_line}
 use Rattle.tn3270e_msg.specs.Laws.{OneHeader, FaultIsNoHeader, OneHearing}
 use Rattle.term_core.specs.State.{Station, Terminal, Link, Attached, record_limit}
 use Rattle.term_core.specs.Says.{sent_bytes}
 use Rattle.term_core.specs.Records.{TakesRecord, refused_response, refusal_of, answer_of, obeyed}
-use Rattle.term_core.specs.Items.{TakesItem, TakesItemIn, TalksOn, closing}
+use Rattle.term_core.specs.Items.{TakesItem, TakesItemIn, TalksOn}
 use Rattle.term_core.specs.Bytes.{TakesByte, TakesBytes, before_byte, link_after}
 use Rattle.term_core.specs.Laws.{OneOutcome, PiecesCompose, PiecesPart}
 

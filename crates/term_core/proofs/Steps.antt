@@ -25,13 +25,13 @@ use Rattle.tn3270e_msg.specs.declared.term_talk.TermState.{TermState}
 use Rattle.tn3270e_msg.specs.declared.term_talk.TermState.TheVariants as at
 use Rattle.tn3270e_msg.specs.Header.{Begins, HasFault}
 use Rattle.tn3270e_msg.specs.declared.reply.Reply.{Reply}
-use Rattle.tn3270e_msg.specs.Talk.{items_sent}
+use Rattle.tn3270e_msg.specs.Talk.{items_sent, closing}
 use Rattle.tn3270e_msg.specs.TermTable.{Term, TermTakes}
 use Rattle.term_core.specs.State.{Station, Terminal, Attached, record_limit}
 use Rattle.term_core.specs.declared.outcome.Outcome.{Outcome}
 use Rattle.term_core.specs.Says.{sent_bytes, response}
 use Rattle.term_core.specs.Records.{TakesRecord, refused_response, refusal_of, answer_of, obeyed}
-use Rattle.term_core.specs.Items.{TakesItem, TakesItemIn, TalksOn, closing}
+use Rattle.term_core.specs.Items.{TakesItem, TakesItemIn, TalksOn}
 use Rattle.term_core.specs.Bytes.{TakesByte, TakesBytes, before_byte, link_after}
 use Rattle.term_core.specs.Over.{RecordTaken, ItemTaken, IsRunning, IsLeft, IsSound, terminal_of}
 use Rattle.term_core.specs.declared.terminal.Attachment.{Attachment}

@@ -1,22 +1,14 @@
 -- What a terminal makes of what the stream hands out.
-use Rattle.std.specs.Prelude.{◌≡◌, List, Option, None, Some}
+use Rattle.std.specs.Prelude.{◌≡◌, List, Option}
 use Rattle.telnet_wire.specs.Items.{WireItem, Record}
 use Rattle.tn3270e_msg.specs.TermTable.{Term, TermTakes}
-use Rattle.tn3270e_msg.specs.Talk.{items_sent}
+use Rattle.tn3270e_msg.specs.Talk.{items_sent, closing}
 use Rattle.tn3270e_msg.specs.declared.cause.Cause.{Cause}
-use Rattle.tn3270e_msg.specs.declared.reply.After.TheVariants.{Close as CloseAfter}
 use Rattle.tn3270e_msg.specs.declared.reply.Reply.{Reply}
-use Rattle.tn3270e_msg.specs.declared.reply.Reply.TheVariants as reply
 use Rattle.tn3270e_msg.specs.declared.term_talk.TermState.{TermState}
 use Rattle.tn3270e_msg.specs.declared.term_talk.TermState.TheVariants.{Agreed}
 use Rattle.term_core.specs.State.{Station}
 use Rattle.term_core.specs.Records.{TakesRecord}
-
--- the cause by which a reply closes the connection, if it does
-abbrev pub closing : Reply → Option Cause
-closing (reply.Close cause) = Some cause
-closing (reply.Sub sending (CloseAfter cause)) = Some cause
-closing _ = None
 
 -- the talk takes an item: what it replies is sent, and it may close the connection
 pub record Talks (talk : Term) (item : WireItem) (says : List WireItem) (closes : Option Cause) (after : Term) : Type 0 where

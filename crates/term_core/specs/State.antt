@@ -1,9 +1,7 @@
 -- A terminal, seen from outside (our profile).
-use Rattle.std.specs.Prelude.{ℕ, Bool, true, false, List, [], Option, replicate}
+use Rattle.std.specs.Prelude.{ℕ, Bool, true, false, List, [], Option}
 use Rattle.codes3270.specs.Size.{cell_count}
-use Rattle.codes3270.specs.declared.attribute.Cell.TheVariants.{Char}
-use Rattle.codes3270.specs.declared.attention.Aid.TheVariants.{NoAid}
-use Rattle.datastream.specs.Screen.{Screen}
+use Rattle.datastream.specs.Screen.{Screen, blank_screen}
 use Rattle.keyboard.specs.State.{Keyboard, fresh}
 use Rattle.telnet_wire.specs.Reading.{Rest, nothing}
 use Rattle.tn3270e_msg.specs.TermTable.{Term, term_start}
@@ -36,21 +34,17 @@ pub record Terminal : Type 0 where
 abbrev pub record_limit : ℕ
 record_limit = 16384
 
--- all cells null, the cursor at 0, no AID
-abbrev pub blank : Screen
-blank = record { cells = replicate cell_count (Char 0); cursor = 0; aid = NoAid }
-
 -- a screen that was left, with a keyboard that waits
 abbrev pub waiting : Screen → Station
 waiting screen = record { screen = screen; keyboard = fresh; number = 0; took_write = false }
 
 -- as it begins, and as it begins anew
 abbrev pub new_terminal : Terminal
-new_terminal = record { link = Detached; station = waiting blank; out = [] }
+new_terminal = record { link = Detached; station = waiting (blank_screen cell_count); out = [] }
 
 -- at the begin of a connection, on which it wants this LU, if one
 abbrev pub connected : Option (List ℕ) → Terminal
-connected wanted = record { link = Attached nothing (term_start wanted); station = waiting blank; out = [] }
+connected wanted = record { link = Attached nothing (term_start wanted); station = waiting (blank_screen cell_count); out = [] }
 
 -- the connection is lost: the screen stays
 abbrev pub lost : Terminal → Terminal

@@ -15,4 +15,5 @@ mod tests;
 pub use laws::one_machine;
 pub use outcome::Outcome;
 pub use phase::TermPhase;
+pub use screen_text::screen_lines;
 pub use terminal::{RECORD_LIMIT, Terminal};

@@ -72,6 +72,15 @@ fn put_lines(text: &mut String, screen: &Screen) -> Result<(), Memory>
     Ok(())
 }
 
+/// A screen's rows as text (our profile): a line for each, without the blanks at its end. Each line ends with a newline.
+pub fn screen_lines(alloc: Global, screen: &Screen) -> Result<String, Memory>
+    ensures { IfOk result (λ text. string_bytes text ≡ lines screen.now.cells rows) }
+{
+    let mut text = String::new(alloc);
+    put_lines(&mut text, screen)?;
+    Ok(text)
+}
+
 /// What is added to the lock in insert mode.
 fn insert_word(inserting: bool) -> &'static str
     ensures { result.now ≡ insert_word inserting }
@@ -96,14 +105,12 @@ fn put_status(text: &mut String, screen: &Screen, keyboard: Keyboard) -> Result<
 }
 
 impl Terminal {
-    /// The screen as text (our profile): a line for each row, without the blanks at its end, and a line
-    /// `cursor N lock L aid XX`, where L is `free`, `wait` or `error`, followed by ` insert` in insert mode, and XX the AID's
-    /// byte in hexadecimal. Each line ends with a newline.
+    /// The screen as text (our profile): its rows as `screen_lines` gives them, and a line `cursor N lock L aid XX`, where L
+    /// is `free`, `wait` or `error`, followed by ` insert` in insert mode, and XX the AID's byte in hexadecimal.
     pub fn screen_text(&self, alloc: Global) -> Result<String, Memory>
         ensures { IfOk result (λ text. string_bytes text ≡ screen_text self.now.station) }
     {
-        let mut text = String::new(alloc);
-        put_lines(&mut text, self.screen())?;
+        let mut text = screen_lines(alloc, self.screen())?;
         put_status(&mut text, self.screen(), self.keyboard())?;
         Ok(text)
     }

@@ -1,10 +1,11 @@
 //! The display station: screen and keyboard, and what records and keys make of them.
 ghost use Rattle.std.specs.Prelude.{◌≡◌, ◌≤◌, ◌+◌, ◌++◌, ◌∷◌, [], Bool, None, Some, IfOk, length, vec_len};
 ghost use Rattle.std.specs.Vec.{vec_capacity};
+ghost use Rattle.codes3270.specs.Size.{cell_count};
 ghost use Rattle.datastream.specs.Grammar.{is_write};
-ghost use Rattle.datastream.specs.Screen.{Screen as Shown};
+ghost use Rattle.datastream.specs.Screen.{Screen as Shown, blank_screen};
 ghost use Rattle.datastream.specs.Inbound.{read_modified, read_buffer};
-ghost use Rattle.term_core.specs.State.{waiting, blank};
+ghost use Rattle.term_core.specs.State.{waiting};
 ghost use Rattle.term_core.specs.Bytes.{before_byte};
 ghost use Rattle.term_core.specs.Says.{sent_bytes, response, data_record};
 ghost use Rattle.term_core.specs.Room.{HasRoom, HasRoomForResponse, longest_reading};
@@ -119,7 +120,7 @@ fn send_response(out: &mut Vec<u8>, number: u16, outcome: Outcome)
 impl Station {
     /// As a terminal begins: a blank screen, and a keyboard that waits.
     pub(crate) fn new(alloc: Global) -> Result<Station, Memory>
-        ensures { IfOk result (λ station. station ≡ waiting blank) }
+        ensures { IfOk result (λ station. station ≡ waiting (blank_screen cell_count)) }
     {
         let record = Vec::with_capacity(alloc, RECORD_ROOM)?;
         Ok(Station {
@@ -142,7 +143,7 @@ impl Station {
 
     /// Begins anew.
     pub(crate) fn renew(&mut self)
-        ensures { self.new ≡ waiting blank }
+        ensures { self.new ≡ waiting (blank_screen cell_count) }
     {
         self.screen = Screen::blank();
         self.wait();
@@ -266,16 +267,16 @@ fn readings_fit(screen: &Screen)
 }
 
 /// Appends the data that a read gets.
-fn put_reading(screen: &Screen, reading: Reading, record: &mut Vec<u8>)
-    requires { vec_len record.old + longest_reading ≤ vec_capacity record.old }
-    ensures appended { record.new.items ≡ record.old.items ++ data_of reading screen.now }
+fn put_reading(screen: &Screen, reading: Reading, body: &mut Vec<u8>)
+    requires { vec_len body.old + longest_reading ≤ vec_capacity body.old }
+    ensures appended { body.new.items ≡ body.old.items ++ data_of reading screen.now }
     ensures short { length (data_of reading screen.now) ≤ longest_reading }
-    ensures capacity { vec_capacity record.old ≤ vec_capacity record.new }
+    ensures capacity { vec_capacity body.old ≤ vec_capacity body.new }
 {
     readings_fit(screen);
     match reading {
-        Reading::Modified => screen.put_read_modified(record, false).unwrap(),
-        Reading::ModifiedAll => screen.put_read_modified(record, true).unwrap(),
-        Reading::Buffer => screen.put_read_buffer(record).unwrap(),
+        Reading::Modified => screen.put_read_modified(body, false).unwrap(),
+        Reading::ModifiedAll => screen.put_read_modified(body, true).unwrap(),
+        Reading::Buffer => screen.put_read_buffer(body).unwrap(),
     }
 }

@@ -1,5 +1,5 @@
 -- Two talks with each other, moment by moment.
-use Rattle.std.proofs.Common.{◌≡◌, ℕ, ◌+◌, ◌≤◌, true, Option, None, Some, Result, Ok, Err, List, [], ◌∷◌, ◌++◌, length, refl, sym, ap, ◌∙◌, arith}
+use Rattle.std.proofs.Common.{◌≡◌, ℕ, ◌+◌, ◌≤◌, true, Option, None, Some, Ok, Err, List, [], ◌∷◌, ◌++◌, length, refl, ap, ◌∙◌, arith}
 use Rattle.std.specs.Str.{bytes_eq}
 use Rattle.std.proofs.lemmas.Slice.Eq.{bytes_eq-Decides}
 use Rattle.telnet_wire.specs.declared.wire.Verb.TheVariants.{Do as DoVerb, Will as WillVerb}
@@ -18,7 +18,6 @@ use Rattle.tn3270e_msg.specs.declared.reply.Reply.TheVariants as reply
 use Rattle.tn3270e_msg.specs.declared.reply.Sending.TheVariants as sent
 use Rattle.tn3270e_msg.specs.Device.{device_of, device_text}
 use Rattle.tn3270e_msg.specs.Functions.{wants, responses}
-use Rattle.tn3270e_msg.specs.Lu.{lu_of}
 use Rattle.tn3270e_msg.specs.Talk.{Comes, Will, Do, Hears, Talk, IsLuIfSome, IsSending, items_sent, names_asked, payload_sent, message_says, message_sent, follow}
 use Rattle.tn3270e_msg.specs.HostTable.{host_line, answer_line}
 use Rattle.tn3270e_msg.specs.TermTable.{Term, term_line}
@@ -85,14 +84,14 @@ pub record IsAt (wanted : Option (List ℕ)) (pair : Pair) (count : ℕ) : Type 
   pub is_moment : IsMoment wanted moment
   pub counted : events_at moment ≡ count
 
-responses_alone : wants responses ≡ ResponsesAlone
+pub responses_alone : wants responses ≡ ResponsesAlone
 responses_alone = wants_by (2 ∷ []) true true refl refl
 
-model_2 : device_of (device_text Model2) ≡ Some Model2
+pub model_2 : device_of (device_text Model2) ≡ Some Model2
 unfolding device_of
 model_2 = refl
 
-same_bytes : (lu : List ℕ) → bytes_eq lu lu ≡ true
+pub same_bytes : (lu : List ℕ) → bytes_eq lu lu ≡ true
 same_bytes lu = (bytes_eq-Decides lu lu).1 refl
 
 firsts : {A B : Type 0} (a c : A) (b d : B) → ◌≡◌ {A = A × B} (a, b) (c, d) → a ≡ c

@@ -1,7 +1,6 @@
 -- What an item says, and what is sent.
 use Rattle.std.proofs.Common.{◌≡◌, ℕ, List, [], ◌∷◌, refl, sym, ap, ◌∙◌, None, Some}
 use Rattle.telnet_wire.specs.Items.{Record, Opt, Sub, Other}
-use Rattle.tn3270e_msg.specs.declared.device.Device.TheVariants.{Model2}
 use Rattle.tn3270e_msg.specs.declared.reply.Sending.{Sending}
 use Rattle.tn3270e_msg.specs.declared.reply.Sending.TheVariants as sent
 use Rattle.tn3270e_msg.specs.declared.message.SubFault.TheVariants.{NotOurs, Malformed}

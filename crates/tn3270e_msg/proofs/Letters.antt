@@ -1,12 +1,12 @@
 -- The letters of a name, as they are read.
-use Rattle.std.proofs.Common.{◌≡◌, true, not, ℕ, ◌-◌, ◌++◌, ◌≤◌, List, [], ◌∷◌, length, take, drop, map, replicate, refl, sym, ap, ◌∙◌, arith, Some}
+use Rattle.std.proofs.Common.{◌≡◌, true, not, ℕ, ◌-◌, ◌++◌, ◌≤◌, List, [], ◌∷◌, length, take, drop, map, replicate, refl, sym, ap, ◌∙◌, arith}
 use Rattle.std.specs.List.{list_all}
 use Rattle.std.specs.Char.{is_ascii_digit, to_ascii_uppercase}
-use Rattle.std.proofs.lemmas.Bool.{false≢true, and_parts}
+use Rattle.std.proofs.lemmas.Bool.{and_parts}
 use Rattle.std.proofs.lemmas.Bool.Decides.{nat_tests}
 use Rattle.std.proofs.lemmas.List.{take-append-drop, length-take-le, drop-replicate}
 use Rattle.tn3270e_msg.specs.Laws.{NameIsReadAsItself}
-use Rattle.tn3270e_msg.specs.Lu.{is_lu, is_lu_letter, lu_of, IsPadded}
+use Rattle.tn3270e_msg.specs.Lu.{is_lu, is_lu_letter, IsPadded}
 
 -- letters of which the first are a name, and the rest were never written
 pub padded_by : (letters : List ℕ) (count : ℕ) → is_lu (take count letters) ≡ true → count ≤ 8 → length letters ≡ 8

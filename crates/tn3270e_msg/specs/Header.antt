@@ -23,10 +23,27 @@ abbrev pub IsDataType : DataType → Type 0
 IsDataType (Unnamed code) = 8 ≤ code
 IsDataType _ = Unit {0}
 
--- NO-RESPONSE, ERROR-RESPONSE and ALWAYS-RESPONSE on data; POSITIVE and NEGATIVE on a response
+-- the flags of data (RFC 1647, section 8.1.3)
+abbrev pub no_response : ℕ
+no_response = 0
+
+abbrev pub error_response : ℕ
+error_response = 1
+
+abbrev pub always_response : ℕ
+always_response = 2
+
+-- the flags of a response
+abbrev pub positive : ℕ
+positive = 0
+
+abbrev pub negative : ℕ
+negative = 1
+
+-- data and responses have these flags alone, other types any
 abbrev pub IsFlag : DataType → ℕ → Type 0
-IsFlag Data3270 flag = flag ≤ 2
-IsFlag Response flag = flag ≤ 1
+IsFlag Data3270 flag = flag ≤ always_response
+IsFlag Response flag = flag ≤ negative
 IsFlag _ flag = Unit {0}
 
 -- the headers there are

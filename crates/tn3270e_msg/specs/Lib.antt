@@ -12,3 +12,4 @@ pub mod Hearing
 pub mod Writing
 pub mod Pair
 pub mod Laws
+pub mod Printed

@@ -1,5 +1,5 @@
 -- What both ends' talks have in common: what an item says to them, and what they say.
-use Rattle.std.specs.Prelude.{◌≡◌, ℕ, ◌-◌, ◌==◌, if◌then◌else◌, List, [], ◌∷◌, ◌++◌, Option, None, Some, option_map, IsTrue}
+use Rattle.std.specs.Prelude.{◌≡◌, ℕ, ◌-◌, ◌==◌, if◌then◌else◌, List, [], ◌∷◌, ◌++◌, map, Option, None, Some, option_map, IsTrue}
 use Rattle.telnet_wire.specs.declared.wire.Verb.{Verb}
 use Rattle.telnet_wire.specs.declared.wire.Verb.TheVariants.{Will as WillVerb, Wont as WontVerb, Do as DoVerb, Dont as DontVerb}
 use Rattle.telnet_wire.specs.Items.{WireItem, Record, Opt as OptItem, Sub as SubItem, Other}
@@ -11,7 +11,7 @@ use Rattle.tn3270e_msg.specs.declared.reply.After.TheVariants.{Close as CloseAft
 use Rattle.tn3270e_msg.specs.declared.reply.Sending.{Sending}
 use Rattle.tn3270e_msg.specs.declared.reply.Sending.TheVariants as sent
 use Rattle.tn3270e_msg.specs.declared.reply.Reply.{Reply}
-use Rattle.tn3270e_msg.specs.declared.reply.Reply.TheVariants.{Opt, Sub, AskPool, Close}
+use Rattle.tn3270e_msg.specs.declared.reply.Reply.TheVariants as reply
 use Rattle.tn3270e_msg.specs.declared.hearing.Line.{Line}
 use Rattle.tn3270e_msg.specs.declared.hearing.Line.TheVariants.{Stays, Goes, Refuses, Closes}
 use Rattle.tn3270e_msg.specs.declared.message.SubFault.TheVariants.{NotOurs, Malformed}
@@ -94,15 +94,40 @@ IsSending (sent.TypeRequest lu) = IsLuIfSome lu
 IsSending (sent.TypeIs device lu) = IsTrue (is_lu lu)
 IsSending _ = Unit {0}
 
+-- what an end says: an option, or a message
+pub data Saying : Type 0 where
+  Opt : Verb → ℕ → Saying
+  Sub : Sending → Saying
+
+-- what it says to the other end
+abbrev pub says : Saying → Comes
+says (Saying.Opt verb code) = option_says verb code
+says (Saying.Sub sending) = message_says (message_sent sending)
+
+-- the item that it is on the wire
+abbrev pub item_of : Saying → WireItem
+item_of (Saying.Opt verb code) = OptItem verb code
+item_of (Saying.Sub sending) = SubItem (payload_sent sending)
+
+-- what a reply says
+abbrev pub sayings : Reply → List Saying
+sayings (reply.Opt verb code) = Saying.Opt verb code ∷ []
+sayings (reply.Sub sending after) = Saying.Sub sending ∷ []
+sayings _ = []
+
 -- what a reply puts on the wire
 abbrev pub items_sent : Reply → List WireItem
-items_sent (Opt verb code) = OptItem verb code ∷ []
-items_sent (Sub sending after) = SubItem (payload_sent sending) ∷ []
-items_sent _ = []
+items_sent answer = map item_of (sayings answer)
+
+-- the cause by which a reply closes the connection, if it does
+abbrev pub closing : Reply → Option Cause
+closing (reply.Close cause) = Some cause
+closing (reply.Sub sending (CloseAfter cause)) = Some cause
+closing _ = None
 
 -- the name that a reply asks the pool for, if it asks
 abbrev pub names_asked : Reply → List (Option (List ℕ))
-names_asked (AskPool name) = name ∷ []
+names_asked (reply.AskPool name) = name ∷ []
 names_asked _ = []
 
 -- where a talk stands, and how many rejections and counter-requests it may still send
@@ -120,6 +145,6 @@ follow closed talk (Stays reply) = (talk, reply)
 follow closed talk (Goes state reply) = (record { state = state; refusals_left = talk.refusals_left }, reply)
 follow closed talk (Refuses state sending) =
     if talk.refusals_left - 1 == 0
-    then (record { state = closed TooMany; refusals_left = 0 }, Sub sending (CloseAfter TooMany))
-    else (record { state = state; refusals_left = talk.refusals_left - 1 }, Sub sending Going)
-follow closed talk (Closes cause) = (record { state = closed cause; refusals_left = talk.refusals_left }, Close cause)
+    then (record { state = closed TooMany; refusals_left = 0 }, reply.Sub sending (CloseAfter TooMany))
+    else (record { state = state; refusals_left = talk.refusals_left - 1 }, reply.Sub sending Going)
+follow closed talk (Closes cause) = (record { state = closed cause; refusals_left = talk.refusals_left }, reply.Close cause)

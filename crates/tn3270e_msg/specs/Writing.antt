@@ -1,5 +1,5 @@
 -- What writing a message does.
-use Rattle.std.specs.Prelude.{ℕ, List, Result, Vec}
+use Rattle.std.specs.Prelude.{ℕ, Result, Vec}
 use Rattle.std.specs.declared.alloc.Global.{Global}
 use Rattle.telnet_wire.specs.Token.{spelling, Sub}
 use Rattle.telnet_wire.specs.Writing.{Appends}

@@ -28,6 +28,7 @@ pub enum Cause {
 pub struct Fed {
     /// How many of the bytes were taken; the end stands as after these.
     pub taken: usize,
+    /// What stopped it behind them.
     pub stop: Stop,
 }
 

@@ -3,16 +3,24 @@ ghost use Rattle.std.specs.Prelude.{◌≡◌, ◌↔◌, IsTrue};
 ghost use Rattle.tn3270e_msg.specs.Device.{device_of, device_text, devices};
 ghost use Rattle.tn3270e_msg.specs.Text.{lowered};
 
-/// A 3278, by its model; an E says that it has extended attributes.
+/// A 3278 display, by its model, 2 to 5; an E says that it has extended attributes.
 #[derive(Clone, Copy, Debug, PartialEq, Eq)]
 pub enum Device {
+    /// IBM-3278-2.
     Model2,
+    /// IBM-3278-2-E.
     Model2E,
+    /// IBM-3278-3.
     Model3,
+    /// IBM-3278-3-E.
     Model3E,
+    /// IBM-3278-4.
     Model4,
+    /// IBM-3278-4-E.
     Model4E,
+    /// IBM-3278-5.
     Model5,
+    /// IBM-3278-5-E.
     Model5E,
 }
 

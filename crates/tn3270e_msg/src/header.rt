@@ -1,8 +1,11 @@
 //! The header of a record (RFC 1647, section 8.1).
 ghost use Rattle.std.specs.Prelude.{◌≡◌, ◌↔◌, ◌<◌, ◌≤◌, ◌++◌, ℕ, List, IfOk, IfErr, IsOkAnd, Err};
-ghost use Rattle.tn3270e_msg.specs.Header.{type_code, spelling, next_number, IsDataType, IsFlag, IsHeader, Begins, HasFault};
+ghost use Rattle.tn3270e_msg.specs.Header.{no_response, error_response, always_response, positive, negative, type_code, spelling, next_number, IsDataType, IsFlag, IsHeader, Begins, HasFault};
 ghost use Rattle.tn3270e_msg.specs.declared.header.Header.{Header};
 ghost use Rattle.tn3270e_msg.specs.declared.header.HeadFault.{HeadFault};
+
+use std::error::Error;
+use std::fmt;
 
 /// What a record holds: DATA-TYPE (RFC 1647, section 8.1).
 #[derive(Clone, Copy, Debug, PartialEq, Eq)]
@@ -72,31 +75,40 @@ impl DataType {
     }
 }
 
-/// RESPONSE-FLAG of 3270-DATA that wants no response.
+/// RESPONSE-FLAG of 3270-DATA that wants no response (RFC 1647, section 8.1.3).
 pub const NO_RESPONSE: u8 = 0;
 
-/// RESPONSE-FLAG of 3270-DATA that wants a response where it is refused.
+/// RESPONSE-FLAG of 3270-DATA that wants a response only where it is refused (RFC 1647, section 8.1.3).
 pub const ERROR_RESPONSE: u8 = 1;
 
-/// RESPONSE-FLAG of 3270-DATA that wants a response.
+/// RESPONSE-FLAG of 3270-DATA that wants a response in any case (RFC 1647, section 8.1.3).
 pub const ALWAYS_RESPONSE: u8 = 2;
 
-/// RESPONSE-FLAG of a response to what was done.
+/// RESPONSE-FLAG of a response to what was done (RFC 1647, section 8.1.3).
 pub const POSITIVE: u8 = 0;
 
-/// RESPONSE-FLAG of a response to what was refused.
+/// RESPONSE-FLAG of a response to what was refused (RFC 1647, section 8.1.3).
 pub const NEGATIVE: u8 = 1;
 
-/// The first five bytes of a record.
+/// Law: these constants are the standard's codes. The call does nothing.
+pub const fn flag_laws()
+    ensures no_response { NO_RESPONSE ≡ no_response }
+    ensures error_response { ERROR_RESPONSE ≡ error_response }
+    ensures always_response { ALWAYS_RESPONSE ≡ always_response }
+    ensures positive { POSITIVE ≡ positive }
+    ensures negative { NEGATIVE ≡ negative }
+{}
+
+/// The first five bytes of a record (RFC 1647, section 8.1).
 #[derive(Clone, Copy, Debug, PartialEq, Eq)]
 pub struct Header {
     /// DATA-TYPE.
     pub kind: DataType,
     /// REQUEST-FLAG, any byte.
     pub request: u8,
-    /// RESPONSE-FLAG: at most 2 on 3270-DATA and at most 1 on RESPONSE.
+    /// RESPONSE-FLAG: at most 2 on 3270-DATA, at most 1 on RESPONSE, else any byte.
     pub flag: u8,
-    /// SEQ-NUMBER.
+    /// SEQ-NUMBER, which stands with its high byte first.
     pub seq: u16,
 }
 
@@ -105,12 +117,31 @@ pub struct Header {
 pub enum HeadFault {
     /// There are fewer than five.
     Short,
-    /// The type has no such RESPONSE-FLAG.
+    /// RESPONSE-FLAG is over 2 on 3270-DATA, or over 1 on RESPONSE.
     BadFlag,
 }
 
-/// The header that a record begins with, and the body behind it. Short where there are fewer than
-/// five bytes, BadFlag where RESPONSE-FLAG is over 2 on 3270-DATA or over 1 on RESPONSE.
+impl fmt::Display for HeadFault {
+    ghost use Rattle.std.specs.Prelude.{Some};
+    ghost use Rattle.tn3270e_msg.specs.Printed.{head_fault_text};
+
+    ghost output = { λ fault. Some (head_fault_text fault) };
+
+    fn fmt<W: fmt::Write>(&self, f: &mut fmt::Formatter<W>) -> fmt::Result {
+        match self {
+            HeadFault::Short => f.write_str("record shorter than a header"),
+            HeadFault::BadFlag => f.write_str("response flag out of range"),
+        }
+    }
+}
+
+impl Error for HeadFault {}
+
+/// The header that a record begins with, and the body behind it (RFC 1647, section 8.1).
+///
+/// It is refused by [`HeadFault::Short`] where there are fewer than five bytes, and by
+/// [`HeadFault::BadFlag`] where the type has no such RESPONSE-FLAG. A type without a name and any
+/// REQUEST-FLAG are read.
 pub fn read_header(bytes: &[u8]) -> Result<(Header, &[u8]), HeadFault>
     ensures found { IfOk result (λ found. Begins bytes.now found.0 found.1.now) }
     ensures fault { IfErr result (HasFault bytes.now) }
@@ -142,7 +173,8 @@ fn find_header(bytes: &[u8]) -> Result<(Header, &[u8]), HeadFault>
     Ok((header, body))
 }
 
-/// The five bytes of a header.
+/// The five bytes of a header, from which it is read again. Its RESPONSE-FLAG must be one that its
+/// type has, and `Unnamed` must hold a code from 8 on.
 pub fn header_bytes(header: &Header) -> [u8; 5]
     requires { IsHeader header.now }
     ensures bytes { result ≡ spelling header.now }

@@ -1,14 +1,14 @@
 //! What both ends' talks have in common.
 ghost use Rattle.std.specs.Prelude.{◌≡◌};
 ghost use Rattle.telnet_wire.specs.Items.{item_of};
-ghost use Rattle.tn3270e_msg.specs.Talk.{Hears, option_says};
+ghost use Rattle.tn3270e_msg.specs.Talk.{Hears, option_says, follow as followed};
 ghost use Rattle.tn3270e_msg.specs.Hearing.{heard_says};
 
 use crate::cause::Cause;
 use crate::codes::TN3270E;
 use crate::message::{SubFault, SubMessage};
 use crate::reading::read_sub;
-use crate::reply::{Reply, Sending};
+use crate::reply::{After, Reply, Sending};
 use telnet_wire::{Item, Verb};
 
 /// The rejections and counter-requests that a talk sends at most; with the last it closes (our
@@ -40,6 +40,44 @@ pub enum Line<S> {
     Refuses(S, Sending),
     /// The end.
     Closes(Cause),
+}
+
+/// Where a talk stands; it may be that it closed.
+pub trait TalkState: Copy {
+    ghost use Rattle.tn3270e_msg.specs.declared.cause.Cause.{Cause};
+
+    ghost closed: { Cause → Self };
+
+    fn closed_by(cause: Cause) -> Self
+        ensures { result ≡ closed cause };
+}
+
+/// What a line makes of a talk; it closes with the last rejection or counter-request that it may send.
+pub fn follow<S: TalkState>(state: &mut S, refusals_left: &mut u8, line: Line<S>) -> Reply
+    ensures { (record { state = state.new; refusals_left = refusals_left.new }, result)
+        ≡ followed S.closed (record { state = state.old; refusals_left = refusals_left.old }) line }
+{
+    match line {
+        Line::Stays(reply) => reply,
+        Line::Goes(next, reply) => {
+            *state = next;
+            reply
+        }
+        Line::Refuses(next, sending) => {
+            *refusals_left = refusals_left.saturating_sub(1);
+            if *refusals_left == 0 {
+                *state = S::closed_by(Cause::TooMany);
+                Reply::Sub(sending, After::Close(Cause::TooMany))
+            } else {
+                *state = next;
+                Reply::Sub(sending, After::Going)
+            }
+        }
+        Line::Closes(cause) => {
+            *state = S::closed_by(cause);
+            Reply::Close(cause)
+        }
+    }
 }
 
 pub fn hear<'a>(item: &Item<'a>) -> Heard<'a>

@@ -2,25 +2,25 @@
 //! are our profile).
 ghost use Rattle.std.specs.Prelude.{◌≡◌, ◌↔◌, ℕ, List, IsTrue};
 ghost use Rattle.telnet_wire.specs.Items.{item_of};
-ghost use Rattle.tn3270e_msg.specs.Talk.{follow, message_says, RequestsFunctions};
+ghost use Rattle.tn3270e_msg.specs.Talk.{message_says, RequestsFunctions};
 ghost use Rattle.tn3270e_msg.specs.Hearing.{heard_says};
 ghost use Rattle.tn3270e_msg.specs.Lent.{name_of, message_of};
 ghost use Rattle.tn3270e_msg.specs.Device.{device_of};
 ghost use Rattle.tn3270e_msg.specs.HostTable.{host_line, request_line, answer_line, host_start, HostTakes, HostAnswered, IsAsking, granted};
-ghost use Rattle.tn3270e_msg.specs.declared.host_talk.HostState.TheVariants.{Closed, Named, Countered};
+ghost use Rattle.tn3270e_msg.specs.declared.host_talk.HostState.TheVariants.{Named, Countered};
 
 use crate::cause::Cause;
 use crate::codes::TN3270E;
 use crate::device::Device;
 use crate::functions::Wants;
-use crate::hearing::{Heard, Line, MOST_REFUSALS, hear};
+use crate::hearing::{Heard, Line, MOST_REFUSALS, TalkState, follow, hear};
 use crate::lu::Lu;
 use crate::message::{Name, SubMessage};
 use crate::reply::{After, Reason, Reply, Sending};
 use std::marker::Model;
 use telnet_wire::{Item, Verb};
 
-/// Where a host's talk stands.
+/// Where a host's talk stands (RFC 1647, section 7).
 #[derive(Clone, Copy, Debug, PartialEq, Eq)]
 pub enum HostState {
     /// TN3270E was offered.
@@ -31,12 +31,22 @@ pub enum HostState {
     Asking(Device),
     /// An LU was granted.
     Named(Lu),
-    /// The terminal's functions were countered.
+    /// An LU was granted, and the terminal's functions were countered by RESPONSES alone.
     Countered(Lu),
     /// Both ends agreed, with this LU granted.
     Agreed(Lu),
     /// The host closes.
     Closed(Cause),
+}
+
+impl TalkState for HostState {
+    ghost use Rattle.tn3270e_msg.specs.declared.host_talk.HostState.TheVariants.{Closed};
+
+    ghost closed = { λ cause. Closed cause };
+
+    fn closed_by(cause: Cause) -> HostState {
+        HostState::Closed(cause)
+    }
 }
 
 impl HostState {
@@ -169,10 +179,12 @@ impl HostTalk {
         ensures { HostTakes self.old (item_of item.now) (result) self.new }
     {
         let line = self.state.line(hear(item));
-        self.follow(line)
+        follow(&mut self.state, &mut self.refusals_left, line)
     }
 
-    /// Takes the pool's answer, for which the talk waits.
+    /// Takes the pool's answer: DEVICE-TYPE IS with the LU that it grants, or a rejection with its
+    /// reason, the eighth of which closes the talk by TooMany. It may be called only while
+    /// [`HostTalk::asking`].
     pub fn answered(&mut self, answer: Result<Lu, Reason>) -> Reply
         requires { IsAsking self.old.state }
         ensures { HostAnswered self.old answer (result) self.new }
@@ -180,55 +192,31 @@ impl HostTalk {
         let HostState::Asking(device) = self.state else {
             unreachable!()
         };
-        self.follow(match answer {
+        let line = match answer {
             Ok(lu) => Line::Goes(
                 HostState::Named(lu),
                 Reply::Sub(Sending::TypeIs(device, lu), After::Going),
             ),
             Err(reason) => Line::Refuses(HostState::Asked, Sending::TypeReject(reason)),
-        })
+        };
+        follow(&mut self.state, &mut self.refusals_left, line)
     }
 
-    /// Whether the pool's answer is awaited.
+    /// Whether the pool's answer is awaited: after [`Reply::AskPool`], until it is given or the talk
+    /// closes.
     pub fn asking(&self) -> bool
         ensures { IsTrue result ↔ IsAsking self.now.state }
     {
         matches!(self.state, HostState::Asking(_))
     }
 
-    /// The LU that was granted, until the talk closes.
+    /// The LU that was granted; None before, and once the talk closed.
     pub fn lu(&self) -> Option<Lu>
         ensures { result ≡ granted self.now.state }
     {
         match self.state {
             HostState::Named(lu) | HostState::Countered(lu) | HostState::Agreed(lu) => Some(lu),
             _ => None,
-        }
-    }
-
-    fn follow(&mut self, line: Line<HostState>) -> Reply
-        ensures { (self.new, result) ≡ follow Closed self.old (line) }
-    {
-        match line {
-            Line::Stays(reply) => reply,
-            Line::Goes(state, reply) => {
-                self.state = state;
-                reply
-            }
-            Line::Refuses(state, sending) => {
-                self.refusals_left = self.refusals_left.saturating_sub(1);
-                if self.refusals_left == 0 {
-                    self.state = HostState::Closed(Cause::TooMany);
-                    Reply::Sub(sending, After::Close(Cause::TooMany))
-                } else {
-                    self.state = state;
-                    Reply::Sub(sending, After::Going)
-                }
-            }
-            Line::Closes(cause) => {
-                self.state = HostState::Closed(cause);
-                Reply::Close(cause)
-            }
         }
     }
 }

@@ -1,5 +1,26 @@
 //! TN3270E (RFC 1647): the header of a record, the messages of a negotiation, and both ends' talks
 //! from the host's offer to agreement.
+//!
+//! A talk takes the items of the wire one by one, and says what is to be done about each. It sends
+//! nothing itself, and takes no memory:
+//!
+//! ```text
+//! let mut talk = TermTalk::new(Lu::read(b"PNL01"));
+//! ..
+//! match talk.take(&decoder.item()) {
+//!     Reply::Opt(verb, code) => put_option(&mut out, verb, code)?,
+//!     Reply::Sub(sending, after) => {
+//!         put_sub_message(&mut out, &sending.message())?;
+//!         stand(after);
+//!     }
+//!     Reply::Agreed => serve(talk.lu()),
+//!     ..
+//! }
+//! ```
+//!
+//! What contracts cite is defined in `specs/`: `Header`, `Message` (the messages, and the payloads
+//! that spell them), `Talk` (what an item says), `HostTable` and `TermTable` (one equation a line of
+//! each talk's table) and `Pair` (both talks with each other, as [`talks_agree`] has it).
 #![tactic(auto)]
 
 ghost use Rattle.tn3270e_msg.specs.Laws.{OneHeader, FaultIsNoHeader, OneHeadFault, OneMessage, FaultIsNoMessage, OneSubFault, OneHearing, NameIsReadAsItself};
@@ -23,7 +44,7 @@ pub use cause::{Cause, Fed, Stop};
 pub use device::Device;
 pub use header::{
     ALWAYS_RESPONSE, DataType, ERROR_RESPONSE, HeadFault, Header, NEGATIVE, NO_RESPONSE, POSITIVE,
-    header_bytes, next_seq, read_header,
+    flag_laws, header_bytes, next_seq, read_header,
 };
 pub use host_talk::{HostState, HostTalk};
 pub use lu::Lu;
@@ -33,15 +54,15 @@ pub use reply::{After, Reason, Reply, Sending};
 pub use term_talk::{TermState, TermTalk};
 pub use writing::put_sub_message;
 
-/// A law: a host's talk and a terminal's with each other never close, whatever the pool answers and
+/// Law: a host's talk and a terminal's with each other never close, whatever the pool answers and
 /// however their items are delivered. After eight events at most they have ended: agreed on the LU
-/// that the pool granted, or refused for its reason.
+/// that the pool granted, or refused for its reason. The call does nothing.
 pub fn talks_agree()
     ensures { TalksAlwaysAgree }
 {}
 
 /// Laws: bytes begin with one header or have one fault, and are one message or have one fault; an
-/// item says one thing to a talk; a name of an LU is read as itself.
+/// item says one thing to a talk; a name of an LU is read as itself. The call does nothing.
 pub fn one_reading()
     ensures header { OneHeader }
     ensures header_or_fault { FaultIsNoHeader }

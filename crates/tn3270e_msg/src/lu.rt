@@ -26,8 +26,8 @@ impl Model for Lu {
 }
 
 impl Lu {
-    /// The name that these bytes spell, where lower case stands for upper; None where they spell
-    /// none.
+    /// The name that these bytes spell, where lower case stands for upper; None unless they are one
+    /// to eight of its letters, the first no digit.
     pub fn read(bytes: &[u8]) -> Option<Lu>
         ensures value { result ≡ lu_of bytes.now }
         ensures is_lu { IfSome result (λ lu. IsTrue (is_lu lu)) }
@@ -46,20 +46,13 @@ impl Lu {
         Some(Lu { letters, size })
     }
 
-    /// Its bytes, which are read as this name again.
+    /// Its one to eight bytes, in upper case; they are read as this name again.
     pub fn as_bytes(&self) -> &[u8]
         ensures value { result.now ≡ self.now }
         ensures is_lu { IsTrue (is_lu self.now) }
         ensures read_back { lu_of self.now ≡ Some self.now }
     {
         &self.letters[..self.size]
-    }
-
-    // What each name is, for the contracts of those that hold one and don't read it.
-    pub fn is_lu(&self)
-        ensures { IsTrue (is_lu self.now) }
-    {
-        let _ = self.as_bytes();
     }
 }
 

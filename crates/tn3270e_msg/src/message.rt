@@ -1,43 +1,67 @@
 //! Messages of TN3270E (RFC 1647, section 7), lent from the payload of a subnegotiation.
 use crate::reply::Reason;
+use std::error::Error;
+use std::fmt;
 
-/// The LU that a terminal asks for, or the one that a printer goes with; one or more bytes from
-/// 21 to 7E.
+/// A name in a device request; one or more bytes from 21 to 7E (RFC 1647, section 7.1).
 #[derive(Clone, Copy, Debug)]
 pub enum Name<'a> {
+    /// CONNECT: the LU that is asked for.
     Connect(&'a [u8]),
+    /// ASSOCIATE: the LU of the terminal that a printer is to go with.
     Associate(&'a [u8]),
 }
 
-/// A message. Types and names are one or more bytes from 21 to 7E; a list names functions, in any
-/// order and any number of times.
+/// A message of the negotiation (RFC 1647, sections 3 and 7). Types and names are one or more bytes
+/// from 21 to 7E; a list names functions by their codes, in any order and any number of times, and
+/// may be empty.
 #[derive(Clone, Copy, Debug)]
 pub enum SubMessage<'a> {
-    /// SEND DEVICE-TYPE.
+    /// SEND DEVICE-TYPE: the host asks for the terminal's type.
     SendType,
-    /// DEVICE-TYPE REQUEST.
+    /// DEVICE-TYPE REQUEST: the terminal says its type, and which LU it wants, if it wants one.
     TypeRequest {
+        /// The type's text.
         device: &'a [u8],
+        /// The LU that is wanted.
         name: Option<Name<'a>>,
     },
-    /// DEVICE-TYPE IS, with CONNECT.
+    /// DEVICE-TYPE IS, with CONNECT: the host grants an LU.
     TypeIs {
+        /// The type's text.
         device: &'a [u8],
+        /// The LU that is granted.
         name: &'a [u8],
     },
-    /// DEVICE-TYPE REJECT REASON.
+    /// DEVICE-TYPE REJECT REASON: the host grants none.
     TypeReject(Reason),
-    /// FUNCTIONS REQUEST.
+    /// FUNCTIONS REQUEST: an end proposes these functions.
     FunRequest(&'a [u8]),
-    /// FUNCTIONS IS.
+    /// FUNCTIONS IS: an end agrees to these.
     FunIs(&'a [u8]),
 }
 
-/// Why a payload is no message.
+/// Why the payload of a subnegotiation is no message.
 #[derive(Clone, Copy, Debug, PartialEq, Eq)]
 pub enum SubFault {
-    /// It is of another option, or empty.
+    /// Its first byte isn't 28, or there is none: it is of another option.
     NotOurs,
     /// It is of TN3270E, and has no message's form.
     Malformed,
 }
+
+impl fmt::Display for SubFault {
+    ghost use Rattle.std.specs.Prelude.{Some};
+    ghost use Rattle.tn3270e_msg.specs.Printed.{sub_fault_text};
+
+    ghost output = { λ fault. Some (sub_fault_text fault) };
+
+    fn fmt<W: fmt::Write>(&self, f: &mut fmt::Formatter<W>) -> fmt::Result {
+        match self {
+            SubFault::NotOurs => f.write_str("subnegotiation of another option"),
+            SubFault::Malformed => f.write_str("no message of TN3270E"),
+        }
+    }
+}
+
+impl Error for SubFault {}

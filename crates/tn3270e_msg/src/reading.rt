@@ -13,8 +13,11 @@ use crate::codes::{
 use crate::message::{Name, SubFault, SubMessage};
 use crate::reply::Reason;
 
-/// The message that the payload of a subnegotiation is. NotOurs where its first byte isn't 28 or
-/// there is none, Malformed where it is no message behind that.
+/// The message that the payload of a subnegotiation is (RFC 1647, sections 3 and 7); its texts and
+/// lists are lent from the payload.
+///
+/// It is refused by [`SubFault::NotOurs`] where its first byte isn't 28 or there is none, and by
+/// [`SubFault::Malformed`] where what follows is no message.
 pub fn read_sub(bytes: &[u8]) -> Result<SubMessage<'_>, SubFault>
     ensures found { IfOk result (LiesIn bytes.now) }
     ensures fault { IfErr result (HasFault bytes.now) }

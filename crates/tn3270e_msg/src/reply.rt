@@ -89,13 +89,14 @@ pub enum After {
 /// What an end does about an item.
 #[derive(Clone, Copy, Debug, PartialEq, Eq)]
 pub enum Reply {
+    /// It does nothing.
     Nothing,
-    /// It sends an option's negotiation.
+    /// It sends the negotiation of the option with this code.
     Opt(Verb, u8),
-    /// It sends a message.
+    /// It sends a message, and then stands like this.
     Sub(Sending, After),
-    /// The host asks its pool for an LU, of this name if there is one; `HostTalk::answered` takes
-    /// the answer.
+    /// The host asks its pool for an LU, of this name if there is one;
+    /// [`HostTalk::answered`](crate::HostTalk::answered) takes the answer.
     AskPool(Option<Lu>),
     /// The ends agreed.
     Agreed,

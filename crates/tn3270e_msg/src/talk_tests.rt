@@ -54,6 +54,7 @@ fn granted() -> TermTalk {
 
 #[test]
 fn a_terminal_is_granted_the_lu_that_it_wants(rt: HostRuntime) -> Result<(), Fail> {
+    talks_agree();
     let alloc = rt.alloc();
     let wanted = Lu::read(b"pnl01").ok_or("no name")?;
     let mut host = HostTalk::new();
@@ -92,6 +93,7 @@ fn a_terminal_is_granted_the_lu_that_it_wants(rt: HostRuntime) -> Result<(), Fai
         terminal.take(&Item::Sub(b"\x28\x03\x04\x02")),
         Reply::Agreed
     );
+    assert_eq!(rt; terminal.state(), TermState::Agreed(wanted));
     assert_eq!(rt; terminal.lu(), Some(wanted));
     assert_eq!(rt; host.lu(), Some(wanted));
     Ok(())
@@ -212,22 +214,62 @@ fn the_eighth_counter_request_is_the_last(rt: HostRuntime) -> Result<(), Fail> {
 }
 
 #[test]
-fn other_options_are_refused(rt: HostRuntime) {
-    let cases = [
-        (option(Verb::Do, 0x18), Reply::Opt(Verb::Wont, 0x18)),
-        (option(Verb::Will, 1), Reply::Opt(Verb::Dont, 1)),
-        (Item::Other(0xf1), Reply::Nothing),
-        (option(Verb::Wont, 1), Reply::Nothing),
-        (option(Verb::Dont, 1), Reply::Nothing),
-        (Item::Sub(b"\x29\x00"), Reply::Nothing),
-        (Item::Record(b"\x05"), Reply::Nothing),
+fn other_options_are_refused(rt: HostRuntime) -> Result<(), Fail> {
+    let cases: [(Item, Reply, &[u8]); 7] = [
+        (
+            option(Verb::Do, 0x18),
+            Reply::Opt(Verb::Wont, 0x18),
+            b"\xff\xfc\x18",
+        ),
+        (
+            option(Verb::Will, 1),
+            Reply::Opt(Verb::Dont, 1),
+            b"\xff\xfe\x01",
+        ),
+        (Item::Other(0xf1), Reply::Nothing, b""),
+        (option(Verb::Wont, 1), Reply::Nothing, b""),
+        (option(Verb::Dont, 1), Reply::Nothing, b""),
+        (Item::Sub(b"\x29\x00"), Reply::Nothing, b""),
+        (Item::Record(b"\x05"), Reply::Nothing, b""),
     ];
     let mut host = HostTalk::new();
     let mut terminal = TermTalk::new(None);
-    for (item, reply) in &cases {
+    for (item, reply, bytes) in &cases {
         assert_eq!(rt; host.take(item), *reply);
         assert_eq!(rt; terminal.take(item), *reply);
+        let out = sent(rt.alloc(), *reply)?;
+        assert_eq!(rt; out.as_slice(), *bytes);
     }
+    Ok(())
+}
+
+#[test]
+fn the_option_is_agreed_to_once(rt: HostRuntime) {
+    let mut host = HostTalk::new();
+    for (verb, reply) in [
+        (Verb::Do, Reply::Opt(Verb::Wont, 40)),
+        (Verb::Dont, Reply::Nothing),
+        (Verb::Will, Reply::Sub(Sending::SendType, After::Going)),
+        (Verb::Will, Reply::Nothing),
+        (Verb::Do, Reply::Opt(Verb::Wont, 40)),
+        (Verb::Wont, Reply::Close(Cause::NoTn3270e)),
+        (Verb::Will, Reply::Close(Cause::NoTn3270e)),
+    ] {
+        assert_eq!(rt; host.take(&option(verb, 40)), reply, "{verb:?}");
+    }
+    let mut terminal = TermTalk::new(None);
+    assert_eq!(rt; terminal.state(), TermState::Waiting);
+    for (verb, reply) in [
+        (Verb::Will, Reply::Opt(Verb::Dont, 40)),
+        (Verb::Wont, Reply::Nothing),
+        (Verb::Do, Reply::Opt(Verb::Will, 40)),
+        (Verb::Do, Reply::Nothing),
+        (Verb::Dont, Reply::Close(Cause::NoTn3270e)),
+        (Verb::Do, Reply::Close(Cause::NoTn3270e)),
+    ] {
+        assert_eq!(rt; terminal.take(&option(verb, 40)), reply, "{verb:?}");
+    }
+    assert_eq!(rt; terminal.state(), TermState::Closed(Cause::NoTn3270e));
 }
 
 #[test]

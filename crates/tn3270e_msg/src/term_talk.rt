@@ -2,35 +2,35 @@
 //! replies are our profile).
 ghost use Rattle.std.specs.Prelude.{◌≡◌, ℕ, List, Option};
 ghost use Rattle.telnet_wire.specs.Items.{item_of};
-ghost use Rattle.tn3270e_msg.specs.Talk.{follow, message_says, IsFunctions, RequestsFunctions, IsLuIfSome};
+ghost use Rattle.tn3270e_msg.specs.Talk.{message_says, IsFunctions, RequestsFunctions, IsLuIfSome};
 ghost use Rattle.tn3270e_msg.specs.Hearing.{heard_says};
 ghost use Rattle.tn3270e_msg.specs.Lent.{message_of};
 ghost use Rattle.tn3270e_msg.specs.Lu.{lu_of};
 ghost use Rattle.tn3270e_msg.specs.Device.{device_of};
 ghost use Rattle.tn3270e_msg.specs.TermTable.{term_line, grant_line, term_start, TermTakes, bound};
-ghost use Rattle.tn3270e_msg.specs.declared.term_talk.TermState.TheVariants.{Closed, FunctionsAsked};
+ghost use Rattle.tn3270e_msg.specs.declared.term_talk.TermState.TheVariants.{FunctionsAsked};
 
 use crate::cause::Cause;
 use crate::codes::TN3270E;
 use crate::device::Device;
 use crate::functions::Wants;
-use crate::hearing::{Heard, Line, MOST_REFUSALS, hear};
+use crate::hearing::{Heard, Line, MOST_REFUSALS, TalkState, follow, hear};
 use crate::lu::Lu;
 use crate::message::SubMessage;
 use crate::reply::{After, Reason, Reply, Sending};
 use std::marker::Model;
 use telnet_wire::{Item, Verb};
 
-/// Where a terminal's talk stands.
+/// Where a terminal's talk stands (RFC 1647, section 7).
 #[derive(Clone, Copy, Debug, PartialEq, Eq)]
 pub enum TermState {
     /// Nothing was offered yet.
     Waiting,
-    /// TN3270E is agreed to.
+    /// The terminal agreed to TN3270E, and wasn't asked for its type yet.
     Willing,
-    /// The terminal asked for its type.
+    /// It sent its type, and awaits an LU.
     TypeAsked,
-    /// It was granted this LU, and asked for its functions.
+    /// It was granted this LU, and asked for RESPONSES.
     FunctionsAsked(Lu),
     /// Both ends agreed, with this LU granted.
     Agreed(Lu),
@@ -38,6 +38,16 @@ pub enum TermState {
     Refused(Reason),
     /// The terminal closes.
     Closed(Cause),
+}
+
+impl TalkState for TermState {
+    ghost use Rattle.tn3270e_msg.specs.declared.term_talk.TermState.TheVariants.{Closed};
+
+    ghost closed = { λ cause. Closed cause };
+
+    fn closed_by(cause: Cause) -> TermState {
+        TermState::Closed(cause)
+    }
 }
 
 impl TermState {
@@ -165,7 +175,8 @@ impl TermTalk {
         ensures wanted { IsLuIfSome wanted }
     {
         if let Some(lu) = &wanted {
-            lu.is_lu();
+            // Reading it tells the prover that it is a name.
+            let _ = lu.as_bytes();
         }
         TermTalk {
             wanted,
@@ -181,7 +192,7 @@ impl TermTalk {
         ensures { TermTakes self.old (item_of item.now) (result) self.new }
     {
         let line = self.state.line(self.wanted, hear(item));
-        self.follow(line)
+        follow(&mut self.state, &mut self.refusals_left, line)
     }
 
     /// Where the talk stands.
@@ -191,40 +202,13 @@ impl TermTalk {
         self.state
     }
 
-    /// The LU that was granted, until the talk closes.
+    /// The LU that was granted; None before, and once the talk closed.
     pub fn lu(&self) -> Option<Lu>
         ensures { result ≡ bound self.now.talk.state }
     {
         match self.state {
             TermState::FunctionsAsked(lu) | TermState::Agreed(lu) => Some(lu),
             _ => None,
-        }
-    }
-
-    fn follow(&mut self, line: Line<TermState>) -> Reply
-        ensures talk { (self.new.talk, result) ≡ follow Closed self.old.talk (line) }
-        ensures wanted { self.new.wanted ≡ self.old.wanted }
-    {
-        match line {
-            Line::Stays(reply) => reply,
-            Line::Goes(state, reply) => {
-                self.state = state;
-                reply
-            }
-            Line::Refuses(state, sending) => {
-                self.refusals_left = self.refusals_left.saturating_sub(1);
-                if self.refusals_left == 0 {
-                    self.state = TermState::Closed(Cause::TooMany);
-                    Reply::Sub(sending, After::Close(Cause::TooMany))
-                } else {
-                    self.state = state;
-                    Reply::Sub(sending, After::Going)
-                }
-            }
-            Line::Closes(cause) => {
-                self.state = TermState::Closed(cause);
-                Reply::Close(cause)
-            }
         }
     }
 }

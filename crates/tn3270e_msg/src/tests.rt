@@ -54,6 +54,54 @@ fn headers_that_are_none(rt: HostRuntime) {
 }
 
 #[test]
+fn each_type_has_its_code(rt: HostRuntime) -> Result<(), Fail> {
+    for (code, kind) in [
+        (0, DataType::Data3270),
+        (1, DataType::ScsData),
+        (2, DataType::Response),
+        (3, DataType::BindImage),
+        (4, DataType::Unbind),
+        (5, DataType::NvtData),
+        (6, DataType::Request),
+        (7, DataType::SscpLuData),
+        (8, DataType::Unnamed(8)),
+        (255, DataType::Unnamed(255)),
+    ] {
+        let (header, _) = read_header(&[code, 9, 1, 0x7f, 0xff]).map_err(|_| "no header")?;
+        let wanted = Header {
+            kind,
+            request: 9,
+            flag: 1,
+            seq: 32767,
+        };
+        assert_eq!(rt; header, wanted, "type {code}");
+    }
+    flag_laws();
+    assert_eq!(rt; [NO_RESPONSE, ERROR_RESPONSE, ALWAYS_RESPONSE], [0, 1, 2]);
+    assert_eq!(rt; [POSITIVE, NEGATIVE], [0, 1]);
+    Ok(())
+}
+
+#[test]
+fn faults_are_printed(rt: HostRuntime) -> Result<(), Fail> {
+    for (fault, printed) in [
+        (HeadFault::Short, "record shorter than a header"),
+        (HeadFault::BadFlag, "response flag out of range"),
+    ] {
+        let text = format!(in rt.alloc(); "{fault}")?;
+        assert_eq!(rt; text.as_str(), printed);
+    }
+    for (fault, printed) in [
+        (SubFault::NotOurs, "subnegotiation of another option"),
+        (SubFault::Malformed, "no message of TN3270E"),
+    ] {
+        let text = format!(in rt.alloc(); "{fault}")?;
+        assert_eq!(rt; text.as_str(), printed);
+    }
+    Ok(())
+}
+
+#[test]
 fn numbers_go_round(rt: HostRuntime) {
     for (seq, next) in [(0, 1), (254, 255), (32766, 32767), (32767, 0), (65535, 0)] {
         assert_eq!(rt; next_seq(seq), next, "after {seq}");
@@ -117,6 +165,7 @@ fn payloads_that_are_no_message(rt: HostRuntime) {
         (b"\x28\x02\x06\x05", SubFault::Malformed),
         (b"\x28\x03\x08\x02", SubFault::Malformed),
     ];
+    one_reading();
     for (bytes, fault) in cases {
         assert_eq!(rt; read_sub(bytes).err(), Some(fault), "{bytes:?}");
     }

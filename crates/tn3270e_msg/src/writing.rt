@@ -12,8 +12,10 @@ use crate::codes::{
 use crate::message::{Name, SubMessage};
 use telnet_wire::{Memory, put_sub, put_sub_parts};
 
-/// Adds a message, as a subnegotiation. Where memory is refused nothing is added; it is not where
-/// the vector has room.
+/// Adds a message as a subnegotiation, of the very texts and lists that it lends (RFC 1647, section 3).
+///
+/// Its types and names must be one or more bytes from 21 to 7E. A vector that can't grow is left
+/// unchanged; one that has room takes the message.
 pub fn put_sub_message(out: &mut Vec<u8>, message: &SubMessage) -> Result<(), Memory>
     requires { IsMessage (message_of message.now) }
     ensures put { PutsMessage out.old message.now result out.new }

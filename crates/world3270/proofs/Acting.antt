@@ -4,7 +4,7 @@ use Rattle.panels.specs.declared.message.Message.{Message}
 use Rattle.panels.specs.declared.message.Message.TheVariants.{Fresh}
 use Rattle.panels.specs.Screen.{Values}
 use Rattle.shadow.specs.Meets.{Meets}
-use Rattle.tn3270e_msg.specs.Talk.{Talk, start_at}
+use Rattle.tn3270e_msg.specs.Talk.{Talk, start_at, Saying}
 use Rattle.tn3270e_msg.specs.declared.host_talk.HostState.{HostState}
 use Rattle.tn3270e_msg.specs.declared.host_talk.HostState.TheVariants.{Agreed as HostAgreed}
 use Rattle.tn3270e_msg.specs.declared.term_talk.TermState.{TermState}
@@ -12,7 +12,7 @@ use Rattle.tn3270e_msg.specs.declared.term_talk.TermState.TheVariants.{Functions
 use Rattle.tn3270e_msg.specs.declared.reply.Sending.TheVariants.{FunIs}
 use Rattle.host_core.specs.Acts.{Act, Sent as Sending, act_on, wanted_by, done, may_act, acted}
 use Rattle.host_core.specs.Application.{Application, IsApplication}
-use Rattle.host_core.specs.Messages.{ToTerminal, ToHost, Saying}
+use Rattle.host_core.specs.Messages.{ToTerminal, ToHost}
 use Rattle.host_core.specs.Session.{Conn, Turn, Pending, is_agreed}
 use Rattle.world3270.specs.Link.{Link, host_sent}
 use Rattle.world3270.specs.Stages.{At, IsNew, Moment, In, AtHost, Stage, Kept}
@@ -161,10 +161,10 @@ lost_moment v (rejected wanted reason at) = rejected wanted reason (at_lost v _ 
 lost_moment v (refused wanted reason at) = refused wanted reason (at_lost v _ _ _ _ _ at)
 
 lost_stage : (app : Application) (v : View) → Stage app v → Stage app (without v)
-lost_stage app v (talking n moment) = talking (record { turn = n.turn; pending = n.pending; shadow = n.shadow; occasion = n.occasion; lock = n.lock; aid = n.aid }) (lost_moment v moment)
+lost_stage app v (talking n moment) = talking (record { turn = n.turn; pending = n.pending; shadow = n.shadow; occasion = n.occasion; lock = n.lock; aid = n.aid; no_fields = n.no_fields }) (lost_moment v moment)
 lost_stage app v (first_paint lu number c s) =
     first_paint lu number c (record { wanted = s.wanted; at = at_lost v _ s.wanted _ _ _ s.at; turn = s.turn; pending = s.pending; lock = s.lock; meets = s.meets; paintable = s.paintable })
-lost_stage app v (at_host lu s) = at_host lu (record { session = in_lost v lu _ _ _ _ s.session; lock = s.lock; meets = s.meets; told = s.told })
+lost_stage app v (at_host lu s) = at_host lu (record { session = in_lost v lu _ _ _ _ s.session; lock = s.lock; meets = s.meets; lists = s.lists; told = s.told })
 lost_stage app v (painting lu number c s) = painting lu number c (record { session = in_lost v lu _ _ _ _ s.session; lock = s.lock; meets = s.meets; paintable = s.paintable })
 lost_stage app v (answering lu number c session s) = answering lu number c (in_lost v lu _ _ _ _ session) (record { exact = s.exact; lock = s.lock; meets = s.meets; knows = s.knows; held = s.held })
 lost_stage app v (operating lu session s) = operating lu (in_lost v lu _ _ _ _ session) (record { exact = s.exact; lock = s.lock; meets = s.meets; knows = s.knows; held = s.held })

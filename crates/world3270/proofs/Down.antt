@@ -1,7 +1,6 @@
 -- What a terminal makes of the next message, at each stage.
 use Rattle.std.proofs.Common.{◌≡◌, ℕ, Bool, true, Option, None, Some, List, [], ◌∷◌, ◌++◌, length, map, suc, arith, refl, ap, sym, subst, ◌∙◌}
 use Rattle.std.specs.Str.{bytes_eq}
-use Rattle.std.proofs.lemmas.Slice.Eq.{bytes_eq-Decides}
 use Rattle.codes3270.specs.declared.attribute.Cell.{Cell}
 use Rattle.datastream.specs.Screen.{Screen}
 use Rattle.datastream.specs.Wanted.{WantedScreen}
@@ -13,13 +12,10 @@ use Rattle.shadow.specs.Paint.{paint}
 use Rattle.shadow.specs.Painted.{painted_from, plainly_painted}
 use Rattle.shadow.specs.Taken.{taken}
 use Rattle.telnet_wire.specs.declared.wire.Verb.TheVariants.{Will, Do}
-use Rattle.tn3270e_msg.specs.Device.{device_of, device_text}
-use Rattle.tn3270e_msg.specs.Functions.{wants, responses}
 use Rattle.tn3270e_msg.specs.Lu.{lu_of}
-use Rattle.tn3270e_msg.specs.Talk.{Comes, Talk, start_at, follow}
+use Rattle.tn3270e_msg.specs.Talk.{Comes, Talk, start_at, follow, Saying, says, sayings, closing}
 use Rattle.tn3270e_msg.specs.TermTable.{Term, term_line, grant_line}
 use Rattle.tn3270e_msg.specs.declared.device.Device.TheVariants.{Model2}
-use Rattle.tn3270e_msg.specs.declared.functions.Wants.TheVariants.{ResponsesAlone}
 use Rattle.tn3270e_msg.specs.declared.host_talk.HostState.{HostState}
 use Rattle.tn3270e_msg.specs.declared.reply.Reply.{Reply}
 use Rattle.tn3270e_msg.specs.declared.reply.Reply.TheVariants as reply
@@ -28,29 +24,19 @@ use Rattle.host_core.specs.Session.{Turn, Pending}
 use Rattle.tn3270e_msg.specs.declared.reply.Sending.TheVariants.{SendType, TypeRequest, TypeIs, TypeReject, FunRequest, FunIs}
 use Rattle.tn3270e_msg.specs.declared.term_talk.TermState.{TermState}
 use Rattle.tn3270e_msg.specs.declared.term_talk.TermState.TheVariants.{Waiting, Willing, TypeAsked, FunctionsAsked, Agreed, Refused, Closed}
-use Rattle.tn3270e_msg.proofs.Sets.{wants_by}
+use Rattle.tn3270e_msg.proofs.Agreement.{responses_alone, model_2, same_bytes}
 use Rattle.host_core.specs.Application.{Application, IsApplication}
-use Rattle.host_core.specs.Messages.{ToTerminal, ToHost, Saying, says, sayings}
-use Rattle.host_core.specs.Takes.{closing}
+use Rattle.host_core.specs.Messages.{ToTerminal, ToHost}
 use Rattle.world3270.specs.Headline.{SentFields}
 use Rattle.world3270.specs.Link.{Link, sent}
-use Rattle.world3270.specs.Stages.{UnderWay, At, Suits, IsNew, Moment, In, Painting, IsExact, Reading, Stage, Kept}
+use Rattle.world3270.specs.Stages.{UnderWay, At, Suits, IsNew, Moment, In, Painting, FactsAreExact, Reading, Stage, Kept}
 use Rattle.world3270.specs.Stages.Moment.{offered, willing, type_wanted, type_asked, named, functions_asked, agreeing, rejected, refused}
 use Rattle.world3270.specs.Stages.Stage.{talking, first_paint, at_host, painting, answering, operating, sent_behind, sent_alone, asking, reporting}
-use Rattle.world3270.specs.Terminal.{TermStep, with_talk, is_bound, is_some, bound_to, once_bound, paint_came, read_came, talked, took}
+use Rattle.world3270.specs.Terminal.{TermStep, with_talk, is_bound, bound_to, once_bound, paint_came, read_came, talked, took}
+use Rattle.std.specs.Prelude.{is_some}
 use Rattle.world3270.specs.View.{view_of}
 use Rattle.world3270.specs.Given.{Given}
 use Rattle.world3270.proofs.Queues.{more, front, nothing}
-
-pub responses_alone : wants responses ≡ ResponsesAlone
-responses_alone = wants_by (2 ∷ []) true true refl refl
-
-pub model_2 : device_of (device_text Model2) ≡ Some Model2
-unfolding device_of
-model_2 = refl
-
-pub same_bytes : (lu : List ℕ) → bytes_eq lu lu ≡ true
-same_bytes lu = (bytes_eq-Decides lu lu).1 refl
 
 -- the connection once the terminal took the message before the rest
 abbrev pub term_view : TermStep → List ToTerminal → Link → Link
@@ -99,7 +85,7 @@ talks app link rest wanted state next saying sends message k e is line stage =
     (record { kept = record { whole = k.whole; cursor = k.cursor; unreturned = k.unreturned; exact = k.exact; stage = stage }; open_end = refl }))
 
 still_new : (link : Link) (rest : List ToTerminal) (next : TermState) (sends : List ToHost) → IsNew (view_of link) → IsNew (view_of (term_view (talk_step link next sends) rest link))
-still_new link rest next sends n = record { turn = n.turn; pending = n.pending; shadow = n.shadow; occasion = n.occasion; lock = n.lock; aid = n.aid }
+still_new link rest next sends n = record { turn = n.turn; pending = n.pending; shadow = n.shadow; occasion = n.occasion; lock = n.lock; aid = n.aid; no_fields = n.no_fields }
 
 granted_line : Given → (wanted : Option (List ℕ)) (lu : List ℕ) → Suits wanted lu → Line wanted TypeAsked (Saying.Sub (TypeIs Model2 lu)) (FunctionsAsked lu) (ToHost.TalksUp (Saying.Sub FunRequest) ∷ [])
 granted_line given None lu suits = record {
@@ -130,7 +116,7 @@ agreed_line wanted lu = record {
 -- ---- records
 
 -- as many cells as there were
-painted-length : (reset : Bool) (whole rest : List Want) (cells : List Cell) → length rest ≡ length cells → length (painted_from reset whole rest cells) ≡ length cells
+pub painted-length : (reset : Bool) (whole rest : List Want) (cells : List Cell) → length rest ≡ length cells → length (painted_from reset whole rest cells) ≡ length cells
 painted-length reset whole [] [] same = refl
 painted-length reset whole [] (x ∷ cells) same = absurd (cc)
 painted-length reset whole (want ∷ rest) [] same = absurd (cc)
@@ -161,7 +147,7 @@ takes_paint given app is link rest lu number paints k s left =
     let same : length paints.cells ≡ length screen.cells = s.paintable.showable.cells ∙ sym k.whole in
     let meets : Meets (taken app.size (paint app.size link.host.shadow paints) link.host.shadow) (plainly_painted paints screen) =
     subst (λ size. Meets (taken size (paint size link.host.shadow paints) link.host.shadow) (plainly_painted paints screen)) k.whole (given.taken link.host.shadow paints screen same s.paintable.fits s.meets) in
-    let exact : IsExact (taken app.size (paint app.size link.host.shadow paints) link.host.shadow) = record {
+    let exact : FactsAreExact (taken app.size (paint app.size link.host.shadow paints) link.host.shadow) = record {
       known = given.taken_exact app.size (paint app.size link.host.shadow paints) link.host.shadow k.exact.known;
       protected = subst (λ size. ProtectedIsExact (taken size (paint size link.host.shadow paints) link.host.shadow)) k.whole (given.painted_exact link.host.shadow paints screen same s.paintable.fits s.meets k.exact.known);
     } in
@@ -247,6 +233,7 @@ obeys given app is link message rest e k = cases k.stage
           session = record { wanted = wanted; at = talk_at link _ wanted (FunctionsAsked lu) (Agreed lu) _ [] rest [] [] at first.1; turn_is = n.turn; pending_is = n.pending };
           lock = n.lock;
           meets = subst (λ s. Meets s link.term.display.screen) (sym n.shadow) tt;
+          lists = λ some. absurd (some n.no_fields);
           told = λ sent. absurd (subst SentFields n.aid sent);
         }))
     at_moment n (rejected wanted reason at) =

@@ -11,10 +11,10 @@ use Rattle.host_core.specs.Pool.{holder, granted_if, given_back}
 use Rattle.host_core.specs.Takes.{Step, took as host_took}
 use Rattle.world3270.specs.Given.{Given}
 use Rattle.world3270.specs.Headline.{Always}
-use Rattle.world3270.specs.Link.{Link, is_up, begun, host_left, host_left_if, host_stepped, host_sent, term_left, term_left_if, term_stepped}
+use Rattle.world3270.specs.Link.{Link, is_up, begun, cut, host_left, host_left_if, host_stepped, host_sent, term_left, term_left_if, term_stepped}
 use Rattle.world3270.specs.Places.{IsHeld, UpIsHeld, HoldersAreHere}
 use Rattle.world3270.specs.Terminal.{Display, TermStep, new_display, key_came, took as term_took}
-use Rattle.world3270.specs.World.{Place, World, Event, new_world, with_at, with_link, noted, freed_if, came_up, went_up, host_acted, left_alone, came_down, went_down, key_went, lost_if, host_saw, parted, term_saw, free_number, joined, connected, term_anew, host_left_from, host_anew, there, is_link, is_terminal, happens, run}
+use Rattle.world3270.specs.World.{Place, World, Event, new_world, with_at, with_link, noted, freed_if, came_up, went_up, host_acted, left_alone, came_down, went_down, key_went, was_lost, host_parted, host_saw, parted, term_saw, free_number, joined, connected, term_anew, host_left_from, host_anew, there, is_link, is_terminal, happens, run}
 use Rattle.world3270.proofs.Others.{back_was, came_up_was, noted_pool}
 use Rattle.world3270.proofs.Worlds.{all_with}
 
@@ -114,7 +114,7 @@ host_acted_both app world number b = by_here (world.link number).host_here
     by_here true = changed world.pool world.link number (host_sent (acted app link.host) link) (sends_held (acted app link.host) link (b.held number)) (λ e. sends_here (acted app link.host) link ∙ e) b
     by_here false = b
 
-host_saw_both : Given → (world : World) (number : ℕ) → BothHold world → BothHold (host_saw number (world.link number) world)
+host_saw_both : Given → (world : World) (number : ℕ) → BothHold world → BothHold (host_saw number world)
 host_saw_both given world number b = by_loss ((world.link number).lost && (world.link number).host_here)
   where
     new : Link
@@ -124,7 +124,7 @@ host_saw_both given world number b = by_loss ((world.link number).lost && (world
     by_test other lu e true same = let gone = (back_was given world.pool number other lu e).0 in absurd (cc)
     by_test other lu e false differs = b.here other lu (back_was given world.pool number other lu e).1
 
-    by_loss : (t : Bool) → BothHold (if t then record world { pool = given_back number world.pool; link = with_at number new world.link } else world)
+    by_loss : (t : Bool) → BothHold (if t then host_parted number world else world)
     by_loss true = record { held = all_with (λ n x. Held x) number new world.link (λ e. absurd (cc)) b.held; here = λ other lu e. by_test other lu e (other == number) refl }
     by_loss false = b
 
@@ -177,9 +177,12 @@ term_anew_both app world terminal (Place.Alone display) b = record { held = b.he
 
 -- ---- connections
 
-lose_both : (world : World) (number : ℕ) (t : Bool) → BothHold world → BothHold (with_link number (lost_if t (world.link number)) world)
-lose_both world number true b = changed world.pool world.link number (lost_if true (world.link number)) (λ e. absurd (cc)) (λ e. e) b
-lose_both world number false b = changed world.pool world.link number (world.link number) (b.held number) (λ e. e) b
+was_lost_both : (world : World) (number : ℕ) → BothHold world → BothHold (was_lost number world)
+was_lost_both world number b = by_test (is_up (world.link number))
+  where
+    by_test : (t : Bool) → BothHold (if t then with_link number (cut (world.link number)) world else world)
+    by_test true = changed world.pool world.link number (cut (world.link number)) (λ e. absurd (cc)) (λ e. e) b
+    by_test false = b
 
 joined_both : (app : Application) (world : World) (terminal : ℕ) (wanted : Option (List ℕ)) (free : Option ℕ) → BothHold world → BothHold (joined app terminal wanted free world)
 joined_both app world terminal wanted None b = b
@@ -201,7 +204,7 @@ happens_both given app (Event.Press terminal key) world b = there_both (is_termi
 happens_both given app (Event.Up number) world b = there_both (is_link number) _ world (went_up_both given app world number b) b
 happens_both given app (Event.Down number) world b = there_both (is_link number) _ world (went_down_both world number (world.link number).term_here b) b
 happens_both given app (Event.Act number) world b = there_both (is_link number) _ world (host_acted_both app world number b) b
-happens_both given app (Event.Lose number) world b = there_both (is_link number) _ world (lose_both world number (is_up (world.link number)) b) b
+happens_both given app (Event.Lose number) world b = there_both (is_link number) _ world (was_lost_both world number b) b
 happens_both given app (Event.HostSees number) world b = there_both (is_link number) _ world (host_saw_both given world number b) b
 happens_both given app (Event.TermSees terminal) world b = there_both (is_terminal world terminal) _ world (term_saw_both world terminal (world.place terminal) b) b
 happens_both given app (Event.Connect terminal wanted) world b = there_both (is_terminal world terminal) _ world (connected_both app world terminal wanted (world.place terminal) b) b

@@ -1,18 +1,16 @@
 -- The data that comes up next has the form that the host awaits.
-use Rattle.std.proofs.Common.{◌≡◌, ℕ, Option, List, [], ◌∷◌, refl, ap, sym, ◌∙◌}
+use Rattle.std.proofs.Common.{◌≡◌, ℕ, Option, List, [], ◌∷◌, ap, sym, ◌∙◌}
 use Rattle.datastream.specs.InboundFields.{modified_data, buffer_data}
 use Rattle.datastream.specs.InboundText.{InboundParts}
-use Rattle.datastream.specs.declared.inbound_part.Form.{Form}
-use Rattle.datastream.specs.declared.inbound_part.Form.TheVariants.{Modified, Buffer}
+use Rattle.datastream.specs.declared.inbound_part.Form.TheVariants.{Modified}
 use Rattle.tn3270e_msg.specs.Talk.{Talk}
 use Rattle.tn3270e_msg.specs.declared.host_talk.HostState.{HostState}
 use Rattle.tn3270e_msg.specs.declared.term_talk.TermState.{TermState}
 use Rattle.host_core.specs.Application.{Application}
 use Rattle.host_core.specs.Messages.{ToTerminal, ToHost}
-use Rattle.host_core.specs.Session.{Pending}
 use Rattle.world3270.specs.Forms.{form_awaited, FormsAreAwaited}
 use Rattle.world3270.specs.Headline.{Always}
-use Rattle.world3270.specs.Stages.{At, Moment, Stage}
+use Rattle.world3270.specs.Stages.{At, Stage}
 use Rattle.world3270.specs.Stages.Moment.{offered, willing, type_wanted, type_asked, named, functions_asked, agreeing, rejected, refused}
 use Rattle.world3270.specs.Stages.Stage.{talking, first_paint, at_host, painting, answering, operating, sent_behind, sent_alone, asking, reporting}
 use Rattle.world3270.specs.View.{View, view_of}

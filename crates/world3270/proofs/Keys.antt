@@ -33,7 +33,8 @@ use Rattle.world3270.specs.Headline.{SentFields}
 use Rattle.world3270.specs.Link.{Link, sent, term_stepped}
 use Rattle.world3270.specs.Stages.{In, Operating, Stage, Kept, once_taken, key_data, WillBeHeard}
 use Rattle.world3270.specs.Stages.Stage.{talking, first_paint, at_host, painting, answering, operating, sent_behind, sent_alone, asking, reporting}
-use Rattle.world3270.specs.Terminal.{Display, is_bound, is_some, bound_to, data_of, erases_if, key_came}
+use Rattle.world3270.specs.Terminal.{Display, is_bound, bound_to, data_of, erases_if, key_came}
+use Rattle.std.specs.Prelude.{is_some}
 use Rattle.world3270.specs.View.{View, view_of}
 use Rattle.world3270.specs.Given.{Given}
 use Rattle.world3270.proofs.Queues.{more, nothing_sent}

@@ -17,3 +17,7 @@ pub mod Skipped
 pub mod Ends
 pub mod Losses
 pub mod Forms
+pub mod HostSteps
+pub mod Everywhere
+pub mod Numbers
+pub mod Sendable

@@ -7,12 +7,12 @@ use Rattle.tn3270e_msg.specs.declared.cause.Cause.{Cause}
 use Rattle.host_core.specs.Acts.{Sent, acted}
 use Rattle.host_core.specs.Application.{Application}
 use Rattle.host_core.specs.Messages.{ToTerminal, ToHost}
-use Rattle.host_core.specs.Pool.{granted_if, given_back}
+use Rattle.host_core.specs.Pool.{granted_if}
 use Rattle.host_core.specs.Takes.{Step, took as host_took}
-use Rattle.world3270.specs.Link.{Link, is_up, begun, sent, host_left, host_left_if, host_stepped, host_sent, term_left, term_left_if, term_stepped}
+use Rattle.world3270.specs.Link.{Link, is_up, begun, cut, sent, host_left, host_left_if, host_stepped, host_sent, term_left, term_left_if, term_stepped}
 use Rattle.world3270.specs.Losses.{IsRest, NothingNew, LostTakesNothing}
 use Rattle.world3270.specs.Terminal.{TermStep, key_came, took as term_took}
-use Rattle.world3270.specs.World.{Place, World, Event, with_at, with_link, freed_if, came_up, went_up, host_acted, left_alone, came_down, went_down, key_went, lost_if, host_saw, parted, term_saw, free_number, joined, connected, term_anew, host_left_from, there, is_link, is_terminal}
+use Rattle.world3270.specs.World.{Place, World, Event, with_at, with_link, freed_if, came_up, went_up, host_acted, left_alone, came_down, went_down, key_went, was_lost, host_parted, host_saw, parted, term_saw, free_number, joined, connected, term_anew, host_left_from, there, is_link, is_terminal}
 use Rattle.world3270.proofs.Others.{noted_link}
 
 abbrev Fades : Link → Link → Type 0
@@ -99,10 +99,10 @@ key_went_fades app world terminal number key (Place.At at) =
     at_number world.link at number (term_stepped (key_came app.columns key link.term) link.down link) (term_steps link (key_came app.columns key link.term) [] link.down None refl)
 key_went_fades app world terminal number key (Place.Alone display) = as_it_is (world.link number)
 
-host_saw_fades : (world : World) (at number : ℕ) → Fades (world.link number) ((host_saw at (world.link at) world).link number)
+host_saw_fades : (world : World) (at number : ℕ) → Fades (world.link number) ((host_saw at world).link number)
 host_saw_fades world at number = by_test ((world.link at).lost && (world.link at).host_here)
   where
-    by_test : (b : Bool) → Fades (world.link number) (World.link (if b then record world { pool = given_back at world.pool; link = with_at at (host_left (world.link at)) world.link } else world) number)
+    by_test : (b : Bool) → Fades (world.link number) (World.link (if b then host_parted at world else world) number)
     by_test true = at_number world.link at number (host_left (world.link at)) (λ before after. record { down = whole _; up = whole _ })
     by_test false = as_it_is (world.link number)
 
@@ -121,9 +121,12 @@ term_anew_fades : (app : Application) (world : World) (terminal number : ℕ) (p
 term_anew_fades app world terminal number (Place.At at) = leaves world at number
 term_anew_fades app world terminal number (Place.Alone display) = as_it_is (world.link number)
 
-lose_fades : (link : Link) (b : Bool) → Fades link (lost_if b link)
-lose_fades link true = λ before after. record { down = whole _; up = whole _ }
-lose_fades link false = as_it_is link
+was_lost_fades : (world : World) (at number : ℕ) → Fades (world.link number) ((was_lost at world).link number)
+was_lost_fades world at number = by_test (is_up (world.link at))
+  where
+    by_test : (b : Bool) → Fades (world.link number) (World.link (if b then with_link at (cut (world.link at)) world else world) number)
+    by_test true = at_number world.link at number (cut (world.link at)) (λ before after. record { down = whole _; up = whole _ })
+    by_test false = as_it_is (world.link number)
 
 -- a connection that begins isn't lost
 joined_fades : (app : Application) (world : World) (terminal number : ℕ) (wanted : Option (List ℕ)) (free : Option ℕ) → Fades (world.link number) ((joined app terminal wanted free world).link number)
@@ -150,7 +153,7 @@ lost_takes_nothing app (Event.Press terminal key) world number = there_fades (is
 lost_takes_nothing app (Event.Up at) world number = there_fades (is_link at) _ world number (went_up_fades app world at number)
 lost_takes_nothing app (Event.Down at) world number = there_fades (is_link at) _ world number (went_down_fades world at number (world.link at).term_here)
 lost_takes_nothing app (Event.Act at) world number = there_fades (is_link at) _ world number (host_acted_fades app world at number)
-lost_takes_nothing app (Event.Lose at) world number = there_fades (is_link at) _ world number (at_number world.link at number _ (lose_fades (world.link at) (is_up (world.link at))))
+lost_takes_nothing app (Event.Lose at) world number = there_fades (is_link at) _ world number (was_lost_fades world at number)
 lost_takes_nothing app (Event.HostSees at) world number = there_fades (is_link at) _ world number (host_saw_fades world at number)
 lost_takes_nothing app (Event.TermSees terminal) world number = there_fades (is_terminal world terminal) _ world number (term_saw_fades world terminal number (world.place terminal))
 lost_takes_nothing app (Event.Connect terminal wanted) world number = there_fades (is_terminal world terminal) _ world number (connected_fades app world terminal number wanted (world.place terminal))

@@ -14,7 +14,7 @@ use Rattle.shadow.specs.Belief.{Shadow}
 use Rattle.shadow.specs.Heard.{heard}
 use Rattle.shadow.specs.declared.fault.HeardFault.{HeardFault}
 use Rattle.tn3270e_msg.specs.HostTable.{host_line}
-use Rattle.tn3270e_msg.specs.Talk.{Talk, follow}
+use Rattle.tn3270e_msg.specs.Talk.{Talk, follow, says}
 use Rattle.tn3270e_msg.specs.declared.cause.Cause.{Cause}
 use Rattle.tn3270e_msg.specs.declared.host_talk.HostState.{HostState}
 use Rattle.tn3270e_msg.specs.declared.host_talk.HostState.TheVariants.{Offered, Asked, Asking, Named, Countered, Agreed, Closed}
@@ -23,17 +23,17 @@ use Rattle.tn3270e_msg.specs.declared.reply.Reply.{Reply}
 use Rattle.tn3270e_msg.specs.declared.reply.Reply.TheVariants as reply
 use Rattle.host_core.specs.Acts.{acted}
 use Rattle.host_core.specs.Application.{Application}
-use Rattle.host_core.specs.Messages.{ToTerminal, ToHost, Verdict, says}
+use Rattle.host_core.specs.Messages.{ToTerminal, ToHost, Verdict}
 use Rattle.host_core.specs.Pool.{holder, granted_to, granted_if, given_back}
 use Rattle.host_core.specs.PoolLaws.{IsSound, freed_for}
 use Rattle.host_core.specs.Session.{Conn, Turn, Pending, Occasion, is_agreed}
 use Rattle.host_core.specs.Takes.{Answers, Step, asked, talked_on, believed, once_read, buffer_came, data_came, key_data_came, key_came, if_answers, write_refused, response_came, once_agreed, took as host_took}
 use Rattle.world3270.specs.Given.{Given}
 use Rattle.world3270.specs.Headline.{Always}
-use Rattle.world3270.specs.Link.{Link, is_up, begun, host_left, host_stepped, host_sent, term_left, term_stepped}
+use Rattle.world3270.specs.Link.{Link, is_up, begun, cut, host_left, host_stepped, host_sent, term_left, term_stepped}
 use Rattle.world3270.specs.Places.{is_at, is_found, takes_number, LinksStay, HoldersStay, PoolIsSound}
 use Rattle.world3270.specs.Terminal.{TermStep, key_came as term_key_came, took as term_took}
-use Rattle.world3270.specs.World.{Place, World, Event, new_world, with_at, with_link, noted, freed_if, came_up, went_up, host_acted, left_alone, came_down, went_down, key_went, lost_if, host_saw, parted, term_saw, free_number, joined, connected, term_anew, there, is_link, is_terminal}
+use Rattle.world3270.specs.World.{Place, World, Event, new_world, with_at, with_link, noted, freed_if, came_up, went_up, host_acted, left_alone, came_down, went_down, key_went, was_lost, host_parted, host_saw, parted, term_saw, free_number, joined, connected, term_anew, there, is_link, is_terminal}
 use Rattle.world3270.proofs.Worlds.{differs, granted_other, new_good, run_good}
 
 -- ---- connections that an event doesn't concern
@@ -81,10 +81,17 @@ host_acted_link app world at number e = by_here (world.link at).host_here
     by_here true = with_other at new world.link number e
     by_here false = refl
 
-host_saw_link : (world : World) (at number : ℕ) → (number == at) ≡ false → (host_saw at (world.link at) world).link number ≡ world.link number
+was_lost_link : (world : World) (at number : ℕ) → (number == at) ≡ false → (was_lost at world).link number ≡ world.link number
+was_lost_link world at number e = by_test (is_up (world.link at))
+  where
+    by_test : (b : Bool) → World.link (if b then with_link at (cut (world.link at)) world else world) number ≡ world.link number
+    by_test true = with_other at (cut (world.link at)) world.link number e
+    by_test false = refl
+
+host_saw_link : (world : World) (at number : ℕ) → (number == at) ≡ false → (host_saw at world).link number ≡ world.link number
 host_saw_link world at number e = by_test ((world.link at).lost && (world.link at).host_here)
   where
-    by_test : (b : Bool) → World.link (if b then record world { pool = given_back at world.pool; link = with_at at (host_left (world.link at)) world.link } else world) number ≡ world.link number
+    by_test : (b : Bool) → World.link (if b then host_parted at world else world) number ≡ world.link number
     by_test true = with_other at (host_left (world.link at)) world.link number e
     by_test false = refl
 
@@ -123,7 +130,7 @@ links_stay app (Event.Press terminal key) world number e = there_link (is_termin
 links_stay app (Event.Up at) world number e = there_link (is_link at) _ world number (went_up_link app world at number e)
 links_stay app (Event.Down at) world number e = there_link (is_link at) _ world number (went_down_link world at number (world.link at).term_here e)
 links_stay app (Event.Act at) world number e = there_link (is_link at) _ world number (host_acted_link app world at number e)
-links_stay app (Event.Lose at) world number e = there_link (is_link at) _ world number (with_other at (lost_if (is_up (world.link at)) (world.link at)) world.link number e)
+links_stay app (Event.Lose at) world number e = there_link (is_link at) _ world number (was_lost_link world at number e)
 links_stay app (Event.HostSees at) world number e = there_link (is_link at) _ world number (host_saw_link world at number e)
 links_stay app (Event.TermSees terminal) world number e = there_link (is_terminal world terminal) _ world number (term_saw_link world terminal number (world.place terminal) e)
 links_stay app (Event.Connect terminal wanted) world number e = there_link (is_terminal world terminal) _ world number (connected_link app world terminal number wanted (world.place terminal) e)
@@ -250,10 +257,10 @@ went_up_holds given app world at number lu sound e held = by_here (world.link at
     by_here true = came_up_holds given app world at number lu (world.link at).up sound e held
     by_here false = held
 
-host_saw_holds : Given → (world : World) (at number : ℕ) (lu : List ℕ) → (number == at) ≡ false → holder world.pool lu ≡ Some number → holder (host_saw at (world.link at) world).pool lu ≡ Some number
+host_saw_holds : Given → (world : World) (at number : ℕ) (lu : List ℕ) → (number == at) ≡ false → holder world.pool lu ≡ Some number → holder (host_saw at world).pool lu ≡ Some number
 host_saw_holds given world at number lu e held = by_test ((world.link at).lost && (world.link at).host_here)
   where
-    by_test : (b : Bool) → holder (World.pool (if b then record world { pool = given_back at world.pool; link = with_at at (host_left (world.link at)) world.link } else world)) lu ≡ Some number
+    by_test : (b : Bool) → holder (World.pool (if b then host_parted at world else world)) lu ≡ Some number
     by_test true = given.others_keep world.pool at number lu (differs number at e) held
     by_test false = held
 
@@ -305,10 +312,10 @@ went_up_was given app world at number lu e held = by_here (world.link at).host_h
     by_here true held = came_up_was given app world at number lu (world.link at).up e held
     by_here false held = held
 
-host_saw_was : Given → (world : World) (at number : ℕ) (lu : List ℕ) → holder (host_saw at (world.link at) world).pool lu ≡ Some number → holder world.pool lu ≡ Some number
+host_saw_was : Given → (world : World) (at number : ℕ) (lu : List ℕ) → holder (host_saw at world).pool lu ≡ Some number → holder world.pool lu ≡ Some number
 host_saw_was given world at number lu held = by_test ((world.link at).lost && (world.link at).host_here) held
   where
-    by_test : (b : Bool) → holder (World.pool (if b then record world { pool = given_back at world.pool; link = with_at at (host_left (world.link at)) world.link } else world)) lu ≡ Some number
+    by_test : (b : Bool) → holder (World.pool (if b then host_parted at world else world)) lu ≡ Some number
         → holder world.pool lu ≡ Some number
     by_test true held = (back_was given world.pool at number lu held).1
     by_test false held = held
@@ -329,6 +336,13 @@ host_acted_pool app world at = by_here (world.link at).host_here
     by_here : (b : Bool) → World.pool (if b then with_link at (host_sent (acted app (world.link at).host) (world.link at)) world else world) ≡ world.pool
     by_here true = refl
     by_here false = refl
+
+was_lost_pool : (world : World) (at : ℕ) → (was_lost at world).pool ≡ world.pool
+was_lost_pool world at = by_test (is_up (world.link at))
+  where
+    by_test : (b : Bool) → World.pool (if b then with_link at (cut (world.link at)) world else world) ≡ world.pool
+    by_test true = refl
+    by_test false = refl
 
 key_went_pool : (app : Application) (world : World) (terminal : ℕ) (key : Key) (place : Place) → (key_went app terminal key place world).pool ≡ world.pool
 key_went_pool app world terminal key (Place.At at) = refl
@@ -368,7 +382,7 @@ holders_stay given app (Event.Press terminal key) world number lu sound e = same
 holders_stay given app (Event.Up at) world number lu sound e = there_holds (is_link at) _ world number lu (went_up_holds given app world at number lu sound e) (went_up_was given app world at number lu e)
 holders_stay given app (Event.Down at) world number lu sound e = same_holds (is_link at) _ world number lu (went_down_pool world at (world.link at).term_here)
 holders_stay given app (Event.Act at) world number lu sound e = same_holds (is_link at) _ world number lu (host_acted_pool app world at)
-holders_stay given app (Event.Lose at) world number lu sound e = same_holds (is_link at) (with_link at (lost_if (is_up (world.link at)) (world.link at)) world) world number lu refl
+holders_stay given app (Event.Lose at) world number lu sound e = same_holds (is_link at) _ world number lu (was_lost_pool world at)
 holders_stay given app (Event.HostSees at) world number lu sound e = there_holds (is_link at) _ world number lu (host_saw_holds given world at number lu e) (host_saw_was given world at number lu)
 holders_stay given app (Event.TermSees terminal) world number lu sound e = same_holds (is_terminal world terminal) _ world number lu (term_saw_pool world terminal (world.place terminal))
 holders_stay given app (Event.Connect terminal wanted) world number lu sound e = same_holds (is_terminal world terminal) _ world number lu (connected_pool app world terminal wanted (world.place terminal))

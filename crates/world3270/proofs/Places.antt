@@ -8,13 +8,14 @@ use Rattle.tn3270e_msg.specs.declared.cause.Cause.{Cause}
 use Rattle.host_core.specs.Acts.{Sent, acted}
 use Rattle.host_core.specs.Application.{Application}
 use Rattle.host_core.specs.Messages.{ToTerminal, ToHost}
-use Rattle.host_core.specs.Pool.{granted_if, given_back}
+use Rattle.host_core.specs.Pool.{granted_if}
 use Rattle.host_core.specs.Takes.{Step, took as host_took}
 use Rattle.world3270.specs.Headline.{Always}
-use Rattle.world3270.specs.Link.{Link, is_free, is_up, begun, host_left, host_left_if, host_stepped, host_sent, term_left, term_left_if, term_stepped}
+use Rattle.world3270.specs.Link.{Link, is_free, is_up, begun, cut, host_left, host_left_if, host_stepped, host_sent, term_left, term_left_if, term_stepped}
 use Rattle.world3270.specs.Places.{EndsAgree}
-use Rattle.world3270.specs.Terminal.{Display, TermStep, new_display, after_key, key_came, took as term_took, is_some}
-use Rattle.world3270.specs.World.{Place, World, Event, new_world, link_count, with_at, with_link, noted, freed_if, came_up, went_up, host_acted, left_alone, place_after, came_down, went_down, key_went, lost_if, host_saw, parted, term_saw, free_number, joined, connected, term_anew, host_left_from, host_anew, there, is_link, is_terminal, happens, run}
+use Rattle.world3270.specs.Terminal.{Display, TermStep, new_display, after_key, key_came, took as term_took}
+use Rattle.std.specs.Prelude.{is_some}
+use Rattle.world3270.specs.World.{Place, World, Event, new_world, link_count, with_at, with_link, noted, freed_if, came_up, went_up, host_acted, left_alone, place_after, came_down, went_down, key_went, was_lost, host_parted, host_saw, parted, term_saw, free_number, joined, connected, term_anew, host_left_from, host_anew, there, is_link, is_terminal, happens, run}
 use Rattle.world3270.proofs.Worlds.{differs}
 
 abbrev Agree : (ℕ → Link) → (ℕ → Place) → Type 0
@@ -121,10 +122,10 @@ host_acted_agrees app world number a = by_here (world.link number).host_here
     by_here true = link_changed world.link world.place number (host_sent (acted app (world.link number).host) (world.link number)) (sends_from (acted app (world.link number).host) (world.link number)) a
     by_here false = a
 
-host_saw_agrees : (world : World) (number : ℕ) → EndsAgree world → EndsAgree (host_saw number (world.link number) world)
+host_saw_agrees : (world : World) (number : ℕ) → EndsAgree world → EndsAgree (host_saw number world)
 host_saw_agrees world number a = by_test ((world.link number).lost && (world.link number).host_here)
   where
-    by_test : (b : Bool) → EndsAgree (if b then record world { pool = given_back number world.pool; link = with_at number (host_left (world.link number)) world.link } else world)
+    by_test : (b : Bool) → EndsAgree (if b then host_parted number world else world)
     by_test true = link_changed world.link world.place number (host_left (world.link number)) refl a
     by_test false = a
 
@@ -183,9 +184,12 @@ term_anew_agrees app world terminal (Place.Alone display) e a = alone_changed wo
 
 -- ---- connections
 
-lose_agrees : (world : World) (number : ℕ) (b : Bool) → EndsAgree world → EndsAgree (with_link number (lost_if b (world.link number)) world)
-lose_agrees world number true a = link_changed world.link world.place number (lost_if true (world.link number)) refl a
-lose_agrees world number false a = link_changed world.link world.place number (world.link number) refl a
+was_lost_agrees : (world : World) (number : ℕ) → EndsAgree world → EndsAgree (was_lost number world)
+was_lost_agrees world number a = by_test (is_up (world.link number))
+  where
+    by_test : (b : Bool) → EndsAgree (if b then with_link number (cut (world.link number)) world else world)
+    by_test true = link_changed world.link world.place number (cut (world.link number)) refl a
+    by_test false = a
 
 -- what is found passes
 found_passes : {X : Type 0} (p : X → Bool) (xs : List X) (x : X) → find p xs ≡ Some x → p x ≡ true
@@ -224,7 +228,7 @@ happens_agrees app (Event.Press terminal key) world a = there_agrees (is_termina
 happens_agrees app (Event.Up number) world a = there_agrees (is_link number) _ world (went_up_agrees app world number a) a
 happens_agrees app (Event.Down number) world a = there_agrees (is_link number) _ world (went_down_agrees world number (world.link number).term_here refl a) a
 happens_agrees app (Event.Act number) world a = there_agrees (is_link number) _ world (host_acted_agrees app world number a) a
-happens_agrees app (Event.Lose number) world a = there_agrees (is_link number) _ world (lose_agrees world number (is_up (world.link number)) a) a
+happens_agrees app (Event.Lose number) world a = there_agrees (is_link number) _ world (was_lost_agrees world number a) a
 happens_agrees app (Event.HostSees number) world a = there_agrees (is_link number) _ world (host_saw_agrees world number a) a
 happens_agrees app (Event.TermSees terminal) world a = there_agrees (is_terminal world terminal) _ world (term_saw_agrees world terminal (world.place terminal) refl a) a
 happens_agrees app (Event.Connect terminal wanted) world a = there_agrees (is_terminal world terminal) _ world (connected_agrees app world terminal wanted (world.place terminal) refl a) a

@@ -18,7 +18,7 @@ use Rattle.shadow.specs.Belief.{Fact, Belief}
 use Rattle.tn3270e_msg.specs.Device.{device_of}
 use Rattle.tn3270e_msg.specs.HostTable.{host_line}
 use Rattle.tn3270e_msg.specs.Lu.{is_lu}
-use Rattle.tn3270e_msg.specs.Talk.{RequestsFunctions, IsFunctions, follow}
+use Rattle.tn3270e_msg.specs.Talk.{RequestsFunctions, IsFunctions, follow, Saying}
 use Rattle.tn3270e_msg.specs.TermTable.{term_line}
 use Rattle.tn3270e_msg.specs.declared.functions.Wants.{Wants}
 use Rattle.tn3270e_msg.specs.declared.functions.Wants.TheVariants.{ResponsesAlone}
@@ -26,7 +26,7 @@ use Rattle.tn3270e_msg.specs.declared.host_talk.HostState.TheVariants.{Closed as
 use Rattle.tn3270e_msg.specs.declared.reply.Sending.TheVariants.{FunRequest, FunIs}
 use Rattle.tn3270e_msg.specs.declared.term_talk.TermState.TheVariants.{Closed as TermClosed}
 use Rattle.host_core.specs.Application.{Application, IsApplication, IsShowable, KeepsNothing}
-use Rattle.host_core.specs.Messages.{ToTerminal, ToHost, Saying}
+use Rattle.host_core.specs.Messages.{ToTerminal, ToHost}
 use Rattle.host_core.specs.Session.{Turn, Pending}
 use Rattle.host_core.specs.Takes.{talked_on}
 use Rattle.panels.specs.Screen.{Values}
@@ -35,7 +35,7 @@ use Rattle.world3270.specs.Headline.{SentFields}
 use Rattle.world3270.specs.Terminal.{bound_to, replied}
 use Rattle.world3270.specs.World.{World, Event, IsEvent, AreEvents, new_world, happens, run, host_took_it, came_up, term_took_it, came_down, went_down}
 use Rattle.world3270.specs.Example.{example, screen_of, l1, l2, example_pool, rounds, settle, connects, presses, connected, after, end_on, bound_and_shows, refused_l1, fresh_sign_on, incomplete_sign_on, greeting_seen, incomplete_entry, answered_again, complete_entry, lost_entry, connected_again, entered_again, Decides, TheRunsEndSo}
-use Rattle.world3270.proofs.Down.{responses_alone}
+use Rattle.tn3270e_msg.proofs.Agreement.{responses_alone}
 use Rattle.world3270.proofs.Worlds.{run-append}
 
 -- ---- the talk's last steps, over what both ends want

@@ -4,11 +4,10 @@ use Rattle.std.proofs.lemmas.Bool.{eqb-true}
 use Rattle.host_core.specs.Acts.{Sent, acted}
 use Rattle.host_core.specs.Application.{Application}
 use Rattle.host_core.specs.Messages.{ToTerminal, ToHost}
-use Rattle.host_core.specs.Pool.{given_back}
-use Rattle.world3270.specs.Link.{is_up, host_left, host_sent}
+use Rattle.world3270.specs.Link.{is_up, cut, host_sent}
 use Rattle.world3270.specs.Skipped.{is_queued, comes_up, comes_down, host_acts, host_sees, terminal_sees, may_connect, IsUnchanged, SkippedChangesNothing}
-use Rattle.world3270.specs.Terminal.{is_some}
-use Rattle.world3270.specs.World.{Place, World, Event, with_at, with_link, came_up, came_down, went_down, lost_if, left_alone, parted, term_saw, free_number, joined, connected, there, is_link, is_terminal}
+use Rattle.std.specs.Prelude.{is_some}
+use Rattle.world3270.specs.World.{Place, World, Event, with_at, with_link, came_up, came_down, went_down, host_parted, left_alone, parted, term_saw, free_number, joined, connected, there, is_link, is_terminal}
 
 unchanged : (world : World) → IsUnchanged world world
 unchanged world = record { pool = refl; links = λ number. refl; places = λ terminal. refl; terminals = refl; causes = refl }
@@ -58,12 +57,12 @@ no_act world at false sending e = unchanged world
 
 -- ---- losses
 
-not_up : (world : World) (at : ℕ) (b : Bool) → not b ≡ true → IsUnchanged world (with_link at (lost_if b (world.link at)) world)
+not_up : (world : World) (at : ℕ) (b : Bool) → not b ≡ true → IsUnchanged world (if b then with_link at (cut (world.link at)) world else world)
 not_up world at true e = absurd (cc)
-not_up world at false e = same_link world at
+not_up world at false e = unchanged world
 
 no_loss_at_host : (world : World) (at : ℕ) (b : Bool) → not b ≡ true
-    → IsUnchanged world (if b then record world { pool = given_back at world.pool; link = with_at at (host_left (world.link at)) world.link } else world)
+    → IsUnchanged world (if b then host_parted at world else world)
 no_loss_at_host world at true e = absurd (cc)
 no_loss_at_host world at false e = unchanged world
 

@@ -31,32 +31,31 @@ use Rattle.telnet_wire.specs.Token.{text, spelling}
 use Rattle.telnet_wire.specs.declared.wire.Verb.TheVariants.{Do}
 use Rattle.tn3270e_msg.specs.Header.{Begins}
 use Rattle.tn3270e_msg.specs.Laws.{OneHeader, FaultIsNoHeader}
-use Rattle.tn3270e_msg.specs.Talk.{Comes, NoTalk, Hears, Talk, items_sent, follow}
+use Rattle.tn3270e_msg.specs.Talk.{Comes, NoTalk, Hears, Talk, items_sent, follow, Saying, says, sayings, item_of, closing}
 use Rattle.tn3270e_msg.specs.TermTable.{Term, term_line, term_start}
 use Rattle.tn3270e_msg.specs.declared.cause.Cause.{Cause}
 use Rattle.tn3270e_msg.specs.declared.header.Header.{Header}
 use Rattle.tn3270e_msg.specs.declared.header.DataType.TheVariants.{Data3270}
 use Rattle.tn3270e_msg.specs.declared.hearing.Line.{Line}
 use Rattle.tn3270e_msg.specs.declared.hearing.Line.TheVariants.{Stays}
-use Rattle.tn3270e_msg.specs.declared.reply.After.TheVariants as after
 use Rattle.tn3270e_msg.specs.declared.reply.Reply.{Reply}
 use Rattle.tn3270e_msg.specs.declared.reply.Reply.TheVariants as reply
 use Rattle.tn3270e_msg.specs.declared.term_talk.TermState.{TermState}
 use Rattle.tn3270e_msg.specs.declared.term_talk.TermState.TheVariants as at
 use Rattle.tn3270e_msg.proofs.Hearings.{sent_is_heard}
-use Rattle.term_core.specs.Items.{TakesItem, TakesItemIn, TalksOn, closing as core_closing}
+use Rattle.term_core.specs.Items.{TakesItem, TakesItemIn, TalksOn}
 use Rattle.term_core.specs.Presses.{key_outcome, data_pressed, says_of_key}
 use Rattle.term_core.specs.Records.{TakesRecord, is_restoring_write, data_read, data_sent, done_response, freed_if, answer_of, obeyed}
 use Rattle.term_core.specs.Says.{sent_bytes}
 use Rattle.term_core.specs.State.{Station, phase_of, talk_phase, record_limit, is_bound as core_is_bound}
 use Rattle.term_core.specs.declared.outcome.Outcome.TheVariants.{DeviceEnd}
-use Rattle.host_core.specs.Messages.{ToTerminal, ToHost, Saying, Verdict, says, sayings, item_of}
-use Rattle.host_core.specs.Takes.{closing}
+use Rattle.host_core.specs.Messages.{ToTerminal, ToHost, Verdict}
 use Rattle.term_core.proofs.Lengths.{read_buffer_fits, read_modified_fits}
 use Rattle.world3270.proofs.StandsFits.{talk_comes}
 use Rattle.world3270.specs.Stands.{command_header, always, when_refused, IsPaint, IsRead, read_buffer_command, StandsUp, IsEnd}
 use Rattle.world3270.specs.StandsLaws.{PaintStands, IsSaid, NamesWanted, IsOpen, IsBelieved, SameStep, TermTakes, TermPresses, NothingStands, StandsCompose, StandsGoOn, BeginStands}
-use Rattle.world3270.specs.Terminal.{TermEnd, TermStep, bound_to, is_some, is_bound, quiet, replied, paint_came, read_came, once_bound, took, data_of}
+use Rattle.world3270.specs.Terminal.{TermEnd, TermStep, bound_to, is_bound, quiet, replied, paint_came, read_came, once_bound, took, data_of}
+use Rattle.std.specs.Prelude.{is_some}
 
 -- ---- what is painted
 
@@ -85,17 +84,6 @@ said_is_heard : (saying : Saying) → IsSaid saying → (comes : Comes) → Hear
 said_is_heard (Saying.Opt verb code) h comes k = k
 said_is_heard (Saying.Sub sending) h comes k = sent_is_heard sending h comes k
 
-same_closing : (answer : Reply) → core_closing answer ≡ closing answer
-same_closing reply.Nothing = refl
-same_closing (reply.Opt verb code) = refl
-same_closing (reply.Sub sending after.Going) = refl
-same_closing (reply.Sub sending after.Agreed) = refl
-same_closing (reply.Sub sending (after.Close cause)) = refl
-same_closing (reply.AskPool name) = refl
-same_closing reply.Agreed = refl
-same_closing (reply.Refused reason) = refl
-same_closing (reply.Close cause) = refl
-
 sayings_stand : (answer : Reply) → Pairwise StandsUp (items_sent answer) (map ToHost.TalksUp (sayings answer))
 sayings_stand reply.Nothing = tt
 sayings_stand (reply.Opt verb code) = (refl, tt)
@@ -111,7 +99,7 @@ term_same one other wanted talk =
     ∙ ap (λ (t : Talk TermState). record { wanted = other.wanted; talk = t }) talk
 
 replied_same : (end : TermEnd) (talk next : Term) (old new : Station) (answer : Reply) (p : Talk TermState × Reply) (sent : List WireItem) (closes : Option Cause)
-    → IsEnd talk old end → next.wanted ≡ talk.wanted → (next.talk, answer) ≡ p → sent ≡ items_sent answer → closes ≡ core_closing answer → new ≡ old
+    → IsEnd talk old end → next.wanted ≡ talk.wanted → (next.talk, answer) ≡ p → sent ≡ items_sent answer → closes ≡ closing answer → new ≡ old
     → AllByRecursion (CanCome record_limit) (items_sent p.1)
     → SameStep next new sent closes (replied end p)
 replied_same end talk next old new answer p sent closes is wanted gives said ends same fit = record {
@@ -124,7 +112,7 @@ replied_same end talk next old new answer p sent closes is wanted gives said end
       (subst (λ (items : List WireItem). Pairwise StandsUp items (map ToHost.TalksUp (sayings answer))) (sym said) (sayings_stand answer));
   fit = subst (λ (items : List WireItem). AllByRecursion (CanCome record_limit) items)
       (sym (said ∙ ap (λ (q : Talk TermState × Reply). items_sent q.1) gives)) fit;
-  closed = ends ∙ same_closing answer ∙ ap (λ (q : Talk TermState × Reply). closing q.1) gives;
+  closed = ends ∙ ap (λ (q : Talk TermState × Reply). closing q.1) gives;
 }
 
 -- a negotiation or a subnegotiation is for the talk, however far it is
@@ -172,7 +160,7 @@ dropped talk next old new bytes end sent closes is stays talks =
       };
       said = subst (λ (items : List WireItem). Pairwise StandsUp items []) (sym (talks.0.sends ∙ ap items_sent answer)) tt;
       fit = subst (λ (items : List WireItem). AllByRecursion (CanCome record_limit) items) (sym (talks.0.sends ∙ ap items_sent answer)) tt;
-      closed = talks.0.ends ∙ ap core_closing answer;
+      closed = talks.0.ends ∙ ap closing answer;
     }
 
 record_came : (state : TermState) (talk next : Term) (old new : Station) (bytes : List ℕ) (end : TermEnd) (sent : List WireItem) (closes : Option Cause) (step : TermStep)

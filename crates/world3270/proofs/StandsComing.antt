@@ -1,14 +1,14 @@
 -- What comes down to a terminal may come, at each stage of its connection.
 use Rattle.std.proofs.Common.{◌≡◌, ℕ, Option, List, [], ◌∷◌, refl, sym, subst, ◌∙◌}
 use Rattle.telnet_wire.specs.declared.wire.Verb.TheVariants.{Do}
-use Rattle.tn3270e_msg.specs.Talk.{Talk}
+use Rattle.tn3270e_msg.specs.Talk.{Talk, Saying}
 use Rattle.tn3270e_msg.specs.TermTable.{Term}
 use Rattle.tn3270e_msg.specs.declared.device.Device.TheVariants.{Model2}
 use Rattle.tn3270e_msg.specs.declared.host_talk.HostState.{HostState}
 use Rattle.tn3270e_msg.specs.declared.reply.Sending.TheVariants.{SendType, TypeIs, TypeReject, FunIs}
 use Rattle.tn3270e_msg.specs.declared.term_talk.TermState.{TermState}
 use Rattle.host_core.specs.Application.{Application, IsApplication}
-use Rattle.host_core.specs.Messages.{ToTerminal, ToHost, Saying}
+use Rattle.host_core.specs.Messages.{ToTerminal, ToHost}
 use Rattle.world3270.specs.Given.{Given}
 use Rattle.world3270.specs.Headline.{Always}
 use Rattle.world3270.specs.Link.{Link}

@@ -20,7 +20,7 @@ use Rattle.shadow.specs.declared.fault.HeardFault.{HeardFault}
 use Rattle.telnet_wire.specs.declared.wire.Verb.TheVariants.{Will}
 use Rattle.tn3270e_msg.specs.HostTable.{host_line, answer_line, request_line, named_line, granted}
 use Rattle.tn3270e_msg.specs.Message.{Connect}
-use Rattle.tn3270e_msg.specs.Talk.{Comes, Talk, start_at, follow, IsLuIfSome}
+use Rattle.tn3270e_msg.specs.Talk.{Comes, Talk, start_at, follow, IsLuIfSome, Saying, says}
 use Rattle.tn3270e_msg.specs.declared.device.Device.TheVariants.{Model2}
 use Rattle.tn3270e_msg.specs.declared.host_talk.HostState.{HostState}
 use Rattle.tn3270e_msg.specs.declared.host_talk.HostState.TheVariants.{Offered, Asked, Asking, Named, Agreed as HostAgreed, Closed as HostClosed}
@@ -31,19 +31,19 @@ use Rattle.tn3270e_msg.specs.declared.reply.Sending.TheVariants.{SendType, TypeR
 use Rattle.tn3270e_msg.specs.declared.term_talk.TermState.{TermState}
 use Rattle.tn3270e_msg.specs.declared.term_talk.TermState.TheVariants.{Willing, TypeAsked, FunctionsAsked}
 use Rattle.host_core.specs.Application.{Application}
-use Rattle.host_core.specs.Messages.{ToTerminal, ToHost, Saying, Verdict, says}
+use Rattle.host_core.specs.Messages.{ToTerminal, ToHost, Verdict}
 use Rattle.host_core.specs.PoolLaws.{IsSound}
 use Rattle.host_core.specs.Session.{Conn, Turn, Pending, Occasion, is_agreed}
 use Rattle.host_core.specs.Takes.{Step, Answers, quiet, with_talk, replied, granted_by, talked_on, talked, believed, once_read, key_came, key_data_came, data_came, answered, if_answers, response_came, once_agreed, took}
 use Rattle.world3270.specs.Headline.{SentFields}
 use Rattle.world3270.specs.Link.{Link, sent}
-use Rattle.world3270.specs.Stages.{UnderWay, At, Suits, IsNew, rejected_once, Moment, In, IsExact, Sent, Reading, Stage, Kept, once_taken}
+use Rattle.world3270.specs.Stages.{UnderWay, At, Suits, IsNew, rejected_once, Moment, In, FactsAreExact, Sent, Reading, Stage, Kept, once_taken}
 use Rattle.world3270.specs.Stages.Moment.{offered, willing, type_wanted, type_asked, named, functions_asked, agreeing, rejected, refused}
 use Rattle.world3270.specs.Stages.Stage.{talking, first_paint, at_host, painting, answering, operating, sent_behind, sent_alone, asking, reporting}
 use Rattle.world3270.specs.View.{view_of}
 use Rattle.world3270.specs.Given.{Given}
 use Rattle.world3270.proofs.Queues.{more, front, nothing}
-use Rattle.world3270.proofs.Down.{responses_alone, model_2}
+use Rattle.tn3270e_msg.proofs.Agreement.{responses_alone, model_2}
 
 -- the connection once the host took the message before the rest
 abbrev pub host_view : Step → List ToHost → Link → Link
@@ -89,7 +89,7 @@ talks app pool link rest host next saying sends grants message k e is step g sta
     (record { kept = record { whole = k.whole; cursor = k.cursor; unreturned = k.unreturned; exact = k.exact; stage = stage }; open_end = refl; grants = g }))
 
 still_new : (link : Link) (rest : List ToHost) (next : Talk HostState) (sends : List ToTerminal) (grants : Option (List ℕ)) → IsNew (view_of link) → IsNew (view_of (host_view (talk_step link next sends grants) rest link))
-still_new link rest next sends grants n = record { turn = n.turn; pending = n.pending; shadow = n.shadow; occasion = n.occasion; lock = n.lock; aid = n.aid }
+still_new link rest next sends grants n = record { turn = n.turn; pending = n.pending; shadow = n.shadow; occasion = n.occasion; lock = n.lock; aid = n.aid; no_fields = n.no_fields }
 
 claim_at : (conn : Conn) (talk : Talk HostState) → conn.talk ≡ talk → granted talk.state ≡ claim conn
 claim_at conn talk e = ap (λ (t : Talk HostState). granted t.state) (sym e)
@@ -223,7 +223,8 @@ believes given app pool link rest lu turn pending m occasion alone (Ok shadow) k
           session = session_at link conn lu turn Turn.Host pending Pending.Nothing m [] rest s left refl refl refl;
           lock = w;
           meets = ok.0;
-          told = λ sent. ok.1 (long sent);
+          lists = ok.1;
+          told = λ sent. ok.2 (long sent);
         });
       };
       open_end = refl;
@@ -292,7 +293,7 @@ takes_buffer given app pool link rest lu number message k session s e left =
 -- a response to the write, behind which this is under way
 takes_response : (app : Application) (pool : List Entry) (link : Link) (rest more_up : List ToHost) (lu : List ℕ) (number : ℕ) (paints : WantedScreen) (message : ToHost) → Kept app (view_of link)
     → (session : In (view_of link) lu Turn.Terminal (Pending.Writing number paints) [] (ToHost.Response number Verdict.Positive ∷ more_up))
-    → message ≡ ToHost.Response number Verdict.Positive → UnderWay link.lost rest more_up → IsExact (once_taken app link.host paints)
+    → message ≡ ToHost.Response number Verdict.Positive → UnderWay link.lost rest more_up → FactsAreExact (once_taken app link.host paints)
     → (In (view_of (host_view (quiet (answered app paints link.host)) rest link)) lu Turn.Terminal Pending.Nothing [] more_up → Stage app (view_of (host_view (quiet (answered app paints link.host)) rest link)))
     → Answered app pool link rest (took app (answer_to pool) link.host message)
 takes_response app pool link rest more_up lu number paints message k session e left exact stage =

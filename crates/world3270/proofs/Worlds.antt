@@ -1,5 +1,5 @@
 -- Each event leads from a world that keeps the table to one that does.
-use Rattle.std.proofs.Common.{◌≡◌, ◌==◌, ◌&&◌, ℕ, Bool, true, false, Option, None, Some, List, [], ◌∷◌, refl, ap, sym, subst, ◌∙◌, if◌then◌else◌}
+use Rattle.std.proofs.Common.{◌≡◌, ◌==◌, ◌&&◌, ℕ, Bool, true, false, Option, None, Some, List, [], ◌∷◌, replicate, refl, ap, sym, subst, ◌∙◌, if◌then◌else◌}
 use Rattle.std.proofs.lemmas.Bool.{eqb-true}
 use Rattle.std.proofs.lemmas.Bool.Decides.{Decides-eqb}
 use Rattle.std.proofs.lemmas.List.{length-replicate}
@@ -9,22 +9,23 @@ use Rattle.lu_pool.specs.Asking.{answer_to}
 use Rattle.lu_pool.specs.Pool.{IsPool}
 use Rattle.lu_pool.specs.declared.entry.Entry.{Entry}
 use Rattle.telnet_wire.specs.declared.wire.Verb.TheVariants.{Do}
-use Rattle.tn3270e_msg.specs.Talk.{IsLuIfSome}
+use Rattle.shadow.proofs.HeardOthers.{no_field}
+use Rattle.tn3270e_msg.specs.Talk.{IsLuIfSome, Saying}
 use Rattle.tn3270e_msg.specs.declared.cause.Cause.{Cause}
 use Rattle.host_core.specs.Acts.{Act, act_on, done, may_act, acted}
 use Rattle.host_core.specs.Application.{Application, IsApplication}
-use Rattle.host_core.specs.Messages.{ToTerminal, ToHost, Saying}
+use Rattle.host_core.specs.Messages.{ToTerminal, ToHost}
 use Rattle.host_core.specs.Pool.{holder, granted_to, granted_if, given_back}
 use Rattle.host_core.specs.PoolLaws.{IsSound}
 use Rattle.host_core.specs.Session.{Conn, is_agreed}
 use Rattle.host_core.specs.Takes.{Step, took as host_took}
-use Rattle.world3270.specs.Link.{Link, is_up, begun, unused, host_left, host_left_if, host_sent, term_left, term_left_if, term_stepped}
+use Rattle.world3270.specs.Link.{Link, is_up, begun, unused, cut, host_left, host_left_if, host_sent, term_left, term_left_if, term_stepped}
 use Rattle.world3270.specs.Stages.{Kept}
 use Rattle.world3270.specs.Stages.Moment.{offered}
 use Rattle.world3270.specs.Stages.Stage.{talking}
 use Rattle.world3270.specs.Terminal.{Display, TermStep, new_display, key_came, took as term_took}
 use Rattle.world3270.specs.View.{view_of}
-use Rattle.world3270.specs.World.{Place, World, Event, IsEvent, AreEvents, new_world, with_at, with_link, noted, freed_if, came_up, went_up, host_acted, left_alone, place_after, came_down, went_down, key_went, lost_if, host_saw, parted, term_saw, free_number, joined, connected, term_anew, host_left_from, host_anew, there, is_link, is_terminal, happens, run, RunsCompose}
+use Rattle.world3270.specs.World.{Place, World, Event, IsEvent, AreEvents, new_world, with_at, with_link, noted, freed_if, came_up, went_up, host_acted, left_alone, place_after, came_down, went_down, key_went, was_lost, host_parted, host_saw, parted, term_saw, free_number, joined, connected, term_anew, host_left_from, host_anew, there, is_link, is_terminal, happens, run, RunsCompose}
 use Rattle.world3270.specs.Given.{Given}
 use Rattle.world3270.proofs.Down.{term_view, obeys}
 use Rattle.world3270.proofs.Up.{claim, Grants, host_view, answers}
@@ -168,15 +169,17 @@ key_went_good given app world terminal key (Place.Alone display) g = record { li
 
 -- ---- losses
 
-lose_good : (app : Application) (world : World) (number : ℕ) (b : Bool) → GoodWorld app world → GoodWorld app (with_link number (lost_if b (world.link number)) world)
-lose_good app world number true g =
-    replaced app world.pool world.link world.causes number (lost_if true (world.link number)) g
-    (record { kept = loses app (view_of (world.link number)) (g.links number); here = λ e. e; claims = refl })
-lose_good app world number false g =
-    replaced app world.pool world.link world.causes number (world.link number) g (record { kept = g.links number; here = λ e. e; claims = refl })
+was_lost_good : (app : Application) (world : World) (number : ℕ) → GoodWorld app world → GoodWorld app (was_lost number world)
+was_lost_good app world number g = by_test (is_up (world.link number))
+  where
+    by_test : (b : Bool) → GoodWorld app (if b then with_link number (cut (world.link number)) world else world)
+    by_test true =
+        replaced app world.pool world.link world.causes number (cut (world.link number)) g
+        (record { kept = loses app (view_of (world.link number)) (g.links number); here = λ e. e; claims = refl })
+    by_test false = g
 
 -- the host leaves a connection
-host_left_good : Given → (app : Application) (world : World) (number : ℕ) → GoodWorld app world → Good app (given_back number world.pool) (with_at number (host_left (world.link number)) world.link) world.causes
+host_left_good : Given → (app : Application) (world : World) (number : ℕ) → GoodWorld app world → GoodWorld app (host_parted number world)
 host_left_good given app world number g = record {
   links = all_with (λ n x. Kept app (view_of x)) number (host_left (world.link number)) world.link (loses app (view_of (world.link number)) (g.links number)) g.links;
   sound = given.sound_back world.pool number g.sound;
@@ -188,10 +191,10 @@ host_left_good given app world number g = record {
     by_test other true e = λ lu here claims. absurd (cc)
     by_test other false e = λ lu here claims. given.others_keep world.pool number other lu (differs other number e) (g.holds other lu here claims)
 
-host_saw_good : Given → (app : Application) (world : World) (number : ℕ) → GoodWorld app world → GoodWorld app (host_saw number (world.link number) world)
+host_saw_good : Given → (app : Application) (world : World) (number : ℕ) → GoodWorld app world → GoodWorld app (host_saw number world)
 host_saw_good given app world number g = by_test ((world.link number).lost && (world.link number).host_here)
   where
-    by_test : (b : Bool) → GoodWorld app (if b then record world { pool = given_back number world.pool; link = with_at number (host_left (world.link number)) world.link } else world)
+    by_test : (b : Bool) → GoodWorld app (if b then host_parted number world else world)
     by_test true = host_left_good given app world number g
     by_test false = g
 
@@ -216,7 +219,7 @@ unused_kept given app is = record {
   cursor = is.some;
   unreturned = λ wrong. absurd wrong;
   exact = record { known = given.nothing_exact.0; protected = given.nothing_exact.1 };
-  stage = talking (record { turn = refl; pending = refl; shadow = refl; occasion = refl; lock = refl; aid = refl })
+  stage = talking (record { turn = refl; pending = refl; shadow = refl; occasion = refl; lock = refl; aid = refl; no_fields = no_field (replicate app.size (Char 0)) 0 app.size })
       (offered None tt (record {
         host_talk = refl;
         term_talk = refl;
@@ -231,7 +234,7 @@ begun_kept given app is terminal wanted lu = record {
   cursor = is.some;
   unreturned = λ wrong. absurd wrong;
   exact = record { known = given.nothing_exact.0; protected = given.nothing_exact.1 };
-  stage = talking (record { turn = refl; pending = refl; shadow = refl; occasion = refl; lock = refl; aid = refl })
+  stage = talking (record { turn = refl; pending = refl; shadow = refl; occasion = refl; lock = refl; aid = refl; no_fields = no_field (replicate app.size (Char 0)) 0 app.size })
       (offered wanted lu (record {
         host_talk = refl;
         term_talk = refl;
@@ -285,7 +288,7 @@ happens_good given app is (Event.Press terminal key) world e g = there_good app 
 happens_good given app is (Event.Up number) world e g = there_good app (is_link number) _ world (went_up_good given app world number g) g
 happens_good given app is (Event.Down number) world e g = there_good app (is_link number) _ world (went_down_good given app is world number (world.link number).term_here g) g
 happens_good given app is (Event.Act number) world e g = there_good app (is_link number) _ world (host_acted_good given app is world number g) g
-happens_good given app is (Event.Lose number) world e g = there_good app (is_link number) _ world (lose_good app world number (is_up (world.link number)) g) g
+happens_good given app is (Event.Lose number) world e g = there_good app (is_link number) _ world (was_lost_good app world number g) g
 happens_good given app is (Event.HostSees number) world e g = there_good app (is_link number) _ world (host_saw_good given app world number g) g
 happens_good given app is (Event.TermSees terminal) world e g = there_good app (is_terminal world terminal) _ world (term_saw_good app world terminal (world.place terminal) g) g
 happens_good given app is (Event.Connect terminal wanted) world e g = there_good app (is_terminal world terminal) _ world (connected_good given app is world terminal wanted e (world.place terminal) g) g

@@ -2,8 +2,9 @@
 
 use Rattle.datastream.specs.HeldLaws.{HeldAtFirst}
 use Rattle.keyboard.specs.Laws.{KeysKeep, KeysStayOnTheScreen}
+use Rattle.keyboard.specs.Sendable.{KeysKeepSendable}
 use Rattle.shadow.specs.Exactness.{NothingIsExact, HeardStaysExact, HeardStaysProtected, TakenStaysExact, PaintedIsExact, ProtectedIsSeen, ReturnedIsTold}
-use Rattle.shadow.specs.Laws.{HearsModified, HearsBuffer, PaintIsTaken, PaintedIsKnown}
+use Rattle.shadow.specs.Laws.{HearsModified, HearsBuffer, PaintIsSpelt, PaintIsTaken, PaintedIsKnown}
 use Rattle.tn3270e_msg.specs.Laws.{NameIsReadAsItself}
 use Rattle.host_core.specs.Laws.{ActsFit}
 use Rattle.host_core.specs.PoolLaws.{PoolsAreSound, StaysSoundFree, StaysSoundGranted, StaysSoundBack, NobodyHolds, AnswersWhatIsFree, AnswersNames, AnswersTheName, GrantIsHeld, OthersStay, OthersKeep, BackIsFree}
@@ -11,6 +12,7 @@ use Rattle.host_core.specs.PoolLaws.{PoolsAreSound, StaysSoundFree, StaysSoundGr
 pub record Given : Type 0 where
   pub hears : HearsModified
   pub reads : HearsBuffer
+  pub spelt : PaintIsSpelt
   pub taken : PaintIsTaken
   pub known : PaintedIsKnown
   pub nothing_exact : NothingIsExact
@@ -22,6 +24,7 @@ pub record Given : Type 0 where
   pub told : ReturnedIsTold
   pub keep : KeysKeep
   pub on_screen : KeysStayOnTheScreen
+  pub sendable : KeysKeepSendable
   pub at_first : HeldAtFirst
   pub names : NameIsReadAsItself
   pub fit : ActsFit

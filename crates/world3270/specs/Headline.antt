@@ -8,9 +8,11 @@ use Rattle.datastream.specs.Held.{Held}
 use Rattle.lu_pool.specs.declared.entry.Entry.{Entry}
 use Rattle.lu_pool.specs.Pool.{IsPool}
 use Rattle.shadow.specs.Exactness.{EachField, ProtectedSeen, ReturnedTold}
-use Rattle.shadow.specs.Meets.{Meets}
+use Rattle.shadow.specs.Meets.{Meets, ListsFields}
 use Rattle.host_core.specs.Application.{Application, IsApplication}
+use Rattle.tn3270e_msg.specs.declared.host_talk.HostState.TheVariants.{Agreed}
 use Rattle.host_core.specs.Messages.{ToHost, Verdict}
+use Rattle.host_core.specs.Pool.{holder}
 use Rattle.host_core.specs.Session.{Turn, Pending}
 use Rattle.world3270.specs.Terminal.{bound_to}
 use Rattle.world3270.specs.Link.{Link}
@@ -31,6 +33,16 @@ abbrev pub OneSessionEach : World → Type 0
 OneSessionEach world =
     (one other : ℕ) (lu : List ℕ) → IsLive (world.link one) lu → IsLive (world.link other) lu → one ≡ other
 
+-- the host's end agreed on that LU, and in the pool that very connection holds it
+pub record IsGranted (world : World) (number : ℕ) (lu : List ℕ) : Type 0 where
+  pub agreed : (world.link number).host.talk.state ≡ Agreed lu
+  pub held : holder world.pool lu ≡ Some number
+
+-- To whatever LU a terminal's end is bound, the host's end granted it: on each connection that the host hasn't left, lost or not.
+abbrev pub BoundIsGranted : World → Type 0
+BoundIsGranted world =
+    (number : ℕ) (lu : List ℕ) → let link = world.link number in link.host_here ≡ true → bound_to link.term.talk.talk.state ≡ Some lu → IsGranted world number lu
+
 -- ---- what the host knows, when it decides
 
 -- both ends are attached, the connection lost or not; the host holds the turn, and its last command is answered
@@ -50,10 +62,12 @@ SentFields Clear = ⊥
 SentFields (Pa key) = ⊥
 
 -- (b) The screen is one that the host's belief allows: its attributes, but for MDT, stand where the host believes them, and each
--- character that it believes to know is there. Of each protected field it knows the very text.
+-- character that it believes to know is there. Where the screen has fields the host believes in them, and of each protected field it
+-- knows the very text.
 abbrev pub SeesTheScreen : Link → Type 0
 SeesTheScreen link =
-    let screen = link.term.display.screen in Meets link.host.shadow screen × EachField ProtectedSeen link.host.shadow screen
+    let screen = link.term.display.screen in
+    Meets link.host.shadow screen × ListsFields link.host.shadow screen × EachField ProtectedSeen link.host.shadow screen
 
 -- (c) Of each field that was returned, a protected one too, the host has the text that stands there, nulls apart.
 abbrev pub KnowsTheReturned : Link → Type 0
@@ -74,6 +88,7 @@ pub record Agrees (link : Link) : Type 0 where
 
 pub record Headline (world : World) : Type 0 where
   pub one_session_each : OneSessionEach world
+  pub bound_is_granted : BoundIsGranted world
   pub agrees : (number : ℕ) → IsHostsTurn (world.link number) → Agrees (world.link number)
 
 -- ---- and nobody is turned away

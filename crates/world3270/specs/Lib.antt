@@ -12,3 +12,5 @@ pub mod Places
 pub mod Skipped
 pub mod Losses
 pub mod Forms
+pub mod Numbers
+pub mod Sendable

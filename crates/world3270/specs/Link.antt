@@ -1,12 +1,13 @@
 -- One connection with its two ends, and what may happen on it (our profile).
-use Rattle.std.specs.Prelude.{◌||◌, not, ℕ, Bool, true, false, List, [], ◌∷◌, ◌++◌, Option, Some, None, if◌then◌else◌}
+use Rattle.std.specs.Prelude.{◌||◌, not, ℕ, Bool, true, false, List, [], ◌∷◌, ◌++◌, Option, Some, None, if◌then◌else◌, is_some}
 use Rattle.telnet_wire.specs.declared.wire.Verb.TheVariants.{Do}
 use Rattle.tn3270e_msg.specs.declared.cause.Cause.{Cause}
-use Rattle.host_core.specs.Messages.{ToTerminal, ToHost, Saying}
+use Rattle.host_core.specs.Messages.{ToTerminal, ToHost}
+use Rattle.tn3270e_msg.specs.Talk.{Saying}
 use Rattle.host_core.specs.Session.{Conn, new_conn}
 use Rattle.host_core.specs.Takes.{Step}
 use Rattle.host_core.specs.Acts.{Sent}
-use Rattle.world3270.specs.Terminal.{TermEnd, TermStep, new_end, is_some}
+use Rattle.world3270.specs.Terminal.{TermEnd, TermStep, new_end}
 
 -- What is under way in each direction, oldest first; the host's end and whether the host holds it; the terminal's end and which
 -- terminal holds it. An end that was left stays as it was, and no step reads it.
@@ -50,6 +51,10 @@ unused size = record {
   term_here = None;
   term = new_end size None;
 }
+
+-- the connection is lost
+abbrev pub cut : Link → Link
+cut link = record link { lost = true }
 
 -- on a lost connection new messages vanish
 abbrev pub sent : {X : Type 0} → Bool → List X → List X → List X

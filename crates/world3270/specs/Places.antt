@@ -1,10 +1,9 @@
 -- Where terminals are, and which connections an event concerns (our profile).
-use Rattle.std.specs.Prelude.{◌≡◌, ◌↔◌, ◌==◌, ℕ, Bool, true, false, List, Option, Some, None}
+use Rattle.std.specs.Prelude.{◌≡◌, ◌↔◌, ◌==◌, ℕ, Bool, true, false, List, Option, Some, None, is_some}
 use Rattle.host_core.specs.Application.{Application}
 use Rattle.host_core.specs.Pool.{holder}
 use Rattle.host_core.specs.PoolLaws.{IsSound}
 use Rattle.world3270.specs.Link.{Link}
-use Rattle.world3270.specs.Terminal.{is_some}
 use Rattle.world3270.specs.World.{Place, World, Event, free_number, happens}
 
 -- ---- both ends agree

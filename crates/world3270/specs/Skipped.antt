@@ -1,9 +1,8 @@
 -- Which events are skipped (our profile).
-use Rattle.std.specs.Prelude.{◌≡◌, ◌&&◌, not, ℕ, Bool, true, false, List, [], ◌∷◌}
+use Rattle.std.specs.Prelude.{◌≡◌, ◌&&◌, not, ℕ, Bool, true, false, List, [], ◌∷◌, is_some}
 use Rattle.host_core.specs.Acts.{acted}
 use Rattle.host_core.specs.Application.{Application}
 use Rattle.world3270.specs.Link.{Link, is_up}
-use Rattle.world3270.specs.Terminal.{is_some}
 use Rattle.world3270.specs.World.{Place, World, Event, free_number, is_link, is_terminal, happens}
 
 abbrev pub is_queued : {X : Type 0} → List X → Bool

@@ -3,6 +3,7 @@
 use Rattle.std.specs.Prelude.{◌≡◌, ◌<◌, ⊤, ℕ, Bool, false, List, [], ◌∷◌, ◌++◌, length, Option, Some, None, IsTrue, IsOkAnd}
 use Rattle.codes3270.specs.Aid.{is_short_aid}
 use Rattle.codes3270.specs.declared.attention.Aid.TheVariants.{NoAid}
+use Rattle.datastream.specs.Fields.{fields}
 use Rattle.datastream.specs.Held.{Held}
 use Rattle.datastream.specs.InboundFields.{modified_data, buffer_data}
 use Rattle.datastream.specs.Screen.{Screen}
@@ -13,12 +14,12 @@ use Rattle.shadow.specs.Belief.{Shadow}
 use Rattle.shadow.specs.Exactness.{KnownIsExact, ProtectedIsExact}
 use Rattle.shadow.specs.Heard.{heard}
 use Rattle.shadow.specs.Laws.{Believed}
-use Rattle.shadow.specs.Meets.{Meets, Knows, IsTold}
+use Rattle.shadow.specs.Meets.{Meets, Knows, ListsFields, IsTold}
 use Rattle.shadow.specs.Paint.{paint}
 use Rattle.shadow.specs.Taken.{taken}
 use Rattle.telnet_wire.specs.declared.wire.Verb.TheVariants.{Will, Do}
 use Rattle.tn3270e_msg.specs.Lu.{is_lu}
-use Rattle.tn3270e_msg.specs.Talk.{Talk, start_at, IsLuIfSome}
+use Rattle.tn3270e_msg.specs.Talk.{Talk, start_at, IsLuIfSome, Saying}
 use Rattle.tn3270e_msg.specs.declared.device.Device.TheVariants.{Model2}
 use Rattle.tn3270e_msg.specs.declared.host_talk.HostState.{HostState}
 use Rattle.tn3270e_msg.specs.declared.host_talk.HostState.TheVariants.{Offered, Asked, Named, Agreed as HostAgreed}
@@ -28,7 +29,7 @@ use Rattle.tn3270e_msg.specs.declared.term_talk.TermState.{TermState}
 use Rattle.tn3270e_msg.specs.declared.term_talk.TermState.TheVariants.{Waiting, Willing, TypeAsked, FunctionsAsked, Agreed, Refused}
 use Rattle.host_core.specs.Application.{Application}
 use Rattle.host_core.specs.Laws.{IsPaintable}
-use Rattle.host_core.specs.Messages.{ToTerminal, ToHost, Saying, Verdict}
+use Rattle.host_core.specs.Messages.{ToTerminal, ToHost, Verdict}
 use Rattle.host_core.specs.Session.{Conn, Turn, Pending, Occasion}
 use Rattle.world3270.specs.Headline.{SentFields}
 use Rattle.world3270.specs.View.{View}
@@ -69,6 +70,7 @@ pub record IsNew (v : View) : Type 0 where
   pub occasion : v.host.occasion ≡ Occasion.Agreement
   pub lock : v.lock ≡ Wait
   pub aid : v.screen.aid ≡ NoAid
+  pub no_fields : fields v.screen.cells ≡ []
 
 -- one rejection or counter-request less is left
 abbrev pub rejected_once : Talk HostState
@@ -86,8 +88,8 @@ pub data Moment (v : View) : Type 0 where
   rejected : (wanted : Option (List ℕ)) (reason : Reason) → At v rejected_once wanted TypeAsked (talks_down (Saying.Sub (TypeReject reason))) [] → Moment v
   refused : (wanted : Option (List ℕ)) (reason : Reason) → At v rejected_once wanted (Refused reason) [] [] → Moment v
 
-abbrev pub painting_of : ℕ → WantedScreen → Shadow → List ToTerminal
-painting_of number wanted shadow = ToTerminal.Paint number wanted shadow ∷ []
+abbrev pub paint_down : ℕ → WantedScreen → Shadow → List ToTerminal
+paint_down number wanted shadow = ToTerminal.Paint number wanted shadow ∷ []
 
 abbrev pub response_of : ℕ → List ToHost
 response_of number = ToHost.Response number Verdict.Positive ∷ []
@@ -106,7 +108,7 @@ WillBeHeard app shadow screen = IsOkAnd (heard app.size shadow (modified_data Mo
 -- the host's first paint is behind the end of the talk
 pub record FirstPaint (app : Application) (lu : List ℕ) (number : ℕ) (paints : WantedScreen) (v : View) : Type 0 where
   pub wanted : Option (List ℕ)
-  pub at : At v (start_at (HostAgreed lu)) wanted (FunctionsAsked lu) (ToTerminal.TalksDown (Saying.Sub FunIs) ∷ painting_of number paints v.host.shadow) []
+  pub at : At v (start_at (HostAgreed lu)) wanted (FunctionsAsked lu) (ToTerminal.TalksDown (Saying.Sub FunIs) ∷ paint_down number paints v.host.shadow) []
   pub turn : v.host.turn ≡ Turn.Terminal
   pub pending : v.host.pending ≡ Pending.Writing number paints
   pub lock : v.lock ≡ Wait
@@ -125,23 +127,24 @@ pub record AtHost (v : View) (lu : List ℕ) : Type 0 where
   pub session : In v lu Turn.Host Pending.Nothing [] []
   pub lock : v.lock ≡ Wait
   pub meets : Meets v.host.shadow v.screen
+  pub lists : ListsFields v.host.shadow v.screen
   pub told : SentFields v.screen.aid → IsTold v.host.shadow v.screen
 
 -- a write down
 pub record Painting (app : Application) (number : ℕ) (paints : WantedScreen) (v : View) (lu : List ℕ) : Type 0 where
-  pub session : In v lu Turn.Terminal (Pending.Writing number paints) (painting_of number paints v.host.shadow) []
+  pub session : In v lu Turn.Terminal (Pending.Writing number paints) (paint_down number paints v.host.shadow) []
   pub lock : v.lock ≡ Wait
   pub meets : Meets v.host.shadow v.screen
   pub paintable : IsPaintable app v.host.shadow paints
 
 -- what is known of all characters of a field is exact, and so is each protected field
-pub record IsExact (shadow : Shadow) : Type 0 where
+pub record FactsAreExact (shadow : Shadow) : Type 0 where
   pub known : KnownIsExact shadow
   pub protected : ProtectedIsExact shadow
 
 -- the operator's turn, on a screen that meets what will be believed
 pub record Operating (shadow : Shadow) (v : View) : Type 0 where
-  pub exact : IsExact shadow
+  pub exact : FactsAreExact shadow
   pub lock : v.lock ≡ Wait → ⊥
   pub meets : Meets shadow v.left
   pub knows : Knows shadow
@@ -149,7 +152,7 @@ pub record Operating (shadow : Shadow) (v : View) : Type 0 where
 
 -- an AID record up
 pub record Sent (app : Application) (shadow : Shadow) (v : View) : Type 0 where
-  pub exact : IsExact shadow
+  pub exact : FactsAreExact shadow
   pub lock : v.lock ≡ Wait
   pub heard : WillBeHeard app shadow v.screen
   pub aid : v.screen.aid ≡ NoAid → ⊥
@@ -179,5 +182,5 @@ pub record Kept (app : Application) (v : View) : Type 0 where
   pub whole : length v.screen.cells ≡ app.size
   pub cursor : v.screen.cursor < app.size
   pub unreturned : SentFields v.screen.aid → Held v.erased v.left.cells v.screen.cells
-  pub exact : IsExact v.host.shadow
+  pub exact : FactsAreExact v.host.shadow
   pub stage : Stage app v

@@ -22,7 +22,8 @@ use Rattle.term_core.specs.Says.{response, data_record}
 use Rattle.term_core.specs.State.{Station, Terminal, Attached, record_limit}
 use Rattle.term_core.specs.declared.outcome.Outcome.{Outcome}
 use Rattle.term_core.specs.declared.outcome.Outcome.TheVariants.{DeviceEnd}
-use Rattle.host_core.specs.Messages.{ToTerminal, ToHost, Verdict, item_of}
+use Rattle.host_core.specs.Messages.{ToTerminal, ToHost, Verdict}
+use Rattle.tn3270e_msg.specs.Talk.{item_of}
 use Rattle.host_core.specs.Session.{Conn}
 use Rattle.world3270.specs.Link.{Link}
 use Rattle.world3270.specs.Terminal.{TermEnd}

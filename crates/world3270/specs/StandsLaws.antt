@@ -14,7 +14,7 @@ use Rattle.shadow.specs.Pairs.{Pairwise}
 use Rattle.telnet_wire.specs.Items.{WireItem, Record, CanCome}
 use Rattle.telnet_wire.specs.Reading.{Rest, nothing, Delivers}
 use Rattle.tn3270e_msg.specs.Header.{Begins}
-use Rattle.tn3270e_msg.specs.Talk.{IsSending, IsLuIfSome}
+use Rattle.tn3270e_msg.specs.Talk.{IsSending, IsLuIfSome, Saying}
 use Rattle.tn3270e_msg.specs.TermTable.{Term}
 use Rattle.tn3270e_msg.specs.declared.cause.Cause.{Cause}
 use Rattle.tn3270e_msg.specs.declared.term_talk.TermState.{TermState}
@@ -24,7 +24,7 @@ use Rattle.term_core.specs.Items.{TakesItem}
 use Rattle.term_core.specs.Presses.{key_outcome, after_key}
 use Rattle.term_core.specs.Says.{sent_bytes}
 use Rattle.term_core.specs.State.{Station, Terminal, Attached, connected, record_limit}
-use Rattle.host_core.specs.Messages.{ToTerminal, ToHost, Saying}
+use Rattle.host_core.specs.Messages.{ToTerminal, ToHost}
 use Rattle.host_core.specs.Session.{Conn, new_conn}
 use Rattle.world3270.specs.Link.{Link, begun, sent, host_left, term_left, term_stepped}
 use Rattle.world3270.specs.Stands.{always, command_header, StandsDown, StandsUp, BytesStand, ByteLink, IsEnd, LinkStands}

@@ -1,9 +1,7 @@
 -- A terminal, over messages: what it makes of what a host sends, and of keys (RFC 1647, sections 7, 8.1 and 10.4; locks are our profile).
-use Rattle.std.specs.Prelude.{◌||◌, ℕ, Bool, true, false, List, [], ◌∷◌, map, replicate, Option, Some, None}
-use Rattle.codes3270.specs.declared.attention.Aid.TheVariants.{NoAid}
-use Rattle.codes3270.specs.declared.attribute.Cell.TheVariants.{Char}
+use Rattle.std.specs.Prelude.{◌||◌, ℕ, Bool, true, false, List, [], ◌∷◌, map, Option, Some, None, is_some}
 use Rattle.datastream.specs.InboundFields.{modified_data, buffer_data}
-use Rattle.datastream.specs.Screen.{Screen}
+use Rattle.datastream.specs.Screen.{Screen, blank_screen}
 use Rattle.datastream.specs.Wanted.{WantedScreen}
 use Rattle.datastream.specs.declared.inbound_part.Form.TheVariants.{Modified}
 use Rattle.keyboard.specs.Keys.{pressed}
@@ -13,14 +11,13 @@ use Rattle.keyboard.specs.declared.key.Key.{Key}
 use Rattle.keyboard.specs.declared.key.Pressed.{Pressed}
 use Rattle.keyboard.specs.declared.key.Pressed.TheVariants.{Done, Refused, Send}
 use Rattle.shadow.specs.Painted.{plainly_painted}
-use Rattle.tn3270e_msg.specs.Talk.{Talk, follow}
+use Rattle.tn3270e_msg.specs.Talk.{Talk, follow, Saying, says, sayings, closing}
 use Rattle.tn3270e_msg.specs.TermTable.{Term, term_start, term_line}
 use Rattle.tn3270e_msg.specs.declared.cause.Cause.{Cause}
 use Rattle.tn3270e_msg.specs.declared.reply.Reply.{Reply}
 use Rattle.tn3270e_msg.specs.declared.term_talk.TermState.{TermState}
 use Rattle.tn3270e_msg.specs.declared.term_talk.TermState.TheVariants.{Waiting, Willing, TypeAsked, FunctionsAsked, Agreed, Refused as RefusedState, Closed}
-use Rattle.host_core.specs.Messages.{ToTerminal, ToHost, Saying, Verdict, says, sayings}
-use Rattle.host_core.specs.Takes.{closing}
+use Rattle.host_core.specs.Messages.{ToTerminal, ToHost, Verdict}
 
 -- What the operator has before him. `left` and `erased` are history, which no step reads: the screen just after the terminal last
 -- took a write on its latest connection, and whether Erase Input was done since.
@@ -30,12 +27,9 @@ pub record Display : Type 0 where
   pub left : Screen
   pub erased : Bool
 
--- all cells null, the cursor at 0, no AID; the keyboard waits
-abbrev pub blank : ℕ → Screen
-blank size = record { cells = replicate size (Char 0); cursor = 0; aid = NoAid }
-
+-- the screen is blank, and the keyboard waits
 abbrev pub new_display : ℕ → Display
-new_display size = record { screen = blank size; keyboard = fresh; left = blank size; erased = false }
+new_display size = record { screen = blank_screen size; keyboard = fresh; left = blank_screen size; erased = false }
 
 -- the end of a connection that a terminal holds
 pub record TermEnd : Type 0 where
@@ -54,10 +48,6 @@ bound_to TypeAsked = None
 bound_to (FunctionsAsked lu) = None
 bound_to (RefusedState reason) = None
 bound_to (Closed cause) = None
-
-abbrev pub is_some : {X : Type 0} → Option X → Bool
-is_some None = false
-is_some (Some x) = true
 
 abbrev pub is_bound : TermEnd → Bool
 is_bound end = is_some (bound_to end.talk.talk.state)

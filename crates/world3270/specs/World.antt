@@ -13,7 +13,7 @@ use Rattle.host_core.specs.Acts.{acted}
 use Rattle.host_core.specs.Pool.{granted_if, given_back, all_free}
 use Rattle.host_core.specs.Takes.{Step, took as host_took}
 use Rattle.world3270.specs.Terminal.{Display, TermStep, new_display, after_key, key_came, took as term_took}
-use Rattle.world3270.specs.Link.{Link, is_free, is_up, begun, unused, host_left, host_stepped, host_sent, term_left, term_stepped}
+use Rattle.world3270.specs.Link.{Link, is_free, is_up, begun, unused, cut, host_left, host_stepped, host_sent, term_left, term_stepped}
 
 -- where a terminal is: at a connection, whose end it holds, or at none
 pub data Place : Type 0 where
@@ -139,15 +139,18 @@ key_went app terminal key (Place.Alone display) world = with_place terminal (Pla
 
 -- ---- connections
 
-abbrev pub lost_if : Bool → Link → Link
-lost_if true link = record link { lost = true }
-lost_if false link = link
+-- a connection that is up is lost
+abbrev pub was_lost : ℕ → World → World
+was_lost number world = if is_up (world.link number) then with_link number (cut (world.link number)) world else world
 
-abbrev pub host_saw : ℕ → Link → World → World
-host_saw number link world =
-    if link.lost && link.host_here
-    then record world { pool = given_back number world.pool; link = with_at number (host_left link) world.link }
-    else world
+-- the host leaves its connection, and what that holds is free
+abbrev pub host_parted : ℕ → World → World
+host_parted number world = record world { pool = given_back number world.pool; link = with_at number (host_left (world.link number)) world.link }
+
+abbrev pub host_saw : ℕ → World → World
+host_saw number world =
+    let link = world.link number in
+    if link.lost && link.host_here then host_parted number world else world
 
 -- the terminal leaves its connection, and is alone with this display
 abbrev pub parted : ℕ → ℕ → Display → World → World
@@ -206,9 +209,8 @@ happens app (Event.Press terminal key) world = there (is_terminal world terminal
 happens app (Event.Up number) world = there (is_link number) (went_up app number world) world
 happens app (Event.Down number) world = there (is_link number) (went_down number (world.link number).term_here world) world
 happens app (Event.Act number) world = there (is_link number) (host_acted app number world) world
-happens app (Event.Lose number) world =
-    there (is_link number) (with_link number (lost_if (is_up (world.link number)) (world.link number)) world) world
-happens app (Event.HostSees number) world = there (is_link number) (host_saw number (world.link number) world) world
+happens app (Event.Lose number) world = there (is_link number) (was_lost number world) world
+happens app (Event.HostSees number) world = there (is_link number) (host_saw number world) world
 happens app (Event.TermSees terminal) world = there (is_terminal world terminal) (term_saw terminal (world.place terminal) world) world
 happens app (Event.Connect terminal wanted) world =
     there (is_terminal world terminal) (connected app terminal wanted (world.place terminal) world) world

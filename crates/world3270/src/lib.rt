@@ -6,7 +6,9 @@ ghost use Rattle.world3270.specs.Forms.{FormsAreAwaited};
 ghost use Rattle.world3270.specs.Given.{Given};
 ghost use Rattle.world3270.specs.Headline.{Headline, NobodyRefuses, Always};
 ghost use Rattle.world3270.specs.Losses.{LostTakesNothing};
+ghost use Rattle.world3270.specs.Numbers.{NumbersFit};
 ghost use Rattle.world3270.specs.Places.{EndsAgree, UpIsHeld, HoldersAreHere, LinksStay, HoldersStay, PoolIsSound};
+ghost use Rattle.world3270.specs.Sendable.{AlwaysTyped, DataCanBeSpelt, PaintsAreScreens, PaintsAreSpelt, ScreensAreSendable, ScreensKeepTheirSize, ValuesAreTexts};
 ghost use Rattle.world3270.specs.Skipped.{SkippedChangesNothing};
 ghost use Rattle.world3270.specs.Stands.{StandsDown, StandsUp};
 ghost use Rattle.world3270.specs.StandsLaws.{
@@ -31,7 +33,7 @@ ghost use Rattle.world3270.specs.World.{RunsCompose};
 
 use datastream::{fields_both_ways, kept_since_the_write, sent_is_read};
 use host_core::{the_pool_is_a_map, what_is_shown_fits};
-use keyboard::keys_keep_what_was_left;
+use keyboard::{keys_keep_what_was_left, what_keys_leave_can_be_sent};
 use shadow::{
     what_is_exact_is_so, what_is_known_is_exact, what_is_protected_is_exact, what_is_read_is_heard,
     what_is_sent_is_heard, what_is_wanted_is_painted,
@@ -50,6 +52,7 @@ fn what_is_given()
     what_is_protected_is_exact();
     what_is_exact_is_so();
     keys_keep_what_was_left();
+    what_keys_leave_can_be_sent();
     kept_since_the_write();
     one_reading();
     what_is_shown_fits();
@@ -57,7 +60,8 @@ fn what_is_given()
 }
 
 /// Does nothing: its contract is the headline. After any list of events on a new world, with any application, any pool of LUs
-/// and up to 16 terminals: no two live sessions have one LU; and whenever the host holds the turn with its last command
+/// and up to 16 terminals: no two live sessions have one LU, and where a terminal is bound to one the host's end agreed on that,
+/// and its connection holds it in the pool; and whenever the host holds the turn with its last command
 /// answered, the screen is as it believes, it has the text of each field that was returned, and each field that wasn't has
 /// what the host left there, or nulls since Erase Input. And a run in pieces is one run.
 pub fn the_headline_holds()
@@ -92,6 +96,30 @@ pub fn the_ends_agree()
     ensures holders { Always HoldersAreHere }
 {
     what_is_given();
+}
+
+/// Does nothing: its contract says that over the same lists each number of a command or a response under way, and of the
+/// command that the host awaits an answer to or sends next, has 15 bits.
+pub fn numbers_have_15_bits()
+    ensures { Always NumbersFit }
+{
+    what_is_given();
+}
+
+/// Does nothing: its contract says that over the same lists each terminal's screen keeps the application's size; and that, where
+/// keys are those of a keyboard and the application asks for screens of the profile, each terminal's screen can be sent, all
+/// data under way can be spelt, what is painted is such a screen, each paint under way is spelt by its bytes, and the values that
+/// the host has are characters.
+pub fn screens_can_be_sent()
+    ensures size { ScreensKeepTheirSize }
+    ensures screens { AlwaysTyped ScreensAreSendable }
+    ensures data { AlwaysTyped DataCanBeSpelt }
+    ensures paints { AlwaysTyped PaintsAreScreens }
+    ensures spelt { AlwaysTyped PaintsAreSpelt }
+    ensures values { AlwaysTyped ValuesAreTexts }
+{
+    what_is_given();
+    sent_is_read();
 }
 
 /// Does nothing: its contract says that an event leaves each connection that it doesn't concern as it is; and that such a

@@ -1,8 +1,11 @@
-use Rattle.host_core.proofs.Answering.{believes_no_sooner, only_its_response}
+use Rattle.host_core.proofs.Answering.{believes_no_sooner, commands_are_numbered, only_its_response}
 use Rattle.host_core.proofs.what_is_shown_is_answered.Goals as goal
 
 pub returns-clause-no_sooner : goal.returns-clause-no_sooner
 returns-clause-no_sooner c = believes_no_sooner
+
+pub returns-clause-numbered : goal.returns-clause-numbered
+returns-clause-numbered c = commands_are_numbered
 
 pub returns-clause-only_its : goal.returns-clause-only_its
 returns-clause-only_its c = only_its_response

@@ -4,6 +4,7 @@ pub returns : goal.returns
 returns c = record {
   hears = c.what_is_sent_is_heard.ensures.modified;
   reads = c.what_is_read_is_heard.ensures;
+  spelt = c.what_is_wanted_is_painted.ensures.spelt;
   taken = c.what_is_wanted_is_painted.ensures.taken;
   known = c.what_is_wanted_is_painted.ensures.known;
   nothing_exact = c.what_is_protected_is_exact.ensures.nothing;
@@ -15,6 +16,7 @@ returns c = record {
   told = c.what_is_exact_is_so.ensures.returned;
   keep = c.keys_keep_what_was_left.ensures.keep;
   on_screen = c.keys_keep_what_was_left.ensures.on_screen;
+  sendable = c.what_keys_leave_can_be_sent.ensures;
   at_first = c.kept_since_the_write.ensures.at_first;
   names = c.one_reading.ensures.name;
   fit = c.what_is_shown_fits.ensures;

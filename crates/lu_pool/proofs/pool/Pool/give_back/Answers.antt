@@ -22,8 +22,8 @@ returns-in-Some c =
     let all = after_free c.self.inside.entries.items c.in-Some.place c.args.conn c.set_holder.result c.set_holder.new.entries.items c.self.invariant (rw c.deref.ensures.value at f) c.set_holder.ensures.lu c.set_holder.ensures.changed in
     rw (← c.self.view_is) (record { frees = all.frees; held = all.held; one_holder = all.one_holder; one_lu = all.one_lu })
 
-pub returns-in-None : goal.returns-in-None
-returns-in-None c =
-    let f = finds_none (λ (at : Entry). is_held_by c.args.conn at.holder) c.deref.result.now (sym c.place_held_by.ensures ∙ c.in-None.is) in
+pub returns-in_default : goal.returns-in_default
+returns-in_default c =
+    let f = finds_none (λ (at : Entry). is_held_by c.args.conn at.holder) c.deref.result.now (sym c.in_default.ensures) in
     let all = after_none c.self.inside.entries.items c.args.conn c.self.invariant (rw c.deref.ensures.value at f) in
     rw (← c.self.view_is) (record { frees = all.frees; held = all.held; one_holder = all.one_holder; one_lu = all.one_lu })

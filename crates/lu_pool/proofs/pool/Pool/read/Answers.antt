@@ -2,7 +2,7 @@ use Rattle.std.proofs.Common.{◌≡◌, ◌+◌, ◌≤◌, [], ◌∷◌, ◌+
 use Rattle.lu_pool.specs.Pool.{entry}
 use Rattle.std.proofs.lemmas.Result.{err_from_is_err_and}
 use Rattle.lu_pool.specs.Reading.{readings}
-use Rattle.lu_pool.proofs.Listing.{none_listed, one_more_listed, first_fault, listed_pool, read_from, reading_at, readings_length}
+use Rattle.lu_pool.proofs.Listing.{none_listed, one_more_listed, first_fault, listed_pool, read_from, all_right, reading_at, readings_length}
 use Rattle.lu_pool.proofs.Changes.{one_holder, one_lu}
 use Rattle.lu_pool.proofs.pool.Pool.read.Goals as goal
 
@@ -40,6 +40,11 @@ pub returns-clause-read : goal.returns-clause-read
 returns-clause-read c =
     let whole : length (readings c.args.names.now) ≤ c.loop-place.place = omega (arith, readings_length c.args.names.now) in
     read_from (readings c.args.names.now) c.loop-place.place c.loop-place.entries.items c.loop-place.invariant.listed whole
+
+pub returns-clause-right : goal.returns-clause-right
+returns-clause-right c =
+    let whole : length (readings c.args.names.now) ≤ c.loop-place.place = omega (arith, readings_length c.args.names.now) in
+    all_right (readings c.args.names.now) c.loop-place.place c.loop-place.entries.items c.loop-place.invariant.count c.loop-place.invariant.listed whole
 
 pub returns-clause-one_holder : goal.returns-clause-one_holder
 returns-clause-one_holder c =

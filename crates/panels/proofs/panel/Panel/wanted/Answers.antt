@@ -1,37 +1,28 @@
-use Rattle.std.proofs.Common.{◌≡◌, ◌<◌, length, arith, ◌∙◌, ap, sym, subst, Some, rules}
-use Rattle.std.proofs.lemmas.List.{length-set}
+use Rattle.std.proofs.Common.{◌≡◌, ◌<◌, ◌∙◌, length, replicate, ap, sym, subst, arith, rules, Some}
+use Rattle.std.proofs.lemmas.List.{get_or-replicate}
 use Rattle.std.proofs.lemmas.Option.{slice_get-get_or}
-use Rattle.datastream.specs.declared.wanted.Want.TheVariants.{Keep}
-use Rattle.datastream.specs.Wanted.{IsProper}
-use Rattle.panels.specs.Screen.{wanted_cell, is_fresh, IsWantedOf}
-use Rattle.panels.proofs.Building.{set_more}
+use Rattle.codes3270.specs.Size.{cell_count}
+use Rattle.datastream.specs.declared.wanted.Want.TheVariants as want
+use Rattle.panels.specs.Panel.{PanelParts}
+use Rattle.panels.specs.Screen.{is_fresh, IsWantedOf}
+use Rattle.panels.proofs.Putting.{put_all}
 use Rattle.panels.proofs.panel.Panel.wanted.Goals as goal
-
-pub loop-cell-preserved : goal.loop-cell-preserved
-loop-cell-preserved c =
-    let fits : c.loop-cell.cell < length c.loop-cell.cells = omega arith in
-    record {
-      size = length-set c.loop-cell.cells c.loop-cell.cell _ ∙ c.loop-cell.invariant.size;
-      written =
-          set_more (λ k want. want ≡ wanted_cell c.args.self.now c.args.values.now c.args.message c.args.keep k) c.loop-cell.cells c.loop-cell.cell _ fits
-          c.loop-cell.invariant.written c.want_at.ensures.cell;
-      proper = set_more (λ k want. IsProper want) c.loop-cell.cells c.loop-cell.cell _ fits c.loop-cell.invariant.proper c.want_at.ensures.proper;
-    }
-
-pub new-requires : goal.new-requires
-new-requires c = λ k d below.
-    let reached : k < c.loop-cell.cell = omega arith in
-    c.loop-cell.invariant.proper k d reached
 
 pub returns : goal.returns
 returns c =
     let fresh : c.eq.result ≡ is_fresh c.args.message = search rules in
-    subst (λ screen. IsWantedOf c.args.self.now c.args.values.now c.args.message c.args.keep screen) (sym c.new.ensures)
+    let panel = c.args.self.now in
+    subst (λ screen. IsWantedOf panel c.args.values.now c.args.message c.args.keep screen) (sym c.new.ensures)
     (record {
       cells = λ cell below.
-          let reached : cell < c.loop-cell.cell = omega arith in
-          let fits : cell < length c.loop-cell.cells = omega arith in
-          slice_get-get_or c.loop-cell.cells cell Keep fits ∙ ap Some (c.loop-cell.invariant.written cell Keep reached);
+          let fits : cell < length c.put_texts.new.cells = omega arith in
+          slice_get-get_or c.put_texts.new.cells cell want.Keep fits
+          ∙ ap Some
+          (put_all panel c.args.values.now c.args.message c.args.keep c.as_slice.result.now c.as_slice-fields.result.now (replicate cell_count (want.Char 0))
+          c.put_stoppers.new.cells c.put_message.new.cells c.put_fields.new.cells c.put_texts.new.cells
+          (c.as_slice.ensures.value ∙ ap (λ (p : PanelParts). p.texts) c.self.view_is) (c.as_slice-fields.ensures.value ∙ ap (λ (p : PanelParts). p.fields) c.self.view_is)
+          (λ place default within. get_or-replicate cell_count place (want.Char 0) default within)
+          c.put_stoppers.ensures.put c.put_message.ensures.put c.put_fields.ensures.put c.put_texts.ensures.put cell want.Keep below);
       cursor = c.cursor_for.ensures;
       reset = fresh;
     })

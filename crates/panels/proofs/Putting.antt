@@ -1,0 +1,121 @@
+-- One thing put over another.
+use Rattle.std.proofs.Common.{◌≡◌, ◌<◌, ◌≤◌, ◌+◌, ◌-◌, ℕ, List, ◌∷◌, length, get_or, set, drop, Bool, true, false, cond, Option, Some, None, refl, ap, sym, ◌∙◌, arith, inl, inr}
+use Rattle.std.specs.Prelude.{◌≢◌, ◌&&◌, nat_le, nat_lt, unwrap_or}
+use Rattle.std.specs.Option.{option_or}
+use Rattle.std.proofs.lemmas.List.{drop_more, get_or-set_same, get_or-set_other}
+use Rattle.std.proofs.lemmas.Bool.{cases_eq}
+use Rattle.std.proofs.lemmas.Bool.Decides.{nat_tests}
+use Rattle.codes3270.specs.Size.{cell_count}
+use Rattle.datastream.specs.declared.wanted.Want.{Want}
+use Rattle.datastream.specs.declared.wanted.Want.TheVariants as want
+use Rattle.panels.specs.declared.message.Message.{Message}
+use Rattle.panels.specs.declared.message.Message.TheVariants.{Fresh, Plain, KeyNotActive, Required}
+use Rattle.panels.specs.declared.panel.Field.{Field}
+use Rattle.panels.specs.declared.panel.TextItem.{TextItem}
+use Rattle.panels.specs.Size.{message_start}
+use Rattle.panels.specs.Panel.{PanelParts}
+use Rattle.panels.specs.Screen.{Values, item_cell, autoskip_attr, first_some, text_cell, field_cell, stopper_cell, message_text, message_cell, wanted_cell}
+use Rattle.panels.specs.Put.{IsPut, name_spoken, text_with}
+
+pub over : {X : Type 0} (one other : Option X) (under : X) → unwrap_or (option_or one other) under ≡ unwrap_or one (unwrap_or other under)
+over None other under = refl
+over (Some x) other under = refl
+
+-- ---- one of a list over those behind it
+
+pub put_back : {X : Type 0} (find : ℕ → X → Option Want) (xs : List X) (n : ℕ) (x : X) (base old new : List Want) → 0 < n → n ≤ length xs → x ≡ get_or xs (n - 1) x
+    → IsPut (λ cell. first_some (find cell) (drop n xs)) base old → IsPut (λ cell. find cell x) old new
+    → IsPut (λ cell. first_some (find cell) (drop (n - 1) xs)) base new
+put_back find xs n x base old new some fits is before now cell default below =
+    let within : n - 1 < length xs = omega arith in
+    let up : n - 1 + 1 ≡ n = omega arith in
+    let step : drop (n - 1) xs ≡ x ∷ drop n xs = drop_more xs (n - 1) x within ∙ ap (λ y. y ∷ drop (n - 1 + 1) xs) (sym is) ∙ ap (λ m. x ∷ drop m xs) up in
+    now cell default below ∙ ap (unwrap_or (find cell x)) (before cell default below)
+    ∙ sym (over (find cell x) (first_some (find cell) (drop n xs)) (get_or base cell default))
+    ∙ ap (λ ys. unwrap_or (first_some (find cell) ys) (get_or base cell default)) (sym step)
+
+-- ---- cell after cell
+
+-- the first cells from a place on
+abbrev pub some_from : ℕ → ℕ → (ℕ → Want) → ℕ → Option Want
+some_from start n f cell = cond (nat_le start cell && nat_lt cell (start + n)) (Some (f (cell - start))) None
+
+abbrev pub IsPutFrom : ℕ → ℕ → (ℕ → Want) → List Want → List Want → Type 0
+IsPutFrom start n f old new = IsPut (some_from start n f) old new
+
+if_true : {X : Type 0} (b : Bool) (x y : X) → b ≡ true → cond b x y ≡ x
+if_true b x y is = rw is refl
+
+if_false : {X : Type 0} (b : Bool) (x y : X) → b ≡ false → cond b x y ≡ y
+if_false b x y is = rw is refl
+
+last_within : (start n cell : ℕ) → cell ≡ start + n → (nat_le start cell && nat_lt cell (start + (n + 1))) ≡ true
+last_within start n cell is = grind (arith, nat_tests)
+
+others_within : (start n cell : ℕ) → cell ≢ start + n → (nat_le start cell && nat_lt cell (start + (n + 1))) ≡ (nat_le start cell && nat_lt cell (start + n))
+others_within start n cell is = grind (arith, nat_tests)
+
+pub put_more : (start n : ℕ) (f : ℕ → Want) (base old : List Want) → length old ≡ cell_count → start + n < cell_count
+    → IsPutFrom start n f base old → IsPutFrom start (n + 1) f base (set old (start + n) (f n))
+put_more start n f base old size within before cell default below =
+    let fits : start + n < length old = omega arith in
+    elim (cases_eq cell (start + n)) [
+      | inl same ↦
+          let distance : cell - start ≡ n = omega arith in
+          rw same (get_or-set_same old (start + n) (f n) default fits)
+          ∙ ap f (sym distance)
+          ∙ ap (λ o. unwrap_or o (get_or base cell default)) (sym (if_true _ (Some (f (cell - start))) None (last_within start n cell same)))
+      | inr other ↦
+          get_or-set_other old (start + n) cell (f n) default other ∙ before cell default below
+          ∙ ap (λ b. unwrap_or (cond b (Some (f (cell - start))) None) (get_or base cell default)) (sym (others_within start n cell other))
+    ]
+
+-- ---- the message
+
+pub text_is : (fields : List Field) (message : Message) → text_with (name_spoken fields message) message ≡ message_text fields message
+text_is fields Fresh = refl
+text_is fields Plain = refl
+text_is fields KeyNotActive = refl
+text_is fields (Required number) = refl
+
+row_range : (cell : ℕ) → cell < cell_count → (nat_le message_start cell && nat_lt cell (message_start + (cell_count - message_start))) ≡ cond (nat_lt cell message_start) false true
+row_range cell below = grind (arith, nat_tests)
+
+turned : {X : Type 0} (b : Bool) (x : X) → cond (cond b false true) (Some x) None ≡ cond b None (Some x)
+turned true x = refl
+turned false x = refl
+
+pub message_put : (fields : List Field) (message : Message) (name : List ℕ) (base now : List Want) → name ≡ name_spoken fields message
+    → IsPutFrom message_start (cell_count - message_start) (item_cell (autoskip_attr true) (text_with name message)) base now
+    → IsPut (message_cell fields message) base now
+message_put fields message name base now is put cell default below =
+    put cell default below
+    ∙ ap (λ o. unwrap_or o (get_or base cell default))
+    (ap (λ b. cond b (Some (item_cell (autoskip_attr true) (text_with name message) (cell - message_start))) None) (row_range cell below)
+    ∙ turned (nat_lt cell message_start) (item_cell (autoskip_attr true) (text_with name message) (cell - message_start))
+    ∙ ap (λ text. cond (nat_lt cell message_start) None (Some (item_cell (autoskip_attr true) text (cell - message_start))))
+    (ap (λ n. text_with n message) is ∙ text_is fields message))
+
+-- ---- all of them
+
+pub layered : (texts fields message stoppers : Option Want) (null base one two three four : Want) → base ≡ null → one ≡ unwrap_or stoppers base
+    → two ≡ unwrap_or message one → three ≡ unwrap_or fields two → four ≡ unwrap_or texts three
+    → four ≡ unwrap_or (option_or texts (option_or fields (option_or message stoppers))) null
+layered texts fields message stoppers null base one two three four e0 e1 e2 e3 e4 =
+    e4 ∙ ap (unwrap_or texts) (e3 ∙ ap (unwrap_or fields) (e2 ∙ ap (unwrap_or message) (e1 ∙ ap (unwrap_or stoppers) e0)))
+    ∙ sym (over texts (option_or fields (option_or message stoppers)) null
+    ∙ ap (unwrap_or texts) (over fields (option_or message stoppers) null ∙ ap (unwrap_or fields) (over message stoppers null)))
+
+pub put_all : (panel : PanelParts) (values : Values) (message : Message) (keep : Bool) (texts : List TextItem) (fields : List Field) (base one two three four : List Want)
+    → texts ≡ panel.texts → fields ≡ panel.fields → ((cell : ℕ) (default : Want) → cell < cell_count → get_or base cell default ≡ want.Char 0)
+    → IsPut (λ cell. first_some (stopper_cell cell) fields) base one → IsPut (message_cell fields message) one two
+    → IsPut (λ cell. first_some (field_cell values message keep cell) fields) two three → IsPut (λ cell. first_some (text_cell values cell) texts) three four
+    → (cell : ℕ) (default : Want) → cell < cell_count → get_or four cell default ≡ wanted_cell panel values message keep cell
+put_all panel values message keep texts fields base one two three four same_texts same_fields nulls stoppers row inputs labels cell default below =
+    layered (first_some (text_cell values cell) texts) (first_some (field_cell values message keep cell) fields) (message_cell fields message cell)
+    (first_some (stopper_cell cell) fields) (want.Char 0) _ _ _ _ _ (nulls cell default below) (stoppers cell default below) (row cell default below)
+    (inputs cell default below) (labels cell default below)
+    ∙ ap (λ ts. unwrap_or (option_or (first_some (text_cell values cell) ts) (option_or (first_some (field_cell values message keep cell) fields)
+    (option_or (message_cell fields message cell) (first_some (stopper_cell cell) fields)))) (want.Char 0)) same_texts
+    ∙ ap (λ fs. unwrap_or (option_or (first_some (text_cell values cell) panel.texts) (option_or (first_some (field_cell values message keep cell) fs)
+    (option_or (message_cell fs message cell) (first_some (stopper_cell cell) fs)))) (want.Char 0)) same_fields

@@ -1,0 +1,12 @@
+use Rattle.std.proofs.Common.{refl}
+use Rattle.tn3270e_msg.specs.Hearing.{heard_says}
+use Rattle.tn3270e_msg.proofs.term_talk.TermTalk.take.Goals as goal
+
+pub returns : goal.returns
+returns c =
+    rw (← c.self.view_is) (record {
+      comes = heard_says c.hear.result;
+      hears = c.hear.ensures;
+      gives = (rw c.line-line.ensures at c.follow.ensures);
+      wanted = refl;
+    })

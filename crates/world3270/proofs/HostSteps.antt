@@ -1,0 +1,124 @@
+-- What a host makes of a message leaves its number and its values as they are; it says nothing but talk.
+use Rattle.std.proofs.Common.{◌≡◌, ◌⊎◌, inl, inr, ◌==◌, ℕ, Bool, true, false, Option, None, Result, Ok, Err, List, [], map, refl, if◌then◌else◌}
+use Rattle.codes3270.specs.declared.attention.Aid.{Aid}
+use Rattle.codes3270.specs.declared.attention.Aid.TheVariants.{NoAid, Enter, Clear, Pf, Pa}
+use Rattle.datastream.specs.InboundText.{InboundParts}
+use Rattle.datastream.specs.declared.inbound_part.Form.{Form}
+use Rattle.datastream.specs.declared.inbound_part.Form.TheVariants.{Modified, All as AllModified, Buffer}
+use Rattle.shadow.specs.Belief.{Shadow}
+use Rattle.shadow.specs.Heard.{heard}
+use Rattle.shadow.specs.declared.fault.HeardFault.{HeardFault}
+use Rattle.tn3270e_msg.specs.HostTable.{host_line, answer_line}
+use Rattle.tn3270e_msg.specs.Talk.{Talk, follow, Saying, says, sayings}
+use Rattle.tn3270e_msg.specs.declared.cause.Cause.{Cause}
+use Rattle.tn3270e_msg.specs.declared.cause.Cause.TheVariants.{Negative}
+use Rattle.tn3270e_msg.specs.declared.host_talk.HostState.{HostState}
+use Rattle.tn3270e_msg.specs.declared.host_talk.HostState.TheVariants.{Offered, Asked, Asking, Named, Countered, Agreed, Closed}
+use Rattle.tn3270e_msg.specs.declared.reply.Reason.{Reason}
+use Rattle.tn3270e_msg.specs.declared.reply.Reply.{Reply}
+use Rattle.tn3270e_msg.specs.declared.reply.Reply.TheVariants as reply
+use Rattle.host_core.specs.Application.{Application}
+use Rattle.host_core.specs.Messages.{ToTerminal, ToHost, Verdict}
+use Rattle.host_core.specs.Session.{Conn, Turn, Pending, Occasion, is_agreed}
+use Rattle.host_core.specs.Takes.{Answers, Step, quiet, closed_by, replied, granted_by, asked, talked_on, believed, once_read, buffer_came, data_came, key_data_came, key_came, if_answers, refused, erases, write_refused, response_came, once_agreed, took}
+
+-- its command still waits for its answer, or nothing does
+pub record JustTalks (old : Conn) (step : Step) : Type 0 where
+  pub number : step.conn.number ≡ old.number
+  pub values : step.conn.values ≡ old.values
+  pub pending : (step.conn.pending ≡ old.pending) ⊎ (step.conn.pending ≡ Pending.Nothing)
+  pub talk : List Saying
+  pub says : step.sends ≡ map ToTerminal.TalksDown talk
+
+quietly : (conn : Conn) → JustTalks conn (quiet conn)
+quietly conn = record { number = refl; values = refl; pending = inl refl; talk = []; says = refl }
+
+closes : (conn : Conn) (cause : Cause) → JustTalks conn (closed_by cause conn)
+closes conn cause = record { number = refl; values = refl; pending = inl refl; talk = []; says = refl }
+
+-- nothing is pending then
+settles : (conn new : Conn) → new.number ≡ conn.number → new.values ≡ conn.values → new.pending ≡ Pending.Nothing → JustTalks conn (quiet new)
+settles conn new number values none = record { number = number; values = values; pending = inr none; talk = []; says = refl }
+
+replies : (conn : Conn) (grants : Option (List ℕ)) (next : Talk HostState × Reply) → JustTalks conn (replied conn grants next)
+replies conn grants next = record { number = refl; values = refl; pending = inl refl; talk = sayings next.1; says = refl }
+
+asks : (conn : Conn) (talk : Talk HostState) (answer : Result (List ℕ) Reason) (state : HostState) → JustTalks conn (asked conn talk answer state)
+asks conn talk answer (Asking device) = replies conn (granted_by answer) (follow Closed talk (answer_line device answer))
+asks conn talk answer Offered = quietly conn
+asks conn talk answer Asked = quietly conn
+asks conn talk answer (Named lu) = quietly conn
+asks conn talk answer (Countered lu) = quietly conn
+asks conn talk answer (Agreed lu) = quietly conn
+asks conn talk answer (Closed cause) = quietly conn
+
+talks : (pool : Answers) (conn : Conn) (talk : Talk HostState) (answer : Reply) → JustTalks conn (talked_on pool conn talk answer)
+talks pool conn talk (reply.AskPool name) = asks conn talk (pool name) talk.state
+talks pool conn talk reply.Nothing = replies conn None (talk, reply.Nothing)
+talks pool conn talk (reply.Opt verb code) = replies conn None (talk, reply.Opt verb code)
+talks pool conn talk (reply.Sub sending after) = replies conn None (talk, reply.Sub sending after)
+talks pool conn talk reply.Agreed = replies conn None (talk, reply.Agreed)
+talks pool conn talk (reply.Refused reason) = replies conn None (talk, reply.Refused reason)
+talks pool conn talk (reply.Close cause) = replies conn None (talk, reply.Close cause)
+
+-- ---- data
+
+believes : (occasion : Occasion) (conn : Conn) (result : Result Shadow HeardFault) → JustTalks conn (believed occasion conn result)
+believes occasion conn (Ok shadow) = settles conn _ refl refl refl
+believes occasion conn (Err fault) = closes conn _
+
+hears_key : (app : Application) (parts : InboundParts) (aid : Aid) (conn : Conn) → JustTalks conn (key_came app parts aid conn)
+hears_key app parts NoAid conn = closes conn _
+hears_key app parts Enter conn = believes (Occasion.Key Enter false) conn (heard app.size conn.shadow parts)
+hears_key app parts Clear conn = believes (Occasion.Key Clear false) conn (heard app.size conn.shadow parts)
+hears_key app parts (Pf key) conn = believes (Occasion.Key (Pf key) false) conn (heard app.size conn.shadow parts)
+hears_key app parts (Pa key) conn = believes (Occasion.Key (Pa key) false) conn (heard app.size conn.shadow parts)
+
+hears_key_data : (app : Application) (parts : InboundParts) (form : Form) (conn : Conn) → JustTalks conn (key_data_came app parts form conn)
+hears_key_data app parts Modified conn = hears_key app parts parts.aid conn
+hears_key_data app parts AllModified conn = closes conn _
+hears_key_data app parts Buffer conn = closes conn _
+
+hears_buffer : (app : Application) (parts : InboundParts) (form : Form) (conn : Conn) → JustTalks conn (buffer_came app parts form conn)
+hears_buffer app parts Buffer conn = believes (once_read conn.occasion) conn (heard app.size conn.shadow parts)
+hears_buffer app parts Modified conn = closes conn _
+hears_buffer app parts AllModified conn = closes conn _
+
+hears : (app : Application) (parts : InboundParts) (turn : Turn) (pending : Pending) (conn : Conn) → JustTalks conn (data_came app parts turn pending conn)
+hears app parts turn (Pending.Reading number) conn = hears_buffer app parts parts.form conn
+hears app parts turn (Pending.Writing number wanted) conn = closes conn _
+hears app parts Turn.Host Pending.Nothing conn = closes conn _
+hears app parts Turn.Terminal Pending.Nothing conn = hears_key_data app parts parts.form conn
+
+-- ---- responses
+
+if_it_answers : (b : Bool) (step : Step) (conn : Conn) → JustTalks conn step → JustTalks conn (if_answers b step conn)
+if_it_answers true step conn just = just
+if_it_answers false step conn just = closes conn _
+
+loses_a_write : (conn : Conn) → JustTalks conn (write_refused conn)
+loses_a_write conn = by_test (erases conn.shadow)
+  where
+    by_test : (b : Bool) → JustTalks conn (if b then closed_by Negative conn else quiet (refused conn))
+    by_test true = closes conn Negative
+    by_test false = settles conn (refused conn) refl refl refl
+
+is_answered : (app : Application) (number : ℕ) (verdict : Verdict) (pending : Pending) (conn : Conn) → JustTalks conn (response_came app number verdict pending conn)
+is_answered app number verdict Pending.Nothing conn = closes conn _
+is_answered app number Verdict.Positive (Pending.Writing pending wanted) conn = if_it_answers (number == pending) _ conn (settles conn _ refl refl refl)
+is_answered app number Verdict.Negative (Pending.Writing pending wanted) conn = if_it_answers (number == pending) _ conn (loses_a_write conn)
+is_answered app number Verdict.Positive (Pending.Reading pending) conn = closes conn _
+is_answered app number Verdict.Negative (Pending.Reading pending) conn = if_it_answers (number == pending) _ conn (settles conn _ refl refl refl)
+
+-- ---- any message
+
+once_it_agreed : (b : Bool) (step : Step) (conn : Conn) → JustTalks conn step → JustTalks conn (once_agreed b step conn)
+once_it_agreed true step conn just = just
+once_it_agreed false step conn just = quietly conn
+
+pub just_talks : (app : Application) (pool : Answers) (conn : Conn) (message : ToHost) → JustTalks conn (took app pool conn message)
+just_talks app pool conn (ToHost.TalksUp saying) =
+    let next : Talk HostState × Reply = follow Closed conn.talk (host_line conn.talk.state (says saying)) in
+    talks pool conn next.0 next.1
+just_talks app pool conn (ToHost.Data parts) = once_it_agreed (is_agreed conn.talk.state) _ conn (hears app parts conn.turn conn.pending conn)
+just_talks app pool conn (ToHost.Response number verdict) = once_it_agreed (is_agreed conn.talk.state) _ conn (is_answered app number verdict conn.pending conn)

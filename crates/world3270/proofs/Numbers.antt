@@ -1,0 +1,156 @@
+-- Numbers of commands and responses have 15 bits, after every event.
+use Rattle.std.proofs.Common.{◌≡◌, ◌⊎◌, inl, inr, nat_lt, ◌+◌, ℕ, Bool, true, false, Option, None, Some, List, [], ◌∷◌, arith, refl, sym, subst, IfSome, if◌then◌else◌}
+use Rattle.std.specs.Prelude.{⊤}
+use Rattle.std.specs.List.{All}
+use Rattle.std.proofs.lemmas.Bool.{ltb-true}
+use Rattle.std.proofs.lemmas.List.Elements.{All-nil, All-cons, All-head, All-tail, All-append, All-map}
+use Rattle.datastream.specs.Screen.{Screen}
+use Rattle.keyboard.specs.Keys.{pressed}
+use Rattle.keyboard.specs.declared.key.Pressed.{Pressed}
+use Rattle.keyboard.specs.declared.key.Pressed.TheVariants.{Done, Refused, Send}
+use Rattle.tn3270e_msg.specs.Header.{next_number}
+use Rattle.tn3270e_msg.specs.declared.cause.Cause.{Cause}
+use Rattle.host_core.specs.Acts.{Act, Sent, act_on, done, may_act, acted}
+use Rattle.host_core.specs.Answering.{number_of, number_in}
+use Rattle.host_core.specs.Application.{Application}
+use Rattle.host_core.specs.Messages.{ToTerminal, ToHost, Verdict}
+use Rattle.host_core.specs.Session.{Conn, Pending, is_agreed}
+use Rattle.host_core.specs.Takes.{Answers, Step, took as host_took}
+use Rattle.world3270.specs.Given.{Given}
+use Rattle.world3270.specs.Headline.{Always}
+use Rattle.world3270.specs.Link.{Link, sent, host_left_if, host_sent}
+use Rattle.world3270.specs.Numbers.{IsNumber, number_answered, AreNumbered, NumbersFit}
+use Rattle.world3270.specs.Terminal.{TermEnd, is_bound, data_of, once_bound, took as term_took}
+use Rattle.world3270.proofs.HostSteps.{just_talks}
+use Rattle.world3270.proofs.Everywhere.{Steps, everywhere}
+
+abbrev FitsDown : ToTerminal → Type 0
+FitsDown message = IfSome (number_in message) IsNumber
+
+abbrev FitsUp : ToHost → Type 0
+FitsUp message = IfSome (number_answered message) IsNumber
+
+pub sent_all : {X : Type 0} (P : X → Type 0) (lost : Bool) (queue messages : List X) → All P queue → All P messages → All P (sent lost queue messages)
+sent_all P true queue messages here new = here
+sent_all P false queue messages here new = All-append P queue messages here new
+
+next_fits : (number : ℕ) → IsNumber (next_number number)
+next_fits number = by_test (nat_lt number 32767) refl
+  where
+    by_test : (b : Bool) → nat_lt number 32767 ≡ b → IsNumber (if b then number + 1 else 0)
+    by_test true e = let below = ltb-true number 32767 e in omega arith
+    by_test false e = omega arith
+
+-- ---- what a host makes of a message
+
+record Numbered (conn : Conn) : Type 0 where
+  next : IsNumber conn.number
+  pending : IfSome (number_of conn.pending) IsNumber
+
+record StepFits (step : Step) : Type 0 where
+  conn : Numbered step.conn
+  sends : All FitsDown step.sends
+
+still_pending : (old new : Pending) → (new ≡ old) ⊎ (new ≡ Pending.Nothing) → IfSome (number_of old) IsNumber → IfSome (number_of new) IsNumber
+still_pending old new (inl same) fits = subst (λ p. IfSome (number_of p) IsNumber) (sym same) fits
+still_pending old new (inr none) fits = subst (λ p. IfSome (number_of p) IsNumber) (sym none) tt
+
+host_fits : (app : Application) (pool : Answers) (conn : Conn) (message : ToHost) → Numbered conn → StepFits (host_took app pool conn message)
+host_fits app pool conn message n =
+    let step : Step = host_took app pool conn message in
+    let just = just_talks app pool conn message in
+    record {
+      conn = record { next = subst IsNumber (sym just.number) n.next; pending = still_pending conn.pending step.conn.pending just.pending n.pending };
+      sends = subst (All FitsDown) (sym just.says) (All-map FitsDown ToTerminal.TalksDown just.talk (λ k d below. tt));
+    }
+
+-- ---- what a host does
+
+record SendingFits (sending : Sent) : Type 0 where
+  conn : Numbered sending.conn
+  message : FitsDown sending.message
+
+done_fits : (app : Application) (conn : Conn) (act : Act) → Numbered conn → SendingFits (done app conn act)
+done_fits app conn Act.Read n = record { conn = record { next = next_fits conn.number; pending = n.next }; message = n.next }
+done_fits app conn (Act.Show panel message keep values) n = record { conn = record { next = next_fits conn.number; pending = n.next }; message = n.next }
+
+-- ---- what a terminal makes of a message, and of a key
+
+once_bound_fits : (bound : Bool) (end new : TermEnd) (message : ToHost) → FitsUp message
+    → All FitsUp (once_bound bound (record { end = new; sends = message ∷ []; closes = None }) end).sends
+once_bound_fits true end new message fits = All-cons FitsUp message [] fits (All-nil FitsUp)
+once_bound_fits false end new message fits = All-nil FitsUp
+
+term_fits : (end : TermEnd) (message : ToTerminal) → FitsDown message → All FitsUp (term_took end message).sends
+term_fits end (ToTerminal.TalksDown saying) fits = All-map FitsUp ToHost.TalksUp _ (λ k d below. tt)
+term_fits end (ToTerminal.Paint number wanted over) fits = once_bound_fits (is_bound end) end _ (ToHost.Response number Verdict.Positive) fits
+term_fits end (ToTerminal.ReadBuffer number) fits = once_bound_fits (is_bound end) end _ _ tt
+
+data_fits_up : (bound : Bool) (answer : Pressed) (screen : Screen) → All FitsUp (data_of bound answer screen)
+data_fits_up true (Send aid) screen = All-cons FitsUp _ [] tt (All-nil FitsUp)
+data_fits_up false (Send aid) screen = All-nil FitsUp
+data_fits_up true Done screen = All-nil FitsUp
+data_fits_up false Done screen = All-nil FitsUp
+data_fits_up true (Refused why) screen = All-nil FitsUp
+data_fits_up false (Refused why) screen = All-nil FitsUp
+
+-- ---- connections
+
+left_if : (cause : Option Cause) (link : Link) → AreNumbered link → AreNumbered (host_left_if cause link)
+left_if None link n = n
+left_if (Some cause) link n = record { next = n.next; pending = n.pending; down = n.down; up = n.up }
+
+sends : (link : Link) (sending : Option Sent) → AreNumbered link → IfSome sending SendingFits → AreNumbered (host_sent sending link)
+sends link None n fits = n
+sends link (Some sending) n fits = record {
+  next = fits.conn.next;
+  pending = fits.conn.pending;
+  down = sent_all FitsDown link.lost link.down (sending.message ∷ []) n.down (All-cons FitsDown sending.message [] fits.message (All-nil FitsDown));
+  up = n.up;
+}
+
+acts_if : (app : Application) (link : Link) (b : Bool) → AreNumbered link → IfSome (if b then Some (done app link.host (act_on app link.host link.host.occasion)) else None) SendingFits
+acts_if app link true n = done_fits app link.host (act_on app link.host link.host.occasion) (record { next = n.next; pending = n.pending })
+acts_if app link false n = tt
+
+steps : (app : Application) → Steps app (λ event. ⊤) AreNumbered (λ display. ⊤)
+steps app = record {
+  never = record { next = omega arith; pending = tt; down = All-nil FitsDown; up = All-nil FitsUp };
+  begins = λ terminal wanted. record { next = omega arith; pending = tt; down = All-cons FitsDown _ [] tt (All-nil FitsDown); up = All-nil FitsUp };
+  up = λ pool link message rest e k n.
+      let step : Step = host_took app pool link.host message in
+      let fits = host_fits app pool link.host message (record { next = n.next; pending = n.pending }) in
+      left_if step.closes _ (record {
+        next = fits.conn.next;
+        pending = fits.conn.pending;
+        down = sent_all FitsDown link.lost link.down step.sends n.down fits.sends;
+        up = All-tail FitsUp message rest (subst (All FitsUp) e n.up);
+      });
+  acts = λ link k n. sends link (acted app link.host) n (acts_if app link (may_act link.host.turn link.host.pending (is_agreed link.host.talk.state)) n);
+  down = λ link message rest e k n.
+      let down : All FitsDown (message ∷ rest) = subst (All FitsDown) e n.down in
+      record {
+        next = n.next;
+        pending = n.pending;
+        down = All-tail FitsDown message rest down;
+        up = sent_all FitsUp link.lost link.up (term_took link.term message).sends n.up (term_fits link.term message (All-head FitsDown message rest down));
+      };
+  key = λ terminal key link such k n.
+      let outcome = pressed app.columns key link.term.display.keyboard link.term.display.screen in
+      record {
+        next = n.next;
+        pending = n.pending;
+        down = n.down;
+        up = sent_all FitsUp link.lost link.up (data_of (is_bound link.term) outcome.answer outcome.screen) n.up (data_fits_up (is_bound link.term) outcome.answer outcome.screen);
+      };
+  loses = λ link n. record { next = n.next; pending = n.pending; down = n.down; up = n.up };
+  host_leaves = λ link n. record { next = n.next; pending = n.pending; down = n.down; up = n.up };
+  term_leaves = λ link n. record { next = n.next; pending = n.pending; down = n.down; up = n.up };
+  fresh = tt;
+  alone = λ link k n. tt;
+  key_alone = λ terminal key display such is. tt;
+}
+
+pub numbers_fit : Given → Always NumbersFit
+numbers_fit given app pool terminals events is lists few are =
+    (everywhere given app is (λ event. ⊤) AreNumbered (λ display. ⊤) (steps app) pool terminals events lists are (λ k d below. tt)).links

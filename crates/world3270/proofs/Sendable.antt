@@ -1,0 +1,383 @@
+-- Screens keep their size and can be sent, what is painted is a screen, and values are characters, after every event.
+use Rattle.std.proofs.Common.{◌≡◌, ◌<◌, ◌==◌, ◌&&◌, ◌++◌, ◌-◌, ◌+◌, not, ℕ, arith, Bool, true, false, Option, None, Some, List, [], ◌∷◌, refl, ap, sym, subst, ◌∙◌, IfSome, IsTrue, if◌then◌else◌}
+use Rattle.std.specs.Prelude.{⊤, option_and_then}
+use Rattle.std.specs.List.{All}
+use Rattle.std.specs.Ordering.{nat_cmp}
+use Rattle.std.proofs.lemmas.Bool.{and_from}
+use Rattle.std.proofs.lemmas.List.{length-replicate}
+use Rattle.std.proofs.lemmas.List.Elements.{All-nil, All-cons, All-head, All-tail, All-append, All-map, All-replicate}
+use Rattle.std.proofs.lemmas.Map.Views.{All-values-insert_entry}
+use Rattle.codes3270.specs.Size.{cell_count}
+use Rattle.codes3270.specs.Storable.{is_storable}
+use Rattle.codes3270.specs.declared.attention.Aid.{Aid}
+use Rattle.codes3270.specs.declared.attention.Aid.TheVariants.{NoAid, Enter, Clear, Pf, Pa}
+use Rattle.codes3270.specs.declared.attribute.Cell.{Cell}
+use Rattle.codes3270.specs.declared.attribute.Cell.TheVariants.{Char as CharCell, Attr as AttrCell}
+use Rattle.datastream.specs.Fields.{Field, fields, fields_from}
+use Rattle.datastream.specs.Inbound.{without_nulls, read_modified, read_buffer}
+use Rattle.datastream.specs.InboundFields.{IsStorableCell, IsSendable, SentIsRead}
+use Rattle.datastream.specs.Screen.{Screen, blank_screen}
+use Rattle.datastream.specs.Wanted.{WantedScreen, IsProper, IsScreen}
+use Rattle.datastream.specs.declared.wanted.Want.{Want}
+use Rattle.datastream.specs.declared.wanted.Want.TheVariants.{Char as WantChar, Attr as WantAttr, Keep}
+use Rattle.keyboard.proofs.Sendable.{AreStored, CellsAreStored, text_stored}
+use Rattle.keyboard.specs.Keys.{pressed}
+use Rattle.keyboard.specs.Sendable.{KeysKeepSendable}
+use Rattle.keyboard.specs.declared.key.Pressed.{Pressed}
+use Rattle.keyboard.specs.declared.key.Pressed.TheVariants.{Done, Refused, Send}
+use Rattle.panels.specs.Characters.{is_character, AreCharacters}
+use Rattle.panels.specs.Screen.{Values}
+use Rattle.panels.specs.declared.message.Message.{Message}
+use Rattle.panels.specs.declared.message.Message.TheVariants.{Fresh}
+use Rattle.panels.specs.declared.next.Next.{Next}
+use Rattle.panels.specs.declared.next.Next.TheVariants.{Go, Again}
+use Rattle.panels.specs.declared.panel.Field.{Field as PanelField}
+use Rattle.presentation.proofs.Storable.{storable_unmodified}
+use Rattle.shadow.specs.Asked.{belief_with}
+use Rattle.shadow.specs.Belief.{Fact, Belief, Shadow}
+use Rattle.shadow.specs.Fits.{fits}
+use Rattle.shadow.specs.Laws.{PaintIsSpelt}
+use Rattle.shadow.specs.Meets.{Holds, FieldMeets, Meets, told}
+use Rattle.shadow.specs.Painted.{keeps_ahead, attr_or_kept, painted_from, plainly_painted}
+use Rattle.shadow.specs.Pairs.{Pairwise}
+use Rattle.tn3270e_msg.specs.declared.cause.Cause.{Cause}
+use Rattle.host_core.specs.Acts.{Act, Sent, text_known, set_if, learned, first_missing, is_to_be_read, unless_missing, gone_to, led, after_key, act_on, wanted_by, done, may_act, acted}
+use Rattle.host_core.specs.Application.{Application, IsApplication, AsksForScreens, AreTexts}
+use Rattle.host_core.specs.Messages.{ToTerminal, ToHost, Verdict}
+use Rattle.host_core.specs.Session.{Conn, Turn, Pending, Occasion, is_agreed}
+use Rattle.host_core.specs.Takes.{Step, took as host_took}
+use Rattle.world3270.specs.Given.{Given}
+use Rattle.world3270.specs.Link.{Link, host_left_if, host_sent}
+use Rattle.world3270.specs.Sendable.{display_at, HasSize, ScreensKeepTheirSize, IsTyped, AlwaysTyped, ScreensAreSendable, CanBeSpelt, DataCanBeSpelt, PaintsAScreen, PaintsAreScreens, IsSpelt, PaintsAreSpelt, ValuesAreTexts}
+use Rattle.world3270.specs.Stages.{Kept}
+use Rattle.world3270.specs.Terminal.{TermEnd, TermStep, is_bound, data_of, paint_came, read_came, once_bound, took as term_took}
+use Rattle.world3270.specs.View.{view_of}
+use Rattle.world3270.specs.World.{Place, World, run, new_world}
+use Rattle.world3270.proofs.Down.{painted-length}
+use Rattle.world3270.proofs.Everywhere.{Steps, InPlace, Everywhere, everywhere}
+use Rattle.world3270.proofs.Headline.{knows_at}
+use Rattle.world3270.proofs.HostSteps.{just_talks}
+use Rattle.world3270.proofs.Numbers.{sent_all}
+use Rattle.world3270.proofs.Worlds.{run_good, new_good}
+
+-- ---- the size alone
+
+size_steps : Given → (app : Application) → IsApplication app → Steps app (λ event. ⊤) (λ link. ⊤) (λ display. HasSize app.size display.screen)
+size_steps given app is = record {
+  never = tt;
+  begins = λ terminal wanted. tt;
+  up = λ pool link message rest e k h. tt;
+  acts = λ link k h. tt;
+  down = λ link message rest e k h. tt;
+  key = λ terminal key link such k h. tt;
+  loses = λ link h. tt;
+  host_leaves = λ link h. tt;
+  term_leaves = λ link h. tt;
+  fresh = record { whole = length-replicate app.size (CharCell 0); cursor = is.some };
+  alone = λ link k h. record { whole = k.whole; cursor = k.cursor };
+  key_alone = λ terminal key display such h.
+      let on = given.on_screen app.columns key display.keyboard display.screen (subst (λ size. display.screen.cursor < size) (sym h.whole) h.cursor) in
+      record { whole = on.0 ∙ h.whole; cursor = subst (λ size. (pressed app.columns key display.keyboard display.screen).screen.cursor < size) h.whole on.1 };
+}
+
+size_in_place : (app : Application) (world : World) (place : Place) → ((number : ℕ) → Kept app (view_of (world.link number))) → InPlace (λ display. HasSize app.size display.screen) place → HasSize app.size (display_at world place).screen
+size_in_place app world (Place.At number) kept is = record { whole = (kept number).whole; cursor = (kept number).cursor }
+size_in_place app world (Place.Alone display) kept is = is
+
+pub screens_keep_their_size : Given → ScreensKeepTheirSize
+screens_keep_their_size given app pool terminals events is lists few are terminal =
+    let world : World = run app events (new_world app pool terminals) in
+    let g = run_good given app is events (new_world app pool terminals) are (new_good given app is pool terminals lists) in
+    let all = everywhere given app is (λ event. ⊤) (λ link. ⊤) (λ display. HasSize app.size display.screen) (size_steps given app is) pool terminals events lists are (λ k d below. tt) in
+    size_in_place app world (world.place terminal) g.links (all.places terminal)
+
+-- ---- what is told
+
+-- without its nulls a text is characters
+nulls_out : (text : List ℕ) → AreStored text → AreCharacters (without_nulls text)
+nulls_out [] each = All-nil (λ byte. IsTrue (is_character byte))
+nulls_out (byte ∷ text) each = by_test (byte == 0) refl (nulls_out text (All-tail (λ b. is_storable b ≡ true) byte text each))
+  where
+    by_test : (b : Bool) → (byte == 0) ≡ b → AreCharacters (without_nulls text) → AreCharacters (if not b then byte ∷ without_nulls text else without_nulls text)
+    by_test true e rest = rest
+    by_test false e rest =
+        All-cons (λ x. IsTrue (is_character x)) byte (without_nulls text)
+        (and_from (is_storable byte) (not (byte == 0)) (All-head (λ b. is_storable b ≡ true) byte text each) (ap not e)) rest
+
+told_characters : (fact : Fact) (text : List ℕ) → Holds fact text → AreStored text → IfSome (told fact) AreCharacters
+told_characters (Fact.Exact value) text h each = subst (λ t. AreCharacters (without_nulls t)) h (nulls_out text each)
+told_characters (Fact.ExactOrNulls value) text h each = tt
+told_characters (Fact.Text value) text h each = subst AreCharacters h (nulls_out text each)
+told_characters (Fact.TextOrNulls value) text h each = tt
+told_characters (Fact.Any known) text h each = tt
+
+fields_stored : (whole : List Cell) (at : ℕ) (rest : List Cell) → CellsAreStored whole → CellsAreStored rest → All (λ (field : Field). AreStored field.text) (fields_from whole at rest)
+fields_stored whole at [] all each = All-nil (λ (field : Field). AreStored field.text)
+fields_stored whole at (CharCell byte ∷ rest) all each = fields_stored whole (at + 1) rest all (All-tail IsStorableCell (CharCell byte) rest each)
+fields_stored whole at (AttrCell attribute ∷ rest) all each =
+    let more : CellsAreStored rest = All-tail IsStorableCell (AttrCell attribute) rest each in
+    All-cons (λ (field : Field). AreStored field.text) _ (fields_from whole (at + 1) rest)
+    (text_stored (rest ++ whole) (All-append IsStorableCell rest whole more all)) (fields_stored whole (at + 1) rest all more)
+
+found_characters : (place : ℕ) (beliefs : List Belief) (seen : List Field) → Pairwise FieldMeets beliefs seen → All (λ (field : Field). AreStored field.text) seen
+    → IfSome (option_and_then (λ (belief : Belief). told belief.fact) (belief_with place beliefs)) AreCharacters
+found_characters place [] seen meets each = tt
+found_characters place (belief ∷ beliefs) [] meets each = absurd meets
+found_characters place (belief ∷ beliefs) (field ∷ seen) meets each =
+    by_test (belief.place == place) (found_characters place beliefs seen meets.1 (All-tail (λ (f : Field). AreStored f.text) field seen each))
+  where
+    by_test : (b : Bool) → IfSome (option_and_then (λ (x : Belief). told x.fact) (belief_with place beliefs)) AreCharacters
+        → IfSome (option_and_then (λ (x : Belief). told x.fact) (if b then Some belief else belief_with place beliefs)) AreCharacters
+    by_test true rest = told_characters belief.fact field.text meets.0.holds (All-head (λ (f : Field). AreStored f.text) field seen each)
+    by_test false rest = rest
+
+-- what is known of a field's text is characters
+known_characters : (shadow : Shadow) (screen : Screen) (field : PanelField) → Meets shadow screen → CellsAreStored screen.cells → IfSome (text_known shadow field) AreCharacters
+known_characters Shadow.NothingKnown screen field meets each = tt
+known_characters (Shadow.Unformatted known) screen field meets each = tt
+known_characters (Shadow.Formatted beliefs) screen field meets each =
+    found_characters (field.extent.first - 1) beliefs (fields screen.cells) meets.1 (fields_stored screen.cells 0 screen.cells each each)
+
+set_texts : (number : ℕ) (text : Option (List ℕ)) (values : Values) → AreTexts values → IfSome text AreCharacters → AreTexts (set_if number text values)
+set_texts number None values texts is = texts
+set_texts number (Some text) values texts is = All-values-insert_entry nat_cmp number text AreCharacters values texts is
+
+learned_texts : (shadow : Shadow) (screen : Screen) (panel : List PanelField) (values : Values) → Meets shadow screen → CellsAreStored screen.cells → AreTexts values → AreTexts (learned shadow panel values)
+learned_texts shadow screen [] values meets each texts = texts
+learned_texts shadow screen (field ∷ panel) values meets each texts =
+    learned_texts shadow screen panel (set_if field.number (text_known shadow field) values) meets each
+    (set_texts field.number (text_known shadow field) values texts (known_characters shadow screen field meets each))
+
+-- ---- what the host does
+
+-- it shows values that are characters
+abbrev ActsOnTexts : Act → Type 0
+ActsOnTexts Act.Read = ⊤
+ActsOnTexts (Act.Show panel message keep values) = AreTexts values
+
+unless_texts : (panel target : ℕ) (values : Values) (missing : Option ℕ) → AreTexts values → ActsOnTexts (unless_missing panel target values missing)
+unless_texts panel target values None texts = texts
+unless_texts panel target values (Some field) texts = texts
+
+gone_texts : (app : Application) (conn : Conn) (target : ℕ) (values : Values) (aid : Aid) → AreTexts values → ActsOnTexts (gone_to app conn target values aid)
+gone_texts app conn target values Enter texts = unless_texts conn.panel target values (first_missing values (app.fields conn.panel)) texts
+gone_texts app conn target values NoAid texts = texts
+gone_texts app conn target values Clear texts = texts
+gone_texts app conn target values (Pf key) texts = texts
+gone_texts app conn target values (Pa key) texts = texts
+
+led_texts : (app : Application) (conn : Conn) (values : Values) (aid : Aid) (next : Next) → AreTexts values → ActsOnTexts (led app conn values aid next)
+led_texts app conn values aid Again texts = texts
+led_texts app conn values aid (Go target) texts = gone_texts app conn target values aid texts
+
+read_or_led : (app : Application) (conn : Conn) (aid : Aid) (b : Bool) → AreTexts (learned conn.shadow (app.fields conn.panel) conn.values)
+    → ActsOnTexts (if b then Act.Read else led app conn (learned conn.shadow (app.fields conn.panel) conn.values) aid (app.next conn.panel aid))
+read_or_led app conn aid true texts = tt
+read_or_led app conn aid false texts = led_texts app conn (learned conn.shadow (app.fields conn.panel) conn.values) aid (app.next conn.panel aid) texts
+
+key_texts : (app : Application) (conn : Conn) (aid : Aid) (buffered : Bool) → AreTexts conn.values → AreTexts (learned conn.shadow (app.fields conn.panel) conn.values) → ActsOnTexts (after_key app conn aid buffered)
+key_texts app conn Clear buffered texts known = texts
+key_texts app conn NoAid buffered texts known = read_or_led app conn NoAid (is_to_be_read app conn NoAid && not buffered) known
+key_texts app conn Enter buffered texts known = read_or_led app conn Enter (is_to_be_read app conn Enter && not buffered) known
+key_texts app conn (Pf key) buffered texts known = read_or_led app conn (Pf key) (is_to_be_read app conn (Pf key) && not buffered) known
+key_texts app conn (Pa key) buffered texts known = read_or_led app conn (Pa key) (is_to_be_read app conn (Pa key) && not buffered) known
+
+act_texts : (app : Application) (conn : Conn) (occasion : Occasion) → AreTexts conn.values → AreTexts (learned conn.shadow (app.fields conn.panel) conn.values) → ActsOnTexts (act_on app conn occasion)
+act_texts app conn Occasion.Agreement texts known = texts
+act_texts app conn (Occasion.Key aid buffered) texts known = key_texts app conn aid buffered texts known
+act_texts app conn Occasion.Refusal texts known = texts
+
+wanted_is : (app : Application) (conn : Conn) (panel : ℕ) (message : Message) (keep : Bool) (values : Values) → AsksForScreens app → AreTexts values → IsScreen (wanted_by app conn panel message keep values)
+wanted_is app conn panel message false values asks texts = asks panel values message false texts
+wanted_is app conn panel message true values asks texts = by_fit (fits conn.shadow (app.screen panel values message true))
+  where
+    by_fit : (b : Bool) → IsScreen (if b then app.screen panel values message true else app.screen panel values message false)
+    by_fit true = asks panel values message true texts
+    by_fit false = asks panel values message false texts
+
+record SendsTexts (sending : Sent) : Type 0 where
+  message : PaintsAScreen sending.message
+  values : AreTexts sending.conn.values
+
+done_texts : (app : Application) (conn : Conn) (act : Act) → AsksForScreens app → AreTexts conn.values → ActsOnTexts act → SendsTexts (done app conn act)
+done_texts app conn Act.Read asks texts is = record { message = tt; values = texts }
+done_texts app conn (Act.Show panel message keep values) asks texts is = record { message = wanted_is app conn panel message keep values asks is; values = is }
+
+-- ---- what the terminal does
+
+painted_stored : (reset : Bool) (whole rest : List Want) (cells : List Cell) → All IsProper rest → CellsAreStored cells → CellsAreStored (painted_from reset whole rest cells)
+painted_stored reset whole [] cells wanted each = All-nil IsStorableCell
+painted_stored reset whole (want ∷ rest) [] wanted each = All-nil IsStorableCell
+painted_stored reset whole (WantChar byte ∷ rest) (there ∷ cells) wanted each =
+    All-cons IsStorableCell (CharCell byte) (painted_from reset whole rest cells) (All-head IsProper (WantChar byte) rest wanted)
+    (painted_stored reset whole rest cells (All-tail IsProper (WantChar byte) rest wanted) (All-tail IsStorableCell there cells each))
+painted_stored reset whole (Keep ∷ rest) (there ∷ cells) wanted each =
+    All-cons IsStorableCell there (painted_from reset whole rest cells) (All-head IsStorableCell there cells each)
+    (painted_stored reset whole rest cells (All-tail IsProper Keep rest wanted) (All-tail IsStorableCell there cells each))
+painted_stored reset whole (WantAttr attribute ∷ rest) (there ∷ cells) wanted each =
+    All-cons IsStorableCell (attr_or_kept (keeps_ahead (rest ++ whole)) reset attribute there) (painted_from reset whole rest cells)
+    (by_test (keeps_ahead (rest ++ whole)) reset)
+    (painted_stored reset whole rest cells (All-tail IsProper (WantAttr attribute) rest wanted) (All-tail IsStorableCell there cells each))
+  where
+    by_test : (keeps off : Bool) → IsStorableCell (attr_or_kept keeps off attribute there)
+    by_test false off = tt
+    by_test true true = storable_unmodified there (All-head IsStorableCell there cells each)
+    by_test true false = All-head IsStorableCell there cells each
+
+painted_sendable : (wanted : WantedScreen) (screen : Screen) → IsScreen wanted → IsSendable screen → IsSendable (plainly_painted wanted screen)
+painted_sendable wanted screen w is = record {
+  size = painted-length wanted.reset wanted.cells wanted.cells screen.cells (w.size ∙ sym is.size) ∙ is.size;
+  cursor = w.cursor_in_range;
+  aid = tt;
+  storable = painted_stored wanted.reset wanted.cells wanted.cells screen.cells w.proper is.storable;
+}
+
+record StepSends (step : TermStep) : Type 0 where
+  screen : IsSendable step.end.display.screen
+  spelt : All CanBeSpelt step.sends
+
+once_bound_sends : (bound : Bool) (end : TermEnd) (step : TermStep) → IsSendable end.display.screen → StepSends step → StepSends (once_bound bound step end)
+once_bound_sends true end step is sends = sends
+once_bound_sends false end step is sends = record { screen = is; spelt = All-nil CanBeSpelt }
+
+term_sends : SentIsRead → (end : TermEnd) (message : ToTerminal) → PaintsAScreen message → IsSendable end.display.screen → StepSends (term_took end message)
+term_sends read end (ToTerminal.TalksDown saying) paints is = record { screen = is; spelt = All-map CanBeSpelt ToHost.TalksUp _ (λ k d below. tt) }
+term_sends read end (ToTerminal.Paint number wanted over) paints is =
+    once_bound_sends (is_bound end) end (paint_came number wanted end) is
+    (record { screen = painted_sendable wanted end.display.screen paints is; spelt = All-cons CanBeSpelt (ToHost.Response number Verdict.Positive) [] tt (All-nil CanBeSpelt) })
+term_sends read end (ToTerminal.ReadBuffer number) paints is =
+    once_bound_sends (is_bound end) end (read_came end) is
+    (record { screen = is; spelt = All-cons CanBeSpelt _ [] (read_buffer end.display.screen, read.buffer end.display.screen is) (All-nil CanBeSpelt) })
+
+key_sends : SentIsRead → (bound : Bool) (answer : Pressed) (screen : Screen) → IsSendable screen → All CanBeSpelt (data_of bound answer screen)
+key_sends read true (Send aid) screen is = All-cons CanBeSpelt _ [] (read_modified false screen, read.modified screen is) (All-nil CanBeSpelt)
+key_sends read false (Send aid) screen is = All-nil CanBeSpelt
+key_sends read true Done screen is = All-nil CanBeSpelt
+key_sends read false Done screen is = All-nil CanBeSpelt
+key_sends read true (Refused why) screen is = All-nil CanBeSpelt
+key_sends read false (Refused why) screen is = All-nil CanBeSpelt
+
+-- ---- connections
+
+pub record CanSend (link : Link) : Type 0 where
+  pub screen : IsSendable link.term.display.screen
+  pub spelt : All CanBeSpelt link.up
+  pub paints : All PaintsAScreen link.down
+  pub values : AreTexts link.host.values
+
+left_if : (cause : Option Cause) (link : Link) → CanSend link → CanSend (host_left_if cause link)
+left_if None link c = c
+left_if (Some cause) link c = record { screen = c.screen; spelt = c.spelt; paints = c.paints; values = c.values }
+
+sends : (link : Link) (sending : Option Sent) → CanSend link → IfSome sending SendsTexts → CanSend (host_sent sending link)
+sends link None c is = c
+sends link (Some sending) c is = record {
+  screen = c.screen;
+  spelt = c.spelt;
+  paints = sent_all PaintsAScreen link.lost link.down (sending.message ∷ []) c.paints (All-cons PaintsAScreen sending.message [] is.message (All-nil PaintsAScreen));
+  values = is.values;
+}
+
+-- where the host may act, the screen meets what it believes, and so what it learns is characters
+acts_by : (app : Application) → AsksForScreens app → (link : Link) (turn : Turn) (pending : Pending) (agreed : Bool) → Kept app (view_of link) → CanSend link
+    → link.host.turn ≡ turn → link.host.pending ≡ pending → IfSome (if may_act turn pending agreed then Some (done app link.host (act_on app link.host link.host.occasion)) else None) SendsTexts
+acts_by app asks link Turn.Host Pending.Nothing true k c turns pends =
+    let known = knows_at app (view_of link) k.stage turns pends in
+    let texts = learned_texts link.host.shadow link.term.display.screen (app.fields link.host.panel) link.host.values known.meets c.screen.storable c.values in
+    done_texts app link.host (act_on app link.host link.host.occasion) asks c.values (act_texts app link.host link.host.occasion c.values texts)
+acts_by app asks link Turn.Host Pending.Nothing false k c turns pends = tt
+acts_by app asks link Turn.Host (Pending.Writing number wanted) agreed k c turns pends = tt
+acts_by app asks link Turn.Host (Pending.Reading number) agreed k c turns pends = tt
+acts_by app asks link Turn.Terminal pending agreed k c turns pends = tt
+
+blank_sendable : (size : ℕ) → size ≡ cell_count → IsSendable (blank_screen size)
+blank_sendable size same =
+    record { size = length-replicate size (CharCell 0) ∙ same; cursor = omega arith; aid = tt; storable = All-replicate IsStorableCell size (CharCell 0) refl }
+
+steps : SentIsRead → KeysKeepSendable → (app : Application) → AsksForScreens app → app.size ≡ cell_count → Steps app IsTyped CanSend (λ display. IsSendable display.screen)
+steps read keep app asks same = record {
+  never = record { screen = blank_sendable app.size same; spelt = All-nil CanBeSpelt; paints = All-nil PaintsAScreen; values = All-nil AreCharacters };
+  begins = λ terminal wanted. record { screen = blank_sendable app.size same; spelt = All-nil CanBeSpelt; paints = All-cons PaintsAScreen _ [] tt (All-nil PaintsAScreen); values = All-nil AreCharacters };
+  up = λ pool link message rest e k c.
+      let step : Step = host_took app pool link.host message in
+      let just = just_talks app pool link.host message in
+      left_if step.closes _ (record {
+        screen = c.screen;
+        spelt = All-tail CanBeSpelt message rest (subst (All CanBeSpelt) e c.spelt);
+        paints = sent_all PaintsAScreen link.lost link.down step.sends c.paints (subst (All PaintsAScreen) (sym just.says) (All-map PaintsAScreen ToTerminal.TalksDown just.talk (λ k d below. tt)));
+        values = subst AreTexts (sym just.values) c.values;
+      });
+  acts = λ link k c. sends link (acted app link.host) c (acts_by app asks link link.host.turn link.host.pending (is_agreed link.host.talk.state) k c refl refl);
+  down = λ link message rest e k c.
+      let down : All PaintsAScreen (message ∷ rest) = subst (All PaintsAScreen) e c.paints in
+      let says = term_sends read link.term message (All-head PaintsAScreen message rest down) c.screen in
+      record {
+        screen = says.screen;
+        spelt = sent_all CanBeSpelt link.lost link.up (term_took link.term message).sends c.spelt says.spelt;
+        paints = All-tail PaintsAScreen message rest down;
+        values = c.values;
+      };
+  key = λ terminal key link such k c.
+      let outcome = pressed app.columns key link.term.display.keyboard link.term.display.screen in
+      let is = keep app.columns key link.term.display.keyboard link.term.display.screen such c.screen in
+      record {
+        screen = is;
+        spelt = sent_all CanBeSpelt link.lost link.up (data_of (is_bound link.term) outcome.answer outcome.screen) c.spelt (key_sends read (is_bound link.term) outcome.answer outcome.screen is);
+        paints = c.paints;
+        values = c.values;
+      };
+  loses = λ link c. record { screen = c.screen; spelt = c.spelt; paints = c.paints; values = c.values };
+  host_leaves = λ link c. record { screen = c.screen; spelt = c.spelt; paints = c.paints; values = c.values };
+  term_leaves = λ link c. record { screen = c.screen; spelt = c.spelt; paints = c.paints; values = c.values };
+  fresh = blank_sendable app.size same;
+  alone = λ link k c. c.screen;
+  key_alone = λ terminal key display such is. keep app.columns key display.keyboard display.screen such is;
+}
+
+-- ---- the theorems
+
+-- an application that asks for such screens has the profile's size
+size_is : (app : Application) → IsApplication app → AsksForScreens app → app.size ≡ cell_count
+size_is app is asks = sym (is.showable 0 [] Fresh false).cells ∙ (asks 0 [] Fresh false (All-nil AreCharacters)).size
+
+in_place : (world : World) (place : Place) → ((number : ℕ) → CanSend (world.link number)) → InPlace (λ display. IsSendable display.screen) place → IsSendable (display_at world place).screen
+in_place world (Place.At number) can is = (can number).screen
+in_place world (Place.Alone display) can is = is
+
+-- of each connection and each display
+all_can : SentIsRead → Given → AlwaysTyped (λ world. Everywhere CanSend (λ display. IsSendable display.screen) world.link world.place)
+all_can read given app pool terminals events is asks lists few are typed =
+    everywhere given app is IsTyped CanSend (λ display. IsSendable display.screen) (steps read given.sendable app asks (size_is app is asks)) pool terminals events lists are typed
+
+pub screens_are_sendable : SentIsRead → Given → AlwaysTyped ScreensAreSendable
+screens_are_sendable read given app pool terminals events is asks lists few are typed terminal =
+    let world : World = run app events (new_world app pool terminals) in
+    let all = all_can read given app pool terminals events is asks lists few are typed in
+    in_place world (world.place terminal) all.links (all.places terminal)
+
+pub data_can_be_spelt : SentIsRead → Given → AlwaysTyped DataCanBeSpelt
+data_can_be_spelt read given app pool terminals events is asks lists few are typed number =
+    ((all_can read given app pool terminals events is asks lists few are typed).links number).spelt
+
+pub paints_are_screens : SentIsRead → Given → AlwaysTyped PaintsAreScreens
+paints_are_screens read given app pool terminals events is asks lists few are typed number =
+    ((all_can read given app pool terminals events is asks lists few are typed).links number).paints
+
+message_spelt : PaintIsSpelt → (message : ToTerminal) → PaintsAScreen message → IsSpelt message
+message_spelt law (ToTerminal.TalksDown saying) is = tt
+message_spelt law (ToTerminal.Paint number wanted over) is = law over wanted is
+message_spelt law (ToTerminal.ReadBuffer number) is = tt
+
+messages_spelt : PaintIsSpelt → (messages : List ToTerminal) → All PaintsAScreen messages → All IsSpelt messages
+messages_spelt law [] each = All-nil IsSpelt
+messages_spelt law (message ∷ messages) each =
+    All-cons IsSpelt message messages (message_spelt law message (All-head PaintsAScreen message messages each)) (messages_spelt law messages (All-tail PaintsAScreen message messages each))
+
+pub paints_are_spelt : SentIsRead → Given → AlwaysTyped PaintsAreSpelt
+paints_are_spelt read given app pool terminals events is asks lists few are typed number =
+    messages_spelt given.spelt ((run app events (new_world app pool terminals)).link number).down
+    (paints_are_screens read given app pool terminals events is asks lists few are typed number)
+
+pub values_are_texts : SentIsRead → Given → AlwaysTyped ValuesAreTexts
+values_are_texts read given app pool terminals events is asks lists few are typed number =
+    ((all_can read given app pool terminals events is asks lists few are typed).links number).values

@@ -1,0 +1,81 @@
+-- What is sent can be spelt: the screen before each operator is always one that can be sent, and each paint is a command of the
+-- data stream (our profile).
+use Rattle.std.specs.Prelude.{◌≡◌, ◌≤◌, ◌<◌, ⊤, ℕ, List, length, All}
+use Rattle.codes3270.specs.Size.{cell_count}
+use Rattle.datastream.specs.Grammar.{IsCommand}
+use Rattle.datastream.specs.InboundFields.{IsSendable}
+use Rattle.datastream.specs.InboundText.{IsInbound}
+use Rattle.datastream.specs.Wanted.{IsScreen}
+use Rattle.datastream.specs.Screen.{Screen}
+use Rattle.keyboard.specs.Sendable.{IsKey}
+use Rattle.lu_pool.specs.Pool.{IsPool}
+use Rattle.lu_pool.specs.declared.entry.Entry.{Entry}
+use Rattle.host_core.specs.Application.{Application, IsApplication, AsksForScreens, AreTexts}
+use Rattle.host_core.specs.Messages.{ToTerminal, ToHost}
+use Rattle.shadow.specs.Paint.{paint, paint_bytes}
+use Rattle.world3270.specs.Terminal.{Display}
+use Rattle.world3270.specs.World.{Place, World, Event, AreEvents, new_world, run}
+
+-- what the operator of a terminal has before him
+abbrev pub display_at : World → Place → Display
+display_at world (Place.At number) = (world.link number).term.display
+display_at world (Place.Alone display) = display
+
+-- the screen has the size of the application's, with the cursor on it
+pub record HasSize (size : ℕ) (screen : Screen) : Type 0 where
+  pub whole : length screen.cells ≡ size
+  pub cursor : screen.cursor < size
+
+-- Over every list of events each terminal's screen keeps the application's size.
+abbrev pub ScreensKeepTheirSize : Type 0
+ScreensKeepTheirSize = (app : Application) (pool : List Entry) (terminals : ℕ) (events : List Event)
+    → IsApplication app → IsPool pool → terminals ≤ 16 → AreEvents events
+    → let world = run app events (new_world app pool terminals) in (terminal : ℕ) → HasSize app.size (display_at world (world.place terminal)).screen
+
+-- an event's key is one that a terminal has
+abbrev pub IsTyped : Event → Type 0
+IsTyped (Event.Press terminal key) = IsKey key
+IsTyped _ = ⊤
+
+-- Over every list of events with such keys, for any application that asks for screens of the profile.
+abbrev pub AlwaysTyped : (World → Type 0) → Type 0
+AlwaysTyped Holds = (app : Application) (pool : List Entry) (terminals : ℕ) (events : List Event)
+    → IsApplication app → AsksForScreens app → IsPool pool → terminals ≤ 16 → AreEvents events → All IsTyped events → Holds (run app events (new_world app pool terminals))
+
+-- Each terminal's screen can be sent.
+abbrev pub ScreensAreSendable : World → Type 0
+ScreensAreSendable world = (terminal : ℕ) → IsSendable (display_at world (world.place terminal)).screen
+
+-- some bytes are the data
+abbrev pub CanBeSpelt : ToHost → Type 0
+CanBeSpelt (ToHost.TalksUp saying) = ⊤
+CanBeSpelt (ToHost.Data parts) = (body : List ℕ) × IsInbound parts body
+CanBeSpelt (ToHost.Response number verdict) = ⊤
+
+-- All data under way to the host can be spelt.
+abbrev pub DataCanBeSpelt : World → Type 0
+DataCanBeSpelt world = (number : ℕ) → All CanBeSpelt (world.link number).up
+
+-- what is painted is a screen of the profile
+abbrev pub PaintsAScreen : ToTerminal → Type 0
+PaintsAScreen (ToTerminal.TalksDown saying) = ⊤
+PaintsAScreen (ToTerminal.Paint number wanted over) = IsScreen wanted
+PaintsAScreen (ToTerminal.ReadBuffer number) = ⊤
+
+-- All paints under way are of such screens.
+abbrev pub PaintsAreScreens : World → Type 0
+PaintsAreScreens world = (number : ℕ) → All PaintsAScreen (world.link number).down
+
+-- a paint's bytes spell its orders
+abbrev pub IsSpelt : ToTerminal → Type 0
+IsSpelt (ToTerminal.TalksDown saying) = ⊤
+IsSpelt (ToTerminal.Paint number wanted over) = IsCommand (paint cell_count over wanted) (paint_bytes cell_count over wanted)
+IsSpelt (ToTerminal.ReadBuffer number) = ⊤
+
+-- All paints under way are commands of the data stream.
+abbrev pub PaintsAreSpelt : World → Type 0
+PaintsAreSpelt world = (number : ℕ) → All IsSpelt (world.link number).down
+
+-- The values that the host has are characters, and no nulls.
+abbrev pub ValuesAreTexts : World → Type 0
+ValuesAreTexts world = (number : ℕ) → AreTexts (world.link number).host.values
