@@ -1,7 +1,8 @@
 //! Laws of the keys, for proofs in the crates above. Each is the contract of a function that does nothing.
 ghost use Rattle.keyboard.specs.Laws.{KeysLeave, KeysKeep, EraseInputIsWalked, KeysStayOnTheScreen, RefusalsSetTheLockAlone, ResetAloneActsUnderALock, NoKeyEndsWait, NearestOnward, NearestBackward, NoneOnward, NoneBackward, HomeIsTabFromTheEnd, EditsMarkTheirField, EditsRewriteTheText, FirstNullMakesRoom, NoNullNoRoom, DeleteBringsInANull};
-ghost use Rattle.keyboard.specs.Sendable.{KeysKeepSendable};
+ghost use Rattle.keyboard.specs.Sendable.{IsKey, KeysKeepSendable};
 
+use crate::Key;
 use datastream::kept_since_the_write;
 
 /// Does nothing: its contract says what keys leave of the cells, each of those that it found, and all together of those
@@ -22,6 +23,21 @@ pub fn what_keys_leave_can_be_sent()
     ensures { KeysKeepSendable }
 {
     keys_keep_what_was_left();
+}
+
+/// Does nothing: its contract says that a key is one that a terminal has, as the numbers in it are in range.
+pub fn keys_are_real(key: &Key)
+    ensures { IsKey key.now }
+{
+    match key {
+        Key::Pf(number) => {
+            let _in_range = number.get();
+        }
+        Key::Pa(number) => {
+            let _in_range = number.get();
+        }
+        _ => {}
+    }
 }
 
 /// Does nothing: its contract says that a refused key changes the lock alone, if that, and that at a lock only Reset acts,
