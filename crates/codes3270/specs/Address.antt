@@ -1,4 +1,4 @@
--- Buffer addresses (GA23-0059, "Buffer addressing").
+-- Buffer addresses (GA23-0059-07 on buffer addressing).
 use Rattle.std.specs.Prelude.{ℕ, ◌+◌, ◌*◌, ◌/◌, ◌%◌, List, [], ◌∷◌, nat_lt, if◌then◌else◌}
 use Rattle.codes3270.specs.SixBit.{six_bit_code}
 

@@ -1,11 +1,11 @@
--- Attention identifiers: what key sent the data (GA23-0059, "Attention identification").
+-- Attention identifiers: what key sent the data (GA23-0059-07 on attention identification).
 use Rattle.std.specs.Prelude.{◌==◌, ℕ, ◌+◌, ◌-◌, ◌≤◌, ⊤, List, [], ◌∷◌, ◌++◌, Bool, true, false, Option, Some, slice_index, if◌then◌else◌}
 use Rattle.std.specs.List.{range_with_len, position}
 use Rattle.std.specs.Option.{option_map, option_or}
 use Rattle.codes3270.specs.declared.attention.Aid.{Aid}
 use Rattle.codes3270.specs.declared.attention.Aid.TheVariants.{NoAid, Enter, Clear, Pf, Pa}
 
--- an identifier of a key that a terminal has: the keys are PF1 to PF24 and PA1 to PA3
+-- an identifier that a terminal has: of no key, Enter, Clear, PF1 to PF24, PA1 to PA3
 abbrev pub IsRealAid : Aid → Type 0
 IsRealAid NoAid = ⊤
 IsRealAid Enter = ⊤
@@ -39,7 +39,7 @@ aid_of byte =
     if byte == 0x60 then Some NoAid else if byte == 0x7D then Some Enter else if byte == 0x6D then Some Clear
     else option_or (option_map Pf (key_number pf_codes byte)) (option_map Pa (key_number pa_codes byte))
 
--- whether a read that answers this key has the identifier alone
+-- whether a read that answers this key has the identifier alone (GA23-0059-07 on short reads)
 abbrev pub is_short_aid : Aid → Bool
 is_short_aid NoAid = false
 is_short_aid Enter = false

@@ -1,4 +1,5 @@
--- EBCDIC code page 037, the one that our profile has: what the codes 0x40 to 0xFE mean in ISO 8859-1.
+-- EBCDIC code page 037, the one that our profile has: what the codes 0x40 to 0xFE mean in ISO 8859-1. The table is that of
+-- Python's codec cp037.
 use Rattle.std.specs.Prelude.{◌==◌, ℕ, ◌+◌, ◌-◌, List, [], ◌∷◌, Option, None, Some, if◌then◌else◌, slice_index}
 use Rattle.std.specs.Int.{is_in_range}
 use Rattle.std.specs.List.{position}

@@ -1,4 +1,4 @@
--- The graphic codes of six-bit values (GA23-0059, "Code structure").
+-- The graphic codes of six-bit values (GA23-0059-07 on graphic codes).
 use Rattle.std.specs.Prelude.{◌==◌, ℕ, Bool, List, ◌++◌, slice_index}
 use Rattle.std.specs.List.{range_with_len, list_any}
 

@@ -1,4 +1,4 @@
-//! Buffer addresses (GA23-0059, "Buffer addressing").
+//! Buffer addresses (GA23-0059-07 on buffer addressing).
 ghost use Rattle.std.specs.Prelude.{◌≡◌, ◌<◌, ◌≤◌, ◌+◌, ◌-◌, ◌%◌, true, SomeIff, slice_index, MatchResult};
 ghost use Rattle.codes3270.specs.Size.{cell_count};
 ghost use Rattle.codes3270.specs.Address.{address_bytes, address_of};
@@ -10,7 +10,7 @@ use std::error::Error;
 use std::fmt;
 use std::marker::Model;
 
-/// The place of a cell on the screen (GA23-0059, "Buffer addressing"), below `CELLS`: cells count from 0, row by row.
+/// The place of a cell on the screen (GA23-0059-07 on buffer addressing), below `CELLS`: cells count from 0, row by row.
 /// Contracts see it as a number.
 #[derive(Clone, Copy, Debug, PartialEq, Eq)]
 pub struct Addr {
@@ -109,7 +109,7 @@ impl Addr {
     }
 }
 
-/// The two bytes that an address is written as (GA23-0059, "Buffer addressing"): the graphic codes of its high and of its
+/// The two bytes that an address is written as (GA23-0059-07 on buffer addressing): the graphic codes of its high and of its
 /// low six bits. Twelve bits hold every address of the screen.
 pub fn addr_to_bytes(addr: Addr) -> [u8; 2]
     ensures bytes { result ≡ address_bytes addr }
@@ -124,7 +124,7 @@ pub fn addr_to_bytes(addr: Addr) -> [u8; 2]
     ]
 }
 
-/// The address that two bytes are read as (GA23-0059, "Buffer addressing"): of fourteen bits where the top two bits of the
+/// The address that two bytes are read as (GA23-0059-07 on buffer addressing): of fourteen bits where the top two bits of the
 /// first are 0, else of twelve, whose bytes need not be graphic codes. `TooLarge` exactly where it isn't below `CELLS`.
 pub fn addr_from_bytes(bytes: [u8; 2]) -> Result<Addr, AddrFault>
     ensures { let address = address_of (slice_index bytes 0) (slice_index bytes 1) in

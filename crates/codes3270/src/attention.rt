@@ -1,10 +1,10 @@
-//! Attention identifiers (GA23-0059, "Attention identification").
+//! Attention identifiers (GA23-0059-07 on attention identification).
 ghost use Rattle.std.specs.Prelude.{◌≡◌, ◌==◌, ◌-◌, ◌<◌, ◌≤◌, ◌+◌, SomeIff, IfSome, length, slice_index, position};
 ghost use Rattle.codes3270.specs.Aid.{IsRealAid, byte_of_aid, aid_of, is_short_aid, pf_codes, pa_codes, key_number};
 
 use std::marker::Model;
 
-/// The number of a program function key, 1 to 24 (GA23-0059, "Attention identification"). Contracts see it as a number.
+/// The number of a program function key, 1 to 24 (GA23-0059-07 on attention identification). Contracts see it as a number.
 #[derive(Clone, Copy, Debug, PartialEq, Eq)]
 pub struct PfNo {
     number: u8,
@@ -22,7 +22,7 @@ impl Model for PfNo {
     ghost inverse = { λ number. record { number = number } };
 }
 
-/// The number of a program attention key, 1 to 3 (GA23-0059, "Attention identification"). Contracts see it as a number.
+/// The number of a program attention key, 1 to 3 (GA23-0059-07 on attention identification). Contracts see it as a number.
 #[derive(Clone, Copy, Debug, PartialEq, Eq)]
 pub struct PaNo {
     number: u8,
@@ -40,7 +40,7 @@ impl Model for PaNo {
     ghost inverse = { λ number. record { number = number } };
 }
 
-/// What key sent the data (GA23-0059, "Attention identification").
+/// What key sent the data (GA23-0059-07 on attention identification).
 #[derive(Clone, Copy, Debug, PartialEq, Eq)]
 pub enum Aid {
     /// No key: none was pressed since the keyboard was restored.
@@ -106,7 +106,7 @@ impl PaNo {
     }
 }
 
-/// The byte of an identifier (GA23-0059, "Attention identification").
+/// The byte of an identifier (GA23-0059-07 on attention identification).
 pub fn aid_byte(aid: Aid) -> u8
     ensures byte { result ≡ byte_of_aid aid }
     ensures read_back { aid_of result ≡ Some aid }
@@ -123,7 +123,7 @@ pub fn aid_byte(aid: Aid) -> u8
 
 impl Aid {
     /// Whether a read that answers this key has the identifier alone: after Clear and the program attention keys
-    /// (GA23-0059, "Short read").
+    /// (GA23-0059-07 on short reads).
     pub fn is_short(self) -> bool
         ensures { result ≡ is_short_aid self }
     {
@@ -151,7 +151,7 @@ fn number_of_key(codes: &[u8], byte: u8) -> Option<u8>
     Some(place as u8 + 1)
 }
 
-/// The identifier with a byte; None where no key has it (GA23-0059, "Attention identification"; our profile has no light
+/// The identifier with a byte; None where no key has it (GA23-0059-07 on attention identification; our profile has no light
 /// pen, card reader or structured field).
 pub fn aid_from_byte(byte: u8) -> Option<Aid>
     ensures aid { result ≡ aid_of byte }

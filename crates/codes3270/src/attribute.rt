@@ -1,4 +1,4 @@
-//! Field attributes (GA23-0059, "Field attributes"), and cells.
+//! Field attributes (GA23-0059-07 on field attributes), and cells.
 ghost use Rattle.std.specs.Prelude.{◌≡◌, ◌↔◌, IsTrue, true};
 ghost use Rattle.codes3270.specs.Attribute.{attr_of, attr_byte, display_of, display_bits};
 ghost use Rattle.codes3270.specs.SixBit.{is_six_bit_code};
@@ -6,7 +6,7 @@ ghost use Rattle.codes3270.specs.declared.attribute.Display.TheVariants.{Bright,
 
 use crate::six_bit::code_of_value;
 
-/// How the characters of a field are shown: the display bits of its attribute (GA23-0059, "Field attributes").
+/// How the characters of a field are shown: the display bits of its attribute (GA23-0059-07 on field attributes).
 #[derive(Clone, Copy, Debug, PartialEq, Eq)]
 pub enum Display {
     /// At normal intensity.
@@ -19,7 +19,7 @@ pub enum Display {
     Hidden,
 }
 
-/// The attribute of a field (GA23-0059, "Field attributes"). It takes the cell before the field's first.
+/// The attribute of a field (GA23-0059-07 on field attributes). It takes the cell before the field's first.
 #[derive(Clone, Copy, Debug, PartialEq, Eq)]
 pub struct Attr {
     /// The operator can't change the field.
@@ -32,7 +32,7 @@ pub struct Attr {
     pub mdt: bool,
 }
 
-/// What one cell of the screen has (GA23-0059, "Field attributes").
+/// What one cell of the screen has (GA23-0059-07 on field attributes).
 #[derive(Clone, Copy, Debug, PartialEq, Eq)]
 pub enum Cell {
     /// A character, as its EBCDIC code: one that `storable` takes.
@@ -128,7 +128,7 @@ impl Attr {
     }
 }
 
-/// The byte that an attribute is written as: the graphic code of its six bits (GA23-0059, "Code structure").
+/// The byte that an attribute is written as: the graphic code of its six bits (GA23-0059-07 on graphic codes).
 pub fn attr_code(attr: Attr) -> u8
     ensures byte { result ≡ attr_byte attr }
     ensures read_back { attr_of result ≡ attr }

@@ -1,8 +1,9 @@
-//! The codes of the 3270 data stream (GA23-0059), for a 3278 model 2: buffer addresses, field attributes, write control
+//! The codes of the 3270 data stream (GA23-0059-07), for a 3278 model 2: buffer addresses, field attributes, write control
 //! characters, attention identifiers, and characters in EBCDIC code page 037.
 //!
 //! Each code is written and read: the call that writes ensures that its bytes are read back as the same value. No call
-//! allocates, and none fails but where bytes from outside mean nothing. In these documents codes are hexadecimal.
+//! allocates, and one answers None or an error only where a number, byte or character means nothing in our profile. In these
+//! documents codes are hexadecimal.
 #![tactic(auto)]
 
 mod address;

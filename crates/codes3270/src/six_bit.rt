@@ -1,4 +1,4 @@
-//! The graphic codes of six-bit values (GA23-0059, "Code structure").
+//! The graphic codes of six-bit values (GA23-0059-07 on graphic codes).
 ghost use Rattle.std.specs.Prelude.{◌≡◌, ◌<◌, true};
 ghost use Rattle.codes3270.specs.SixBit.{six_bit_code, is_six_bit_code};
 

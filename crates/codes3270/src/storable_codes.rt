@@ -1,9 +1,9 @@
-//! Which bytes a cell can hold as a character (GA23-0059, "Code structure").
+//! Which bytes a cell can hold as a character (GA23-0059-07 on character codes; our profile).
 ghost use Rattle.std.specs.Prelude.{◌≡◌};
 ghost use Rattle.codes3270.specs.Storable.{is_storable};
 
-/// Whether a cell can hold a byte as a character: null, 40 to FE, and eight control codes (GA23-0059,
-/// "Code structure"). In a write any other byte is an order's, or means nothing.
+/// Whether a cell can hold a byte as a character: null, 40 to FE, and eight control codes (GA23-0059-07 on
+/// character codes; our profile). In a write any other byte is an order's, or means nothing.
 pub fn storable(byte: u8) -> bool
     ensures { result ≡ is_storable byte }
 {

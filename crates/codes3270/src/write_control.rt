@@ -1,11 +1,11 @@
-//! The write control character (GA23-0059, "Write control character").
+//! The write control character (GA23-0059-07, "Write Control Character (WCC)").
 ghost use Rattle.std.specs.Prelude.{◌≡◌, true};
 ghost use Rattle.codes3270.specs.SixBit.{is_six_bit_code};
 ghost use Rattle.codes3270.specs.WriteControl.{wcc_of, wcc_byte};
 
 use crate::six_bit::code_of_value;
 
-/// What a write does beside its orders (GA23-0059, "Write control character").
+/// What a write does beside its orders (GA23-0059-07, "Write Control Character (WCC)").
 #[derive(Clone, Copy, Debug, PartialEq, Eq)]
 pub struct Wcc {
     /// Sound the alarm, after the orders.
@@ -17,8 +17,8 @@ pub struct Wcc {
 }
 
 impl Wcc {
-    /// The character that a byte is read as. Its other five bits, which are for printers and
-    /// partitions, are dropped, so every byte is read.
+    /// The character that a byte is read as. Its other five bits, which are for printers, for partitions or to make the
+    /// byte a graphic code, are dropped, so every byte is read.
     pub fn from_byte(byte: u8) -> Wcc
         ensures { result ≡ wcc_of byte }
     {
