@@ -51,12 +51,12 @@ pair_at wanted willing = record { host = host_at Offered 8; term = term_at wante
 pair_at wanted asked = record { host = host_at Asked 8; term = term_at wanted Willing; up = []; down = Sub (payload_sent sent.SendType) ∷ []; asked = []; answers = [] }
 pair_at wanted requested = record { host = host_at Asked 8; term = term_at wanted TypeAsked; up = Sub (payload_sent (sent.TypeRequest wanted)) ∷ []; down = []; asked = []; answers = [] }
 pair_at wanted asking = record { host = host_at (Asking Model2) 8; term = term_at wanted TypeAsked; up = []; down = []; asked = wanted ∷ []; answers = [] }
-pair_at wanted (granted lu) = record { host = host_at (Named lu) 8; term = term_at wanted TypeAsked; up = []; down = Sub (payload_sent (sent.TypeIs Model2 lu)) ∷ []; asked = []; answers = Ok lu ∷ [] }
+pair_at wanted (granted lu) = record { host = host_at (Named Model2 lu) 8; term = term_at wanted TypeAsked; up = []; down = Sub (payload_sent (sent.TypeIs Model2 lu)) ∷ []; asked = []; answers = Ok lu ∷ [] }
 pair_at wanted (rejected reason) = record { host = host_at Asked 7; term = term_at wanted TypeAsked; up = []; down = Sub (payload_sent (sent.TypeReject reason)) ∷ []; asked = []; answers = Err reason ∷ [] }
 pair_at wanted (refused reason) = record { host = host_at Asked 7; term = term_at wanted (Refused reason); up = []; down = []; asked = []; answers = Err reason ∷ [] }
-pair_at wanted (functions_asked lu) = record { host = host_at (Named lu) 8; term = term_at wanted (FunctionsAsked lu); up = Sub (payload_sent sent.FunRequest) ∷ []; down = []; asked = []; answers = Ok lu ∷ [] }
-pair_at wanted (functions_given lu) = record { host = host_at (HostAgreed lu) 8; term = term_at wanted (FunctionsAsked lu); up = []; down = Sub (payload_sent sent.FunIs) ∷ []; asked = []; answers = Ok lu ∷ [] }
-pair_at wanted (both_agreed lu) = record { host = host_at (HostAgreed lu) 8; term = term_at wanted (TermAgreed lu); up = []; down = []; asked = []; answers = Ok lu ∷ [] }
+pair_at wanted (functions_asked lu) = record { host = host_at (Named Model2 lu) 8; term = term_at wanted (FunctionsAsked lu); up = Sub (payload_sent sent.FunRequest) ∷ []; down = []; asked = []; answers = Ok lu ∷ [] }
+pair_at wanted (functions_given lu) = record { host = host_at (HostAgreed Model2 lu) 8; term = term_at wanted (FunctionsAsked lu); up = []; down = Sub (payload_sent sent.FunIs) ∷ []; asked = []; answers = Ok lu ∷ [] }
+pair_at wanted (both_agreed lu) = record { host = host_at (HostAgreed Model2 lu) 8; term = term_at wanted (TermAgreed lu); up = []; down = []; asked = []; answers = Ok lu ∷ [] }
 
 -- how many events led to a moment
 abbrev pub events_at : Moment → ℕ
@@ -160,7 +160,7 @@ record IsNext (wanted : Option (List ℕ)) (moment : Moment) (pair : Pair) : Typ
 pool_step : (wanted : Option (List ℕ)) (answer : Answer) (new : Pair) → Answers answer (pair_at wanted asking) new → IsNext wanted asking new
 pool_step wanted (Ok lu) new g = record {
   next = granted lu;
-  pair_is = pool_gave (Ok lu) _ new g wanted [] Model2 refl refl (host_at (Named lu) 8) (reply.Sub (sent.TypeIs Model2 lu) Going) refl;
+  pair_is = pool_gave (Ok lu) _ new g wanted [] Model2 refl refl (host_at (Named Model2 lu) 8) (reply.Sub (sent.TypeIs Model2 lu) Going) refl;
   is_moment = answer_to (Ok lu) _ new g wanted [] refl;
   counted = refl;
 }
@@ -187,7 +187,7 @@ granted_lu None lu h = h
 granted_lu (Some other) lu h = h.0
 
 functions_gives : (lu : List ℕ)
-    → follow HostClosed (host_at (Named lu) 8) (host_line (Named lu) (message_says (message_sent sent.FunRequest))) ≡ (host_at (HostAgreed lu) 8, reply.Sub sent.FunIs AgreedAfter)
+    → follow HostClosed (host_at (Named Model2 lu) 8) (host_line (Named Model2 lu) (message_says (message_sent sent.FunRequest))) ≡ (host_at (HostAgreed Model2 lu) 8, reply.Sub sent.FunIs AgreedAfter)
 functions_gives lu = rw responses_alone refl
 
 agreement_gives : (wanted : Option (List ℕ)) (lu : List ℕ)
@@ -235,7 +235,7 @@ step wanted wish (rejected reason) h Down new g = record {
 }
 step wanted wish (functions_asked lu) h Up new g = record {
   next = functions_given lu;
-  pair_is = host_gave _ new g (Sub (payload_sent sent.FunRequest)) [] _ refl (sent_is_heard sent.FunRequest tt) (host_at (HostAgreed lu) 8) (reply.Sub sent.FunIs AgreedAfter) (functions_gives lu);
+  pair_is = host_gave _ new g (Sub (payload_sent sent.FunRequest)) [] _ refl (sent_is_heard sent.FunRequest tt) (host_at (HostAgreed Model2 lu) 8) (reply.Sub sent.FunIs AgreedAfter) (functions_gives lu);
   is_moment = tt;
   counted = refl;
 }

@@ -42,18 +42,18 @@ host_line _ (OtherDo code) = Stays (Opt WontVerb code)
 host_line _ (OtherWill code) = Stays (Opt DontVerb code)
 host_line _ NoTalk = Stays Nothing
 host_line Asked (RequestsType device name) = request_line (device_of device) name
-host_line (Named lu) (RequestsFunctions ResponsesAlone) = Goes (Agreed lu) (Sub FunIs AgreedAfter)
-host_line (Named lu) (RequestsFunctions ResponsesAndMore) = Refuses (Countered lu) FunRequest
-host_line (Named lu) (RequestsFunctions NoResponses) = Closes NoResponsesCause
-host_line (Countered lu) (RequestsFunctions ResponsesAlone) = Goes (Agreed lu) (Sub FunIs AgreedAfter)
-host_line (Countered lu) (RequestsFunctions ResponsesAndMore) = Refuses (Countered lu) FunRequest
-host_line (Countered lu) (RequestsFunctions NoResponses) = Closes NoResponsesCause
-host_line (Countered lu) (IsFunctions ResponsesAlone) = Goes (Agreed lu) AgreedReply
+host_line (Named device lu) (RequestsFunctions ResponsesAlone) = Goes (Agreed device lu) (Sub FunIs AgreedAfter)
+host_line (Named device lu) (RequestsFunctions ResponsesAndMore) = Refuses (Countered device lu) FunRequest
+host_line (Named device lu) (RequestsFunctions NoResponses) = Closes NoResponsesCause
+host_line (Countered device lu) (RequestsFunctions ResponsesAlone) = Goes (Agreed device lu) (Sub FunIs AgreedAfter)
+host_line (Countered device lu) (RequestsFunctions ResponsesAndMore) = Refuses (Countered device lu) FunRequest
+host_line (Countered device lu) (RequestsFunctions NoResponses) = Closes NoResponsesCause
+host_line (Countered device lu) (IsFunctions ResponsesAlone) = Goes (Agreed device lu) AgreedReply
 host_line _ _ = Closes BadTalk
 
 -- the pool's answer
 abbrev pub answer_line : Device → Result (List ℕ) Reason → Line HostState
-answer_line device (Ok lu) = Goes (Named lu) (Sub (TypeIs device lu) Going)
+answer_line device (Ok lu) = Goes (Named device lu) (Sub (TypeIs device lu) Going)
 answer_line device (Err reason) = Refuses Asked (TypeReject reason)
 
 abbrev pub host_start : Talk HostState
@@ -73,10 +73,17 @@ pub record HostAnswered (old : Talk HostState) (answer : Result (List ℕ) Reaso
 
 -- the LU that was granted
 abbrev pub granted : HostState → Option (List ℕ)
-granted (Named lu) = Some lu
-granted (Countered lu) = Some lu
-granted (Agreed lu) = Some lu
+granted (Named device lu) = Some lu
+granted (Countered device lu) = Some lu
+granted (Agreed device lu) = Some lu
 granted _ = None
+
+-- the device that the terminal asked for, for which that LU was granted
+abbrev pub device_granted : HostState → Option Device
+device_granted (Named device lu) = Some device
+device_granted (Countered device lu) = Some device
+device_granted (Agreed device lu) = Some device
+device_granted _ = None
 
 -- the pool is to answer
 abbrev pub IsAsking : HostState → Type 0

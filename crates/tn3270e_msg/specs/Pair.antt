@@ -2,6 +2,7 @@
 use Rattle.std.specs.Prelude.{◌≡◌, ℕ, ◌≤◌, List, [], ◌∷◌, ◌++◌, length, Option, None, Some, Result, Ok, Err, IsTrue}
 use Rattle.telnet_wire.specs.declared.wire.Verb.TheVariants.{Do as DoVerb}
 use Rattle.telnet_wire.specs.Items.{WireItem, Opt as OptItem}
+use Rattle.tn3270e_msg.specs.declared.device.Device.TheVariants.{Model2}
 use Rattle.tn3270e_msg.specs.declared.host_talk.HostState.{HostState}
 use Rattle.tn3270e_msg.specs.declared.host_talk.HostState.TheVariants.{Agreed as HostAgreed, Closed as HostClosed}
 use Rattle.tn3270e_msg.specs.declared.term_talk.TermState.{TermState}
@@ -97,10 +98,10 @@ pub record IsSettled (pair : Pair) : Type 0 where
   pub down : pair.down ≡ []
   pub asked : pair.asked ≡ []
 
--- what the ends come to: both agreed on the LU that the pool granted, or the terminal refused for
--- the pool's reason
+-- what the ends come to: both agreed on the LU that the pool granted, the host for the device that
+-- a terminal is, or the terminal refused for the pool's reason
 abbrev pub EndsBy : List Answer → HostState → TermState → Type 0
-EndsBy (Ok lu ∷ []) host term = (host ≡ HostAgreed lu) × (term ≡ TermAgreed lu)
+EndsBy (Ok lu ∷ []) host term = (host ≡ HostAgreed Model2 lu) × (term ≡ TermAgreed lu)
 EndsBy (Err reason ∷ []) host term = term ≡ TermRefused reason
 EndsBy _ host term = ⊥
 

@@ -6,7 +6,7 @@ ghost use Rattle.tn3270e_msg.specs.Talk.{message_says, RequestsFunctions};
 ghost use Rattle.tn3270e_msg.specs.Hearing.{heard_says};
 ghost use Rattle.tn3270e_msg.specs.Lent.{name_of, message_of};
 ghost use Rattle.tn3270e_msg.specs.Device.{device_of};
-ghost use Rattle.tn3270e_msg.specs.HostTable.{host_line, request_line, answer_line, host_start, HostTakes, HostAnswered, IsAsking, granted};
+ghost use Rattle.tn3270e_msg.specs.HostTable.{host_line, request_line, answer_line, host_start, HostTakes, HostAnswered, IsAsking, granted, device_granted};
 ghost use Rattle.tn3270e_msg.specs.declared.host_talk.HostState.TheVariants.{Named, Countered};
 
 use crate::cause::Cause;
@@ -29,12 +29,12 @@ pub enum HostState {
     Asked,
     /// The pool is asked for an LU, for this device.
     Asking(Device),
-    /// An LU was granted.
-    Named(Lu),
+    /// An LU was granted, for the device that was asked for.
+    Named(Device, Lu),
     /// An LU was granted, and the terminal's functions were countered by RESPONSES alone.
-    Countered(Lu),
-    /// Both ends agreed, with this LU granted.
-    Agreed(Lu),
+    Countered(Device, Lu),
+    /// Both ends agreed, with this LU granted for this device.
+    Agreed(Device, Lu),
     /// The host closes.
     Closed(Cause),
 }
@@ -87,18 +87,18 @@ impl HostState {
                 }
                 _ => Line::Closes(Cause::BadTalk),
             },
-            HostState::Named(lu) => match message {
-                SubMessage::FunRequest(list) => functions_line(lu, Wants::of(list)),
+            HostState::Named(device, lu) => match message {
+                SubMessage::FunRequest(list) => functions_line(device, lu, Wants::of(list)),
                 _ => Line::Closes(Cause::BadTalk),
             },
-            HostState::Countered(lu) => match message {
-                SubMessage::FunRequest(list) => functions_line(lu, Wants::of(list)),
+            HostState::Countered(device, lu) => match message {
+                SubMessage::FunRequest(list) => functions_line(device, lu, Wants::of(list)),
                 SubMessage::FunIs(list) if Wants::of(list) == Wants::ResponsesAlone => {
-                    Line::Goes(HostState::Agreed(lu), Reply::Agreed)
+                    Line::Goes(HostState::Agreed(device, lu), Reply::Agreed)
                 }
                 _ => Line::Closes(Cause::BadTalk),
             },
-            HostState::Offered | HostState::Asking(_) | HostState::Agreed(_) => {
+            HostState::Offered | HostState::Asking(_) | HostState::Agreed(_, _) => {
                 Line::Closes(Cause::BadTalk)
             }
         }
@@ -129,17 +129,20 @@ fn request_line(device: Option<Device>, name: Option<Name>) -> Line<HostState>
     }
 }
 
-// A functions request, once this LU is granted.
-fn functions_line(lu: Lu, wants: Wants) -> Line<HostState>
-    ensures named { result ≡ host_line (Named lu) (RequestsFunctions wants) }
-    ensures countered { result ≡ host_line (Countered lu) (RequestsFunctions wants) }
+// A functions request, once this LU is granted for this device.
+fn functions_line(device: Device, lu: Lu, wants: Wants) -> Line<HostState>
+    ensures named { result ≡ host_line (Named device lu) (RequestsFunctions wants) }
+    ensures countered { result ≡ host_line (Countered device lu) (RequestsFunctions wants) }
 {
     match wants {
         Wants::ResponsesAlone => Line::Goes(
-            HostState::Agreed(lu),
+            HostState::Agreed(device, lu),
             Reply::Sub(Sending::FunIs, After::Agreed),
         ),
-        Wants::ResponsesAndMore => Line::Refuses(HostState::Countered(lu), Sending::FunRequest),
+        Wants::ResponsesAndMore => Line::Refuses(
+            HostState::Countered(device, lu),
+            Sending::FunRequest,
+        ),
         Wants::NoResponses => Line::Closes(Cause::NoResponses),
     }
 }
@@ -194,7 +197,7 @@ impl HostTalk {
         };
         let line = match answer {
             Ok(lu) => Line::Goes(
-                HostState::Named(lu),
+                HostState::Named(device, lu),
                 Reply::Sub(Sending::TypeIs(device, lu), After::Going),
             ),
             Err(reason) => Line::Refuses(HostState::Asked, Sending::TypeReject(reason)),
@@ -215,7 +218,22 @@ impl HostTalk {
         ensures { result ≡ granted self.now.state }
     {
         match self.state {
-            HostState::Named(lu) | HostState::Countered(lu) | HostState::Agreed(lu) => Some(lu),
+            HostState::Named(_, lu) | HostState::Countered(_, lu) | HostState::Agreed(_, lu) => {
+                Some(lu)
+            }
+            _ => None,
+        }
+    }
+
+    /// The device that the terminal asked for, for which its LU was granted; None before, and once
+    /// the talk closed.
+    pub fn device(&self) -> Option<Device>
+        ensures { result ≡ device_granted self.now.state }
+    {
+        match self.state {
+            HostState::Named(device, _)
+            | HostState::Countered(device, _)
+            | HostState::Agreed(device, _) => Some(device),
             _ => None,
         }
     }

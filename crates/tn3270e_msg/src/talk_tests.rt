@@ -96,6 +96,7 @@ fn a_terminal_is_granted_the_lu_that_it_wants(rt: HostRuntime) -> Result<(), Fai
     assert_eq!(rt; terminal.state(), TermState::Agreed(wanted));
     assert_eq!(rt; terminal.lu(), Some(wanted));
     assert_eq!(rt; host.lu(), Some(wanted));
+    assert_eq!(rt; host.device(), Some(Device::Model2));
     Ok(())
 }
 
