@@ -1,9 +1,14 @@
--- The values of fields, by the fields' numbers.
-use Rattle.std.specs.Prelude.{ℕ, List, Option}
+-- The values of fields, by the fields' numbers (our profile).
+use Rattle.std.specs.Prelude.{ℕ, List, Option, None, Some}
 use Rattle.std.specs.Map.{lookup}
-use Rattle.std.specs.BTreeMap.{is_at}
+use Rattle.std.specs.BTreeMap.{insert_entry, is_at}
 use Rattle.std.specs.Ordering.{nat_cmp}
 
 -- the value of the field with a number, if it has one
 abbrev pub value_of : List (ℕ × List ℕ) → ℕ → Option (List ℕ)
 value_of values field = lookup (is_at (nat_cmp field)) values
+
+-- the values once that of a field is set, where there is a text for it
+abbrev pub set_if : ℕ → Option (List ℕ) → List (ℕ × List ℕ) → List (ℕ × List ℕ)
+set_if field None values = values
+set_if field (Some text) values = insert_entry nat_cmp values field text

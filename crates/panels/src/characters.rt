@@ -23,6 +23,18 @@ impl Model for Characters {
     ghost invariant = { λ characters. AreCharacters characters.bytes.items };
 }
 
+impl Clone for Characters {
+    ghost use Rattle.std.specs.Prelude.{◌≡◌};
+
+    ghost is_clone = { λ old new. new ≡ old };
+
+    fn clone(&self) -> Result<Characters, AllocError> {
+        Ok(Characters {
+            bytes: self.bytes.clone()?,
+        })
+    }
+}
+
 impl Characters {
     /// A copy of bytes, which are storable and no nulls.
     pub fn copy(alloc: Global, bytes: &[u8]) -> Result<Characters, AllocError>

@@ -1,7 +1,9 @@
 //! The values of fields.
-ghost use Rattle.std.specs.Prelude.{◌≡◌, ◌≢◌, ℕ, [], Some, option_copied, OnOk, OnErr, IfSome};
+ghost use Rattle.std.specs.Prelude.{◌≡◌, ◌≢◌, ℕ, [], Some, option_copied, option_map, OnOk, OnErr, IfSome};
+ghost use Rattle.std.specs.BTreeMap.{insert_entry};
+ghost use Rattle.std.specs.Ordering.{nat_cmp};
 ghost use Rattle.panels.specs.Characters.{AreCharacters};
-ghost use Rattle.panels.specs.Values.{value_of};
+ghost use Rattle.panels.specs.Values.{value_of, set_if};
 
 use crate::characters::Characters;
 use std::alloc::{AllocError, Global};
@@ -21,6 +23,20 @@ impl Model for Values {
     ghost Value = { List (ℕ × List ℕ) };
 
     ghost view = { λ values. values.values.entries };
+}
+
+/// A copy has the same values. Where memory is wanting there is none, and the first has what it had.
+impl Clone for Values {
+    ghost use Rattle.std.specs.Prelude.{◌≡◌};
+
+    ghost is_clone = { λ old new. new ≡ old };
+
+    fn clone(&self) -> Result<Values, AllocError> {
+        Ok(Values {
+            alloc: self.alloc,
+            values: self.values.clone()?,
+        })
+    }
 }
 
 impl Values {
@@ -48,6 +64,7 @@ impl Values {
     /// Gives a field a copy of bytes as its value. Where memory is wanting nothing changes.
     pub fn set(&mut self, field: usize, bytes: &[u8]) -> Result<(), AllocError>
         requires { AreCharacters bytes.now }
+        ensures entries { OnOk result (self.new ≡ insert_entry nat_cmp self.old field bytes.now) }
         ensures value { OnOk result (value_of self.new field ≡ Some bytes.now) }
         ensures others { OnOk result ((other : ℕ) → other ≢ field → value_of self.new other ≡ value_of self.old other) }
         ensures err { OnErr result (self.new ≡ self.old) }
@@ -56,6 +73,19 @@ impl Values {
         match self.values.insert(field, value) {
             Ok(_) => Ok(()),
             Err(_) => Err(AllocError),
+        }
+    }
+
+    /// The same, where there are bytes; without any nothing changes. So that a host changes the values of a panel's fields all
+    /// or none, it sets them one by one in a copy.
+    pub fn set_if(&mut self, field: usize, known: Option<&[u8]>) -> Result<(), AllocError>
+        requires { IfSome known (λ bytes. AreCharacters bytes.now) }
+        ensures values { OnOk result (self.new ≡ set_if field (option_map (λ bytes. bytes.now) known.entry) self.old) }
+        ensures err { OnErr result (self.new ≡ self.old) }
+    {
+        match known {
+            Some(bytes) => self.set(field, bytes),
+            None => Ok(()),
         }
     }
 }
