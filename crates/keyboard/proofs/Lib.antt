@@ -10,3 +10,4 @@ pub mod Marked
 pub mod Inside
 pub mod Homes
 pub mod Sendable
+pub mod SentKeys

@@ -6,3 +6,4 @@ pub mod Keys
 pub mod Leaves
 pub mod Laws
 pub mod Sendable
+pub mod Sending

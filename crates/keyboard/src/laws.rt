@@ -1,6 +1,7 @@
 //! Laws of the keys, for proofs in the crates above. Each is the contract of a function that does nothing.
 ghost use Rattle.keyboard.specs.Laws.{KeysLeave, KeysKeep, EraseInputIsWalked, KeysStayOnTheScreen, RefusalsSetTheLockAlone, ResetAloneActsUnderALock, NoKeyEndsWait, NearestOnward, NearestBackward, NoneOnward, NoneBackward, HomeIsTabFromTheEnd, EditsMarkTheirField, EditsRewriteTheText, FirstNullMakesRoom, NoNullNoRoom, DeleteBringsInANull};
 ghost use Rattle.keyboard.specs.Sendable.{IsKey, KeysKeepSendable};
+ghost use Rattle.keyboard.specs.Sending.{SendingWaits, ClearEmptiesTheScreen, SilentKeysKeepTheAid, SilentKeysBeginNoWait, NothingIsSentAtALock};
 
 use crate::Key;
 use datastream::kept_since_the_write;
@@ -46,6 +47,16 @@ pub fn locks_hold()
     ensures refused { RefusalsSetTheLockAlone }
     ensures reset_alone { ResetAloneActsUnderALock }
     ensures wait { NoKeyEndsWait }
+{}
+
+/// Does nothing: its contract says that a key that sends leaves its identifier on the screen and the keyboard waiting, that
+/// Clear empties the screen, and that a key that sends nothing keeps the AID and begins no wait. At a lock no key sends.
+pub fn sent_keys_wait()
+    ensures sends { SendingWaits }
+    ensures clears { ClearEmptiesTheScreen }
+    ensures keeps { SilentKeysKeepTheAid }
+    ensures begins_no_wait { SilentKeysBeginNoWait }
+    ensures locked { NothingIsSentAtALock }
 {}
 
 /// Does nothing: its contract says that Tab, Back Tab, New Line and autoskip go to the nearest place that they look for, round

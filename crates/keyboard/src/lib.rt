@@ -23,5 +23,5 @@ pub use key::{Key, Lock, Pressed, Refusal};
 pub use keyboard::Keyboard;
 pub use laws::{
     edits_rewrite_the_text, keys_are_real, keys_go_to_the_nearest, keys_keep_what_was_left,
-    locks_hold, what_keys_leave_can_be_sent,
+    locks_hold, sent_keys_wait, what_keys_leave_can_be_sent,
 };
