@@ -117,7 +117,7 @@ alone_or_long bytes x y high low text is_x is_y = cc
 same_cursor : (a b c d x y : ℕ) → x ≡ address_of a b → y ≡ address_of c d → a ≡ c → b ≡ d → x ≡ y
 same_cursor a b c d x y is_x is_y e f = is_x ∙ rw (e, f) (sym is_y)
 
-one_inbound : (a b : InboundParts) (bytes : List ℕ) → a.form ≡ b.form → IsInbound a bytes → IsInbound b bytes → a ≡ b
+pub one_inbound : (a b : InboundParts) (bytes : List ℕ) → a.form ≡ b.form → IsInbound a bytes → IsInbound b bytes → a ≡ b
 one_inbound a b bytes same (alone x alone_a known_a cursor_a none_a is_a) (alone y alone_b known_b cursor_b none_b is_b) =
     same_inbound a.form b.form a.aid b.aid a.cursor b.cursor a.parts b.parts same (same_aid a.aid b.aid x y known_a known_b (head_is bytes x y [] [] is_a is_b)) (cursor_a ∙ sym cursor_b) (none_a ∙ sym none_b)
 one_inbound a b bytes same (alone x alone_a known_a cursor_a none_a is_a) (long y c d m t long_b known_b cursor_b address_b are_b whole_b is_b) =

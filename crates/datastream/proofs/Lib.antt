@@ -11,6 +11,7 @@ pub mod OrderPlaces
 pub mod Texts
 pub mod FieldViews
 pub mod HeldRounds
+pub mod Notes
 pub mod InboundFront
 pub mod InboundSequences
 pub mod InboundData

@@ -3,7 +3,8 @@ use Rattle.std.specs.Prelude.{◌≡◌, ℕ, Bool, false, List, All, length}
 use Rattle.codes3270.specs.declared.write_control.Wcc.{Wcc}
 use Rattle.datastream.specs.declared.command_code.CommandCode.{CommandCode}
 use Rattle.datastream.specs.declared.order.Order.{Order}
-use Rattle.datastream.specs.Grammar.{IsCommand}
+use Rattle.datastream.specs.Grammar.{CommandParts, IsCommand}
+use Rattle.datastream.specs.InboundText.{InboundParts, IsInbound}
 use Rattle.datastream.specs.Meaning.{Draft, all_ordered}
 use Rattle.datastream.specs.OrderPlaces.{ByPlace}
 use Rattle.datastream.specs.Writing.{Call, IsAllowed, command_bytes, command_of_calls}
@@ -22,3 +23,12 @@ TabsByPlace = (orders : List Order) (start : Draft)
 abbrev pub OnlyByPlace : Type 0
 OnlyByPlace = (orders : List Order) (start : Draft) (drafts : ℕ → Draft) (nulls : ℕ → Bool)
     → ByPlace orders start drafts nulls → drafts (length orders) ≡ all_ordered orders false start
+
+-- Bytes spell one command at most (GA23-0059-07, "3270 Data Stream Commands").
+abbrev pub OneCommand : Type 0
+OneCommand = (bytes : List ℕ) (command other : CommandParts) → IsCommand command bytes → IsCommand other bytes → command ≡ other
+
+-- Bytes are one inbound data of each form at most.
+abbrev pub OneInbound : Type 0
+OneInbound = (bytes : List ℕ) (inbound other : InboundParts) → inbound.form ≡ other.form
+    → IsInbound inbound bytes → IsInbound other bytes → inbound ≡ other

@@ -10,6 +10,8 @@ pub mod Inbound
 pub mod Held
 pub mod HeldRound
 pub mod HeldLaws
+pub mod Note
+pub mod NoteLaws
 pub mod FieldLaws
 pub mod OrderPlaces
 pub mod Laws

@@ -1,13 +1,20 @@
 //! Laws of the definitions in `specs/`, for proofs in the crates above. Each is the contract of a function that does nothing.
 ghost use Rattle.datastream.specs.FieldLaws.{EachCellHasOneField, FieldsAreListed, FieldsAscend, FieldsTakeAll, Unformatted};
 ghost use Rattle.datastream.specs.HeldLaws.{EraseInputHolds, HeldAtFirst, HeldComposes, HeldIsRound};
-ghost use Rattle.datastream.specs.Laws.{OnlyByPlace, TabsByPlace, WrittenIsRead};
+ghost use Rattle.datastream.specs.Laws.{OneCommand, OneInbound, OnlyByPlace, TabsByPlace, WrittenIsRead};
+ghost use Rattle.datastream.specs.NoteLaws.{HeldStaysProtected, NoteKeepsBounds, NoteKeepsForm, NoteKeepsHeld, NoteKeepsSendable, NotesCompose, ProtectedAreCharacters};
 ghost use Rattle.datastream.specs.SpanLaws.{DistancesLead, SpansAreSteps};
 
 /// Does nothing: its contract says that what a [`CommandWriter`](crate::CommandWriter) wrote in any calls is the command
 /// of the orders that the calls name.
 pub fn written_is_read()
     ensures { WrittenIsRead }
+{}
+
+/// Does nothing: its contract says that bytes spell one command at most, and are one inbound data of each form at most.
+pub fn one_reading()
+    ensures command { OneCommand }
+    ensures inbound { OneInbound }
 {}
 
 /// Does nothing: its contract says that a write's orders act one after another, and that a program tab nulls just behind
@@ -42,4 +49,17 @@ pub fn kept_since_the_write()
     ensures at_first { HeldAtFirst }
     ensures composes { HeldComposes }
     ensures erase_input { EraseInputHolds }
+{}
+
+/// Does nothing: its contract says what a note keeps, a Write of characters over characters: size, cursor and AID of the
+/// screen, its attributes and all other cells; and over characters of protected fields what keys kept since the write
+/// before, whatever it is written after.
+pub fn what_a_note_keeps()
+    ensures bounds { NoteKeepsBounds }
+    ensures form { NoteKeepsForm }
+    ensures sendable { NoteKeepsSendable }
+    ensures held { NoteKeepsHeld }
+    ensures still_protected { HeldStaysProtected }
+    ensures characters { ProtectedAreCharacters }
+    ensures composes { NotesCompose }
 {}

@@ -19,8 +19,9 @@
 //!
 //! `specs/` has the definitions: `Grammar` says which bytes are commands and where others go wrong, `Writing` what is
 //! written, `InboundText` which bytes are inbound data, `Screen`, `Fields` and `Span` what a screen is, `Meaning` what a
-//! command makes of it, `Inbound` what is sent of it, `Held` what keys keep of it, and `Laws` with its like what joins
-//! these. The functions [`written_is_read`] and those beside it have the laws as their contracts.
+//! command makes of it, `Inbound` what is sent of it, `Held` what keys keep of it, `Note` which writes put characters over
+//! characters alone, and `Laws` with its like what joins these. The functions [`written_is_read`] and those beside it have
+//! the laws as their contracts.
 #![tactic(auto)]
 
 mod command;
@@ -51,7 +52,8 @@ pub use inbound_laws::{parts_are_fields, sent_is_read};
 pub use inbound_part::{Form, InboundFault, Part};
 pub use inbound_reader::{Cells, Parts};
 pub use laws::{
-    fields_both_ways, kept_since_the_write, spans_are_steps, tabs_by_place, written_is_read,
+    fields_both_ways, kept_since_the_write, one_reading, spans_are_steps, tabs_by_place,
+    what_a_note_keeps, written_is_read,
 };
 pub use order::Order;
 pub use order_codes::{SET_BUFFER_ADDRESS, START_FIELD};
