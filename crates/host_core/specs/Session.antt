@@ -55,10 +55,10 @@ new_conn = record {
 
 -- both ends agreed
 abbrev pub is_agreed : HostState → Bool
-is_agreed (Agreed lu) = true
+is_agreed (Agreed device lu) = true
 is_agreed Offered = false
 is_agreed Asked = false
 is_agreed (Asking device) = false
-is_agreed (Named lu) = false
-is_agreed (Countered lu) = false
+is_agreed (Named device lu) = false
+is_agreed (Countered device lu) = false
 is_agreed (Closed cause) = false

@@ -4,6 +4,7 @@ use Rattle.panels.specs.declared.message.Message.{Message}
 use Rattle.panels.specs.declared.message.Message.TheVariants.{Fresh}
 use Rattle.panels.specs.Screen.{Values}
 use Rattle.shadow.specs.Meets.{Meets}
+use Rattle.tn3270e_msg.specs.declared.device.Device.TheVariants.{Model2}
 use Rattle.tn3270e_msg.specs.Talk.{Talk, start_at, Saying}
 use Rattle.tn3270e_msg.specs.declared.host_talk.HostState.{HostState}
 use Rattle.tn3270e_msg.specs.declared.host_talk.HostState.TheVariants.{Agreed as HostAgreed}
@@ -40,7 +41,7 @@ sent_at link sending host wanted term down up at same = record {
 
 -- the host paints, in its turn
 paints_first : Given → (app : Application) → IsApplication app → (link : Link) (lu : List ℕ) (wanted : Option (List ℕ)) (panel : ℕ) (message : Message) (keep : Bool) (values : Values)
-    → IsNew (view_of link) → At (view_of link) (start_at (HostAgreed lu)) wanted (FunctionsAsked lu) (ToTerminal.TalksDown (Saying.Sub FunIs) ∷ []) []
+    → IsNew (view_of link) → At (view_of link) (start_at (HostAgreed Model2 lu)) wanted (FunctionsAsked lu) (ToTerminal.TalksDown (Saying.Sub FunIs) ∷ []) []
     → Stage app (view_of (sent_view (shown app link.host panel message keep values) link))
 paints_first given app is link lu wanted panel message keep values n at =
     let fit = given.fit app link.host (Act.Show panel message keep values) is in
@@ -77,7 +78,7 @@ acts_at given app is link lu (Act.Show panel message keep values) s = paints giv
 
 -- at agreement the first panel is shown
 acts_new : Given → (app : Application) → IsApplication app → (link : Link) (lu : List ℕ) (wanted : Option (List ℕ)) → IsNew (view_of link)
-    → At (view_of link) (start_at (HostAgreed lu)) wanted (FunctionsAsked lu) (ToTerminal.TalksDown (Saying.Sub FunIs) ∷ []) []
+    → At (view_of link) (start_at (HostAgreed Model2 lu)) wanted (FunctionsAsked lu) (ToTerminal.TalksDown (Saying.Sub FunIs) ∷ []) []
     → Stage app (view_of (sent_view (done app link.host (act_on app link.host link.host.occasion)) link))
 acts_new given app is link lu wanted n at =
     subst (λ o. Stage app (view_of (sent_view (done app link.host (act_on app link.host o)) link))) (sym n.occasion)

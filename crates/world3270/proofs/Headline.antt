@@ -2,6 +2,7 @@
 use Rattle.std.proofs.Common.{◌≡◌, ℕ, Bool, true, false, ◌||◌, Option, Some, List, [], ◌∷◌, ◌++◌, refl, ap, sym, subst, ◌∙◌}
 use Rattle.std.specs.List.{list_any}
 use Rattle.shadow.specs.Meets.{Meets, ListsFields, IsTold}
+use Rattle.tn3270e_msg.specs.declared.device.Device.TheVariants.{Model2}
 use Rattle.tn3270e_msg.specs.HostTable.{granted}
 use Rattle.tn3270e_msg.specs.Talk.{Talk}
 use Rattle.tn3270e_msg.specs.TermTable.{Term}
@@ -29,14 +30,14 @@ use Rattle.world3270.proofs.Worlds.{GoodWorld, run_good, new_good}
 bound_at : (v : View) (host : Talk HostState) (wanted : Option (List ℕ)) (term : TermState) (down : List ToTerminal) (up : List ToHost) → At v host wanted term down up → bound_to v.talk.talk.state ≡ bound_to term
 bound_at v host wanted term down up at = ap (λ (t : Term). bound_to t.talk.state) at.term_talk
 
-agreed_in : (v : View) (lu : List ℕ) (turn : Turn) (pending : Pending) (down : List ToTerminal) (up : List ToHost) (mine : List ℕ) → In v lu turn pending down up → bound_to v.talk.talk.state ≡ Some mine → v.host.talk.state ≡ HostAgreed mine
+agreed_in : (v : View) (lu : List ℕ) (turn : Turn) (pending : Pending) (down : List ToTerminal) (up : List ToHost) (mine : List ℕ) → In v lu turn pending down up → bound_to v.talk.talk.state ≡ Some mine → v.host.talk.state ≡ HostAgreed Model2 mine
 agreed_in v lu turn pending down up mine s e =
     let both : Some lu ≡ Some mine = sym (bound_at v _ s.wanted (Agreed lu) down up s.at) ∙ e in
     let same : lu ≡ mine = cc in
-    ap (λ (t : Talk HostState). t.state) s.at.host_talk ∙ ap (λ x. HostAgreed x) same
+    ap (λ (t : Talk HostState). t.state) s.at.host_talk ∙ ap (λ x. HostAgreed Model2 x) same
 
 -- a terminal that is bound to an LU is so with a host's end that agreed on it
-bound_agrees : (app : Application) (v : View) (mine : List ℕ) → Stage app v → bound_to v.talk.talk.state ≡ Some mine → v.host.talk.state ≡ HostAgreed mine
+bound_agrees : (app : Application) (v : View) (mine : List ℕ) → Stage app v → bound_to v.talk.talk.state ≡ Some mine → v.host.talk.state ≡ HostAgreed Model2 mine
 bound_agrees app v mine (talking n (offered wanted lu at)) e = let x = sym (bound_at v _ _ _ _ _ at) ∙ e in absurd (cc)
 bound_agrees app v mine (talking n (willing wanted lu at)) e = let x = sym (bound_at v _ _ _ _ _ at) ∙ e in absurd (cc)
 bound_agrees app v mine (talking n (type_wanted wanted lu at)) e = let x = sym (bound_at v _ _ _ _ _ at) ∙ e in absurd (cc)

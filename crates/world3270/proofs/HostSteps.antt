@@ -47,9 +47,9 @@ asks : (conn : Conn) (talk : Talk HostState) (answer : Result (List ℕ) Reason)
 asks conn talk answer (Asking device) = replies conn (granted_by answer) (follow Closed talk (answer_line device answer))
 asks conn talk answer Offered = quietly conn
 asks conn talk answer Asked = quietly conn
-asks conn talk answer (Named lu) = quietly conn
-asks conn talk answer (Countered lu) = quietly conn
-asks conn talk answer (Agreed lu) = quietly conn
+asks conn talk answer (Named device lu) = quietly conn
+asks conn talk answer (Countered device lu) = quietly conn
+asks conn talk answer (Agreed device lu) = quietly conn
 asks conn talk answer (Closed cause) = quietly conn
 
 talks : (pool : Answers) (conn : Conn) (talk : Talk HostState) (answer : Reply) → JustTalks conn (talked_on pool conn talk answer)

@@ -149,9 +149,9 @@ asked_grants pool name conn talk (Ok have) (Asking device) lu a e = record { nam
 asked_grants pool name conn talk (Err reason) (Asking device) lu a e = absurd (cc)
 asked_grants pool name conn talk answer Offered lu a e = absurd (cc)
 asked_grants pool name conn talk answer Asked lu a e = absurd (cc)
-asked_grants pool name conn talk answer (Named have) lu a e = absurd (cc)
-asked_grants pool name conn talk answer (Countered have) lu a e = absurd (cc)
-asked_grants pool name conn talk answer (Agreed have) lu a e = absurd (cc)
+asked_grants pool name conn talk answer (Named device have) lu a e = absurd (cc)
+asked_grants pool name conn talk answer (Countered device have) lu a e = absurd (cc)
+asked_grants pool name conn talk answer (Agreed device have) lu a e = absurd (cc)
 asked_grants pool name conn talk answer (Closed cause) lu a e = absurd (cc)
 
 talked_grants : (pool : Answers) (conn : Conn) (talk : Talk HostState) (answer : Reply) (lu : List ℕ) → (talked_on pool conn talk answer).grants ≡ Some lu → IsAnswer pool lu

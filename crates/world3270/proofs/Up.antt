@@ -126,11 +126,11 @@ grants_type given app pool sound link rest wanted message is k n at left e = by_
     by_answer : (answer : Result (List ℕ) Reason) → answer_to pool wanted ≡ answer → Answered app pool link rest (took app (answer_to pool) link.host message)
     by_answer (Ok lu) a =
         let sends : List ToTerminal = ToTerminal.TalksDown (Saying.Sub (TypeIs Model2 lu)) ∷ [] in
-        talks app pool link rest (start_at Asked) (start_at (Named lu)) (asking_type wanted) sends (Some lu) message k at.host_talk e
+        talks app pool link rest (start_at Asked) (start_at (Named Model2 lu)) (asking_type wanted) sends (Some lu) message k at.host_talk e
         (pool_asked given (answer_to pool) link.host wanted is ∙ ap (answered_by link.host) a)
         (Grants.one wanted lu refl refl a)
-        (talking (still_new link rest (start_at (Named lu)) sends (Some lu) n)
-        (named wanted lu (suits given pool wanted lu sound is a) (talk_at link (start_at Asked) (start_at (Named lu)) wanted TypeAsked (ToHost.TalksUp (asking_type wanted)) [] rest [] sends (Some lu) at left)))
+        (talking (still_new link rest (start_at (Named Model2 lu)) sends (Some lu) n)
+        (named wanted lu (suits given pool wanted lu sound is a) (talk_at link (start_at Asked) (start_at (Named Model2 lu)) wanted TypeAsked (ToHost.TalksUp (asking_type wanted)) [] rest [] sends (Some lu) at left)))
     by_answer (Err reason) a =
         let sends : List ToTerminal = ToTerminal.TalksDown (Saying.Sub (TypeReject reason)) ∷ [] in
         talks app pool link rest (start_at Asked) rejected_once (asking_type wanted) sends None message k at.host_talk e
@@ -141,7 +141,7 @@ grants_type given app pool sound link rest wanted message is k n at left e = by_
 
 -- ---- records
 
-agreed_at : (link : Link) (wanted : Option (List ℕ)) (lu : List ℕ) (term : TermState) (down : List ToTerminal) (up : List ToHost) → At (view_of link) (start_at (HostAgreed lu)) wanted term down up → is_agreed link.host.talk.state ≡ true
+agreed_at : (link : Link) (wanted : Option (List ℕ)) (lu : List ℕ) (term : TermState) (down : List ToTerminal) (up : List ToHost) → At (view_of link) (start_at (HostAgreed Model2 lu)) wanted term down up → is_agreed link.host.talk.state ≡ true
 agreed_at link wanted lu term down up at = ap (λ (t : Talk HostState). is_agreed t.state) at.host_talk
 
 -- a step of a session, which leaves the talk as it is and sends nothing
@@ -334,11 +334,11 @@ answers given app pool sound link message rest e k = cases k.stage
     at_moment n (functions_asked wanted lu at) =
         let first = front link.lost link.up message rest (ToHost.TalksUp (Saying.Sub FunRequest)) [] e at.goes_up in
         let sends : List ToTerminal = ToTerminal.TalksDown (Saying.Sub FunIs) ∷ [] in
-        talks app pool link rest (start_at (Named lu)) (start_at (HostAgreed lu)) (Saying.Sub FunRequest) sends None message k at.host_talk first.0
-        (ap (λ w. let next = follow HostClosed (start_at (Named lu)) (host_line (Named lu) (Comes.RequestsFunctions w)) in talked_on (answer_to pool) link.host next.0 next.1) responses_alone)
-        (Grants.none refl (claim_at link.host (start_at (Named lu)) at.host_talk))
-        (talking (still_new link rest (start_at (HostAgreed lu)) sends None n)
-        (agreeing wanted lu (talk_at link (start_at (Named lu)) (start_at (HostAgreed lu)) wanted (FunctionsAsked lu) (ToHost.TalksUp (Saying.Sub FunRequest)) [] rest [] sends None at first.1)))
+        talks app pool link rest (start_at (Named Model2 lu)) (start_at (HostAgreed Model2 lu)) (Saying.Sub FunRequest) sends None message k at.host_talk first.0
+        (ap (λ w. let next = follow HostClosed (start_at (Named Model2 lu)) (host_line (Named Model2 lu) (Comes.RequestsFunctions w)) in talked_on (answer_to pool) link.host next.0 next.1) responses_alone)
+        (Grants.none refl (claim_at link.host (start_at (Named Model2 lu)) at.host_talk))
+        (talking (still_new link rest (start_at (HostAgreed Model2 lu)) sends None n)
+        (agreeing wanted lu (talk_at link (start_at (Named Model2 lu)) (start_at (HostAgreed Model2 lu)) wanted (FunctionsAsked lu) (ToHost.TalksUp (Saying.Sub FunRequest)) [] rest [] sends None at first.1)))
     at_moment n (offered wanted lu at) = none at.goes_up
     at_moment n (type_wanted wanted lu at) = none at.goes_up
     at_moment n (named wanted lu s at) = none at.goes_up

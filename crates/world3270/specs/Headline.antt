@@ -10,6 +10,7 @@ use Rattle.lu_pool.specs.Pool.{IsPool}
 use Rattle.shadow.specs.Exactness.{EachField, ProtectedSeen, ReturnedTold}
 use Rattle.shadow.specs.Meets.{Meets, ListsFields}
 use Rattle.host_core.specs.Application.{Application, IsApplication}
+use Rattle.tn3270e_msg.specs.declared.device.Device.TheVariants.{Model2}
 use Rattle.tn3270e_msg.specs.declared.host_talk.HostState.TheVariants.{Agreed}
 use Rattle.host_core.specs.Messages.{ToHost, Verdict}
 use Rattle.host_core.specs.Pool.{holder}
@@ -35,7 +36,7 @@ OneSessionEach world =
 
 -- the host's end agreed on that LU, and in the pool that very connection holds it
 pub record IsGranted (world : World) (number : ℕ) (lu : List ℕ) : Type 0 where
-  pub agreed : (world.link number).host.talk.state ≡ Agreed lu
+  pub agreed : (world.link number).host.talk.state ≡ Agreed Model2 lu
   pub held : holder world.pool lu ≡ Some number
 
 -- To whatever LU a terminal's end is bound, the host's end granted it: on each connection that the host hasn't left, lost or not.

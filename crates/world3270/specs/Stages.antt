@@ -82,9 +82,9 @@ pub data Moment (v : View) : Type 0 where
   willing : (wanted : Option (List ℕ)) → IsLuIfSome wanted → At v (start_at Offered) wanted Willing [] (talks_up (Saying.Opt Will 40)) → Moment v
   type_wanted : (wanted : Option (List ℕ)) → IsLuIfSome wanted → At v (start_at Asked) wanted Willing (talks_down (Saying.Sub SendType)) [] → Moment v
   type_asked : (wanted : Option (List ℕ)) → IsLuIfSome wanted → At v (start_at Asked) wanted TypeAsked [] (talks_up (Saying.Sub (TypeRequest wanted))) → Moment v
-  named : (wanted : Option (List ℕ)) (lu : List ℕ) → Suits wanted lu → At v (start_at (Named lu)) wanted TypeAsked (talks_down (Saying.Sub (TypeIs Model2 lu))) [] → Moment v
-  functions_asked : (wanted : Option (List ℕ)) (lu : List ℕ) → At v (start_at (Named lu)) wanted (FunctionsAsked lu) [] (talks_up (Saying.Sub FunRequest)) → Moment v
-  agreeing : (wanted : Option (List ℕ)) (lu : List ℕ) → At v (start_at (HostAgreed lu)) wanted (FunctionsAsked lu) (talks_down (Saying.Sub FunIs)) [] → Moment v
+  named : (wanted : Option (List ℕ)) (lu : List ℕ) → Suits wanted lu → At v (start_at (Named Model2 lu)) wanted TypeAsked (talks_down (Saying.Sub (TypeIs Model2 lu))) [] → Moment v
+  functions_asked : (wanted : Option (List ℕ)) (lu : List ℕ) → At v (start_at (Named Model2 lu)) wanted (FunctionsAsked lu) [] (talks_up (Saying.Sub FunRequest)) → Moment v
+  agreeing : (wanted : Option (List ℕ)) (lu : List ℕ) → At v (start_at (HostAgreed Model2 lu)) wanted (FunctionsAsked lu) (talks_down (Saying.Sub FunIs)) [] → Moment v
   rejected : (wanted : Option (List ℕ)) (reason : Reason) → At v rejected_once wanted TypeAsked (talks_down (Saying.Sub (TypeReject reason))) [] → Moment v
   refused : (wanted : Option (List ℕ)) (reason : Reason) → At v rejected_once wanted (Refused reason) [] [] → Moment v
 
@@ -108,7 +108,7 @@ WillBeHeard app shadow screen = IsOkAnd (heard app.size shadow (modified_data Mo
 -- the host's first paint is behind the end of the talk
 pub record FirstPaint (app : Application) (lu : List ℕ) (number : ℕ) (paints : WantedScreen) (v : View) : Type 0 where
   pub wanted : Option (List ℕ)
-  pub at : At v (start_at (HostAgreed lu)) wanted (FunctionsAsked lu) (ToTerminal.TalksDown (Saying.Sub FunIs) ∷ paint_down number paints v.host.shadow) []
+  pub at : At v (start_at (HostAgreed Model2 lu)) wanted (FunctionsAsked lu) (ToTerminal.TalksDown (Saying.Sub FunIs) ∷ paint_down number paints v.host.shadow) []
   pub turn : v.host.turn ≡ Turn.Terminal
   pub pending : v.host.pending ≡ Pending.Writing number paints
   pub lock : v.lock ≡ Wait
@@ -118,7 +118,7 @@ pub record FirstPaint (app : Application) (lu : List ℕ) (number : ℕ) (paints
 -- a session: both ends agreed on an LU
 pub record In (v : View) (lu : List ℕ) (turn : Turn) (pending : Pending) (down : List ToTerminal) (up : List ToHost) : Type 0 where
   pub wanted : Option (List ℕ)
-  pub at : At v (start_at (HostAgreed lu)) wanted (Agreed lu) down up
+  pub at : At v (start_at (HostAgreed Model2 lu)) wanted (Agreed lu) down up
   pub turn_is : v.host.turn ≡ turn
   pub pending_is : v.host.pending ≡ pending
 
