@@ -26,18 +26,18 @@ use Rattle.shadow.proofs.Behind.{behind}
 use Rattle.shadow.proofs.ExactTaken.{write_has}
 use Rattle.shadow.proofs.ExactPainted.{OldIs, Shaped, all_shaped, WasKnown, off_known, field_put}
 
-abbrev IsKnown : Option ℕ → Type 0
+abbrev pub IsKnown : Option ℕ → Type 0
 IsKnown None = ⊥
 IsKnown (Some c) = ⊤
 
 -- what was known of a cell, and what is now: the same, or a character in place of one
-abbrev Follows : Known → Known → Type 0
+abbrev pub Follows : Known → Known → Type 0
 Follows (KnownAttr k m) (KnownAttr b n) = k ≡ b
 Follows (KnownAttr k m) (KnownChar slot fresh) = ⊥
 Follows (KnownChar slot fresh) (KnownAttr b n) = ⊥
 Follows (KnownChar slot fresh) (KnownChar t g) = (g ≡ false → KnownChar slot fresh ≡ KnownChar t g) × (IsKnown slot → IsKnown t)
 
-follows_itself : (known : List Known) → Pairwise Follows known known
+pub follows_itself : (known : List Known) → Pairwise Follows known known
 follows_itself [] = tt
 follows_itself (KnownAttr k m ∷ known) = (refl, follows_itself known)
 follows_itself (KnownChar slot fresh ∷ known) = ((λ e. refl, λ h. h), follows_itself known)
@@ -57,7 +57,7 @@ cell_over : (cell : Cell) (at : ℕ) (olds news : List Known) (cells : List Cell
 cell_over (Char c) at olds news cells h shape e over = char_over c at olds news cells h shape over
 cell_over (Attr a) at olds news cells h shape e over = absurd (cc)
 
-all_over : (more : List Store) (olds news : List Known) (cells : List Cell) → All (IsOverCharacter cells) more → Pairwise Follows olds news → Pairwise Shaped olds cells → Pairwise Follows olds (known_stored more news)
+pub all_over : (more : List Store) (olds news : List Known) (cells : List Cell) → All (IsOverCharacter cells) more → Pairwise Follows olds news → Pairwise Shaped olds cells → Pairwise Follows olds (known_stored more news)
 all_over [] olds news cells over h shape = h
 all_over (store ∷ more) olds news cells over h shape =
     let here : IsOverCharacter cells store = All-head (IsOverCharacter cells) store more over in
@@ -65,7 +65,7 @@ all_over (store ∷ more) olds news cells over h shape =
     (cell_over store.cell store.at olds news cells h shape here.0 here.1) shape
 
 -- where all characters were known they are so now
-ahead_known : (olds news : List Known) (text : List ℕ) → Pairwise Follows olds news → known_ahead olds ≡ map Some text → (now : List ℕ) × (known_ahead news ≡ map Some now)
+pub ahead_known : (olds news : List Known) (text : List ℕ) → Pairwise Follows olds news → known_ahead olds ≡ map Some text → (now : List ℕ) × (known_ahead news ≡ map Some now)
 ahead_known [] [] text h e = ([], refl)
 ahead_known [] (new ∷ news) text h e = absurd h
 ahead_known (old ∷ olds) [] text h e = absurd h
@@ -88,15 +88,15 @@ old_is (KnownAttr k m) (KnownChar t g) h = absurd h
 old_is (KnownChar slot fresh) (KnownChar t g) h = h.0
 
 -- the fields from an address on are the first that a search finds there
-abbrev FoundFrom : ℕ → List Belief → List Belief → Type 0
+abbrev pub FoundFrom : ℕ → List Belief → List Belief → Type 0
 FoundFrom n bs rest = (place len : ℕ) → n ≤ place → fact_before bs place len ≡ fact_before rest place len
 
-found_past : (n : ℕ) (bs : List Belief) (b : Belief) (rest : List Belief) → b.place ≡ n → FoundFrom n bs (b ∷ rest) → FoundFrom (n + 1) bs rest
+pub found_past : (n : ℕ) (bs : List Belief) (b : Belief) (rest : List Belief) → b.place ≡ n → FoundFrom n bs (b ∷ rest) → FoundFrom (n + 1) bs rest
 found_past n bs b rest is h place len later =
     h place len (omega arith)
     ∙ ap (λ (t : Bool). if t && nat_eq b.length len then Some b.fact else fact_before rest place len) (ne_eqb b.place place λ e. absurd (omega arith))
 
-found_here : (n : ℕ) (bs : List Belief) (b : Belief) (rest : List Belief) → b.place ≡ n → FoundFrom n bs (b ∷ rest) → fact_before bs n b.length ≡ Some b.fact
+pub found_here : (n : ℕ) (bs : List Belief) (b : Belief) (rest : List Belief) → b.place ≡ n → FoundFrom n bs (b ∷ rest) → fact_before bs n b.length ≡ Some b.fact
 found_here n bs b rest is h =
     h n b.length (omega arith)
     ∙ ap (λ (t : Bool). if t && nat_eq b.length b.length then Some b.fact else fact_before rest n b.length) (eq-eqb b.place n is)

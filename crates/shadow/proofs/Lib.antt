@@ -31,3 +31,5 @@ pub mod ExactWritten
 pub mod Starting
 pub mod Skipping
 pub mod KnownCells
+pub mod StoredClosed
+pub mod NotesTaken

@@ -1,5 +1,5 @@
 -- The bytes of a paint spell its orders.
-use Rattle.std.proofs.Common.{◌≡◌, ◌<◌, ◌≤◌, ◌+◌, ℕ, Bool, true, false, Option, Some, None, List, [], ◌∷◌, ◌++◌, length, map, refl, ap, sym, subst, ◌∙◌, arith, append-nil, IfSome, if◌then◌else◌}
+use Rattle.std.proofs.Common.{◌≡◌, ◌<◌, ◌≤◌, ◌+◌, ℕ, Bool, true, false, Option, Some, None, List, [], ◌∷◌, ◌++◌, length, map, refl, ap, subst, ◌∙◌, arith, append-nil, IfSome, if◌then◌else◌}
 use Rattle.std.specs.Prelude.{⊤}
 use Rattle.std.specs.List.{All, flat_map}
 use Rattle.std.proofs.lemmas.List.Elements.{All-nil, All-cons, All-head, All-tail}
@@ -11,7 +11,7 @@ use Rattle.codes3270.specs.declared.attribute.Cell.TheVariants.{Char, Attr}
 use Rattle.codes3270.specs.declared.write_control.Wcc.{Wcc}
 use Rattle.datastream.specs.Grammar.{IsCommand, codes_of, is_write}
 use Rattle.datastream.specs.Laws.{WrittenIsRead}
-use Rattle.datastream.specs.Wanted.{WantedScreen, IsProper as IsProperWant, IsScreen}
+use Rattle.datastream.specs.Wanted.{IsProper as IsProperWant}
 use Rattle.datastream.specs.Writing.{Call, sba, sf, chars, ic, orders_of, IsAllowed, call_bytes, order_bytes, orders_bytes, write_bytes}
 use Rattle.datastream.specs.Grammar.{IsProper}
 use Rattle.datastream.specs.declared.command_code.CommandCode.{CommandCode}

@@ -10,6 +10,7 @@ pub mod Fits
 pub mod Paint
 pub mod Laws
 pub mod Exactness
+pub mod Notes
 pub mod Asked
 pub mod Held
 pub mod Store

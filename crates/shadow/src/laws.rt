@@ -1,4 +1,5 @@
 //! What holds of beliefs. The functions are empty: their contracts are the laws.
+ghost use Rattle.shadow.specs.Notes.{PlacedStaysKnown, NoteStaysListed, NoteStaysTold, NoteStaysExact, NoteOpensNothing, NoteStaysWhole};
 ghost use Rattle.shadow.specs.Laws.{HearsModified, HearsAll, HearsBuffer, WrittenIsTaken, WantedIsPainted, PaintIsTaken, PaintedIsKnown, PaintIsPlain, PaintIsSpelt, KnownIsThere, AttributesAreKnown};
 ghost use Rattle.shadow.specs.Exactness.{NothingIsExact, HeardStaysExact, HeardStaysProtected, TakenStaysExact, ErasedIsExact, PaintedIsExact, WrittenStaysProtected, ProtectedIsSeen, ReturnedIsTold};
 
@@ -59,4 +60,16 @@ pub fn what_is_protected_is_exact()
 pub fn what_is_exact_is_so()
     ensures protected { ProtectedIsSeen }
     ensures returned { ReturnedIsTold }
+{}
+
+/// A note, which is a write over characters of protected fields or of none, leaves what is known known, each field listed,
+/// what is told of input told, exact facts exact, and nothing open; an unformatted screen that was wholly known stays so.
+/// That the new screen meets what is then believed is `what_is_written_is_taken`.
+pub fn what_a_note_leaves()
+    ensures known { PlacedStaysKnown }
+    ensures listed { NoteStaysListed }
+    ensures told { NoteStaysTold }
+    ensures exact { NoteStaysExact }
+    ensures unopened { NoteOpensNothing }
+    ensures whole { NoteStaysWhole }
 {}

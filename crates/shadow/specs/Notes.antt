@@ -1,0 +1,81 @@
+-- What is believed after a note (our profile): a plain Write over characters of protected fields, or of no field.
+use Rattle.std.specs.Prelude.{◌≡◌, ⊤, ℕ, Bool, true, false, List, length, map, Option, Some, None, All}
+use Rattle.codes3270.specs.declared.attribute.Attr.{Attr as Attribute}
+use Rattle.codes3270.specs.declared.attribute.Cell.{Cell}
+use Rattle.datastream.specs.declared.command_code.CommandCode.TheVariants.{Write}
+use Rattle.datastream.specs.Grammar.{CommandParts, IsSpelt}
+use Rattle.datastream.specs.Meaning.{after_command}
+use Rattle.datastream.specs.Screen.{Screen, attribute_over}
+use Rattle.shadow.specs.Belief.{Fact, Belief, Shadow, fields_of}
+use Rattle.shadow.specs.Exactness.{IsOverCharacter, KnownIsExact, ProtectedIsExact}
+use Rattle.shadow.specs.Meets.{Meets, Knows, ListsFields, IsTold}
+use Rattle.shadow.specs.Stores.{Store, stores, stores_unplaced, is_plain}
+use Rattle.shadow.specs.Taken.{taken, resets}
+
+-- the attribute that governs a cell isn't that of an unprotected field: the cell is of a protected field, or of none
+abbrev pub IsOutsideInput : Option Attribute → Type 0
+IsOutsideInput None = ⊤
+IsOutsideInput (Some attribute) = attribute.protected ≡ true
+
+-- a character that is stored over one of a protected field, or of no field
+abbrev pub IsOverProtected : List Cell → Store → Type 0
+IsOverProtected cells store = IsOverCharacter cells store × IsOutsideInput (attribute_over cells store.at)
+
+-- A Write that stores characters alone, all over characters of protected fields or of no field, and leaves each MDT as it is.
+-- Its first SBA comes before its first character.
+pub record OverwritesProtected (command : CommandParts) (screen : Screen) : Type 0 where
+  pub spelt : IsSpelt command
+  pub plain : is_plain command ≡ true
+  pub writes : command.code ≡ Write
+  pub keeps_mdt : resets command.wcc ≡ false
+  pub placed : stores_unplaced command.orders ≡ false
+  pub over : All (IsOverProtected screen.cells) (stores (length screen.cells) 0 command.orders)
+
+-- ---- what is open
+
+abbrev pub is_any : Fact → Bool
+is_any (Fact.Exact value) = false
+is_any (Fact.ExactOrNulls value) = false
+is_any (Fact.Text value) = false
+is_any (Fact.TextOrNulls value) = false
+is_any (Fact.Any known) = true
+
+-- of an unprotected field a text is believed, or a text or nulls
+abbrev pub IsNotOpen : Belief → Type 0
+IsNotOpen belief = belief.attr.protected ≡ false → is_any belief.fact ≡ false
+
+abbrev pub NothingIsOpen : Shadow → Type 0
+NothingIsOpen shadow = All IsNotOpen (fields_of shadow)
+
+-- ---- what a note leaves
+
+-- A Write whose first SBA comes before its first cell leaves something known where something was.
+abbrev pub PlacedStaysKnown : Type 0
+PlacedStaysKnown = (size : ℕ) (command : CommandParts) (shadow : Shadow) → command.code ≡ Write → stores_unplaced command.orders ≡ false
+    → Knows shadow → Knows (taken size command shadow)
+
+-- The fields stay listed,
+abbrev pub NoteStaysListed : Type 0
+NoteStaysListed = (command : CommandParts) (shadow : Shadow) (screen : Screen) → OverwritesProtected command screen → Meets shadow screen
+    → ListsFields shadow screen → ListsFields (taken (length screen.cells) command shadow) (after_command command screen)
+
+-- the texts of unprotected fields told,
+abbrev pub NoteStaysTold : Type 0
+NoteStaysTold = (command : CommandParts) (shadow : Shadow) (screen : Screen) → OverwritesProtected command screen → Meets shadow screen
+    → IsTold shadow screen → IsTold (taken (length screen.cells) command shadow) (after_command command screen)
+
+-- facts exact where all is known, and of protected fields,
+abbrev pub NoteStaysExact : Type 0
+NoteStaysExact = (command : CommandParts) (shadow : Shadow) (screen : Screen) → OverwritesProtected command screen → Meets shadow screen
+    → KnownIsExact shadow → ProtectedIsExact shadow
+    → KnownIsExact (taken (length screen.cells) command shadow) × ProtectedIsExact (taken (length screen.cells) command shadow)
+
+-- and nothing becomes open.
+abbrev pub NoteOpensNothing : Type 0
+NoteOpensNothing = (command : CommandParts) (shadow : Shadow) (screen : Screen) → OverwritesProtected command screen → Meets shadow screen
+    → NothingIsOpen shadow → NothingIsOpen (taken (length screen.cells) command shadow)
+
+-- Of an unformatted screen that was wholly known each cell is known.
+abbrev pub NoteStaysWhole : Type 0
+NoteStaysWhole = (command : CommandParts) (screen : Screen) (text : List ℕ) → OverwritesProtected command screen → Meets (Shadow.Unformatted (map Some text)) screen
+    → (now : List ℕ) × (taken (length screen.cells) command (Shadow.Unformatted (map Some text)) ≡ Shadow.Unformatted (map Some now))
