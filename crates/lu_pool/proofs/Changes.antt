@@ -61,7 +61,7 @@ are_lus xs p lu before after at lus place here h =
     rw (← a.2) (lus place a.0 a.1)
 
 -- an entry that a connection holds is one that it holds in the pool
-holds_by : (xs : List Entry) (conn place : ℕ) (e : Entry) → slice_get xs place ≡ Some e → e.holder ≡ Some conn → Holds xs conn e.lu
+pub holds_by : (xs : List Entry) (conn place : ℕ) (e : Entry) → slice_get xs place ≡ Some e → e.holder ≡ Some conn → Holds xs conn e.lu
 holds_by xs conn place e h k = (place, h ∙ ap (λ (holder : Option ℕ). Some (entry e.lu holder)) k)
 
 held_once_granted : (xs : List Entry) (p : ℕ) (lu : List ℕ) (conn : ℕ) → HoldsNone xs conn → HeldOnce xs → HeldOnce (slice_set xs p (entry lu (Some conn)))

@@ -86,7 +86,7 @@ none_by p xs false e h = none_at p xs (ltb-false _ _ e)
 pub finds_none : {X : Type 0} (p : X → Bool) (xs : List X) → position p xs ≡ None → FindsNone p xs
 finds_none p xs h = none_by p xs _ refl h
 
-no_holder : (at : Entry) (holder : Option ℕ) → at.holder ≡ holder → is_none holder ≡ true → at ≡ entry at.lu None
+pub no_holder : (at : Entry) (holder : Option ℕ) → at.holder ≡ holder → is_none holder ≡ true → at ≡ entry at.lu None
 no_holder at None e h = ap (λ (holder : Option ℕ). entry at.lu holder) e
 no_holder at (Some conn) e h = absurd (cc)
 

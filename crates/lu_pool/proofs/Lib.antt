@@ -1,3 +1,5 @@
 pub mod Finding
 pub mod Changes
 pub mod Listing
+pub mod Holding
+pub mod Below

@@ -2,3 +2,5 @@ pub mod Pool
 pub mod Asking
 pub mod Reading
 pub mod Messages
+pub mod Holders
+pub mod HolderLaws

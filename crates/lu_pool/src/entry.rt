@@ -1,7 +1,7 @@
 //! An LU of a pool.
-ghost use Rattle.std.specs.Prelude.{◌≡◌, is_none};
+ghost use Rattle.std.specs.Prelude.{◌≡◌, None, is_none};
 ghost use Rattle.std.specs.Str.{bytes_eq};
-ghost use Rattle.lu_pool.specs.Pool.{is_held_by};
+ghost use Rattle.lu_pool.specs.Pool.{entry, is_held_by};
 
 use tn3270e_msg::Lu;
 
@@ -31,6 +31,16 @@ impl Entry {
         match self.holder {
             Some(holder) => holder == conn,
             None => false,
+        }
+    }
+
+    /// The same LU, held by nobody.
+    pub fn freed(&self) -> Entry
+        ensures { result ≡ entry self.now.lu None }
+    {
+        Entry {
+            lu: self.lu,
+            holder: None,
         }
     }
 }

@@ -6,6 +6,7 @@ ghost use Rattle.tn3270e_msg.specs.Lu.{lu_of};
 ghost use Rattle.lu_pool.specs.declared.entry.Entry.{Entry};
 ghost use Rattle.lu_pool.specs.Pool.{entry, is_held_by};
 ghost use Rattle.lu_pool.specs.Asking.{answer_to, answer_to_lu, IsFreePlace};
+ghost use Rattle.lu_pool.specs.Holders.{all_free};
 
 use crate::entry::Entry;
 use tn3270e_msg::{Lu, Reason};
@@ -84,4 +85,13 @@ pub fn set_holder(entries: &mut Vec<Entry>, place: usize, holder: Option<usize>)
     let lu = entries[place].lu;
     entries[place] = Entry { lu, holder };
     lu
+}
+
+/// Frees each entry.
+pub fn free_each(entries: &mut [Entry])
+    ensures { entries.new ≡ all_free entries.old }
+{
+    for entry in entries.iter_mut() {
+        *entry = entry.freed();
+    }
 }

@@ -3,13 +3,14 @@ ghost use Rattle.std.specs.Prelude.{◌≡◌, ◌≢◌, ◌↔◌, ◌⊎◌, 
 ghost use Rattle.std.specs.Option.{option_copied};
 ghost use Rattle.tn3270e_msg.specs.Lu.{is_lu, lu_of};
 ghost use Rattle.lu_pool.specs.Asking.{answer_to, Grants, Frees};
-ghost use Rattle.lu_pool.specs.Pool.{Holds, HoldsNone, OneHolder, OneLu, IsCount, entry};
+ghost use Rattle.lu_pool.specs.Holders.{granted_to, given_back, all_free};
+ghost use Rattle.lu_pool.specs.Pool.{Holds, HoldsNone, OneHolder, OneLu, IsCount, IsPool, entry};
 ghost use Rattle.lu_pool.specs.Reading.{readings, IsReadFrom, IsRight, IsFirstFault, IsTextFault, IsNew};
 ghost use Rattle.lu_pool.specs.declared.fault.PoolFault.{PoolFault};
 
 use crate::entry::Entry;
 use crate::fault::PoolFault;
-use crate::places::{place_for, place_held_by, place_of, set_holder};
+use crate::places::{free_each, place_for, place_held_by, place_of, set_holder};
 use std::alloc::{AllocError, Global};
 use std::marker::Model;
 use tn3270e_msg::{Lu, Reason};
@@ -45,6 +46,7 @@ impl Pool {
         ensures right { OnOk result (IsRight (readings names.now)) }
         ensures one_holder { IfOk result OneHolder }
         ensures one_lu { IfOk result OneLu }
+        ensures is_pool { IfOk result IsPool }
         ensures fault { IfErr result (IsFirstFault (readings names.now)) }
     {
         if !is_count(names.len()) {
@@ -65,6 +67,7 @@ impl Pool {
         requires { HoldsNone self.old conn }
         ensures answer { result ≡ answer_to self.old (option_copied name.entry) }
         ensures granted { IfOk result (λ lu. Grants self.old conn lu self.new) }
+        ensures becomes { IfOk result (λ lu. self.new ≡ granted_to conn lu self.old) }
         ensures refused { OnErr result (self.new ≡ self.old) }
         // Afterwards this connection holds what was granted, and each holds what it held.
         ensures held { (other : ℕ) (lu : List ℕ) → Holds self.new other lu
@@ -72,6 +75,7 @@ impl Pool {
         ensures is_lu { IfOk result (λ lu. IsTrue (is_lu lu)) }
         ensures one_holder { OneHolder self.new }
         ensures one_lu { OneLu self.new }
+        ensures is_pool { IsPool self.new }
     {
         match place_for(&self.entries, name) {
             Ok(place) => Ok(set_holder(&mut self.entries, place, Some(conn))),
@@ -82,15 +86,26 @@ impl Pool {
     /// Frees the LU that a connection holds, if it holds one.
     pub fn give_back(&mut self, conn: usize)
         ensures frees { Frees self.old conn self.new }
+        ensures becomes { self.new ≡ given_back conn self.old }
         // Afterwards it holds none, and each other connection holds what it held.
         ensures held { (other : ℕ) (lu : List ℕ) → Holds self.new other lu
             ↔ (Holds self.old other lu × (other ≢ conn)) }
         ensures one_holder { OneHolder self.new }
         ensures one_lu { OneLu self.new }
+        ensures is_pool { IsPool self.new }
     {
         if let Some(place) = place_held_by(&self.entries, conn) {
             set_holder(&mut self.entries, place, None);
         }
+    }
+
+    /// Frees every LU, as where a host starts anew.
+    pub fn free_all(&mut self)
+        ensures becomes { self.new ≡ all_free self.old }
+        ensures nobody { (conn : ℕ) → HoldsNone self.new conn }
+        ensures is_pool { IsPool self.new }
+    {
+        free_each(&mut self.entries);
     }
 
     /// The LU that a connection holds, if it holds one.

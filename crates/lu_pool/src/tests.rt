@@ -93,6 +93,9 @@ fn an_lu_has_one_holder(rt: HostRuntime) -> Result<(), Fail> {
     assert_eq!(rt; pool.lu_held_by(0), None);
     assert_eq!(rt; pool.lu_held_by(7), Some(second));
     assert_eq!(rt; ask(&mut pool, 8, None), Ok(first));
+    pool.free_all();
+    assert_eq!(rt; pool.lu_held_by(7), None);
+    assert_eq!(rt; ask(&mut pool, 9, None), Ok(first));
     Ok(())
 }
 

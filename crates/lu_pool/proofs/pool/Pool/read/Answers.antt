@@ -55,3 +55,8 @@ pub returns-clause-one_lu : goal.returns-clause-one_lu
 returns-clause-one_lu c =
     let whole : length (readings c.args.names.now) ≤ c.loop-place.place = omega (arith, readings_length c.args.names.now) in
     one_lu c.loop-place.entries.items (listed_pool (readings c.args.names.now) c.loop-place.place c.loop-place.entries.items c.loop-place.invariant.count c.loop-place.invariant.listed whole)
+
+pub returns-clause-is_pool : goal.returns-clause-is_pool
+returns-clause-is_pool c =
+    let whole : length (readings c.args.names.now) ≤ c.loop-place.place = omega (arith, readings_length c.args.names.now) in
+    listed_pool (readings c.args.names.now) c.loop-place.place c.loop-place.entries.items c.loop-place.invariant.count c.loop-place.invariant.listed whole
