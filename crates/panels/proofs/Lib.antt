@@ -10,3 +10,6 @@ pub mod Sound
 pub mod Linking
 pub mod Leading
 pub mod Putting
+pub mod Soundness
+pub mod Screens
+pub mod MessageRow

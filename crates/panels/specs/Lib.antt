@@ -16,6 +16,7 @@ pub mod Values
 pub mod Panel
 pub mod Next
 pub mod Screen
+pub mod MessageRow
 pub mod Put
 pub mod Defines
 pub mod Link

@@ -1,8 +1,12 @@
--- What panels have.
-use Rattle.std.specs.Prelude.{◌≡◌, ℕ, ◌<◌, List, length, Option, Some, option_and_then, slice_get}
+-- What panels have (our profile).
+use Rattle.std.specs.Prelude.{◌≡◌, ℕ, ◌<◌, List, length, Option, Some, option_and_then, slice_get, All}
+use Rattle.codes3270.specs.Size.{cell_count}
 use Rattle.codes3270.specs.declared.attention.Aid.{Aid}
+use Rattle.panels.specs.declared.panel.Content.{Content}
+use Rattle.panels.specs.declared.panel.Content.TheVariants.{Literal, Show}
 use Rattle.panels.specs.declared.panel.TextItem.{TextItem}
 use Rattle.panels.specs.declared.panel.Field.{Field}
+use Rattle.panels.specs.Characters.{AreCharacters}
 use Rattle.panels.specs.Keys.{place_of_key, IsKey}
 
 -- a panel: its texts and fields, where its cursor is, and for each key, in the order of their names, the panel that it leads to
@@ -29,3 +33,26 @@ pub record Panels : Type 0 where
 pub record AreLinked (set : Panels) : Type 0 where
   pub start : set.start < length set.panels
   pub targets : (p : ℕ) (panel : PanelParts) (aid : Aid) (target : ℕ) → IsKey aid → slice_get set.panels p ≡ Some panel → target_of panel aid ≡ Some target → target < length set.panels
+
+-- the cursor of each panel is on the screen
+abbrev pub CursorsAreOnTheScreen : Panels → Type 0
+CursorsAreOnTheScreen set = (number : ℕ) (panel : PanelParts) → slice_get set.panels number ≡ Some panel → panel.cursor < cell_count
+
+-- what a text shows by itself is characters that a cell can hold
+abbrev pub HasCharacters : Content → Type 0
+HasCharacters (Literal text) = AreCharacters text
+HasCharacters (Show number) = Unit {0}
+
+-- so is what the texts and the fields of a panel have by themselves
+pub record IsOfCharacters (panel : PanelParts) : Type 0 where
+  pub texts : All (λ text. HasCharacters text.content) panel.texts
+  pub fills : All (λ field. AreCharacters field.fill) panel.fields
+
+abbrev pub AreOfCharacters : Panels → Type 0
+AreOfCharacters set = (number : ℕ) (panel : PanelParts) → slice_get set.panels number ≡ Some panel → IsOfCharacters panel
+
+-- what holds of the panels of each text
+pub record AreSound (set : Panels) : Type 0 where
+  pub linked : AreLinked set
+  pub cursors : CursorsAreOnTheScreen set
+  pub characters : AreOfCharacters set

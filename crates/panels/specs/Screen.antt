@@ -1,6 +1,6 @@
 -- The screen that a panel asks for (our profile).
 use Rattle.std.specs.Prelude.{◌≡◌, codes, ℕ, ◌+◌, ◌-◌, ◌<◌, ◌==◌, nat_lt, Bool, true, false, not, ◌&&◌, ◌||◌, List, [], ◌∷◌, ◌++◌, map, Option, Some, None, option_map, option_and_then, unwrap_or, slice_get, slice_index_or, string_bytes, if◌then◌else◌}
-use Rattle.std.specs.List.{position}
+use Rattle.std.specs.List.{position, range_with_len}
 use Rattle.std.specs.Option.{option_or, option_map_or}
 use Rattle.std.specs.Int.{is_in_range}
 use Rattle.codes3270.specs.Size.{cell_count}
@@ -126,3 +126,11 @@ pub record IsWantedOf (panel : PanelParts) (values : Values) (message : Message)
   pub cells : (cell : ℕ) → cell < cell_count → slice_get screen.cells cell ≡ Some (wanted_cell panel values message keep cell)
   pub cursor : screen.cursor ≡ wanted_cursor panel message
   pub reset : screen.reset ≡ is_fresh message
+
+-- that screen itself
+abbrev pub screen_of : PanelParts → Values → Message → Bool → WantedScreen
+screen_of panel values message keep = record {
+  cells = map (wanted_cell panel values message keep) (range_with_len 0 cell_count);
+  cursor = wanted_cursor panel message;
+  reset = is_fresh message;
+}

@@ -1,4 +1,4 @@
--- The measures of the screen that panels are laid out on.
+-- The measures of the screen that panels are laid out on (our profile).
 use Rattle.std.specs.Prelude.{ℕ, ◌-◌}
 use Rattle.codes3270.specs.Size.{cell_count, rows, columns}
 
@@ -8,3 +8,7 @@ message_start = cell_count - columns
 
 abbrev pub item_rows : ℕ
 item_rows = rows - 1
+
+-- the room for a message: its row without the attribute that stands first there
+abbrev pub message_room : ℕ
+message_room = columns - 1

@@ -57,20 +57,12 @@ impl Model for Panel {
 }
 
 impl Panel {
-    ghost use Rattle.std.specs.Prelude.{◌≡◌, ◌<◌};
-    ghost use Rattle.codes3270.specs.Size.{cell_count};
+    ghost use Rattle.std.specs.Prelude.{◌≡◌};
 
     /// Its fields, in the order of the text.
     pub fn fields(&self) -> &[Field]
         ensures { result.now ≡ self.now.fields }
     {
         self.fields.as_slice()
-    }
-
-    /// Does nothing: its contract says where the cursor is.
-    pub(crate) fn cursor_is_on_the_screen(&self)
-        ensures { self.now.cursor < cell_count }
-    {
-        let _at = self.cursor.get();
     }
 }

@@ -304,7 +304,7 @@ fn put_message(cells: &mut [Want], fields: &[Field], message: Message)
 }
 
 impl Panel {
-    ghost use Rattle.panels.specs.Screen.{IsWantedOf};
+    ghost use Rattle.panels.specs.Screen.{IsWantedOf, screen_of};
     ghost use Rattle.panels.specs.declared.message.Message.TheVariants.{Fresh};
 
     /// Where the cursor is wanted.
@@ -324,7 +324,8 @@ impl Panel {
     /// operator sees are left as they are; a panel that is shown anew has none of these.
     pub fn wanted(&self, values: &Values, message: Message, keep: bool) -> Wanted
         requires { (message ≡ Fresh) → keep ≡ false }
-        ensures { IsWantedOf self.now values.now message keep result }
+        ensures wanted { IsWantedOf self.now values.now message keep result }
+        ensures screen { result ≡ screen_of self.now values.now message keep }
     {
         let fields = self.fields.as_slice();
         let mut cells = [Want::Char(0); SIZE];

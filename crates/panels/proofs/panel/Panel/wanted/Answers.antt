@@ -2,14 +2,16 @@ use Rattle.std.proofs.Common.{◌≡◌, ◌<◌, ◌∙◌, length, replicate, 
 use Rattle.std.proofs.lemmas.List.{get_or-replicate}
 use Rattle.std.proofs.lemmas.Option.{slice_get-get_or}
 use Rattle.codes3270.specs.Size.{cell_count}
+use Rattle.datastream.specs.Wanted.{WantedScreen}
 use Rattle.datastream.specs.declared.wanted.Want.TheVariants as want
 use Rattle.panels.specs.Panel.{PanelParts}
 use Rattle.panels.specs.Screen.{is_fresh, IsWantedOf}
 use Rattle.panels.proofs.Putting.{put_all}
+use Rattle.panels.proofs.Screens.{is_screen_of}
 use Rattle.panels.proofs.panel.Panel.wanted.Goals as goal
 
-pub returns : goal.returns
-returns c =
+pub returns-clause-wanted : goal.returns-clause-wanted
+returns-clause-wanted c =
     let fresh : c.eq.result ≡ is_fresh c.args.message = search rules in
     let panel = c.args.self.now in
     subst (λ screen. IsWantedOf panel c.args.values.now c.args.message c.args.keep screen) (sym c.new.ensures)
@@ -26,3 +28,9 @@ returns c =
       cursor = c.cursor_for.ensures;
       reset = fresh;
     })
+
+pub returns-clause-screen : goal.returns-clause-screen
+returns-clause-screen c =
+    let size : length c.put_texts.new.cells ≡ cell_count = omega arith in
+    is_screen_of c.args.self.now c.args.values.now c.args.message c.args.keep c.new.result (subst (λ (screen : WantedScreen). length screen.cells ≡ cell_count) (sym c.new.ensures) size)
+    (returns-clause-wanted c)

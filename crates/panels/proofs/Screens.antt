@@ -1,0 +1,50 @@
+-- The one screen that a panel asks for.
+use Rattle.std.proofs.Common.{◌≡◌, ◌<◌, ◌∙◌, ℕ, Bool, List, length, get_or, Some, map, ap, sym, subst, arith}
+use Rattle.std.specs.Prelude.{slice_get}
+use Rattle.std.specs.List.{range_with_len}
+use Rattle.std.proofs.lemmas.List.{ext_get_or}
+use Rattle.std.proofs.lemmas.List.FromFn.{length-map-range_with_len, get_or-map-range_with_len}
+use Rattle.std.proofs.lemmas.Option.{slice_get-get_or, get_or_from_slice_get}
+use Rattle.codes3270.specs.Size.{cell_count}
+use Rattle.datastream.specs.Wanted.{WantedScreen}
+use Rattle.datastream.specs.declared.wanted.Want.{Want}
+use Rattle.datastream.specs.declared.wanted.Want.TheVariants as want
+use Rattle.panels.specs.declared.message.Message.{Message}
+use Rattle.panels.specs.Panel.{PanelParts}
+use Rattle.panels.specs.Screen.{Values, wanted_cell, IsWantedOf, screen_of}
+
+-- ---- lists of a length, cell by cell
+
+counted : (size : ℕ) (f : ℕ → Want) (cell : ℕ) (default : Want) → cell < size → get_or (map f (range_with_len 0 size)) cell default ≡ f cell
+counted size f cell default within = get_or-map-range_with_len f 0 size cell cell default within (omega arith)
+
+pub counted_at : (size : ℕ) (f : ℕ → Want) (cell : ℕ) → cell < size → slice_get (map f (range_with_len 0 size)) cell ≡ Some (f cell)
+counted_at size f cell within =
+    let long : length (map f (range_with_len 0 size)) ≡ size = length-map-range_with_len f 0 size in
+    slice_get-get_or (map f (range_with_len 0 size)) cell (want.Char 0) (subst (λ n. cell < n) (sym long) within) ∙ ap Some (counted size f cell (want.Char 0) within)
+
+all_counted : (size : ℕ) (f : ℕ → Want) (cells : List Want) → length cells ≡ size → ((cell : ℕ) → cell < size → slice_get cells cell ≡ Some (f cell))
+    → cells ≡ map f (range_with_len 0 size)
+all_counted size f cells long each =
+    ext_get_or (want.Char 0) cells (map f (range_with_len 0 size)) (long ∙ sym (length-map-range_with_len f 0 size))
+    (λ cell below.
+    let within : cell < size = subst (λ n. cell < n) long below in
+    get_or_from_slice_get cells cell (f cell) (want.Char 0) (each cell within) ∙ sym (counted size f cell (want.Char 0) within))
+
+-- ---- screens
+
+abbrev screen_with : List Want → ℕ → Bool → WantedScreen
+screen_with cells cursor reset = record { cells = cells; cursor = cursor; reset = reset }
+
+same_screen : (one other : WantedScreen) → one.cells ≡ other.cells → one.cursor ≡ other.cursor → one.reset ≡ other.reset → one ≡ other
+same_screen one other cells cursor reset =
+    ap (λ c. screen_with c one.cursor one.reset) cells ∙ ap (λ c. screen_with other.cells c one.reset) cursor ∙ ap (screen_with other.cells other.cursor) reset
+
+pub is_screen_of : (panel : PanelParts) (values : Values) (message : Message) (keep : Bool) (screen : WantedScreen) → length screen.cells ≡ cell_count
+    → IsWantedOf panel values message keep screen → screen ≡ screen_of panel values message keep
+is_screen_of panel values message keep screen long is =
+    same_screen screen (screen_of panel values message keep) (all_counted cell_count (wanted_cell panel values message keep) screen.cells long is.cells) is.cursor is.reset
+
+pub cell_of_screen : (panel : PanelParts) (values : Values) (message : Message) (keep : Bool) (cell : ℕ) → cell < cell_count
+    → slice_get (screen_of panel values message keep).cells cell ≡ Some (wanted_cell panel values message keep cell)
+cell_of_screen panel values message keep cell within = counted_at cell_count (wanted_cell panel values message keep) cell within

@@ -1,0 +1,11 @@
+//! What holds of all panels' screens.
+ghost use Rattle.panels.specs.MessageRow.{PanelsLeaveTheRow, TheRowIsTheMessage, TheRoomIsTheRow};
+
+/// Does nothing: its contract says that on each screen that a panel asks for the last row is a protected field with the message:
+/// its attribute stands first, and then come characters, to the end of the row. So a text as long as the room can be written
+/// there while the operator types, and no field of the panel changes.
+pub fn the_last_row_is_for_messages()
+    ensures left { PanelsLeaveTheRow }
+    ensures message { TheRowIsTheMessage }
+    ensures room { TheRoomIsTheRow }
+{}
