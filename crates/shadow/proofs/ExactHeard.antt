@@ -29,7 +29,19 @@ use Rattle.shadow.proofs.FieldPlaces.{both_false}
 
 -- ---- whatever is kept by one field is kept by all
 
-module _ (P : Belief → Type 0) (long : (erased : Bool) (a : Answer) → contradicts a ≡ false → P a.field → P (after_long erased a)) (attention : (b : Belief) → P b → P (after_attention b)) (read : (f : Field) → P (belief_seen f)) where
+module _ (P : Belief → Type 0) (read : (f : Field) → P (belief_seen f)) where
+  each_read : (fs : List Field) → All P (map belief_seen fs)
+  each_read [] = All-nil P
+  each_read (f ∷ fs) = All-cons P (belief_seen f) (map belief_seen fs) (read f) (each_read fs)
+
+  pub seen_has : (cells : List Cell) → All P (fields_of (seen cells))
+  seen_has cells = cases (fields cells) (text_before_attribute cells)
+    where
+      cases : (fs : List Field) (chars : List ℕ) → All P (fields_of (formatted_or fs chars))
+      cases [] chars = All-nil P
+      cases (f ∷ fs) chars = each_read (f ∷ fs)
+
+module _ (P : Belief → Type 0) (long : (erased : Bool) (a : Answer) → contradicts a ≡ false → P a.field → P (after_long erased a)) where
   abbrev Each : List Answer → Type 0
   Each = All (λ (a : Answer). P a.field)
 
@@ -68,7 +80,7 @@ module _ (P : Belief → Type 0) (long : (erased : Bool) (a : Answer) → contra
       cases true e = tt
       cases false e = each_long (list_any was_erased ans) ans e (h ans refl)
 
-  long_keeps : (size : ℕ) (shadow : Shadow) (ahead : List ℕ) (rs : List Returned) → All P (fields_of shadow) → Kept (heard_long size shadow ahead rs)
+  pub long_keeps : (size : ℕ) (shadow : Shadow) (ahead : List ℕ) (rs : List Returned) → All P (fields_of shadow) → Kept (heard_long size shadow ahead rs)
   long_keeps size Shadow.NothingKnown ahead [] h = All-nil P
   long_keeps size Shadow.NothingKnown ahead (r ∷ rs) h = tt
   long_keeps size (Shadow.Unformatted known) ahead [] h = cases (nat_lt (length known) (length ahead))
@@ -84,48 +96,38 @@ module _ (P : Belief → Type 0) (long : (erased : Bool) (a : Answer) → contra
       cases false true = tt
       cases false false = settled_keeps (answers size bs rs) (λ ans e. each_answer size bs rs ans e h)
 
-  each_attention : (bs : List Belief) → All P bs → All P (map after_attention bs)
-  each_attention [] h = All-nil P
-  each_attention (b ∷ bs) h = All-cons P (after_attention b) (map after_attention bs) (attention b (All-head P b bs h)) (each_attention bs (All-tail P b bs h))
+  module _ (attention : (b : Belief) → P b → P (after_attention b)) (read : (f : Field) → P (belief_seen f)) where
+    each_attention : (bs : List Belief) → All P bs → All P (map after_attention bs)
+    each_attention [] h = All-nil P
+    each_attention (b ∷ bs) h = All-cons P (after_attention b) (map after_attention bs) (attention b (All-head P b bs h)) (each_attention bs (All-tail P b bs h))
 
-  attention_keeps : (shadow : Shadow) → All P (fields_of shadow) → All P (fields_of (heard_attention shadow))
-  attention_keeps Shadow.NothingKnown h = All-nil P
-  attention_keeps (Shadow.Unformatted known) h = All-nil P
-  attention_keeps (Shadow.Formatted bs) h = each_attention bs h
+    attention_keeps : (shadow : Shadow) → All P (fields_of shadow) → All P (fields_of (heard_attention shadow))
+    attention_keeps Shadow.NothingKnown h = All-nil P
+    attention_keeps (Shadow.Unformatted known) h = All-nil P
+    attention_keeps (Shadow.Formatted bs) h = each_attention bs h
 
-  short_keeps : (size : ℕ) (aid : Aid) (shadow : Shadow) → All P (fields_of shadow) → All P (fields_of (heard_short size aid shadow))
-  short_keeps size Clear shadow h = All-nil P
-  short_keeps size (Pa key) shadow h = attention_keeps shadow h
-  short_keeps size NoAid shadow h = attention_keeps shadow h
-  short_keeps size Enter shadow h = attention_keeps shadow h
-  short_keeps size (Pf key) shadow h = attention_keeps shadow h
+    short_keeps : (size : ℕ) (aid : Aid) (shadow : Shadow) → All P (fields_of shadow) → All P (fields_of (heard_short size aid shadow))
+    short_keeps size Clear shadow h = All-nil P
+    short_keeps size (Pa key) shadow h = attention_keeps shadow h
+    short_keeps size NoAid shadow h = attention_keeps shadow h
+    short_keeps size Enter shadow h = attention_keeps shadow h
+    short_keeps size (Pf key) shadow h = attention_keeps shadow h
 
-  each_read : (fs : List Field) → All P (map belief_seen fs)
-  each_read [] = All-nil P
-  each_read (f ∷ fs) = All-cons P (belief_seen f) (map belief_seen fs) (read f) (each_read fs)
+    pub heard_keeps : (size : ℕ) (shadow : Shadow) (inbound : InboundParts) → All P (fields_of shadow) → Kept (heard size shadow inbound)
+    heard_keeps size shadow inbound h = cases inbound.form
+      where
+        short : (t : Bool) → Kept (if t then Ok (heard_short size inbound.aid shadow) else heard_parts size shadow inbound.parts)
+        short true = short_keeps size inbound.aid shadow h
+        short false = long_keeps size shadow (lead inbound.parts) (returned inbound.parts) h
 
-  pub seen_has : (cells : List Cell) → All P (fields_of (seen cells))
-  seen_has cells = cases (fields cells) (text_before_attribute cells)
-    where
-      cases : (fs : List Field) (chars : List ℕ) → All P (fields_of (formatted_or fs chars))
-      cases [] chars = All-nil P
-      cases (f ∷ fs) chars = each_read (f ∷ fs)
+        read_keeps : (t : Bool) → Kept (if t then Err Contradiction else Ok (seen (cells_sent inbound.parts)))
+        read_keeps true = tt
+        read_keeps false = seen_has P read (cells_sent inbound.parts)
 
-  pub heard_keeps : (size : ℕ) (shadow : Shadow) (inbound : InboundParts) → All P (fields_of shadow) → Kept (heard size shadow inbound)
-  heard_keeps size shadow inbound h = cases inbound.form
-    where
-      short : (t : Bool) → Kept (if t then Ok (heard_short size inbound.aid shadow) else heard_parts size shadow inbound.parts)
-      short true = short_keeps size inbound.aid shadow h
-      short false = long_keeps size shadow (lead inbound.parts) (returned inbound.parts) h
-
-      read_keeps : (t : Bool) → Kept (if t then Err Contradiction else Ok (seen (cells_sent inbound.parts)))
-      read_keeps true = tt
-      read_keeps false = seen_has (cells_sent inbound.parts)
-
-      cases : (form : Form) → Kept (heard size shadow (record inbound { form = form }))
-      cases Modified = short (is_short_aid inbound.aid)
-      cases AllModified = long_keeps size shadow (lead inbound.parts) (returned inbound.parts) h
-      cases Buffer = read_keeps (denies_buffer shadow (cells_sent inbound.parts))
+        cases : (form : Form) → Kept (heard size shadow (record inbound { form = form }))
+        cases Modified = short (is_short_aid inbound.aid)
+        cases AllModified = long_keeps size shadow (lead inbound.parts) (returned inbound.parts) h
+        cases Buffer = read_keeps (denies_buffer shadow (cells_sent inbound.parts))
 
 -- ---- where all characters are known
 
@@ -216,7 +218,7 @@ read_exact : (f : Field) → FieldIsExact (belief_seen f)
 read_exact f = exact_fact (length f.text) f.text refl
 
 pub seen_exact : (cells : List Cell) → All FieldIsExact (fields_of (seen cells))
-seen_exact = seen_has FieldIsExact long_exact attention_exact read_exact
+seen_exact = seen_has FieldIsExact read_exact
 
 pub heard_exact : HeardStaysExact
 heard_exact = heard_keeps FieldIsExact long_exact attention_exact read_exact
@@ -241,7 +243,7 @@ read_protected : (f : Field) → IsExactIfProtected (belief_seen f)
 read_protected f p = (f.text, refl)
 
 pub seen_protected : (cells : List Cell) → All IsExactIfProtected (fields_of (seen cells))
-seen_protected = seen_has IsExactIfProtected long_protected attention_protected read_protected
+seen_protected = seen_has IsExactIfProtected read_protected
 
 pub heard_protected : HeardStaysProtected
 heard_protected = heard_keeps IsExactIfProtected long_protected attention_protected read_protected

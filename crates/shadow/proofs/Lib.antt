@@ -33,3 +33,6 @@ pub mod Skipping
 pub mod KnownCells
 pub mod StoredClosed
 pub mod NotesTaken
+pub mod Opening
+pub mod PaintLength
+pub mod Noted

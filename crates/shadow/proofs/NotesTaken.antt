@@ -24,7 +24,8 @@ use Rattle.shadow.specs.Belief.{Fact, Belief, Shadow, fields_of}
 use Rattle.shadow.specs.Exactness.{IsOverCharacter}
 use Rattle.shadow.specs.Heard.{known_chars}
 use Rattle.shadow.specs.Meets.{FieldMeets, Holds, KnownIs, Meets, Knows, ListsFields, told, FieldTold, IsTold}
-use Rattle.shadow.specs.Notes.{IsOverProtected, OverwritesProtected, is_any, IsNotOpen, NothingIsOpen, PlacedStaysKnown, NoteStaysListed, NoteStaysTold, NoteStaysExact, NoteOpensNothing, NoteStaysWhole}
+use Rattle.shadow.specs.Notes.{IsOverProtected, OverwritesProtected, PlacedStaysKnown, NoteStaysListed, NoteStaysTold, NoteStaysExact, NoteOpensNothing, NoteStaysWhole}
+use Rattle.shadow.specs.Openness.{is_any, IsNotOpen, NothingIsOpen}
 use Rattle.shadow.specs.Pairs.{Pairwise}
 use Rattle.shadow.specs.Stores.{Store, stores, stores_unplaced, is_plain_order}
 use Rattle.shadow.specs.Taken.{old_char, laid_out, known_stored, marks_off_if, known_ahead, fresh_ahead, fact_known, fact_before, fact_after, beliefs_from, formatted_as, believed, resets, known_after, after_write, taken_write, taken}

@@ -1,5 +1,5 @@
 -- What holds of beliefs: what is heard, taken and painted is so.
-use Rattle.std.specs.Prelude.{◌≡◌, ℕ, Bool, true, false, List, length, replicate, Some, slice_get, IsOkAnd}
+use Rattle.std.specs.Prelude.{◌≡◌, ◌≤◌, ◌+◌, ◌*◌, ℕ, Bool, true, false, List, length, replicate, Some, slice_get, IsOkAnd}
 use Rattle.codes3270.specs.declared.attention.Aid.{Aid}
 use Rattle.codes3270.specs.declared.attention.Aid.TheVariants.{NoAid, Enter, Clear, Pf, Pa}
 use Rattle.codes3270.specs.declared.attribute.Cell.{Cell}
@@ -77,6 +77,10 @@ PaintedIsKnown = (size : ℕ) (shadow : Shadow) (wanted : WantedScreen) → Know
 -- A paint is a plain write.
 abbrev pub PaintIsPlain : Type 0
 PaintIsPlain = (size : ℕ) (shadow : Shadow) (wanted : WantedScreen) → is_plain (paint size shadow wanted) ≡ true
+
+-- A paint takes no more than six bytes, and five for each cell.
+abbrev pub PaintIsBounded : Type 0
+PaintIsBounded = (size : ℕ) (shadow : Shadow) (wanted : WantedScreen) → length (paint_bytes size shadow wanted) ≤ 6 + 5 * length wanted.cells
 
 -- A paint of a screen of the profile can be spelt, whatever is believed: its bytes are that very command.
 abbrev pub PaintIsSpelt : Type 0

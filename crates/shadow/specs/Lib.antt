@@ -10,6 +10,7 @@ pub mod Fits
 pub mod Paint
 pub mod Laws
 pub mod Exactness
+pub mod Openness
 pub mod Notes
 pub mod Asked
 pub mod Held

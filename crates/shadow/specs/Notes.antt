@@ -1,14 +1,17 @@
 -- What is believed after a note (our profile): a plain Write over characters of protected fields, or of no field.
-use Rattle.std.specs.Prelude.{◌≡◌, ⊤, ℕ, Bool, true, false, List, length, map, Option, Some, None, All}
+use Rattle.std.specs.Prelude.{◌≡◌, ⊤, ℕ, true, false, List, [], length, map, Option, Some, None, All}
 use Rattle.codes3270.specs.declared.attribute.Attr.{Attr as Attribute}
 use Rattle.codes3270.specs.declared.attribute.Cell.{Cell}
 use Rattle.datastream.specs.declared.command_code.CommandCode.TheVariants.{Write}
+use Rattle.datastream.specs.Fields.{fields}
 use Rattle.datastream.specs.Grammar.{CommandParts, IsSpelt}
 use Rattle.datastream.specs.Meaning.{after_command}
+use Rattle.datastream.specs.Note.{OverCharacters, WritesProtected}
 use Rattle.datastream.specs.Screen.{Screen, attribute_over}
-use Rattle.shadow.specs.Belief.{Fact, Belief, Shadow, fields_of}
+use Rattle.shadow.specs.Belief.{Shadow}
 use Rattle.shadow.specs.Exactness.{IsOverCharacter, KnownIsExact, ProtectedIsExact}
 use Rattle.shadow.specs.Meets.{Meets, Knows, ListsFields, IsTold}
+use Rattle.shadow.specs.Openness.{NothingIsOpen}
 use Rattle.shadow.specs.Stores.{Store, stores, stores_unplaced, is_plain}
 use Rattle.shadow.specs.Taken.{taken, resets}
 
@@ -31,23 +34,14 @@ pub record OverwritesProtected (command : CommandParts) (screen : Screen) : Type
   pub placed : stores_unplaced command.orders ≡ false
   pub over : All (IsOverProtected screen.cells) (stores (length screen.cells) 0 command.orders)
 
--- ---- what is open
-
-abbrev pub is_any : Fact → Bool
-is_any (Fact.Exact value) = false
-is_any (Fact.ExactOrNulls value) = false
-is_any (Fact.Text value) = false
-is_any (Fact.TextOrNulls value) = false
-is_any (Fact.Any known) = true
-
--- of an unprotected field a text is believed, or a text or nulls
-abbrev pub IsNotOpen : Belief → Type 0
-IsNotOpen belief = belief.attr.protected ≡ false → is_any belief.fact ≡ false
-
-abbrev pub NothingIsOpen : Shadow → Type 0
-NothingIsOpen shadow = All IsNotOpen (fields_of shadow)
-
 -- ---- what a note leaves
+
+-- A note over protected characters is one, and so is a note over characters of a screen without fields.
+abbrev pub NoteOverwritesProtected : Type 0
+NoteOverwritesProtected = (command : CommandParts) (screen : Screen) → IsSpelt command → WritesProtected command screen.cells → OverwritesProtected command screen
+
+abbrev pub NoteOverwritesBare : Type 0
+NoteOverwritesBare = (command : CommandParts) (screen : Screen) → IsSpelt command → fields screen.cells ≡ [] → OverCharacters command screen.cells → OverwritesProtected command screen
 
 -- A Write whose first SBA comes before its first cell leaves something known where something was.
 abbrev pub PlacedStaysKnown : Type 0

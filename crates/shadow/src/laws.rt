@@ -1,6 +1,7 @@
 //! What holds of beliefs. The functions are empty: their contracts are the laws.
-ghost use Rattle.shadow.specs.Notes.{PlacedStaysKnown, NoteStaysListed, NoteStaysTold, NoteStaysExact, NoteOpensNothing, NoteStaysWhole};
-ghost use Rattle.shadow.specs.Laws.{HearsModified, HearsAll, HearsBuffer, WrittenIsTaken, WantedIsPainted, PaintIsTaken, PaintedIsKnown, PaintIsPlain, PaintIsSpelt, KnownIsThere, AttributesAreKnown};
+ghost use Rattle.shadow.specs.Openness.{LongOpensNothing, ReadLeavesNothingOpen, EraseLeavesNothingOpen, ClearIsHeard};
+ghost use Rattle.shadow.specs.Notes.{NoteOverwritesProtected, NoteOverwritesBare, PlacedStaysKnown, NoteStaysListed, NoteStaysTold, NoteStaysExact, NoteOpensNothing, NoteStaysWhole};
+ghost use Rattle.shadow.specs.Laws.{HearsModified, HearsAll, HearsBuffer, WrittenIsTaken, WantedIsPainted, PaintIsTaken, PaintedIsKnown, PaintIsBounded, PaintIsPlain, PaintIsSpelt, KnownIsThere, AttributesAreKnown};
 ghost use Rattle.shadow.specs.Exactness.{NothingIsExact, HeardStaysExact, HeardStaysProtected, TakenStaysExact, ErasedIsExact, PaintedIsExact, WrittenStaysProtected, ProtectedIsSeen, ReturnedIsTold};
 
 use datastream::written_is_read;
@@ -21,11 +22,12 @@ pub fn what_is_written_is_taken()
     ensures { WrittenIsTaken }
 {}
 
-/// A paint is a plain write, is spelt by its bytes, makes the wanted screen of every screen that meets what is believed, and
+/// A paint is a plain write, is spelt by its bytes, which are no more than a bound, makes the wanted screen of every screen that meets what is believed, and
 /// leaves what the wanted screen meets, and so something known.
 pub fn what_is_wanted_is_painted()
     ensures plain { PaintIsPlain }
     ensures spelt { PaintIsSpelt }
+    ensures bounded { PaintIsBounded }
     ensures painted { WantedIsPainted }
     ensures taken { PaintIsTaken }
     ensures known { PaintedIsKnown }
@@ -66,10 +68,21 @@ pub fn what_is_exact_is_so()
 /// what is told of input told, exact facts exact, and nothing open; an unformatted screen that was wholly known stays so.
 /// That the new screen meets what is then believed is `what_is_written_is_taken`.
 pub fn what_a_note_leaves()
+    ensures noted { NoteOverwritesProtected }
+    ensures bare { NoteOverwritesBare }
     ensures known { PlacedStaysKnown }
     ensures listed { NoteStaysListed }
     ensures told { NoteStaysTold }
     ensures exact { NoteStaysExact }
     ensures unopened { NoteOpensNothing }
     ensures whole { NoteStaysWhole }
+{}
+
+/// Data of Enter or a PF key, and what is asked for, opens no field whose text, or text or nulls, was believed; the answer to
+/// Read Buffer and an erase leave none open at all; Clear leaves an unformatted screen of known nulls.
+pub fn what_leaves_nothing_open()
+    ensures long { LongOpensNothing }
+    ensures buffer { ReadLeavesNothingOpen }
+    ensures erased { EraseLeavesNothingOpen }
+    ensures cleared { ClearIsHeard }
 {}

@@ -1,4 +1,5 @@
 use Rattle.shadow.proofs.Paints.{painted_plain, wanted_painted, painted_taken, painted_known}
+use Rattle.shadow.proofs.PaintLength.{paint_bounded}
 use Rattle.shadow.proofs.Spelling.{paint_spelt}
 use Rattle.shadow.proofs.laws.what_is_wanted_is_painted.Goals as goal
 
@@ -6,6 +7,7 @@ pub returns : goal.returns
 returns c = record {
   plain = painted_plain;
   spelt = paint_spelt c.written_is_read.ensures;
+  bounded = paint_bounded;
   painted = wanted_painted;
   taken = painted_taken;
   known = painted_known;

@@ -1,0 +1,54 @@
+-- Which fields are open: those that may be typed into, of whose characters the host believes neither a text nor a text or
+-- nulls (our profile). What leaves none open.
+use Rattle.std.specs.Prelude.{◌≡◌, ⊤, ℕ, Bool, true, false, replicate, Some, All, IfOk, IsOkAnd}
+use Rattle.codes3270.specs.Aid.{is_short_aid}
+use Rattle.codes3270.specs.declared.attention.Aid.{Aid}
+use Rattle.codes3270.specs.declared.attention.Aid.TheVariants.{Clear}
+use Rattle.datastream.specs.Grammar.{CommandParts}
+use Rattle.datastream.specs.InboundText.{InboundParts}
+use Rattle.datastream.specs.declared.inbound_part.Form.{Form}
+use Rattle.datastream.specs.declared.inbound_part.Form.TheVariants.{Modified, All as AllModified, Buffer}
+use Rattle.shadow.specs.Belief.{Fact, Belief, Shadow, fields_of}
+use Rattle.shadow.specs.Exactness.{is_erase}
+use Rattle.shadow.specs.Heard.{heard}
+use Rattle.shadow.specs.Taken.{taken}
+
+abbrev pub is_any : Fact → Bool
+is_any (Fact.Exact value) = false
+is_any (Fact.ExactOrNulls value) = false
+is_any (Fact.Text value) = false
+is_any (Fact.TextOrNulls value) = false
+is_any (Fact.Any known) = true
+
+-- of an unprotected field a text is believed, or a text or nulls
+abbrev pub IsNotOpen : Belief → Type 0
+IsNotOpen belief = belief.attr.protected ≡ false → is_any belief.fact ≡ false
+
+abbrev pub NothingIsOpen : Shadow → Type 0
+NothingIsOpen shadow = All IsNotOpen (fields_of shadow)
+
+-- data of more than an AID: that of Enter or a PF key, and what is asked for
+abbrev pub IsLong : Form → Aid → Type 0
+IsLong Modified aid = is_short_aid aid ≡ false
+IsLong AllModified aid = ⊤
+IsLong Buffer aid = ⊤
+
+-- Such data, where it isn't refused, opens nothing.
+abbrev pub LongOpensNothing : Type 0
+LongOpensNothing = (size : ℕ) (shadow : Shadow) (inbound : InboundParts) → IsLong inbound.form inbound.aid → NothingIsOpen shadow → IfOk (heard size shadow inbound) NothingIsOpen
+
+-- The answer to Read Buffer leaves nothing open, whatever was.
+abbrev pub ReadLeavesNothingOpen : Type 0
+ReadLeavesNothingOpen = (size : ℕ) (shadow : Shadow) (inbound : InboundParts) → inbound.form ≡ Buffer → IfOk (heard size shadow inbound) NothingIsOpen
+
+-- So does an erase.
+abbrev pub EraseLeavesNothingOpen : Type 0
+EraseLeavesNothingOpen = (size : ℕ) (command : CommandParts) (shadow : Shadow) → is_erase command.code ≡ true → NothingIsOpen (taken size command shadow)
+
+-- an unformatted screen, each cell a known null
+abbrev pub IsClearedBelief : ℕ → Shadow → Type 0
+IsClearedBelief size shadow = shadow ≡ Shadow.Unformatted (replicate size (Some 0))
+
+-- That is believed after Clear, which is never refused.
+abbrev pub ClearIsHeard : Type 0
+ClearIsHeard = (size : ℕ) (shadow : Shadow) (inbound : InboundParts) → inbound.form ≡ Modified → inbound.aid ≡ Clear → IsOkAnd (heard size shadow inbound) (IsClearedBelief size)
