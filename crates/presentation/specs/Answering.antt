@@ -1,4 +1,4 @@
--- Which form of inbound data a read is answered in.
+-- Which form of inbound data a read is answered in (GA23-0059-07 on read commands).
 use Rattle.std.specs.Prelude.{Bool, true, false}
 use Rattle.datastream.specs.declared.inbound_part.Form.{Form}
 use Rattle.datastream.specs.declared.inbound_part.Form.TheVariants.{Modified, All}

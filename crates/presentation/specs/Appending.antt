@@ -1,4 +1,4 @@
--- Calls that append to a vector of bytes and may find no memory.
+-- Calls that append to a vector of bytes and may find no memory (our profile).
 use Rattle.std.specs.Prelude.{◌≡◌, ◌+◌, ◌<◌, ◌≤◌, ℕ, Bool, true, false, List, ◌++◌, length, take, Vec, Result, OnOk, OnErr}
 use Rattle.std.specs.Vec.{vec_len, vec_capacity}
 use Rattle.std.specs.declared.alloc.Global.{Global}

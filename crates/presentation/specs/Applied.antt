@@ -1,5 +1,5 @@
--- What a command asks of the keyboard and the alarm (GA23-0059, "Write control character"; that EAU restores is the
--- standard's rule on it).
+-- What a command asks of the keyboard and the alarm (GA23-0059-07, "Write Control Character (WCC)"; that Erase All
+-- Unprotected restores the keyboard is its rule on that command).
 use Rattle.std.specs.Prelude.{true, false, Option, Some, None}
 use Rattle.codes3270.specs.declared.write_control.Wcc.{Wcc}
 use Rattle.datastream.specs.Grammar.{CommandParts}

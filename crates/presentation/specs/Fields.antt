@@ -1,4 +1,4 @@
--- The fields of a screen as they are listed (GA23-0059, "Fields").
+-- The fields of a screen as they are listed (GA23-0059-07 on fields).
 use Rattle.std.specs.Prelude.{ℕ, List, map, length}
 use Rattle.codes3270.specs.declared.attribute.Cell.{Cell}
 use Rattle.datastream.specs.Screen.{field_text}

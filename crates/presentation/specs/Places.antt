@@ -1,4 +1,4 @@
--- The places of attributes.
+-- The places of attributes (GA23-0059-07 on field attributes).
 use Rattle.std.specs.Prelude.{ℕ, List, not, drop}
 use Rattle.codes3270.specs.declared.attribute.Cell.{Cell}
 use Rattle.datastream.specs.Screen.{is_char, places_from}

@@ -11,7 +11,7 @@ use crate::{Screen, cells};
 use codes3270::{Addr, Attr, CELLS, Cell};
 use std::marker::Model;
 
-/// A field (GA23-0059, "Fields").
+/// A field (GA23-0059-07 on fields).
 #[derive(Clone, Copy, Debug, PartialEq, Eq)]
 pub struct Field {
     /// The address of its attribute.

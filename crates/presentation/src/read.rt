@@ -161,7 +161,7 @@ impl Screen {
         self.put_cursor_and_cells(out)
     }
 
-    /// Appends what Read Buffer answers (GA23-0059, "Read Buffer"): the AID, the cursor's address, and every cell from
+    /// Appends what Read Buffer answers (GA23-0059-07 on Read Buffer): the AID, the cursor's address, and every cell from
     /// address 0 on, an attribute as SF and its code. It succeeds where `out` has room; where memory is refused nothing is
     /// appended.
     pub fn put_read_buffer(&self, out: &mut Vec<u8>) -> Result<(), Memory>
@@ -197,7 +197,7 @@ impl Screen {
         }
     }
 
-    /// Appends what Read Modified answers, with `all` Read Modified All (GA23-0059, "Read Modified"): the AID, the cursor's
+    /// Appends what Read Modified answers, with `all` Read Modified All (GA23-0059-07 on Read Modified): the AID, the cursor's
     /// address, and for each field with MDT on, by the address of its attribute, SBA, the address of its first cell and its
     /// characters without nulls. On an unformatted screen all characters without nulls follow the cursor. After PA or Clear
     /// Read Modified answers the AID alone. It succeeds where `out` has room; where memory is refused nothing is appended.

@@ -16,7 +16,7 @@ use std::marker::Model;
 /// How many cells a screen has, as a length.
 pub(crate) const SIZE: usize = CELLS as usize;
 
-/// The screen of a 3278 model 2 (GA23-0059, "Character buffer"): its cells, the cursor and the AID. Its characters are
+/// The screen of a 3278 model 2 (GA23-0059-07 on the character buffer): its cells, the cursor and the AID. Its characters are
 /// storable. Contracts see it as the list of its cells, the cursor's address and the AID.
 #[derive(Clone, Debug, Drop, PartialEq, Eq)]
 pub struct Screen {

@@ -11,7 +11,7 @@ use crate::{Screen, cells};
 use codes3270::{Addr, Aid, CELLS, Cell, Wcc};
 use datastream::{Command, CommandCode, Order, Orders};
 
-/// What a command asks of the keyboard and the alarm (GA23-0059, "Write control character").
+/// What a command asks of the keyboard and the alarm (GA23-0059-07, "Write Control Character (WCC)").
 #[derive(Clone, Copy, Debug, PartialEq, Eq)]
 pub struct Applied {
     /// Free the keyboard.
@@ -80,8 +80,8 @@ impl Screen {
         cells::reset_open_mdt(&mut self.cells);
     }
 
-    /// Does what a command says to the screen (GA23-0059, "Commands" and "Orders"); a read changes nothing. Answers what the
-    /// command asks of the keyboard and the alarm.
+    /// Does what a command says to the screen (GA23-0059-07, "3270 Data Stream Commands" and "Buffer Control Orders and Order
+    /// Codes"); a read changes nothing. Answers what the command asks of the keyboard and the alarm.
     pub fn apply(&mut self, command: &Command<'_>) -> Applied
         ensures screen { self.new ≡ after_command command.now self.old }
         ensures applied { result ≡ asked_by command.now }
