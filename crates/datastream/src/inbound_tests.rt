@@ -2,6 +2,7 @@
 use super::*;
 use codes3270::{Addr, Aid, Attr, CELLS, Cell, PaNo};
 use std::alloc::{AllocError, Global};
+use std::fmt;
 use std::test::Fail;
 
 /// Whether these are the fields that came, each by its first address and its text.
@@ -46,61 +47,57 @@ fn sends_fields(bytes: &[u8], cursor: u16, fields: &[(u16, &[u8])]) -> bool {
 }
 
 #[test]
-fn enter_sends_the_modified_fields(rt: HostRuntime) -> Result<(), Fail> {
-    assert!(rt;
-        sends_fields(
+fn enter_sends_the_modified_fields(rt: HostRuntime) {
+    let table: [(&str, &[u8], u16, &[(u16, &[u8])]); 7] = [
+        (
+            "one field",
             &[0x7D, 0x40, 0xC5, 0x11, 0x40, 0xC4, 0xC1],
             5,
-            &[(4, &[0xC1])]
-        )
-    );
-    assert!(rt;
-        sends_fields(&[0x7D, 0x40, 0xC4, 0x11, 0x40, 0xC4], 4, &[(4, &[])]),
-        "emptied"
-    );
-    assert!(rt;
-        sends_fields(&[0x7D, 0x40, 0xC1], 1, &[]),
-        "nothing modified"
-    );
-    assert!(rt;
-        sends_fields(
+            &[(4, &[0xC1])],
+        ),
+        (
+            "an emptied field",
+            &[0x7D, 0x40, 0xC4, 0x11, 0x40, 0xC4],
+            4,
+            &[(4, &[])],
+        ),
+        ("nothing modified", &[0x7D, 0x40, 0xC1], 1, &[]),
+        (
+            "the cursor elsewhere",
             &[0x7D, 0x40, 0x40, 0x11, 0x40, 0xC4, 0xC4],
             0,
-            &[(4, &[0xC4])]
-        )
-    );
-    assert!(rt;
-        sends_fields(
+            &[(4, &[0xC4])],
+        ),
+        (
+            "two characters",
             &[0x7D, 0x40, 0xC4, 0x11, 0x40, 0xC1, 0xC1, 0xC2],
             4,
-            &[(1, &[0xC1, 0xC2])]
-        )
-    );
-    assert!(rt;
-        sends_fields(
+            &[(1, &[0xC1, 0xC2])],
+        ),
+        (
+            "two fields",
             &[
-                0x7D, 0x40, 0xC7, 0x11, 0x40, 0xC1, 0xC1, 0x11, 0x40, 0xC5, 0xC2
+                0x7D, 0x40, 0xC7, 0x11, 0x40, 0xC1, 0xC1, 0x11, 0x40, 0xC5, 0xC2,
             ],
             7,
-            &[(1, &[0xC1]), (5, &[0xC2])]
+            &[(1, &[0xC1]), (5, &[0xC2])],
         ),
-        "two fields"
-    );
-    assert!(rt;
-        sends_fields(
+        (
+            "a character deleted",
             &[
-                0x7D, 0xC1, 0x4D, 0x11, 0xC1, 0x4C, 0xC1, 0xC3, 0xC4, 0xC5, 0xC6
+                0x7D, 0xC1, 0x4D, 0x11, 0xC1, 0x4C, 0xC1, 0xC3, 0xC4, 0xC5, 0xC6,
             ],
             77,
-            &[(76, &[0xC1, 0xC3, 0xC4, 0xC5, 0xC6])]
+            &[(76, &[0xC1, 0xC3, 0xC4, 0xC5, 0xC6])],
         ),
-        "a character deleted"
-    );
-    Ok(())
+    ];
+    for (name, bytes, cursor, fields) in table {
+        assert!(rt; sends_fields(bytes, cursor, fields), "{name}");
+    }
 }
 
 #[test]
-fn a_field_that_wraps_comes_last(rt: HostRuntime) -> Result<(), Fail> {
+fn a_field_that_wraps_comes_last(rt: HostRuntime) {
     let bytes = [
         0x7D, 0x40, 0xC8, 0x11, 0x40, 0xC7, 0xE9, 0x11, 0x5D, 0xF6, 0xC1, 0xC2, 0xC3, 0xC4, 0xC5,
         0xC6, 0xC7, 0xC8, 0xC9, 0xD1, 0xD2,
@@ -109,38 +106,50 @@ fn a_field_that_wraps_comes_last(rt: HostRuntime) -> Result<(), Fail> {
         0xC1, 0xC2, 0xC3, 0xC4, 0xC5, 0xC6, 0xC7, 0xC8, 0xC9, 0xD1, 0xD2,
     ];
     assert!(rt; sends_fields(&bytes, 8, &[(7, &[0xE9]), (1910, &wrapped)]));
-    Ok(())
 }
 
 #[test]
 fn parts_are_in_the_order_of_the_bytes(rt: HostRuntime) -> Result<(), Fail> {
     let first = Addr::new(1).ok_or("not an address")?;
     let bytes = [0x7D, 0x40, 0xC4, 0xC9, 0x11, 0x40, 0xC1, 0xC1, 0xC2];
-    let inbound = read_inbound(&bytes, Form::Modified)?;
     let parts = [
         Part::Char(0xC9),
         Part::At(first),
         Part::Char(0xC1),
         Part::Char(0xC2),
     ];
-    assert!(rt; has_parts(&inbound, &parts));
-    assert_eq!(rt; inbound.lead(), [0xC9].as_slice());
-    assert!(rt; has_fields(&inbound, &[(1, &[0xC1, 0xC2])]));
+    let inbound = read_inbound(&bytes, Form::Modified)?;
+    assert!(rt;
+        has_parts(&inbound, &parts)
+            && inbound.lead() == [0xC9].as_slice()
+            && has_fields(&inbound, &[(1, &[0xC1, 0xC2])])
+    );
     Ok(())
+}
+
+/// Whether bytes are inbound data of a form with this AID and cursor.
+fn has_lead(bytes: &[u8], form: Form, aid: Aid, cursor: Option<Addr>) -> bool {
+    match read_inbound(bytes, form) {
+        Ok(inbound) => inbound.aid() == aid && inbound.cursor() == cursor,
+        Err(_) => false,
+    }
+}
+
+/// Whether bytes are Read Modified's data of an AID that stands alone.
+fn is_alone(bytes: &[u8], aid: Aid) -> bool {
+    match read_inbound(bytes, Form::Modified) {
+        Ok(inbound) => {
+            inbound.aid() == aid && inbound.cursor().is_none() && has_parts(&inbound, &[])
+        }
+        Err(_) => false,
+    }
 }
 
 #[test]
 fn a_short_aid_stands_alone_only_for_read_modified(rt: HostRuntime) -> Result<(), Fail> {
     let first = PaNo::new(1).ok_or("not a key")?;
-    let alone = read_inbound(&[0x6C], Form::Modified)?;
-    assert_eq!(rt; alone.aid(), Aid::Pa(first));
-    assert_eq!(rt; alone.cursor(), None);
-    assert!(rt; has_parts(&alone, &[]));
-    let clear = read_inbound(&[0x6D], Form::Modified)?;
-    assert_eq!(rt; clear.aid(), Aid::Clear);
-    let long = read_inbound(&[0x6C, 0x40, 0x40], Form::All)?;
-    assert_eq!(rt; long.aid(), Aid::Pa(first));
-    assert_eq!(rt; long.cursor(), Addr::new(0));
+    assert!(rt; is_alone(&[0x6C], Aid::Pa(first)) && is_alone(&[0x6D], Aid::Clear));
+    assert!(rt; has_lead(&[0x6C, 0x40, 0x40], Form::All, Aid::Pa(first), Addr::new(0)));
     Ok(())
 }
 
@@ -150,40 +159,33 @@ fn fault_of(bytes: &[u8], form: Form) -> Option<InboundFault> {
 }
 
 #[test]
-fn the_first_fault_is_answered(rt: HostRuntime) -> Result<(), Fail> {
-    let short: [&[u8]; 3] = [&[], &[0x7D], &[0x7D, 0x40]];
-    for bytes in short {
-        assert_eq!(rt; fault_of(bytes, Form::Modified), Some(InboundFault::Short));
-    }
-    assert_eq!(rt;
-        fault_of(&[0x01, 0x40, 0x40], Form::Modified),
-        Some(InboundFault::BadAid)
-    );
-    let bad_addresses: [&[u8]; 2] = [
-        &[0x7D, 0x5E, 0x40],
-        &[0x7D, 0x40, 0x40, 0x11, 0x5E, 0x40, 0x00],
+fn the_first_fault_is_answered(rt: HostRuntime) {
+    let table: [(&[u8], InboundFault); 11] = [
+        (&[], InboundFault::Short),
+        (&[0x7D], InboundFault::Short),
+        (&[0x7D, 0x40], InboundFault::Short),
+        (&[0x01, 0x40, 0x40], InboundFault::BadAid),
+        (&[0x7D, 0x5E, 0x40], InboundFault::BadAddress),
+        (
+            &[0x7D, 0x40, 0x40, 0x11, 0x5E, 0x40, 0x00],
+            InboundFault::BadAddress,
+        ),
+        (
+            &[0x7D, 0x40, 0x40, 0x11, 0x40, 0xC1, 0xC1, 0x00],
+            InboundFault::BadForm,
+        ),
+        (&[0x7D, 0x40, 0x40, 0x00], InboundFault::BadForm),
+        (&[0x6C, 0x40, 0x40], InboundFault::BadForm),
+        (&[0x7D, 0x40, 0x40, 0x11, 0x40], InboundFault::BadForm),
+        (&[0x7D, 0x40, 0x40, 0x1D, 0x40], InboundFault::BadForm),
     ];
-    for bytes in bad_addresses {
-        assert_eq!(rt;
-            fault_of(bytes, Form::Modified),
-            Some(InboundFault::BadAddress)
+    for (bytes, fault) in table {
+        assert!(rt;
+            fault_of(bytes, Form::Modified) == Some(fault),
+            "reading {bytes:?}"
         );
     }
-    let bad_forms: [&[u8]; 5] = [
-        &[0x7D, 0x40, 0x40, 0x11, 0x40, 0xC1, 0xC1, 0x00],
-        &[0x7D, 0x40, 0x40, 0x00],
-        &[0x6C, 0x40, 0x40],
-        &[0x7D, 0x40, 0x40, 0x11, 0x40],
-        &[0x7D, 0x40, 0x40, 0x1D, 0x40],
-    ];
-    for bytes in bad_forms {
-        assert_eq!(rt;
-            fault_of(bytes, Form::Modified),
-            Some(InboundFault::BadForm)
-        );
-    }
-    assert_eq!(rt; fault_of(&[0x6C], Form::All), Some(InboundFault::Short));
-    Ok(())
+    assert!(rt; fault_of(&[0x6C], Form::All) == Some(InboundFault::Short));
 }
 
 /// Read Buffer's data after PA1 with the cursor at 169: an attribute, `count` cells of `A`, and more bytes.
@@ -197,56 +199,86 @@ fn buffer(alloc: Global, count: u16, more: &[u8]) -> Result<Vec<u8>, AllocError>
     Ok(bytes)
 }
 
+/// Whether the parts are an attribute, characters, and a null in the last cell.
+fn has_every_part(inbound: &Inbound<'_>) -> bool {
+    let mut parts = inbound.parts();
+    if parts.next() != Some(Part::Attr(Attr::from_code(0xF0))) {
+        return false;
+    }
+    for _ in 0..CELLS - 2 {
+        if parts.next() != Some(Part::Char(0xC1)) {
+            return false;
+        }
+    }
+    parts.next() == Some(Part::Char(0x00)) && parts.next().is_none()
+}
+
+/// Whether the cells are the same.
+fn has_every_cell(inbound: &Inbound<'_>) -> bool {
+    if inbound.form() != Form::Buffer {
+        return false;
+    }
+    let mut cells = inbound.cells();
+    if cells.next() != Some(Cell::Attr(Attr::from_code(0xF0))) {
+        return false;
+    }
+    for _ in 0..CELLS - 2 {
+        if cells.next() != Some(Cell::Char(0xC1)) {
+            return false;
+        }
+    }
+    cells.next() == Some(Cell::Char(0x00)) && cells.next().is_none()
+}
+
+/// Whether bytes are a buffer of these parts and cells, with the cursor at 169 and no fields.
+fn is_whole_buffer(bytes: &[u8]) -> bool {
+    match read_inbound(bytes, Form::Buffer) {
+        Ok(inbound) => {
+            inbound.cursor() == Addr::new(169)
+                && has_every_part(&inbound)
+                && has_every_cell(&inbound)
+                && has_fields(&inbound, &[])
+        }
+        Err(_) => false,
+    }
+}
+
 #[test]
 fn a_buffer_has_every_cell(rt: HostRuntime) -> Result<(), Fail> {
     // The last cell is null.
     let bytes = buffer(rt.alloc(), CELLS - 2, &[0x00])?;
-    let inbound = read_inbound(&bytes, Form::Buffer)?;
-    assert_eq!(rt; inbound.cursor(), Addr::new(169));
-    let mut parts = inbound.parts();
-    assert_eq!(rt; parts.next(), Some(Part::Attr(Attr::from_code(0xF0))));
-    for _ in 0..CELLS - 2 {
-        assert_eq!(rt; parts.next(), Some(Part::Char(0xC1)));
-    }
-    assert_eq!(rt; parts.next(), Some(Part::Char(0x00)));
-    assert_eq!(rt; parts.next(), None);
-    if inbound.form() == Form::Buffer {
-        let mut cells = inbound.cells();
-        assert_eq!(rt; cells.next(), Some(Cell::Attr(Attr::from_code(0xF0))));
-        for _ in 0..CELLS - 2 {
-            assert_eq!(rt; cells.next(), Some(Cell::Char(0xC1)));
-        }
-        assert_eq!(rt; cells.next(), Some(Cell::Char(0x00)));
-        assert_eq!(rt; cells.next(), None);
-    }
-    assert!(rt; has_fields(&inbound, &[]));
+    assert!(rt; is_whole_buffer(&bytes));
     Ok(())
+}
+
+/// Whether an attribute, `count` cells and more bytes have this fault.
+fn has_fault(
+    alloc: Global,
+    count: u16,
+    more: &[u8],
+    fault: InboundFault,
+) -> Result<bool, AllocError> {
+    let bytes = buffer(alloc, count, more)?;
+    Ok(fault_of(&bytes, Form::Buffer) == Some(fault))
 }
 
 #[test]
 fn a_buffer_has_no_other_number_of_cells(rt: HostRuntime) -> Result<(), Fail> {
-    let too_many = buffer(rt.alloc(), CELLS, &[])?;
-    assert_eq!(rt;
-        fault_of(&too_many, Form::Buffer),
-        Some(InboundFault::BadForm)
-    );
-    let too_few = buffer(rt.alloc(), CELLS - 2, &[])?;
-    assert_eq!(rt; fault_of(&too_few, Form::Buffer), Some(InboundFault::Short));
-    let cut_attribute = buffer(rt.alloc(), CELLS - 2, &[0x1D])?;
-    assert_eq!(rt;
-        fault_of(&cut_attribute, Form::Buffer),
-        Some(InboundFault::Short)
-    );
-    let cut_behind_the_last = buffer(rt.alloc(), CELLS - 1, &[0x1D])?;
-    assert_eq!(rt;
-        fault_of(&cut_behind_the_last, Form::Buffer),
-        Some(InboundFault::BadForm)
-    );
-    let unstorable = buffer(rt.alloc(), CELLS - 2, &[0x11])?;
-    assert_eq!(rt;
-        fault_of(&unstorable, Form::Buffer),
-        Some(InboundFault::BadForm)
-    );
+    let table: [(&str, u16, &[u8], InboundFault); 5] = [
+        ("too many", CELLS, &[], InboundFault::BadForm),
+        ("too few", CELLS - 2, &[], InboundFault::Short),
+        ("an attribute cut", CELLS - 2, &[0x1D], InboundFault::Short),
+        (
+            "one cut behind the last",
+            CELLS - 1,
+            &[0x1D],
+            InboundFault::BadForm,
+        ),
+        ("unstorable", CELLS - 2, &[0x11], InboundFault::BadForm),
+    ];
+    for (name, count, more, fault) in table {
+        assert!(rt; has_fault(rt.alloc(), count, more, fault)?, "{name}");
+    }
     Ok(())
 }
 
@@ -264,6 +296,12 @@ fn laws_do_nothing(_rt: HostRuntime) {
     sent_is_read();
 }
 
+/// Whether a fault has this text.
+fn has_text(alloc: Global, fault: InboundFault, text: &str) -> Result<bool, fmt::Error> {
+    let printed = format!(in alloc; "{fault}")?;
+    Ok(printed.as_str() == text)
+}
+
 #[test]
 fn faults_are_printed(rt: HostRuntime) -> Result<(), Fail> {
     let texts = [
@@ -279,7 +317,7 @@ fn faults_are_printed(rt: HostRuntime) -> Result<(), Fail> {
         ),
     ];
     for (fault, text) in texts {
-        assert_eq!(rt; format!(in rt.alloc(); "{fault}")?.as_str(), text);
+        assert!(rt; has_text(rt.alloc(), fault, text)?, "{text}");
     }
     Ok(())
 }

@@ -1,9 +1,12 @@
-//! Commands read and written, byte for byte, and wanted screens.
+//! Commands read and written, byte for byte, and wanted screens. What is owned lives in helpers that answer whether all is as
+//! it should be, so that a test has few ways out.
 ghost use Rattle.std.specs.Prelude.{All};
 ghost use Rattle.datastream.specs.Wanted.{IsProper};
 
 use super::*;
 use codes3270::{Addr, Attr, CELLS, COLUMNS, Wcc};
+use std::alloc::Global;
+use std::fmt;
 use std::test::Fail;
 
 const CHARS: [u8; 2] = [0xC8, 0xC9];
@@ -14,8 +17,12 @@ const CLEARED_WCC: Wcc = Wcc {
     reset: true,
 };
 
-fn address(place: u16) -> Result<Addr, &'static str> {
-    Addr::new(place).ok_or("no such address")
+/// The address of a place on the screen. The tests ask for no place beyond.
+fn at(place: u16) -> Addr {
+    match Addr::new(place) {
+        Some(addr) => addr,
+        None => Addr::first(),
+    }
 }
 
 fn attribute(code: u8) -> Attr {
@@ -30,6 +37,32 @@ const TWO_FIELDS: [u8; 12] = [
 // All cells filled with one character.
 const FILLED: [u8; 9] = [0xF1, 0xC3, 0x11, 0x40, 0x40, 0x3C, 0x40, 0x40, 0x5C];
 
+// ---- commands read
+
+/// Whether bytes are read as a command of this code.
+fn is_read_as(bytes: &[u8], code: CommandCode) -> bool {
+    match read_command(bytes) {
+        Ok(command) => command.code() == code,
+        Err(_) => false,
+    }
+}
+
+/// Whether a command of this code begins with this byte.
+fn begins_with(alloc: Global, code: CommandCode, byte: u8) -> Result<bool, Memory> {
+    let mut out = Vec::new(alloc);
+    CommandWriter::new(&mut out).begin(code, CLEARED_WCC)?;
+    Ok(out.first() == Some(&byte))
+}
+
+/// Whether a command is read by both its codes, and written with the second.
+fn has_codes(alloc: Global, code: CommandCode, first: u8, second: u8) -> Result<bool, Memory> {
+    Ok(
+        is_read_as(&[first, 0xC3], code)
+            && is_read_as(&[second, 0xC3], code)
+            && begins_with(alloc, code, second)?,
+    )
+}
+
 #[test]
 fn each_command_has_two_codes(rt: HostRuntime) -> Result<(), Fail> {
     let table = [
@@ -42,15 +75,37 @@ fn each_command_has_two_codes(rt: HostRuntime) -> Result<(), Fail> {
         (0x0F, 0x6F, CommandCode::EraseAllUnprotected),
     ];
     for (first, second, code) in table {
-        for byte in [first, second] {
-            let bytes = [byte, 0xC3];
-            assert_eq!(rt; read_command(&bytes)?.code(), code, "code {byte}");
-        }
-        let mut out = Vec::new(rt.alloc());
-        CommandWriter::new(&mut out).begin(code, CLEARED_WCC)?;
-        assert_eq!(rt; out.first(), Some(&second), "code {second}");
+        assert!(rt;
+            has_codes(rt.alloc(), code, first, second)?,
+            "code {second}"
+        );
     }
     Ok(())
+}
+
+/// Whether bytes are read as a command with this write control character, or with none.
+fn has_wcc(bytes: &[u8], wcc: Option<Wcc>) -> bool {
+    match read_command(bytes) {
+        Ok(command) => command.wcc() == wcc,
+        Err(_) => false,
+    }
+}
+
+/// Whether a command begins with just these bytes.
+fn begins_as(alloc: Global, code: CommandCode, bytes: &[u8]) -> Result<bool, Memory> {
+    let mut out = Vec::new(alloc);
+    CommandWriter::new(&mut out).begin(code, CLEARED_WCC)?;
+    Ok(out.as_slice() == bytes)
+}
+
+/// Whether a command has this write control character, and orders just where it has one.
+fn begins_both_ways(
+    alloc: Global,
+    code: CommandCode,
+    bytes: &[u8],
+    wcc: Option<Wcc>,
+) -> Result<bool, Memory> {
+    Ok(has_wcc(bytes, wcc) && code.has_orders() == wcc.is_some() && begins_as(alloc, code, bytes)?)
 }
 
 #[test]
@@ -62,24 +117,32 @@ fn writes_alone_have_a_write_control_character(rt: HostRuntime) -> Result<(), Fa
         (CommandCode::EraseAllUnprotected, &[0x6F], None),
     ];
     for (code, bytes, wcc) in table {
-        assert_eq!(rt; read_command(bytes)?.wcc(), wcc, "reading {bytes:?}");
-        assert_eq!(rt; code.has_orders(), wcc.is_some(), "{code:?}");
-        let mut out = Vec::new(rt.alloc());
-        CommandWriter::new(&mut out).begin(code, CLEARED_WCC)?;
-        assert_eq!(rt; out.as_slice(), bytes);
+        assert!(rt; begins_both_ways(rt.alloc(), code, bytes, wcc)?, "{code:?}");
     }
     Ok(())
 }
 
-#[test]
-fn bytes_behind_a_command_without_orders_are_ignored(rt: HostRuntime) -> Result<(), Fail> {
-    for code in [0xF2, 0xF6, 0x6E, 0x6F] {
-        let bytes = [code, 0x11, 0x5E, 0x40, 0x02, 0xC1];
-        let command = read_command(&bytes)?;
-        assert_eq!(rt; command.wcc(), None, "code {code}");
-        assert_eq!(rt; command.orders().next(), None, "code {code}");
+/// Whether bytes are read as a command with neither write control character nor orders.
+fn is_bare(bytes: &[u8]) -> bool {
+    match read_command(bytes) {
+        Ok(command) => command.wcc().is_none() && command.orders().next().is_none(),
+        Err(_) => false,
     }
-    Ok(())
+}
+
+#[test]
+fn bytes_behind_a_command_without_orders_are_ignored(rt: HostRuntime) {
+    for code in [0xF2, 0xF6, 0x6E, 0x6F] {
+        assert!(rt;
+            is_bare(&[code, 0x11, 0x5E, 0x40, 0x02, 0xC1]),
+            "code {code}"
+        );
+    }
+}
+
+/// The fault of bytes that spell no command.
+fn fault_of(bytes: &[u8]) -> Option<CommandFault> {
+    read_command(bytes).err()
 }
 
 #[test]
@@ -136,10 +199,7 @@ fn the_first_fault_is_answered(rt: HostRuntime) {
         ),
     ];
     for (bytes, fault) in table {
-        match read_command(bytes) {
-            Ok(_) => assert!(rt; false, "{bytes:?} was read"),
-            Err(found) => assert_eq!(rt; found, fault, "reading {bytes:?}"),
-        }
+        assert!(rt; fault_of(bytes) == Some(fault), "reading {bytes:?}");
     }
 }
 
@@ -154,13 +214,21 @@ fn gives(command: &Command, wanted: &[Order]) -> bool {
     orders.next().is_none() && orders.next().is_none()
 }
 
+/// Whether bytes are read as a command of these orders.
+fn reads_orders(bytes: &[u8], wanted: &[Order]) -> bool {
+    match read_command(bytes) {
+        Ok(command) => gives(&command, wanted),
+        Err(_) => false,
+    }
+}
+
 #[test]
-fn orders_are_read_one_by_one(rt: HostRuntime) -> Result<(), Fail> {
+fn orders_are_read_one_by_one(rt: HostRuntime) {
     let table: [(&[u8], &[Order]); 6] = [
         (
             &TWO_FIELDS,
             &[
-                Order::Sba(address(0)?),
+                Order::Sba(at(0)),
                 Order::Sf(attribute(0x60)),
                 Order::Char(0xC8),
                 Order::Char(0xC9),
@@ -168,20 +236,17 @@ fn orders_are_read_one_by_one(rt: HostRuntime) -> Result<(), Fail> {
                 Order::Ic,
             ],
         ),
-        (
-            &FILLED,
-            &[Order::Sba(address(0)?), Order::Ra(address(0)?, 0x5C)],
-        ),
+        (&FILLED, &[Order::Sba(at(0)), Order::Ra(at(0), 0x5C)]),
         (
             &[
                 0xF5, 0xC3, 0x3C, 0x40, 0x40, 0x5C, 0x11, 0x40, 0xC3, 0x1D, 0x60, 0x11, 0x5D, 0x7A,
                 0x1D, 0x40, 0xC1, 0x05, 0x05, 0xC2, 0x13,
             ],
             &[
-                Order::Ra(address(0)?, 0x5C),
-                Order::Sba(address(3)?),
+                Order::Ra(at(0), 0x5C),
+                Order::Sba(at(3)),
                 Order::Sf(attribute(0x60)),
-                Order::Sba(address(CELLS - 6)?),
+                Order::Sba(at(CELLS - 6)),
                 Order::Sf(attribute(0x40)),
                 Order::Char(0xC1),
                 Order::Pt,
@@ -192,7 +257,7 @@ fn orders_are_read_one_by_one(rt: HostRuntime) -> Result<(), Fail> {
         ),
         (
             &[0xF1, 0xC3, 0x11, 0x40, 0xC2, 0x12, 0x40, 0xC6],
-            &[Order::Sba(address(2)?), Order::Eua(address(6)?)],
+            &[Order::Sba(at(2)), Order::Eua(at(6))],
         ),
         // The ends of the first row, and the last cell in both forms.
         (
@@ -200,10 +265,10 @@ fn orders_are_read_one_by_one(rt: HostRuntime) -> Result<(), Fail> {
                 0xF1, 0xC3, 0x11, 0xC1, 0x4F, 0x11, 0xC1, 0x50, 0x11, 0x5D, 0x7F, 0x11, 0x07, 0x7F,
             ],
             &[
-                Order::Sba(address(COLUMNS - 1)?),
-                Order::Sba(address(COLUMNS)?),
-                Order::Sba(address(CELLS - 1)?),
-                Order::Sba(address(CELLS - 1)?),
+                Order::Sba(at(COLUMNS - 1)),
+                Order::Sba(at(COLUMNS)),
+                Order::Sba(at(CELLS - 1)),
+                Order::Sba(at(CELLS - 1)),
             ],
         ),
         // The characters that look like controls are stored too.
@@ -219,30 +284,41 @@ fn orders_are_read_one_by_one(rt: HostRuntime) -> Result<(), Fail> {
         ),
     ];
     for (bytes, wanted) in table {
-        assert!(rt; gives(&read_command(bytes)?, wanted), "reading {bytes:?}");
+        assert!(rt; reads_orders(bytes, wanted), "reading {bytes:?}");
     }
-    Ok(())
+}
+
+// ---- commands written
+
+fn put_two_fields(mut writer: CommandWriter) -> Result<(), Memory> {
+    writer.begin(CommandCode::EraseWrite, CLEARED_WCC)?;
+    writer.sba(at(0))?;
+    writer.sf(attribute(0x60))?;
+    writer.chars(&CHARS)?;
+    writer.sf(attribute(0x40))?;
+    writer.ic()
+}
+
+fn put_filled(mut writer: CommandWriter) -> Result<(), Memory> {
+    writer.begin(CommandCode::Write, CLEARED_WCC)?;
+    writer.sba(at(0))?;
+    writer.ra(at(0), 0x5C)
+}
+
+/// Whether one command is written, and then the other behind it.
+fn writes_both(out: &mut Vec<u8>) -> Result<bool, Memory> {
+    put_two_fields(CommandWriter::new(out))?;
+    let is_first = out.as_slice() == TWO_FIELDS.as_slice();
+    // What stands in the vector stays.
+    put_filled(CommandWriter::new(out))?;
+    Ok(is_first && out.strip_prefix(TWO_FIELDS.as_slice()) == Some(FILLED.as_slice()))
 }
 
 #[test]
 fn commands_are_written(rt: HostRuntime) -> Result<(), Fail> {
     let mut out = Vec::new(rt.alloc());
-    let mut writer = CommandWriter::new(&mut out);
-    writer.begin(CommandCode::EraseWrite, CLEARED_WCC)?;
-    writer.sba(address(0)?)?;
-    writer.sf(attribute(0x60))?;
-    writer.chars(&CHARS)?;
-    writer.sf(attribute(0x40))?;
-    writer.ic()?;
-    assert_eq!(rt; out.as_slice(), TWO_FIELDS.as_slice());
-
-    // What stands in the vector stays.
-    let mut writer = CommandWriter::new(&mut out);
-    writer.begin(CommandCode::Write, CLEARED_WCC)?;
-    writer.sba(address(0)?)?;
-    writer.ra(address(0)?, 0x5C)?;
-    assert_eq!(rt; &out[..12], TWO_FIELDS.as_slice());
-    assert_eq!(rt; &out[12..], FILLED.as_slice());
+    let are_written = writes_both(&mut out)?;
+    assert!(rt; are_written);
     Ok(())
 }
 
@@ -269,9 +345,38 @@ fn put(writer: &mut CommandWriter, call: Call) -> Result<(), Memory> {
     }
 }
 
+/// Whether a call appends these bytes to an empty vector, or is refused and appends nothing.
+fn appends_or_not(out: &mut Vec<u8>, call: Call, bytes: &[u8]) -> bool {
+    match put(&mut CommandWriter::new(out), call) {
+        Ok(()) => out.as_slice() == bytes,
+        Err(_) => out.is_empty(),
+    }
+}
+
+/// Whether a call appends these bytes to an empty vector.
+fn appends(out: &mut Vec<u8>, call: Call, bytes: &[u8]) -> bool {
+    put(&mut CommandWriter::new(out), call).is_ok() && out.as_slice() == bytes
+}
+
+/// Where a vector with no room can be made: a call appends to it or changes nothing.
+fn appends_to_full(alloc: Global, call: Call, bytes: &[u8]) -> bool {
+    match Vec::with_capacity(alloc, 0) {
+        Ok(mut out) => appends_or_not(&mut out, call, bytes),
+        Err(_) => true,
+    }
+}
+
+/// Where a vector with room can be made: a call appends to it.
+fn appends_to_roomy(alloc: Global, call: Call, bytes: &[u8]) -> bool {
+    match Vec::with_capacity(alloc, bytes.len()) {
+        Ok(mut out) => appends(&mut out, call, bytes),
+        Err(_) => true,
+    }
+}
+
 // Run it with each allocation failing in turn: a call is then refused at some time, and the vector stays as it was.
 #[test]
-fn a_call_appends_its_bytes_or_changes_nothing(rt: HostRuntime) -> Result<(), Fail> {
+fn a_call_appends_its_bytes_or_changes_nothing(rt: HostRuntime) {
     let table: [(Call, &[u8]); 7] = [
         (Call::Begin(CommandCode::Write), &[0xF1, 0xC3]),
         (Call::Begin(CommandCode::ReadBuffer), &[0xF2]),
@@ -282,23 +387,9 @@ fn a_call_appends_its_bytes_or_changes_nothing(rt: HostRuntime) -> Result<(), Fa
         (Call::Ic, &[0x13]),
     ];
     for (call, bytes) in table {
-        let Ok(mut full) = Vec::with_capacity(rt.alloc(), 0) else {
-            continue;
-        };
-        match put(&mut CommandWriter::new(&mut full), call) {
-            Ok(()) => assert_eq!(rt; full.as_slice(), bytes, "{call:?}"),
-            Err(_) => assert_eq!(rt; full.len(), 0, "{call:?}"),
-        }
-        let Ok(mut roomy) = Vec::with_capacity(rt.alloc(), bytes.len()) else {
-            continue;
-        };
-        assert!(rt;
-            put(&mut CommandWriter::new(&mut roomy), call).is_ok(),
-            "{call:?}"
-        );
-        assert_eq!(rt; roomy.as_slice(), bytes, "{call:?}");
+        assert!(rt; appends_to_full(rt.alloc(), call, bytes), "{call:?}");
+        assert!(rt; appends_to_roomy(rt.alloc(), call, bytes), "{call:?}");
     }
-    Ok(())
 }
 
 // ---- wanted screens
@@ -317,23 +408,37 @@ fn put_want(wants: &mut [Want; CELLS as usize], place: Addr, want: Want)
     wants[place.get() as usize] = want;
 }
 
-#[test]
-fn a_wanted_screen_names_each_cell(rt: HostRuntime) -> Result<(), Fail> {
-    let attr = Want::Attr(attribute(0x60));
+/// An attribute in the first cell and a character in the last, and the cursor at 7.
+fn example(reset: bool) -> Wanted {
     let mut wants = all_kept();
-    put_want(&mut wants, address(0)?, attr);
-    put_want(&mut wants, address(CELLS - 1)?, Want::Char(0xC1));
-    let wanted = Wanted::new(wants, address(7)?, true);
-    assert_eq!(rt; wanted.want(address(0)?), attr);
-    assert_eq!(rt; wanted.want(address(1)?), Want::Keep);
-    assert_eq!(rt; wanted.want(address(CELLS - 1)?), Want::Char(0xC1));
-    assert_eq!(rt; wanted.cells().len(), CELLS as usize);
-    assert_eq!(rt; wanted.cells().first(), Some(&attr));
-    assert_eq!(rt; wanted.cursor().get(), 7);
-    assert!(rt; wanted.reset());
-    assert!(rt; wanted == Wanted::new(wants, address(7)?, true));
-    assert!(rt; wanted != Wanted::new(wants, address(7)?, false));
-    Ok(())
+    put_want(&mut wants, at(0), Want::Attr(attribute(0x60)));
+    put_want(&mut wants, at(CELLS - 1), Want::Char(0xC1));
+    Wanted::new(wants, at(7), reset)
+}
+
+/// Whether each cell of the example is as it was wanted.
+fn names_each_cell(wanted: &Wanted) -> bool {
+    let attr = Want::Attr(attribute(0x60));
+    wanted.want(at(0)) == attr
+        && wanted.want(at(1)) == Want::Keep
+        && wanted.want(at(CELLS - 1)) == Want::Char(0xC1)
+        && wanted.cells().len() == CELLS as usize
+        && wanted.cells().first() == Some(&attr)
+        && wanted.cursor().get() == 7
+        && wanted.reset()
+}
+
+#[test]
+fn a_wanted_screen_names_each_cell(rt: HostRuntime) {
+    let wanted = example(true);
+    assert!(rt; names_each_cell(&wanted));
+    assert!(rt; wanted == example(true) && wanted != example(false));
+}
+
+/// Whether a fault has this text.
+fn has_text(alloc: Global, fault: CommandFault, text: &str) -> Result<bool, fmt::Error> {
+    let printed = format!(in alloc; "{fault}")?;
+    Ok(printed.as_str() == text)
 }
 
 #[test]
@@ -345,7 +450,7 @@ fn faults_have_texts(rt: HostRuntime) -> Result<(), Fail> {
         (CommandFault::Truncated, "command cut short"),
     ];
     for (fault, text) in table {
-        assert_eq!(rt; format!(in rt.alloc(); "{fault}")?.as_str(), text);
+        assert!(rt; has_text(rt.alloc(), fault, text)?, "{text}");
     }
     Ok(())
 }
@@ -353,8 +458,10 @@ fn faults_have_texts(rt: HostRuntime) -> Result<(), Fail> {
 #[test]
 fn laws_do_nothing(_rt: HostRuntime) {
     written_is_read();
+    one_reading();
     tabs_by_place();
     spans_are_steps();
     fields_both_ways();
     kept_since_the_write();
+    what_a_note_keeps();
 }
