@@ -38,12 +38,12 @@ use Rattle.shadow.proofs.ExactTaken.{found_exact, write_has, erased_exact}
 
 -- ---- what is known once a paint is taken
 
-abbrev stored_over : Known → Option Cell → Known
+abbrev pub stored_over : Known → Option Cell → Known
 stored_over known None = known
 stored_over known (Some cell) = new_cell cell
 
 -- what is known of each cell; `whole`: all that is wanted, of which `rest` stands here
-abbrev known_painted : List Want → List Want → List Known → List Known
+abbrev pub known_painted : List Want → List Want → List Known → List Known
 known_painted whole [] known = []
 known_painted whole (want ∷ rest) [] = []
 known_painted whole (want ∷ rest) (k ∷ known) = stored_over k (cell_to_store (rest ++ whole) want k) ∷ known_painted whole rest known
@@ -53,7 +53,7 @@ one_stored : (o : Option Cell) (n : ℕ) (front : List Known) (k : Known) (known
 one_stored None n front k known more e = ap (known_stored more) (sym (append_assoc front (k ∷ []) known))
 one_stored (Some cell) n front k known more e = ap (known_stored more) (put_at front k (new_cell cell) known n e ∙ sym (append_assoc front (new_cell cell ∷ []) known))
 
-stores_painted : (whole : List Want) (n : ℕ) (rest : List Want) (known front : List Known) → length front ≡ n → length rest ≡ length known
+pub stores_painted : (whole : List Want) (n : ℕ) (rest : List Want) (known front : List Known) → length front ≡ n → length rest ≡ length known
     → known_stored (to_store whole n rest known) (front ++ known) ≡ front ++ known_painted whole rest known
 stores_painted whole n [] [] front e same = refl
 stores_painted whole n [] (k ∷ known) front e same = absurd (omega arith)
@@ -75,7 +75,7 @@ old_is (KnownChar slot fresh) None = λ e. refl
 old_is old (Some (Char c)) = λ e. absurd (cc)
 old_is old (Some (Attr a)) = tt
 
-all_old : (whole rest : List Want) (known : List Known) → length rest ≡ length known → Pairwise OldIs known (known_painted whole rest known)
+pub all_old : (whole rest : List Want) (known : List Known) → length rest ≡ length known → Pairwise OldIs known (known_painted whole rest known)
 all_old whole [] [] same = tt
 all_old whole [] (k ∷ known) same = absurd (omega arith)
 all_old whole (want ∷ rest) [] same = absurd (omega arith)
@@ -93,7 +93,7 @@ ahead_old (old ∷ olds) (KnownChar slot fresh ∷ news) h none same =
     rw was (ap (λ (ks : List (Option ℕ)). slot ∷ ks) (ahead_old olds news h.1 parts.1 (omega (arith, same_old))))
 
 -- each cell is what is wanted there
-abbrev WantedIs : Want → Known → Type 0
+abbrev pub WantedIs : Want → Known → Type 0
 WantedIs (WantAttr a) (KnownAttr k m) = ⊤
 WantedIs (WantAttr a) (KnownChar slot fresh) = ⊥
 WantedIs (WantChar c) (KnownAttr k m) = ⊥
@@ -102,7 +102,7 @@ WantedIs Keep (KnownAttr k m) = ⊥
 WantedIs Keep (KnownChar slot fresh) = ⊤
 
 -- without Keep all characters are known
-all_wanted_known : (wants : List Want) (news : List Known) → Pairwise WantedIs wants news → keeps_ahead wants ≡ false → (text : List ℕ) × (known_ahead news ≡ map Some text)
+pub all_wanted_known : (wants : List Want) (news : List Known) → Pairwise WantedIs wants news → keeps_ahead wants ≡ false → (text : List ℕ) × (known_ahead news ≡ map Some text)
 all_wanted_known [] [] h none = ([], refl)
 all_wanted_known [] (new ∷ news) h none = absurd h
 all_wanted_known (want ∷ wants) [] h none = absurd h
@@ -144,11 +144,11 @@ all_shaped true known cells h = off_shaped known cells (pairwise_weaken CellFits
 all_shaped false known cells h = pairwise_weaken CellFits Shaped fits_shape known cells h
 
 -- the attribute of a field to be kept is there, and unprotected
-abbrev IsFree : Cell → Type 0
+abbrev pub IsFree : Cell → Type 0
 IsFree (Char c) = ⊥
 IsFree (Attr a) = a.protected ≡ false
 
-abbrev KeptIsFree : List Want → List Want → List Cell → Type 0
+abbrev pub KeptIsFree : List Want → List Want → List Cell → Type 0
 KeptIsFree wants [] cells = ⊤
 KeptIsFree wants (want ∷ rest) [] = ⊤
 KeptIsFree wants (WantAttr a ∷ rest) (x ∷ cells) = (keeps_ahead (rest ++ wants) ≡ true → IsFree x) × KeptIsFree wants rest cells
@@ -178,7 +178,7 @@ found_free whole n (Attr y ∷ rest) (b ∷ bs) h is place a count e free x more
     cases true p false s l found later = later found
     cases false p b s l found later = later found
 
-kept_free : (bs : List Belief) (wants : List Want) (whole : List Cell) → Pairwise FieldMeets bs (fields whole)
+pub kept_free : (bs : List Belief) (wants : List Want) (whole : List Cell) → Pairwise FieldMeets bs (fields whole)
     → (n : ℕ) (rest : List Want) (cells : List Cell) → cells ≡ drop n whole → fits_from bs wants n rest ≡ true → KeptIsFree wants rest cells
 kept_free bs wants whole h n [] cells is e = tt
 kept_free bs wants whole h n (want ∷ rest) [] is e = tt
@@ -231,7 +231,7 @@ wanted_attr a k x ahead shape free = cases (keeps_ahead ahead) refl (is_there k 
     cases false keeps true e = right k e
     cases false keeps false e = tt
 
-all_wanted : (wants rest : List Want) (known : List Known) (cells : List Cell) → length rest ≡ length known → Pairwise Shaped known cells → KeepsChars rest cells → KeptIsFree wants rest cells
+pub all_wanted : (wants rest : List Want) (known : List Known) (cells : List Cell) → length rest ≡ length known → Pairwise Shaped known cells → KeepsChars rest cells → KeptIsFree wants rest cells
     → Pairwise WantedIs rest (known_painted wants rest known)
 all_wanted wants [] known cells same shape keeps free = tt
 all_wanted wants (want ∷ rest) [] cells same shape keeps free = absurd (omega arith)
@@ -340,11 +340,11 @@ all_protected bs wants olds news exact was w o n (WantAttr a ∷ rest) (old ∷ 
         (λ len fact e. ap (λ (xs : List Known). known_ahead (xs ++ olds)) (drop_tail n old ro olds is) ∙ was n len fact e)
 
 -- a paint begins at no address that is known
-no_address : (k : ℕ) → None ≡ Some k → 0 ≡ k
+pub no_address : (k : ℕ) → None ≡ Some k → 0 ≡ k
 no_address k e = absurd (cc)
 
 -- a paint's write control character
-abbrev paint_wcc : Bool → Wcc
+abbrev pub paint_wcc : Bool → Wcc
 paint_wcc reset = record { alarm = false; restore = true; reset = reset }
 
 pub painted_exact : PaintedIsExact

@@ -123,7 +123,7 @@ keeps_fields wants whole same inside all = cases (list_any is_keep wants) refl (
 
 -- ---- the fields of a screen that meets what is believed have room
 
-field_found : (bs : List Belief) (place : ℕ) (a : Attribute) (count : ℕ) → list_any (is_field place a count) bs ≡ true → (fact : Fact) × (fact_before bs place count ≡ Some fact)
+pub field_found : (bs : List Belief) (place : ℕ) (a : Attribute) (count : ℕ) → list_any (is_field place a count) bs ≡ true → (fact : Fact) × (fact_before bs place count ≡ Some fact)
 field_found [] place a count e = absurd (cc)
 field_found (b ∷ bs) place a count e = cases (nat_eq b.place place) (same_attr b.attr a) (nat_eq b.length count) e (field_found bs place a count)
   where

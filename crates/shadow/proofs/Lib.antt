@@ -36,3 +36,4 @@ pub mod NotesTaken
 pub mod Opening
 pub mod PaintLength
 pub mod Noted
+pub mod PaintOpening

@@ -103,7 +103,7 @@ same_length (KnownAttr k m ∷ olds) (KnownChar slot fresh ∷ news) h = absurd 
 same_length (KnownChar slot fresh ∷ olds) (KnownAttr b n ∷ news) h = absurd h.0
 same_length (KnownChar slot fresh ∷ olds) (KnownChar t g ∷ news) h = ap suc (same_length olds news h.1)
 
-fact_kept : (bs : List Belief) (n len : ℕ) (fact : Fact) (ahead : List Known) → fresh_ahead ahead ≡ false → length (known_ahead ahead) ≡ len → fact_before bs n len ≡ Some fact → fact_after bs n ahead ≡ fact
+pub fact_kept : (bs : List Belief) (n len : ℕ) (fact : Fact) (ahead : List Known) → fresh_ahead ahead ≡ false → length (known_ahead ahead) ≡ len → fact_before bs n len ≡ Some fact → fact_after bs n ahead ≡ fact
 fact_kept bs n len fact ahead none long found =
     let known : Fact = fact_known (known_ahead ahead) in
     ap (λ (t : Bool). if t then known else unwrap_or (fact_before bs n (length (known_ahead ahead))) known) none

@@ -1,16 +1,24 @@
 -- Which fields are open: those that may be typed into, of whose characters the host believes neither a text nor a text or
 -- nulls (our profile). What leaves none open.
-use Rattle.std.specs.Prelude.{◌≡◌, ⊤, ℕ, Bool, true, false, replicate, Some, All, IfOk, IsOkAnd}
+use Rattle.std.specs.Prelude.{◌≡◌, ⊤, ◌&&◌, ◌||◌, not, ℕ, Bool, true, false, List, [], ◌∷◌, ◌++◌, length, replicate, Some, All, IfOk, IsOkAnd}
 use Rattle.codes3270.specs.Aid.{is_short_aid}
 use Rattle.codes3270.specs.declared.attention.Aid.{Aid}
 use Rattle.codes3270.specs.declared.attention.Aid.TheVariants.{Clear}
 use Rattle.datastream.specs.Grammar.{CommandParts}
 use Rattle.datastream.specs.InboundText.{InboundParts}
+use Rattle.datastream.specs.Screen.{Screen}
+use Rattle.datastream.specs.Wanted.{WantedScreen}
 use Rattle.datastream.specs.declared.inbound_part.Form.{Form}
 use Rattle.datastream.specs.declared.inbound_part.Form.TheVariants.{Modified, All as AllModified, Buffer}
+use Rattle.datastream.specs.declared.wanted.Want.{Want}
+use Rattle.datastream.specs.declared.wanted.Want.TheVariants.{Char as WantChar, Attr as WantAttr, Keep}
 use Rattle.shadow.specs.Belief.{Fact, Belief, Shadow, fields_of}
-use Rattle.shadow.specs.Exactness.{is_erase}
+use Rattle.shadow.specs.Exactness.{is_erase, KnownIsExact}
+use Rattle.shadow.specs.Fits.{fits}
 use Rattle.shadow.specs.Heard.{heard}
+use Rattle.shadow.specs.Meets.{Meets}
+use Rattle.shadow.specs.Paint.{paint}
+use Rattle.shadow.specs.Painted.{keeps_ahead}
 use Rattle.shadow.specs.Taken.{taken}
 
 abbrev pub is_any : Fact → Bool
@@ -52,3 +60,28 @@ IsClearedBelief size shadow = shadow ≡ Shadow.Unformatted (replicate size (Som
 -- That is believed after Clear, which is never refused.
 abbrev pub ClearIsHeard : Type 0
 ClearIsHeard = (size : ℕ) (shadow : Shadow) (inbound : InboundParts) → inbound.form ≡ Modified → inbound.aid ≡ Clear → IsOkAnd (heard size shadow inbound) (IsClearedBelief size)
+
+-- ---- paints
+
+-- Keep alone stands before the first attribute
+abbrev pub keeps_alone : List Want → Bool
+keeps_alone [] = true
+keeps_alone (WantChar byte ∷ wants) = false
+keeps_alone (Keep ∷ wants) = keeps_alone wants
+keeps_alone (WantAttr attribute ∷ wants) = true
+
+-- the fields whose attributes stand in `rest` are wanted with Keep alone, or without it
+abbrev pub keeps_whole : List Want → List Want → Bool
+keeps_whole whole [] = true
+keeps_whole whole (WantChar byte ∷ rest) = keeps_whole whole rest
+keeps_whole whole (Keep ∷ rest) = keeps_whole whole rest
+keeps_whole whole (WantAttr attribute ∷ rest) = (not (keeps_ahead (rest ++ whole)) || keeps_alone (rest ++ whole)) && keeps_whole whole rest
+
+abbrev pub keeps_whole_fields : WantedScreen → Bool
+keeps_whole_fields wanted = keeps_whole wanted.cells wanted.cells
+
+-- A paint that fits, and keeps whole fields alone, opens nothing. (One that stores characters in a field that it keeps may: of
+-- the others nothing is known then.)
+abbrev pub PaintOpensNothing : Type 0
+PaintOpensNothing = (shadow : Shadow) (wanted : WantedScreen) (screen : Screen) → length wanted.cells ≡ length screen.cells → fits shadow wanted ≡ true → keeps_whole_fields wanted ≡ true
+    → Meets shadow screen → KnownIsExact shadow → NothingIsOpen shadow → NothingIsOpen (taken (length screen.cells) (paint (length screen.cells) shadow wanted) shadow)

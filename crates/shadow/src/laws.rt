@@ -1,5 +1,5 @@
 //! What holds of beliefs. The functions are empty: their contracts are the laws.
-ghost use Rattle.shadow.specs.Openness.{LongOpensNothing, ReadLeavesNothingOpen, EraseLeavesNothingOpen, ClearIsHeard};
+ghost use Rattle.shadow.specs.Openness.{LongOpensNothing, ReadLeavesNothingOpen, EraseLeavesNothingOpen, ClearIsHeard, PaintOpensNothing};
 ghost use Rattle.shadow.specs.Notes.{NoteOverwritesProtected, NoteOverwritesBare, PlacedStaysKnown, NoteStaysListed, NoteStaysTold, NoteStaysExact, NoteOpensNothing, NoteStaysWhole};
 ghost use Rattle.shadow.specs.Laws.{HearsModified, HearsAll, HearsBuffer, WrittenIsTaken, WantedIsPainted, PaintIsTaken, PaintedIsKnown, PaintIsBounded, PaintIsPlain, PaintIsSpelt, KnownIsThere, AttributesAreKnown};
 ghost use Rattle.shadow.specs.Exactness.{NothingIsExact, HeardStaysExact, HeardStaysProtected, TakenStaysExact, ErasedIsExact, PaintedIsExact, WrittenStaysProtected, ProtectedIsSeen, ReturnedIsTold};
@@ -79,10 +79,11 @@ pub fn what_a_note_leaves()
 {}
 
 /// Data of Enter or a PF key, and what is asked for, opens no field whose text, or text or nulls, was believed; the answer to
-/// Read Buffer and an erase leave none open at all; Clear leaves an unformatted screen of known nulls.
+/// Read Buffer and an erase leave none open at all; Clear leaves an unformatted screen of known nulls; a paint that keeps whole fields opens none.
 pub fn what_leaves_nothing_open()
     ensures long { LongOpensNothing }
     ensures buffer { ReadLeavesNothingOpen }
     ensures erased { EraseLeavesNothingOpen }
     ensures cleared { ClearIsHeard }
+    ensures painted { PaintOpensNothing }
 {}
