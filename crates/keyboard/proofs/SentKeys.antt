@@ -1,5 +1,5 @@
 -- What keys that send leave, and those that don't.
-use Rattle.std.proofs.Common.{◌≡◌, ◌&&◌, not, ℕ, Bool, true, false, Option, None, Some, Result, Ok, Err, List, length, replicate, refl, sym, subst, ap, ◌∙◌, IfOk, if◌then◌else◌}
+use Rattle.std.proofs.Common.{◌≡◌, ◌&&◌, not, ℕ, Bool, true, false, Option, None, Some, Result, Ok, Err, List, length, replicate, refl, subst, ap, IfOk, if◌then◌else◌}
 use Rattle.codes3270.specs.CodePage.{code_of}
 use Rattle.codes3270.specs.declared.attention.Aid.{Aid}
 use Rattle.codes3270.specs.declared.attention.Aid.TheVariants.{NoAid, Clear as ClearAid}

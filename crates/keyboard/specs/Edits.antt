@@ -1,5 +1,5 @@
--- What typing and erasing make of a field's text from the cursor on (GA23-0059, "Keyboard and Printer Operations"). That an edit on an unformatted
--- screen ends at the last cell, and in which order refusals are tested, is our profile.
+-- What typing and erasing make of a field's text from the cursor on (GA23-0059-07 on keyboard operation). That an edit on an
+-- unformatted screen ends at the last cell, and in which order refusals are tested, is our profile.
 use Rattle.std.specs.Prelude.{◌+◌, ◌-◌, ◌%◌, ◌==◌, ◌&&◌, ◌||◌, not, ℕ, Bool, true, false, if◌then◌else◌, List, [], ◌∷◌, ◌++◌, length, take, drop, replicate, slice_index_or, slice_set, Option, Some, None, option_map, Result, Ok, Err, nat_le}
 use Rattle.std.specs.List.{list_all}
 use Rattle.codes3270.specs.CodePage.{code_of}

@@ -1,4 +1,4 @@
--- What each key makes of the screen and the keyboard, and what it answers (GA23-0059, "Keyboard and Printer Operations"). Locks and
+-- What each key makes of the screen and the keyboard, and what it answers (GA23-0059-07 on keyboard operation). Locks and
 -- refusals are our profile.
 use Rattle.std.specs.Prelude.{◌+◌, ◌-◌, ◌%◌, ℕ, true, false, length, Result, Ok, Err}
 use Rattle.codes3270.specs.declared.attention.Aid.{Aid}

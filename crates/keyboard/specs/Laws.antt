@@ -1,9 +1,9 @@
--- Laws of the keys, for proofs in the crates above.
+-- Laws of the keys, for proofs in the crates above (our profile).
 use Rattle.std.specs.Prelude.{◌≡◌, ◌+◌, ◌-◌, ◌%◌, ◌<◌, ◌≤◌, ◌==◌, ◌++◌, ◌∷◌, [], ℕ, Bool, true, false, not, if◌then◌else◌, List, Some, None, length, drop, slice_index_or}
 use Rattle.std.specs.List.{list_all}
 use Rattle.codes3270.specs.declared.attribute.Cell.{Cell}
 use Rattle.codes3270.specs.declared.attribute.Cell.TheVariants.{Char}
-use Rattle.datastream.specs.Screen.{Screen, IsGoverned}
+use Rattle.datastream.specs.Screen.{Screen, IsGoverned, is_char}
 use Rattle.datastream.specs.Span.{is_within}
 use Rattle.datastream.specs.Held.{Held, erased_input}
 use Rattle.datastream.specs.HeldRound.{erased_round}
@@ -94,7 +94,7 @@ EditsRewriteTheText = (text : List ℕ) (screen : Screen)
     → screen.cursor < length screen.cells → length text ≤ length (text_from screen.cells screen.cursor)
     → text_from (rewritten text screen).cells screen.cursor ≡ text ++ drop (length text) (text_from screen.cells screen.cursor)
 
--- It changes no other cell, but for the attribute that governs the cursor's, where it turns MDT on.
+-- Where an attribute governs the cursor's cell, it turns MDT on in that one, and changes no other cell.
 abbrev pub EditsMarkTheirField : Type 0
 EditsMarkTheirField = (text : List ℕ) (screen : Screen) (attr place : ℕ)
     → screen.cursor < length screen.cells → length text ≤ length (text_from screen.cells screen.cursor)
@@ -102,6 +102,14 @@ EditsMarkTheirField = (text : List ℕ) (screen : Screen) (attr place : ℕ)
     → is_within (length screen.cells) screen.cursor (length text) place ≡ false
     → let old = slice_index_or screen.cells place (Char 0) in
     slice_index_or (rewritten text screen).cells place (Char 0) ≡ (if place == attr then modified old else old)
+
+-- On an unformatted screen it changes no other cell.
+abbrev pub EditsWithoutFieldsMarkNothing : Type 0
+EditsWithoutFieldsMarkNothing = (text : List ℕ) (screen : Screen) (place : ℕ)
+    → screen.cursor < length screen.cells → length text ≤ length (text_from screen.cells screen.cursor)
+    → list_all is_char screen.cells ≡ true → place < length screen.cells
+    → is_within (length screen.cells) screen.cursor (length text) place ≡ false
+    → slice_index_or (rewritten text screen).cells place (Char 0) ≡ slice_index_or screen.cells place (Char 0)
 
 -- An inserted character takes the room of the first null.
 abbrev pub FirstNullMakesRoom : Type 0

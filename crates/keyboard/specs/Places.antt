@@ -1,5 +1,5 @@
--- The places that keys look for on the ring of cells (GA23-0059, "Keyboard and Printer Operations"). That a key goes to 0 where there is no
--- such place is our profile.
+-- The places that keys look for on the ring of cells (GA23-0059-07 on moving the cursor). That a key goes to 0 where there is no such place
+-- is our profile.
 use Rattle.std.specs.Prelude.{◌+◌, ◌-◌, ◌%◌, ◌&&◌, not, ℕ, Bool, List, ◌∷◌, length, map, slice_index_or, Option}
 use Rattle.std.specs.List.{find, range_with_len}
 use Rattle.std.specs.Option.{unwrap_or}
@@ -26,7 +26,7 @@ is_start_at cells at =
     let before = (at + length cells - 1) % length cells in
     is_start (slice_index_or cells before (Char 0), slice_index_or cells at (Char 0))
 
--- an unprotected cell that isn't an attribute
+-- free: an unprotected cell that isn't an attribute
 abbrev pub is_free_at : List Cell → ℕ → Bool
 is_free_at cells at = is_char_at cells at && not (is_protected cells at)
 
@@ -42,7 +42,7 @@ start_before cells at = first_or_zero (is_start_at cells) (backward (length cell
 abbrev pub row_end : ℕ → ℕ → ℕ
 row_end columns at = at + (columns - 1 - at % columns)
 
--- the first free cell behind the row of an address
+-- the first free cell behind the row of an address: from the beginning of the next row on; that row's own last cell is the last
 abbrev pub next_line : ℕ → List Cell → ℕ → ℕ
 next_line columns cells at = first_or_zero (is_free_at cells) (onward (length cells) (row_end columns at))
 

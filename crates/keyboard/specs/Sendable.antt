@@ -1,4 +1,4 @@
--- What keys leave can be sent.
+-- What keys leave can be sent, for proofs in the crates above (our profile).
 use Rattle.std.specs.Prelude.{⊤, ℕ}
 use Rattle.codes3270.specs.Aid.{IsRealAid}
 use Rattle.codes3270.specs.declared.attention.Aid.TheVariants as aid
@@ -9,7 +9,7 @@ use Rattle.keyboard.specs.declared.key.Key.TheVariants.{Pf, Pa}
 use Rattle.keyboard.specs.Keys.{pressed}
 use Rattle.keyboard.specs.State.{Keyboard}
 
--- a key that a terminal has: of the program function keys PF1 to PF24, of the program attention keys PA1 to PA3
+-- a key that a terminal has (GA23-0059-07 on attention identification): of the program function keys PF1 to PF24, of the program attention keys PA1 to PA3
 abbrev pub IsKey : Key → Type 0
 IsKey (Pf number) = IsRealAid (aid.Pf number)
 IsKey (Pa number) = IsRealAid (aid.Pa number)

@@ -5,7 +5,7 @@ ghost use Rattle.keyboard.specs.Names.{refusal_number};
 use codes3270::{Aid, PaNo, PfNo};
 use std::fmt;
 
-/// A key that the operator may press (GA23-0059, "Keyboard and Printer Operations").
+/// A key that the operator may press (GA23-0059-07 on keyboard operation).
 #[derive(Clone, Copy, Debug, PartialEq, Eq)]
 pub enum Key {
     /// A character, which is stored at the cursor if code page 037 has it.
@@ -14,7 +14,8 @@ pub enum Key {
     Tab,
     /// To the first start before the cursor; the cursor's own cell is the last looked at.
     BackTab,
-    /// To the first cell that can be typed into, from the beginning of the next row on.
+    /// To the first unprotected cell that isn't an attribute, from the beginning of the next row on; the last cell of the
+    /// cursor's own row is the last looked at.
     NewLine,
     /// To the start with the lowest address.
     Home,

@@ -53,7 +53,7 @@ impl Keyboard {
         inserting
     }
 
-    /// What a command does to the keyboard that restores it (GA23-0059, "Write control character"): its lock is `Free`.
+    /// What a command does to the keyboard that restores it (GA23-0059-07, "Write Control Character (WCC)"): its lock is `Free`.
     /// Insert mode stays (our profile).
     pub fn restored(&mut self)
         ensures { self.new ≡ freed self.old }
@@ -61,7 +61,7 @@ impl Keyboard {
         self.lock = Lock::Free;
     }
 
-    /// Presses a key (GA23-0059, "Keyboard and Printer Operations").
+    /// Presses a key (GA23-0059-07 on keyboard operation).
     ///
     /// At a lock that isn't `Free` only Reset acts, which never ends `Wait`. A key that can't act is refused: the reasons are
     /// tested in the order that [`Refusal`] names, `Locked` and `NoCode` change nothing, and the other refusals set the lock to

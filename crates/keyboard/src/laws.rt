@@ -1,5 +1,5 @@
 //! Laws of the keys, for proofs in the crates above. Each is the contract of a function that does nothing.
-ghost use Rattle.keyboard.specs.Laws.{KeysLeave, KeysKeep, EraseInputIsWalked, KeysStayOnTheScreen, RefusalsSetTheLockAlone, ResetAloneActsUnderALock, NoKeyEndsWait, NearestOnward, NearestBackward, NoneOnward, NoneBackward, HomeIsTabFromTheEnd, EditsMarkTheirField, EditsRewriteTheText, FirstNullMakesRoom, NoNullNoRoom, DeleteBringsInANull};
+ghost use Rattle.keyboard.specs.Laws.{KeysLeave, KeysKeep, EraseInputIsWalked, KeysStayOnTheScreen, RefusalsSetTheLockAlone, ResetAloneActsUnderALock, NoKeyEndsWait, NearestOnward, NearestBackward, NoneOnward, NoneBackward, HomeIsTabFromTheEnd, EditsMarkTheirField, EditsWithoutFieldsMarkNothing, EditsRewriteTheText, FirstNullMakesRoom, NoNullNoRoom, DeleteBringsInANull};
 ghost use Rattle.keyboard.specs.Sendable.{IsKey, KeysKeepSendable};
 ghost use Rattle.keyboard.specs.Sending.{SendingWaits, ClearEmptiesTheScreen, SilentKeysKeepTheAid, SilentKeysBeginNoWait, NothingIsSentAtALock};
 
@@ -71,11 +71,13 @@ pub fn keys_go_to_the_nearest()
 {}
 
 /// Does nothing: its contract says what edits make of the text from the cursor on. A text comes in place of as many
-/// characters, what of the field lies behind them stays, MDT is turned on in their field and no other cell changes, an inserted
-/// character takes the room of the first null, and Delete brings in a null at the end.
+/// characters, and what of the field lies behind them stays. No other cell changes, but that MDT is turned on in the attribute
+/// that governs the cursor's cell, where there is one. An inserted character takes the room of the first null, and Delete
+/// brings in a null at the end.
 pub fn edits_rewrite_the_text()
     ensures rewritten { EditsRewriteTheText }
     ensures marked { EditsMarkTheirField }
+    ensures unformatted { EditsWithoutFieldsMarkNothing }
     ensures inserted { FirstNullMakesRoom }
     ensures full { NoNullNoRoom }
     ensures deleted { DeleteBringsInANull }

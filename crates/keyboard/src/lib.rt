@@ -1,13 +1,14 @@
-//! The keyboard of a 3278 model 2: what each key does to the screen and to the keyboard (GA23-0059, "Keyboard and Printer
-//! Operations"; the order of refusals and what each leaves is our profile). No call allocates.
+//! The keyboard of a 3278 model 2: what each key does to the screen and to the keyboard (GA23-0059-07 on keyboard operation; the
+//! order of refusals and what each leaves is our profile). No call allocates.
 //!
 //! A [`Keyboard`] starts in [`Lock::Wait`], and the host's writes free it by [`Keyboard::restored`]. [`Keyboard::press`]
 //! changes a screen as a key does, and answers whether it was refused or sends what was typed.
 //!
 //! `specs/` has the definitions: `Keys` says what each key makes of keyboard and screen, `Edits` what typing and erasing
-//! make of a field's text, `Places` where the cursor goes, `Leaves` what stays of the cells, and `Laws` what joins these.
-//! The functions [`keys_keep_what_was_left`], [`locks_hold`], [`keys_go_to_the_nearest`] and [`edits_rewrite_the_text`]
-//! have the laws as their contracts.
+//! make of a field's text, `Places` where the cursor goes, `Leaves` what stays of the cells, and `Laws`, `Sending` and
+//! `Sendable` what joins these. The functions [`keys_keep_what_was_left`], [`what_keys_leave_can_be_sent`],
+//! [`keys_are_real`], [`locks_hold`], [`sent_keys_wait`], [`keys_go_to_the_nearest`] and [`edits_rewrite_the_text`] have the
+//! laws as their contracts.
 #![tactic(auto)]
 
 mod edits;

@@ -49,7 +49,7 @@ pub(crate) fn attribute_over(screen: &Screen, at: Addr) -> Option<Attr>
     attribute_of(screen.cell(field.attr))
 }
 
-/// Whether a cell may be typed into.
+/// Whether a cell may be typed into: it is unprotected, and no attribute.
 pub(crate) fn is_free(screen: &Screen, at: Addr) -> bool
     ensures { result ≡ is_free_at screen.now.cells at }
 {
@@ -92,7 +92,7 @@ pub(crate) fn start_before(screen: &Screen, at: Addr) -> Addr
     Addr::first()
 }
 
-/// The first free cell behind a cell, round the end; 0 if there is none.
+/// The first free cell behind a cell, round the end; its own is the last. 0 if there is none.
 fn next_free(screen: &Screen, at: Addr) -> Addr
     requires { length screen.now.cells ≡ cell_count }
     ensures { result ≡ first_or_zero (is_free_at screen.now.cells) (onward (length screen.now.cells) at) }
@@ -114,7 +114,7 @@ fn row_end_of(at: Addr) -> Addr
     at.forward(COLUMNS - 1 - place % COLUMNS)
 }
 
-/// The first free cell behind the row of a cell, round the end; 0 if there is none.
+/// The first free cell behind the row of a cell, round the end; that row's last cell is the last. 0 if there is none.
 pub(crate) fn next_line(screen: &Screen, at: Addr) -> Addr
     requires { length screen.now.cells ≡ cell_count }
     ensures { result ≡ line_behind columns screen.now.cells at }
