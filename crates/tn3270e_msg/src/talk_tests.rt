@@ -2,21 +2,67 @@
 use super::*;
 use std::alloc::Global;
 use std::test::Fail;
-use telnet_wire::{Item, Verb, put_option};
+use telnet_wire::{Item, Memory, Verb, put_option};
 
 const fn option(verb: Verb, code: u8) -> Item<'static> {
     Item::Opt { verb, code }
 }
 
-// The bytes that a reply sends.
-fn sent(alloc: Global, reply: Reply) -> Result<Vec<u8>, Fail> {
+// Whether these are the bytes that a reply sends.
+fn sends(alloc: Global, reply: Reply, bytes: &[u8]) -> Result<bool, Memory> {
     let mut out = Vec::new(alloc);
     match reply {
         Reply::Opt(verb, code) => put_option(&mut out, verb, code)?,
         Reply::Sub(sending, _) => put_sub_message(&mut out, &sending.message())?,
         _ => {}
     }
-    Ok(out)
+    Ok(out.as_slice() == bytes)
+}
+
+// Whether a talk replies this, and sends these bytes.
+fn replies(alloc: Global, said: Reply, reply: Reply, bytes: &[u8]) -> Result<bool, Memory> {
+    Ok(said == reply && sends(alloc, reply, bytes)?)
+}
+
+// The first of these items to which a host replies otherwise, or sends other bytes than these.
+fn host_differs(
+    alloc: Global,
+    host: &mut HostTalk,
+    turns: &[(Item, Reply, &[u8])],
+) -> Result<Option<usize>, Memory> {
+    for (place, (item, reply, bytes)) in turns.iter().enumerate() {
+        if !replies(alloc, host.take(item), *reply, bytes)? {
+            return Ok(Some(place));
+        }
+    }
+    Ok(None)
+}
+
+// The first of these items to which a terminal replies otherwise, or sends other bytes than these.
+fn terminal_differs(
+    alloc: Global,
+    terminal: &mut TermTalk,
+    turns: &[(Item, Reply, &[u8])],
+) -> Result<Option<usize>, Memory> {
+    for (place, (item, reply, bytes)) in turns.iter().enumerate() {
+        if !replies(alloc, terminal.take(item), *reply, bytes)? {
+            return Ok(Some(place));
+        }
+    }
+    Ok(None)
+}
+
+// Whether a host that asked its pool sends these bytes once it is answered.
+fn answer_sends(
+    alloc: Global,
+    host: &mut HostTalk,
+    answer: Result<Lu, Reason>,
+    bytes: &[u8],
+) -> Result<bool, Memory> {
+    if !host.asking() {
+        return Ok(false);
+    }
+    sends(alloc, host.answered(answer), bytes)
 }
 
 // A host's talk that has asked for the terminal's type.
@@ -52,49 +98,82 @@ fn granted() -> TermTalk {
     terminal
 }
 
+// The first item to which a terminal that wants this LU replies otherwise than it is to.
+fn asking_differs(
+    alloc: Global,
+    terminal: &mut TermTalk,
+    wanted: Lu,
+) -> Result<Option<usize>, Memory> {
+    let request = Reply::Sub(Sending::TypeRequest(Some(wanted)), After::Going);
+    let functions = Reply::Sub(Sending::FunRequest, After::Going);
+    terminal_differs(
+        alloc,
+        terminal,
+        &[
+            (
+                option(Verb::Do, 40),
+                Reply::Opt(Verb::Will, 40),
+                b"\xff\xfb\x28",
+            ),
+            (
+                Item::Sub(b"\x28\x08\x02"),
+                request,
+                b"\xff\xfa\x28\x02\x07\x49\x42\x4d\x2d\x33\x32\x37\x38\x2d\x32\x01\x50\x4e\x4c\x30\x31\xff\xf0",
+            ),
+            (
+                Item::Sub(b"\x28\x02\x04IBM-3278-2\x01PNL01"),
+                functions,
+                b"\xff\xfa\x28\x03\x07\x02\xff\xf0",
+            ),
+            (Item::Sub(b"\x28\x03\x04\x02"), Reply::Agreed, b""),
+        ],
+    )
+}
+
+// Whether a host asks its pool for this LU, and grants it.
+fn grants(alloc: Global, host: &mut HostTalk, wanted: Lu) -> Result<bool, Memory> {
+    let send_type = Reply::Sub(Sending::SendType, After::Going);
+    let asked = host_differs(
+        alloc,
+        host,
+        &[
+            (
+                option(Verb::Will, 40),
+                send_type,
+                b"\xff\xfa\x28\x08\x02\xff\xf0",
+            ),
+            (
+                Item::Sub(b"\x28\x02\x07IBM-3278-2\x01PNL01"),
+                Reply::AskPool(Some(wanted)),
+                b"",
+            ),
+        ],
+    )?;
+    let grant =
+        b"\xff\xfa\x28\x02\x04\x49\x42\x4d\x2d\x33\x32\x37\x38\x2d\x32\x01\x50\x4e\x4c\x30\x31\xff\xf0";
+    Ok(asked.is_none() && host.device().is_none() && answer_sends(alloc, host, Ok(wanted), grant)?)
+}
+
 #[test]
 fn a_terminal_is_granted_the_lu_that_it_wants(rt: HostRuntime) -> Result<(), Fail> {
     talks_agree();
-    let alloc = rt.alloc();
     let wanted = Lu::read(b"pnl01").ok_or("no name")?;
-    let mut host = HostTalk::new();
     let mut terminal = TermTalk::new(Some(wanted));
-    let will = sent(alloc, terminal.take(&option(Verb::Do, 40)))?;
-    assert_eq!(rt; will.as_slice(), b"\xff\xfb\x28".as_slice());
-    let ask = sent(alloc, host.take(&option(Verb::Will, 40)))?;
-    assert_eq!(rt; ask.as_slice(), b"\xff\xfa\x28\x08\x02\xff\xf0".as_slice());
-    let request = sent(alloc, terminal.take(&Item::Sub(b"\x28\x08\x02")))?;
-    assert_eq!(rt;
-        request.as_slice(),
-        b"\xff\xfa\x28\x02\x07\x49\x42\x4d\x2d\x33\x32\x37\x38\x2d\x32\x01\x50\x4e\x4c\x30\x31\xff\xf0".as_slice()
-    );
-    let asked = host.take(&Item::Sub(b"\x28\x02\x07IBM-3278-2\x01PNL01"));
-    assert_eq!(rt; asked, Reply::AskPool(Some(wanted)));
-    assert!(rt; host.asking());
-    let grant = sent(alloc, host.answered(Ok(wanted)))?;
-    assert_eq!(rt;
-        grant.as_slice(),
-        b"\xff\xfa\x28\x02\x04\x49\x42\x4d\x2d\x33\x32\x37\x38\x2d\x32\x01\x50\x4e\x4c\x30\x31\xff\xf0".as_slice()
-    );
-    let grant_item = Item::Sub(b"\x28\x02\x04IBM-3278-2\x01PNL01");
-    let functions = sent(alloc, terminal.take(&grant_item))?;
-    assert_eq!(rt;
-        functions.as_slice(),
-        b"\xff\xfa\x28\x03\x07\x02\xff\xf0".as_slice()
-    );
-    let agreed = host.take(&Item::Sub(b"\x28\x03\x07\x02"));
-    assert_eq!(rt; agreed, Reply::Sub(Sending::FunIs, After::Agreed));
-    let is = sent(alloc, agreed)?;
-    assert_eq!(rt;
-        is.as_slice(),
-        b"\xff\xfa\x28\x03\x04\x02\xff\xf0".as_slice()
-    );
-    assert_eq!(rt;
-        terminal.take(&Item::Sub(b"\x28\x03\x04\x02")),
-        Reply::Agreed
-    );
+    let differs = asking_differs(rt.alloc(), &mut terminal, wanted)?;
+    assert_eq!(rt; differs, None);
     assert_eq!(rt; terminal.state(), TermState::Agreed(wanted));
     assert_eq!(rt; terminal.lu(), Some(wanted));
+    Ok(())
+}
+
+#[test]
+fn a_host_grants_the_lu_that_is_wanted(rt: HostRuntime) -> Result<(), Fail> {
+    let wanted = Lu::read(b"pnl01").ok_or("no name")?;
+    let mut host = HostTalk::new();
+    assert!(rt; grants(rt.alloc(), &mut host, wanted)?);
+    let agreed = host.take(&Item::Sub(b"\x28\x03\x07\x02"));
+    let is = Reply::Sub(Sending::FunIs, After::Agreed);
+    assert!(rt; replies(rt.alloc(), agreed, is, b"\xff\xfa\x28\x03\x04\x02\xff\xf0")?);
     assert_eq!(rt; host.lu(), Some(wanted));
     assert_eq!(rt; host.device(), Some(Device::Model2));
     Ok(())
@@ -104,99 +183,137 @@ fn a_terminal_is_granted_the_lu_that_it_wants(rt: HostRuntime) -> Result<(), Fai
 fn a_usual_client_is_countered_once(rt: HostRuntime) -> Result<(), Fail> {
     let lu = Lu::read(b"PNL01").ok_or("no name")?;
     let mut host = named(lu)?;
-    let reply = host.take(&Item::Sub(b"\x28\x03\x07\x00\x02\x04"));
-    assert_eq!(rt; reply, Reply::Sub(Sending::FunRequest, After::Going));
-    let countered = sent(rt.alloc(), reply)?;
-    assert_eq!(rt;
-        countered.as_slice(),
-        b"\xff\xfa\x28\x03\x07\x02\xff\xf0".as_slice()
-    );
-    assert_eq!(rt; host.take(&Item::Sub(b"\x28\x03\x04\x02")), Reply::Agreed);
+    let differs = host_differs(
+        rt.alloc(),
+        &mut host,
+        &[
+            (
+                Item::Sub(b"\x28\x03\x07\x00\x02\x04"),
+                Reply::Sub(Sending::FunRequest, After::Going),
+                b"\xff\xfa\x28\x03\x07\x02\xff\xf0",
+            ),
+            (Item::Sub(b"\x28\x03\x04\x02"), Reply::Agreed, b""),
+        ],
+    )?;
+    assert_eq!(rt; differs, None);
     assert_eq!(rt; host.lu(), Some(lu));
     Ok(())
 }
 
-#[test]
-fn an_lu_that_is_held_or_unknown_is_refused(rt: HostRuntime) -> Result<(), Fail> {
-    let alloc = rt.alloc();
-    let mut host = asked();
-    let held = Lu::read(b"PNL01").ok_or("no name")?;
-    let free = Lu::read(b"PNL02").ok_or("no name")?;
-    let first = host.take(&Item::Sub(b"\x28\x02\x07IBM-3278-2\x01PNL01"));
-    assert_eq!(rt; first, Reply::AskPool(Some(held)));
-    assert!(rt; host.asking());
-    let in_use = sent(alloc, host.answered(Err(Reason::DEVICE_IN_USE)))?;
-    assert_eq!(rt;
-        in_use.as_slice(),
-        b"\xff\xfa\x28\x02\x06\x05\x01\xff\xf0".as_slice()
-    );
+// Whether a host refuses an LU that is held.
+fn refuses_held(alloc: Global, host: &mut HostTalk, held: Lu) -> Result<bool, Memory> {
+    let asked = host.take(&Item::Sub(b"\x28\x02\x07IBM-3278-2\x01PNL01"));
+    let in_use = b"\xff\xfa\x28\x02\x06\x05\x01\xff\xf0";
+    Ok(
+        asked == Reply::AskPool(Some(held))
+            && answer_sends(alloc, host, Err(Reason::DEVICE_IN_USE), in_use)?,
+    )
+}
+
+// Whether it refuses one that its pool doesn't know, and a text that is no name.
+fn refuses_unknown(alloc: Global, host: &mut HostTalk) -> Result<bool, Memory> {
+    let unknown = b"\xff\xfa\x28\x02\x06\x05\x03\xff\xf0";
     let _ = host.take(&Item::Sub(b"\x28\x02\x07IBM-3278-2\x01PNL09"));
-    assert!(rt; host.asking());
-    let unknown = sent(alloc, host.answered(Err(Reason::INV_NAME)))?;
-    assert_eq!(rt;
-        unknown.as_slice(),
-        b"\xff\xfa\x28\x02\x06\x05\x03\xff\xf0".as_slice()
-    );
-    let no_name = sent(
-        alloc,
-        host.take(&Item::Sub(b"\x28\x02\x07IBM-3278-2\x019A")),
-    )?;
-    assert_eq!(rt;
-        no_name.as_slice(),
-        b"\xff\xfa\x28\x02\x06\x05\x03\xff\xf0".as_slice()
-    );
+    if !answer_sends(alloc, host, Err(Reason::INV_NAME), unknown)? {
+        return Ok(false);
+    }
+    let no_name = host.take(&Item::Sub(b"\x28\x02\x07IBM-3278-2\x019A"));
+    sends(alloc, no_name, unknown)
+}
+
+// Whether it grants one that is free, which is asked for in lower case.
+fn grants_free(alloc: Global, host: &mut HostTalk, free: Lu) -> Result<bool, Memory> {
     let _ = host.take(&Item::Sub(b"\x28\x02\x07ibm-3278-2\x01pnl02"));
-    assert!(rt; host.asking());
-    let grant = sent(alloc, host.answered(Ok(free)))?;
-    assert_eq!(rt;
-        grant.as_slice(),
-        b"\xff\xfa\x28\x02\x04\x49\x42\x4d\x2d\x33\x32\x37\x38\x2d\x32\x01\x50\x4e\x4c\x30\x32\xff\xf0".as_slice()
-    );
-    Ok(())
+    let grant =
+        b"\xff\xfa\x28\x02\x04\x49\x42\x4d\x2d\x33\x32\x37\x38\x2d\x32\x01\x50\x4e\x4c\x30\x32\xff\xf0";
+    answer_sends(alloc, host, Ok(free), grant)
 }
 
 #[test]
+fn an_lu_that_is_held_or_unknown_is_refused(rt: HostRuntime) -> Result<(), Fail> {
+    let mut host = asked();
+    let held = Lu::read(b"PNL01").ok_or("no name")?;
+    let free = Lu::read(b"PNL02").ok_or("no name")?;
+    assert!(rt; refuses_held(rt.alloc(), &mut host, held)?);
+    assert!(rt; refuses_unknown(rt.alloc(), &mut host)?);
+    assert!(rt; grants_free(rt.alloc(), &mut host, free)?);
+    Ok(())
+}
+
+const fn rejected(reason: Reason) -> Reply {
+    Reply::Sub(Sending::TypeReject(reason), After::Going)
+}
+
+// The type is judged first.
+#[test]
 fn a_printer_is_refused(rt: HostRuntime) -> Result<(), Fail> {
     let mut host = asked();
-    let printer = host.take(&Item::Sub(b"\x28\x02\x07IBM-3278-2\x00PNL01"));
-    let refused = sent(rt.alloc(), printer)?;
-    assert_eq!(rt;
-        refused.as_slice(),
-        b"\xff\xfa\x28\x02\x06\x05\x07\xff\xf0".as_slice()
-    );
-    // The type is judged first.
-    let other = host.take(&Item::Sub(b"\x28\x02\x07IBM-3287-1\x00PNL01"));
-    let refused = sent(rt.alloc(), other)?;
-    assert_eq!(rt;
-        refused.as_slice(),
-        b"\xff\xfa\x28\x02\x06\x05\x04\xff\xf0".as_slice()
-    );
+    let differs = host_differs(
+        rt.alloc(),
+        &mut host,
+        &[
+            (
+                Item::Sub(b"\x28\x02\x07IBM-3278-2\x00PNL01"),
+                rejected(Reason(7)),
+                b"\xff\xfa\x28\x02\x06\x05\x07\xff\xf0",
+            ),
+            (
+                Item::Sub(b"\x28\x02\x07IBM-3287-1\x00PNL01"),
+                rejected(Reason(4)),
+                b"\xff\xfa\x28\x02\x06\x05\x04\xff\xf0",
+            ),
+        ],
+    )?;
+    assert_eq!(rt; differs, None);
     Ok(())
+}
+
+// Whether a host replies this to each of so many of an item.
+fn host_repeats(
+    alloc: Global,
+    host: &mut HostTalk,
+    count: usize,
+    turn: &(Item, Reply, &[u8]),
+) -> Result<bool, Memory> {
+    let (item, reply, bytes) = turn;
+    for _ in 0..count {
+        if !replies(alloc, host.take(item), *reply, bytes)? {
+            return Ok(false);
+        }
+    }
+    Ok(true)
+}
+
+// Whether a terminal does.
+fn terminal_repeats(
+    alloc: Global,
+    terminal: &mut TermTalk,
+    count: usize,
+    turn: &(Item, Reply, &[u8]),
+) -> Result<bool, Memory> {
+    let (item, reply, bytes) = turn;
+    for _ in 0..count {
+        if !replies(alloc, terminal.take(item), *reply, bytes)? {
+            return Ok(false);
+        }
+    }
+    Ok(true)
 }
 
 #[test]
 fn the_eighth_rejection_is_the_last(rt: HostRuntime) -> Result<(), Fail> {
     let mut host = asked();
     let request = Item::Sub(b"\x28\x02\x07X");
-    for count in 1..=8 {
-        let reply = host.take(&request);
-        let after = if count < 8 {
-            After::Going
-        } else {
-            After::Close(Cause::TooMany)
-        };
-        assert_eq!(rt;
-            reply,
-            Reply::Sub(Sending::TypeReject(Reason(4)), after),
-            "at {count}"
-        );
-        let rejection = sent(rt.alloc(), reply)?;
-        assert_eq!(rt;
-            rejection.as_slice(),
-            b"\xff\xfa\x28\x02\x06\x05\x04\xff\xf0".as_slice()
-        );
-    }
-    assert_eq!(rt; host.take(&request), Reply::Close(Cause::TooMany));
+    let bytes = b"\xff\xfa\x28\x02\x06\x05\x04\xff\xf0".as_slice();
+    let last = Reply::Sub(Sending::TypeReject(Reason(4)), After::Close(Cause::TooMany));
+    let first = (request, rejected(Reason(4)), bytes);
+    assert!(rt; host_repeats(rt.alloc(), &mut host, 7, &first)?);
+    let then = [
+        (request, last, bytes),
+        (request, Reply::Close(Cause::TooMany), b""),
+    ];
+    let differs = host_differs(rt.alloc(), &mut host, &then)?;
+    assert_eq!(rt; differs, None);
     Ok(())
 }
 
@@ -204,13 +321,17 @@ fn the_eighth_rejection_is_the_last(rt: HostRuntime) -> Result<(), Fail> {
 fn the_eighth_counter_request_is_the_last(rt: HostRuntime) -> Result<(), Fail> {
     let mut terminal = granted();
     let request = Item::Sub(b"\x28\x03\x07\x02\x04");
-    for _ in 0..7 {
-        let countered = Reply::Sub(Sending::FunRequest, After::Going);
-        assert_eq!(rt; terminal.take(&request), countered);
-    }
+    let bytes = b"\xff\xfa\x28\x03\x07\x02\xff\xf0".as_slice();
+    let countered = Reply::Sub(Sending::FunRequest, After::Going);
     let last = Reply::Sub(Sending::FunRequest, After::Close(Cause::TooMany));
-    assert_eq!(rt; terminal.take(&request), last);
-    assert_eq!(rt; terminal.take(&request), Reply::Close(Cause::TooMany));
+    let first = (request, countered, bytes);
+    assert!(rt; terminal_repeats(rt.alloc(), &mut terminal, 7, &first)?);
+    let then = [
+        (request, last, bytes),
+        (request, Reply::Close(Cause::TooMany), b""),
+    ];
+    let differs = terminal_differs(rt.alloc(), &mut terminal, &then)?;
+    assert_eq!(rt; differs, None);
     Ok(())
 }
 
@@ -233,59 +354,98 @@ fn other_options_are_refused(rt: HostRuntime) -> Result<(), Fail> {
         (Item::Sub(b"\x29\x00"), Reply::Nothing, b""),
         (Item::Record(b"\x05"), Reply::Nothing, b""),
     ];
-    let mut host = HostTalk::new();
-    let mut terminal = TermTalk::new(None);
-    for (item, reply, bytes) in &cases {
-        assert_eq!(rt; host.take(item), *reply);
-        assert_eq!(rt; terminal.take(item), *reply);
-        let out = sent(rt.alloc(), *reply)?;
-        assert_eq!(rt; out.as_slice(), *bytes);
-    }
+    let host = host_differs(rt.alloc(), &mut HostTalk::new(), &cases)?;
+    assert_eq!(rt; host, None);
+    let terminal = terminal_differs(rt.alloc(), &mut TermTalk::new(None), &cases)?;
+    assert_eq!(rt; terminal, None);
     Ok(())
 }
 
-#[test]
-fn the_option_is_agreed_to_once(rt: HostRuntime) {
-    let mut host = HostTalk::new();
-    for (verb, reply) in [
-        (Verb::Do, Reply::Opt(Verb::Wont, 40)),
-        (Verb::Dont, Reply::Nothing),
-        (Verb::Will, Reply::Sub(Sending::SendType, After::Going)),
-        (Verb::Will, Reply::Nothing),
-        (Verb::Do, Reply::Opt(Verb::Wont, 40)),
-        (Verb::Wont, Reply::Close(Cause::NoTn3270e)),
-        (Verb::Will, Reply::Close(Cause::NoTn3270e)),
-    ] {
-        assert_eq!(rt; host.take(&option(verb, 40)), reply, "{verb:?}");
+// The first of these verbs for TN3270E to which a host replies otherwise.
+fn host_answers(host: &mut HostTalk, turns: &[(Verb, Reply)]) -> Option<usize> {
+    for (place, (verb, reply)) in turns.iter().enumerate() {
+        if host.take(&option(*verb, 40)) != *reply {
+            return Some(place);
+        }
     }
+    None
+}
+
+// The first to which a terminal does.
+fn terminal_answers(terminal: &mut TermTalk, turns: &[(Verb, Reply)]) -> Option<usize> {
+    for (place, (verb, reply)) in turns.iter().enumerate() {
+        if terminal.take(&option(*verb, 40)) != *reply {
+            return Some(place);
+        }
+    }
+    None
+}
+
+#[test]
+fn a_host_agrees_to_the_option_once(rt: HostRuntime) {
+    let differs = host_answers(
+        &mut HostTalk::new(),
+        &[
+            (Verb::Do, Reply::Opt(Verb::Wont, 40)),
+            (Verb::Dont, Reply::Nothing),
+            (Verb::Will, Reply::Sub(Sending::SendType, After::Going)),
+            (Verb::Will, Reply::Nothing),
+            (Verb::Do, Reply::Opt(Verb::Wont, 40)),
+            (Verb::Wont, Reply::Close(Cause::NoTn3270e)),
+            (Verb::Will, Reply::Close(Cause::NoTn3270e)),
+        ],
+    );
+    assert_eq!(rt; differs, None);
+}
+
+#[test]
+fn a_terminal_agrees_to_the_option_once(rt: HostRuntime) {
     let mut terminal = TermTalk::new(None);
     assert_eq!(rt; terminal.state(), TermState::Waiting);
-    for (verb, reply) in [
-        (Verb::Will, Reply::Opt(Verb::Dont, 40)),
-        (Verb::Wont, Reply::Nothing),
-        (Verb::Do, Reply::Opt(Verb::Will, 40)),
-        (Verb::Do, Reply::Nothing),
-        (Verb::Dont, Reply::Close(Cause::NoTn3270e)),
-        (Verb::Do, Reply::Close(Cause::NoTn3270e)),
-    ] {
-        assert_eq!(rt; terminal.take(&option(verb, 40)), reply, "{verb:?}");
-    }
+    let differs = terminal_answers(
+        &mut terminal,
+        &[
+            (Verb::Will, Reply::Opt(Verb::Dont, 40)),
+            (Verb::Wont, Reply::Nothing),
+            (Verb::Do, Reply::Opt(Verb::Will, 40)),
+            (Verb::Do, Reply::Nothing),
+            (Verb::Dont, Reply::Close(Cause::NoTn3270e)),
+            (Verb::Do, Reply::Close(Cause::NoTn3270e)),
+        ],
+    );
+    assert_eq!(rt; differs, None);
     assert_eq!(rt; terminal.state(), TermState::Closed(Cause::NoTn3270e));
 }
 
 #[test]
 fn a_refused_terminal_drops_what_comes(rt: HostRuntime) -> Result<(), Fail> {
     let mut terminal = requested(Lu::read(b"PNL01"));
-    let refused = terminal.take(&Item::Sub(b"\x28\x02\x06\x05\x01"));
-    assert_eq!(rt; refused, Reply::Refused(Reason::DEVICE_IN_USE));
-    assert_eq!(rt; terminal.take(&Item::Sub(b"\x28\x08\x02")), Reply::Nothing);
-    assert_eq!(rt; terminal.take(&option(Verb::Dont, 40)), Reply::Nothing);
+    let differs = terminal_differs(
+        rt.alloc(),
+        &mut terminal,
+        &[
+            (
+                Item::Sub(b"\x28\x02\x06\x05\x01"),
+                Reply::Refused(Reason::DEVICE_IN_USE),
+                b"",
+            ),
+            (Item::Sub(b"\x28\x08\x02"), Reply::Nothing, b""),
+            (option(Verb::Dont, 40), Reply::Nothing, b""),
+        ],
+    )?;
+    assert_eq!(rt; differs, None);
     assert_eq!(rt; terminal.lu(), None);
     Ok(())
 }
 
+// Whether this closes a terminal that asked for PNL01, as what breaks the talk.
+fn breaks_the_request(bytes: &[u8]) -> bool {
+    let mut terminal = requested(Lu::read(b"PNL01"));
+    terminal.take(&Item::Sub(bytes)) == Reply::Close(Cause::BadTalk)
+}
+
 #[test]
-fn what_closes_a_terminal(rt: HostRuntime) -> Result<(), Fail> {
+fn grants_that_close_a_terminal(rt: HostRuntime) {
     let grants: [&[u8]; 4] = [
         b"\x28\x02\x04IBM-3278-3\x01PNL01",
         b"\x28\x02\x04IBM-3278-2-E\x01PNL01",
@@ -293,12 +453,25 @@ fn what_closes_a_terminal(rt: HostRuntime) -> Result<(), Fail> {
         b"\x28\x02\x04IBM-3278-2\x019A",
     ];
     for grant in grants {
-        let mut terminal = requested(Lu::read(b"PNL01"));
-        assert_eq!(rt;
-            terminal.take(&Item::Sub(grant)),
-            Reply::Close(Cause::BadTalk)
-        );
+        assert!(rt; breaks_the_request(grant), "{grant:?}");
     }
+}
+
+// Whether this closes a terminal that asked for RESPONSES, for good.
+fn closes_terminal(bytes: &[u8], cause: Cause) -> bool {
+    let mut terminal = granted();
+    terminal.take(&Item::Sub(bytes)) == Reply::Close(cause)
+        && terminal.take(&Item::Other(0xf1)) == Reply::Close(cause)
+}
+
+// Whether DONT closes a terminal that agreed.
+fn dont_closes(terminal: &mut TermTalk) -> bool {
+    terminal.take(&Item::Sub(b"\x28\x03\x04\x02\x02")) == Reply::Agreed
+        && terminal.take(&option(Verb::Dont, 40)) == Reply::Close(Cause::NoTn3270e)
+}
+
+#[test]
+fn what_closes_a_terminal(rt: HostRuntime) {
     let causes: [(&[u8], Cause); 4] = [
         (b"\x28\x03\x04", Cause::NoResponses),
         (b"\x28\x03\x04\x02\x04", Cause::NoResponses),
@@ -306,18 +479,23 @@ fn what_closes_a_terminal(rt: HostRuntime) -> Result<(), Fail> {
         (b"\x28\x08\x02", Cause::BadTalk),
     ];
     for (bytes, cause) in causes {
-        let mut terminal = granted();
-        assert_eq!(rt; terminal.take(&Item::Sub(bytes)), Reply::Close(cause));
-        assert_eq!(rt; terminal.take(&Item::Other(0xf1)), Reply::Close(cause));
+        assert!(rt; closes_terminal(bytes, cause), "{bytes:?}");
     }
-    let mut agreed = granted();
-    assert_eq!(rt;
-        agreed.take(&Item::Sub(b"\x28\x03\x04\x02\x02")),
-        Reply::Agreed
-    );
-    let dont = option(Verb::Dont, 40);
-    assert_eq!(rt; agreed.take(&dont), Reply::Close(Cause::NoTn3270e));
-    Ok(())
+    assert!(rt; dont_closes(&mut granted()));
+}
+
+// Whether this closes a host, which has no LU for the terminal any more.
+fn closes_host(host: &mut HostTalk, bytes: &[u8], cause: Cause) -> bool {
+    host.take(&Item::Sub(bytes)) == Reply::Close(cause)
+        && host.lu().is_none()
+        && host.device().is_none()
+}
+
+// Whether WONT closes a host that agreed, and WILL doesn't.
+fn wont_closes(host: &mut HostTalk) -> bool {
+    host.take(&Item::Sub(b"\x28\x03\x07\x02")) == Reply::Sub(Sending::FunIs, After::Agreed)
+        && host.take(&option(Verb::Will, 40)) == Reply::Nothing
+        && host.take(&option(Verb::Wont, 40)) == Reply::Close(Cause::NoTn3270e)
 }
 
 #[test]
@@ -330,15 +508,8 @@ fn what_closes_a_host(rt: HostRuntime) -> Result<(), Fail> {
         (b"\x28\x02", Cause::BadTalk),
     ];
     for (bytes, cause) in causes {
-        let mut host = named(lu)?;
-        assert_eq!(rt; host.take(&Item::Sub(bytes)), Reply::Close(cause));
-        assert_eq!(rt; host.lu(), None);
+        assert!(rt; closes_host(&mut named(lu)?, bytes, cause), "{bytes:?}");
     }
-    let mut agreed = named(lu)?;
-    let is = agreed.take(&Item::Sub(b"\x28\x03\x07\x02"));
-    assert_eq!(rt; is, Reply::Sub(Sending::FunIs, After::Agreed));
-    assert_eq!(rt; agreed.take(&option(Verb::Will, 40)), Reply::Nothing);
-    let wont = option(Verb::Wont, 40);
-    assert_eq!(rt; agreed.take(&wont), Reply::Close(Cause::NoTn3270e));
+    assert!(rt; wont_closes(&mut named(lu)?));
     Ok(())
 }

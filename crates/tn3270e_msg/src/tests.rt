@@ -1,8 +1,18 @@
 //! Headers, names and messages as bytes, which no contract gives as such, and refused memory.
 use super::*;
 use std::alloc::{AllocError, Global};
+use std::fmt::Display;
 use std::test::Fail;
 use telnet_wire::put_record;
+
+// Whether a header and one byte 0 are spelt by these bytes as a record.
+fn is_record_of(alloc: Global, header: &[u8], bytes: &[u8]) -> Result<bool, Fail> {
+    let mut record = Vec::from_slice(alloc, header)?;
+    record.push(0)?;
+    let mut out = Vec::new(alloc);
+    put_record(&mut out, &record)?;
+    Ok(out.as_slice() == bytes)
+}
 
 #[test]
 fn a_header_of_number_255(rt: HostRuntime) -> Result<(), Fail> {
@@ -25,13 +35,13 @@ fn a_header_of_number_255(rt: HostRuntime) -> Result<(), Fail> {
         flag: POSITIVE,
         seq: 255,
     };
-    let mut record = Vec::from_slice(rt.alloc(), header_bytes(&answer).as_slice())?;
-    record.push(0)?;
-    let mut out = Vec::new(rt.alloc());
-    put_record(&mut out, &record)?;
-    assert_eq!(rt;
-        out.as_slice(),
-        b"\x02\x00\x00\x00\xff\xff\x00\xff\xef".as_slice()
+    let head = header_bytes(&answer);
+    assert!(rt;
+        is_record_of(
+            rt.alloc(),
+            head.as_slice(),
+            b"\x02\x00\x00\x00\xff\xff\x00\xff\xef"
+        )?
     );
     Ok(())
 }
@@ -82,22 +92,25 @@ fn each_type_has_its_code(rt: HostRuntime) -> Result<(), Fail> {
     Ok(())
 }
 
+// Whether a fault is printed so.
+fn prints<D: Display>(alloc: Global, fault: &D, printed: &str) -> Result<bool, Fail> {
+    let text = format!(in alloc; "{fault}")?;
+    Ok(text.as_str() == printed)
+}
+
 #[test]
 fn faults_are_printed(rt: HostRuntime) -> Result<(), Fail> {
-    for (fault, printed) in [
-        (HeadFault::Short, "record shorter than a header"),
-        (HeadFault::BadFlag, "response flag out of range"),
-    ] {
-        let text = format!(in rt.alloc(); "{fault}")?;
-        assert_eq!(rt; text.as_str(), printed);
-    }
-    for (fault, printed) in [
-        (SubFault::NotOurs, "subnegotiation of another option"),
-        (SubFault::Malformed, "no message of TN3270E"),
-    ] {
-        let text = format!(in rt.alloc(); "{fault}")?;
-        assert_eq!(rt; text.as_str(), printed);
-    }
+    let alloc = rt.alloc();
+    assert!(rt; prints(alloc, &HeadFault::Short, "record shorter than a header")?);
+    assert!(rt; prints(alloc, &HeadFault::BadFlag, "response flag out of range")?);
+    assert!(rt;
+        prints(
+            alloc,
+            &SubFault::NotOurs,
+            "subnegotiation of another option"
+        )?
+    );
+    assert!(rt; prints(alloc, &SubFault::Malformed, "no message of TN3270E")?);
     Ok(())
 }
 
@@ -197,14 +210,21 @@ fn spelt(alloc: Global, payload: &[u8]) -> Result<Vec<u8>, AllocError> {
     Ok(bytes)
 }
 
+// Whether a payload is read as a message that is written as this payload.
+fn is_written_back(alloc: Global, payload: &[u8]) -> Result<bool, Fail> {
+    let Ok(message) = read_sub(payload) else {
+        return Ok(false);
+    };
+    let mut out = Vec::new(alloc);
+    put_sub_message(&mut out, &message)?;
+    let wanted = spelt(alloc, payload)?;
+    Ok(out.as_slice() == wanted.as_slice())
+}
+
 #[test]
 fn what_is_read_is_written_as_it_was(rt: HostRuntime) -> Result<(), Fail> {
     for payload in MESSAGES {
-        let message = read_sub(payload).map_err(|_| "no message")?;
-        let mut out = Vec::new(rt.alloc());
-        put_sub_message(&mut out, &message)?;
-        let wanted = spelt(rt.alloc(), payload)?;
-        assert_eq!(rt; out.as_slice(), wanted.as_slice());
+        assert!(rt; is_written_back(rt.alloc(), payload)?, "{payload:?}");
     }
     Ok(())
 }
@@ -218,36 +238,56 @@ fn full(alloc: Global) -> Result<Vec<u8>, AllocError> {
     Ok(out)
 }
 
+// Whether a vector of sevens that couldn't grow is as it was.
+fn is_unchanged(out: &[u8], length: usize) -> bool {
+    out.len() == length && out.iter().all(|byte| *byte == 7)
+}
+
+// Whether a message that no memory was there for is put at the next call, and nothing before.
+fn is_put_at_last(alloc: Global, payload: &[u8]) -> Result<bool, Fail> {
+    let Ok(message) = read_sub(payload) else {
+        return Ok(false);
+    };
+    let Ok(mut out) = full(alloc) else {
+        return Ok(true);
+    };
+    let start = out.len();
+    if put_sub_message(&mut out, &message).is_err() {
+        if !is_unchanged(&out, start) {
+            return Ok(false);
+        }
+        put_sub_message(&mut out, &message)?;
+    }
+    Ok(out.len() > start)
+}
+
 // In an ordinary run no growth is refused. `rt try --test --fail-alloc N` refuses the Nth one: this
 // test and the next pass at every N, whichever growth it meets.
 #[test]
 fn a_refused_growth_changes_nothing(rt: HostRuntime) -> Result<(), Fail> {
     for payload in MESSAGES {
-        let message = read_sub(payload).map_err(|_| "no message")?;
-        let Ok(mut out) = full(rt.alloc()) else {
-            return Ok(());
-        };
-        let start = out.len();
-        if put_sub_message(&mut out, &message).is_err() {
-            assert_eq!(rt; out.len(), start);
-            assert!(rt; out.iter().all(|byte| *byte == 7));
-            put_sub_message(&mut out, &message)?;
-        }
-        assert!(rt; out.len() > start);
+        assert!(rt; is_put_at_last(rt.alloc(), payload)?, "{payload:?}");
     }
     Ok(())
+}
+
+// Whether a vector with room for a message stays where it is.
+fn stays_in_its_room(alloc: Global, payload: &[u8]) -> Result<bool, Fail> {
+    let Ok(message) = read_sub(payload) else {
+        return Ok(false);
+    };
+    let Ok(mut out) = Vec::with_capacity(alloc, 64) else {
+        return Ok(true);
+    };
+    let room = out.capacity();
+    put_sub_message(&mut out, &message)?;
+    Ok(out.capacity() == room)
 }
 
 #[test]
 fn where_there_is_room_no_memory_is_taken(rt: HostRuntime) -> Result<(), Fail> {
     for payload in MESSAGES {
-        let message = read_sub(payload).map_err(|_| "no message")?;
-        let Ok(mut out) = Vec::with_capacity(rt.alloc(), 64) else {
-            return Ok(());
-        };
-        let room = out.capacity();
-        put_sub_message(&mut out, &message)?;
-        assert_eq!(rt; out.capacity(), room);
+        assert!(rt; stays_in_its_room(rt.alloc(), payload)?, "{payload:?}");
     }
     Ok(())
 }
