@@ -38,20 +38,20 @@ whole_fits shadow wanted h =
     ap (λ kept. (not kept || list_any is_attribute wanted.cells) && fits_from (fields_of shadow) wanted.cells 0 wanted.cells) h
     ∙ fields_fit (fields_of shadow) wanted.cells 0 wanted.cells h h
 
-whole_paints : (app : Application) (shadow : Shadow) (panel : ℕ) (values : Values) (message : Message) → IsApplication app → IsPaintable app shadow (app.screen panel values message false)
+whole_paints : (app : Application) (shadow : Shadow) (panel : ℕ) (values : Values) (message : Message) → IsApplication app → IsPaintable app.begins shadow (app.screen panel values message false)
 whole_paints app shadow panel values message is = record {
   fits = whole_fits shadow (app.screen panel values message false) (is.whole panel values message);
   showable = is.showable panel values message false;
 }
 
-paints : (app : Application) (conn : Conn) (panel : ℕ) (message : Message) (keep : Bool) (values : Values) → IsApplication app → IsPaintable app conn.shadow (wanted_by app conn panel message keep values)
+paints : (app : Application) (conn : Conn) (panel : ℕ) (message : Message) (keep : Bool) (values : Values) → IsApplication app → IsPaintable app.begins conn.shadow (wanted_by app conn panel message keep values)
 paints app conn panel message false values is = whole_paints app conn.shadow panel values message is
 paints app conn panel message true values is = by_fit (fits conn.shadow kept) refl
   where
     kept : WantedScreen
     kept = app.screen panel values message true
 
-    by_fit : (b : Bool) → fits conn.shadow kept ≡ b → IsPaintable app conn.shadow (if b then kept else app.screen panel values message false)
+    by_fit : (b : Bool) → fits conn.shadow kept ≡ b → IsPaintable app.begins conn.shadow (if b then kept else app.screen panel values message false)
     by_fit true e = record { fits = e; showable = is.showable panel values message true }
     by_fit false e = whole_paints app conn.shadow panel values message is
 

@@ -3,3 +3,5 @@ pub mod Pools
 pub mod Showing
 pub mod Answering
 pub mod Writable
+pub mod Notes
+pub mod MessageRows

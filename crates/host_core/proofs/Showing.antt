@@ -1,12 +1,11 @@
 -- Panels are an application: each screen has the size, with its cursor on it, and keeps nothing where it isn't told to.
-use Rattle.panels.specs.Size.{message_start}
-use Rattle.std.proofs.Common.{length, ap, ◌∙◌, ◌≡◌, ◌==◌, nat_lt, ◌<◌, ◌-◌, ◌+◌, ℕ, Bool, true, false, Option, None, Some, List, [], ◌∷◌, map, refl, arith, if◌then◌else◌}
+use Rattle.std.proofs.Common.{length, drop, ap, subst, ◌∙◌, ◌≡◌, ◌==◌, nat_lt, ◌<◌, ◌-◌, ◌+◌, ℕ, zero, suc, Bool, true, false, Option, None, Some, List, [], ◌∷◌, map, refl, arith, if◌then◌else◌}
 use Rattle.std.specs.Prelude.{slice_get, slice_index_or, option_map, option_and_then, unwrap_or}
-use Rattle.std.specs.List.{list_any, position, range_with_len}
+use Rattle.std.specs.List.{list_all, list_any, position, range_with_len}
 use Rattle.std.specs.Option.{option_or, option_map_or}
 use Rattle.std.proofs.lemmas.List.FromFn.{length-map-range_with_len, get_or-map-range_with_len}
 use Rattle.std.proofs.lemmas.Option.{slice_get-get_or}
-use Rattle.codes3270.specs.Size.{cell_count}
+use Rattle.codes3270.specs.Size.{cell_count, model_2}
 use Rattle.codes3270.specs.declared.attribute.Attr.{Attr}
 use Rattle.datastream.specs.declared.wanted.Want.{Want}
 use Rattle.datastream.specs.declared.wanted.Want.TheVariants as want
@@ -14,9 +13,11 @@ use Rattle.shadow.specs.Fits.{is_keep}
 use Rattle.panels.specs.declared.message.Message.{Message}
 use Rattle.panels.specs.declared.message.Message.TheVariants.{Fresh, Plain, KeyNotActive, Required}
 use Rattle.panels.specs.declared.panel.Field.{Field}
-use Rattle.panels.specs.Panel.{PanelParts}
-use Rattle.panels.specs.Screen.{Values, distance_in, item_cell, autoskip_attr, shown, text_cell, field_attr, field_content, field_cell, stopper_cell, message_text, message_cell, first_some, wanted_cell, wanted_cursor}
-use Rattle.host_core.specs.Application.{IsShowable, KeepsNothing, screen_of, no_screen}
+use Rattle.panels.specs.MessageRow.{PanelsLeaveTheRow}
+use Rattle.panels.specs.Panel.{PanelParts, Panels, CursorsAreOnTheScreen}
+use Rattle.panels.specs.Screen.{Values, distance_in, item_cell, autoskip_attr, shown, text_cell, field_attr, field_content, field_cell, stopper_cell, message_text, message_cell, first_some, wanted_cell, wanted_cursor, screen_of}
+use Rattle.panels.specs.Size.{message_start}
+use Rattle.host_core.specs.Application.{IsMessageRow, IsShowable, is_wanted_char, no_panel, panel_at}
 use Rattle.host_core.specs.Laws.{PanelsAreShown, ScreensAreWanted}
 
 -- ---- cells
@@ -99,22 +100,57 @@ cursor_on panel Plain on = on
 cursor_on panel KeyNotActive on = on
 cursor_on panel (Required number) on = first_on panel.fields panel.cursor on (position (λ (field : Field). field.number == number) panel.fields)
 
+-- ---- the last row
+
+all_chars : (cells : List Want) → ((place : ℕ) → place < length cells → (byte : ℕ) × (slice_get cells place ≡ Some (want.Char byte))) → list_all is_wanted_char cells ≡ true
+all_chars [] each = refl
+all_chars (want.Char byte ∷ cells) each = all_chars cells (λ place within. each (suc place) (omega (arith, within)))
+all_chars (want.Attr attribute ∷ cells) each = let first = each 0 (omega arith) in let no : Some (want.Attr attribute) ≡ Some (want.Char first.0) = first.1 in absurd (cc)
+all_chars (want.Keep ∷ cells) each = let first = each 0 (omega arith) in let no : Some want.Keep ≡ Some (want.Char first.0) = first.1 in absurd (cc)
+
+row_there : (attribute : Attr) (place : ℕ) (cells : List Want) → attribute.protected ≡ true → slice_get cells place ≡ Some (want.Attr attribute)
+    → ((cell : ℕ) → place < cell → cell < length cells → (byte : ℕ) × (slice_get cells cell ≡ Some (want.Char byte))) → IsMessageRow (drop place cells)
+row_there attribute zero [] guards at each = absurd (cc)
+row_there attribute (suc place) [] guards at each = absurd (cc)
+row_there attribute zero (want.Char byte ∷ cells) guards at each = absurd (cc)
+row_there attribute zero (want.Keep ∷ cells) guards at each = absurd (cc)
+row_there attribute zero (want.Attr other ∷ cells) guards at each =
+    let same : other ≡ attribute = cc in
+    (ap (λ (a : Attr). a.protected) same ∙ guards, all_chars cells (λ cell within. each (suc cell) (omega arith) (omega (arith, within))))
+row_there attribute (suc place) (first ∷ cells) guards at each =
+    row_there attribute place cells guards at (λ cell after within. each (suc cell) (omega (arith, after)) (omega (arith, within)))
+
+message_row : PanelsLeaveTheRow → (panel : PanelParts) (values : Values) (message : Message) (keep : Bool) → IsMessageRow (drop message_start (screen_of panel values message keep).cells)
+message_row leave panel values message keep =
+    let row = leave panel values message keep in
+    let long : length (screen_of panel values message keep).cells ≡ cell_count = length-map-range_with_len (wanted_cell panel values message keep) 0 cell_count in
+    row_there (autoskip_attr true) message_start (screen_of panel values message keep).cells refl row.attribute (λ cell after within. row.characters cell after (subst (λ (n : ℕ). cell < n) long within))
+
 -- ---- screens
 
-shows : (panel : Option PanelParts) (values : Values) (message : Message) (keep : Bool) → ((parts : PanelParts) → panel ≡ Some parts → parts.cursor < cell_count)
-    → IsShowable cell_count (option_map_or (λ (parts : PanelParts). screen_of parts values message keep) panel (no_screen message))
-shows None values message keep is = record { cells = length-map-range_with_len (λ cell. want.Char 0) 0 cell_count; cursor = omega arith }
-shows (Some parts) values message keep is = record { cells = length-map-range_with_len (wanted_cell parts values message keep) 0 cell_count; cursor = cursor_on parts message (is parts refl) }
+shows : PanelsLeaveTheRow → (panel : PanelParts) (values : Values) (message : Message) (keep : Bool) → panel.cursor < cell_count → IsShowable model_2 (screen_of panel values message keep)
+shows leave panel values message keep on = record {
+  cells = length-map-range_with_len (wanted_cell panel values message keep) 0 cell_count;
+  cursor = cursor_on panel message on;
+  messages = message_row leave panel values message keep;
+}
 
-whole : (panel : Option PanelParts) (values : Values) (message : Message) → KeepsNothing (option_map_or (λ (parts : PanelParts). screen_of parts values message false) panel (no_screen message))
-whole None values message = none_kept (λ cell. want.Char 0) (λ cell. refl) (range_with_len 0 cell_count)
-whole (Some parts) values message = none_kept (wanted_cell parts values message false) (cell_kept parts values message) (range_with_len 0 cell_count)
+-- what holds of each panel, and where there is none
+pub at_panel : (P : PanelParts → Type 0) (found : Option PanelParts) → P no_panel → ((panel : PanelParts) → found ≡ Some panel → P panel) → P (unwrap_or found no_panel)
+at_panel P None none each = none
+at_panel P (Some panel) none each = each panel refl
 
-pub panels_shown : PanelsAreShown
-panels_shown set is = record {
-  some = omega arith;
-  showable = λ number values message keep. shows (slice_get set.panels number) values message keep (is number);
-  whole = λ number values message. whole (slice_get set.panels number) values message;
+abbrev HasCursorOn : PanelParts → Type 0
+HasCursorOn panel = panel.cursor < cell_count
+
+pub cursors_on : (set : Panels) (number : ℕ) → CursorsAreOnTheScreen set → HasCursorOn (panel_at set number)
+cursors_on set number on = at_panel HasCursorOn (slice_get set.panels number) (omega arith) (on number)
+
+pub panels_shown : PanelsLeaveTheRow → PanelsAreShown
+panels_shown leave set on = record {
+  shape = record { columns = omega arith; row = omega arith; addresses = omega arith };
+  showable = λ number values message keep. shows leave (panel_at set number) values message keep (cursors_on set number on);
+  whole = λ number values message. none_kept (wanted_cell (panel_at set number) values message false) (cell_kept (panel_at set number) values message) (range_with_len 0 cell_count);
 }
 
 -- ---- what panels ask for

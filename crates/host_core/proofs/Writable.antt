@@ -1,5 +1,5 @@
 -- What panels ask for are screens, each cell of which can hold what is wanted of it, where panels and values are of characters.
-use Rattle.std.proofs.Common.{◌≡◌, ◌==◌, nat_lt, ◌<◌, ◌-◌, ◌+◌, ℕ, zero, suc, Bool, true, false, not, Option, None, Some, List, [], ◌∷◌, ◌++◌, map, refl, arith, IfSome, IsTrue, if◌then◌else◌}
+use Rattle.std.proofs.Common.{◌≡◌, ◌==◌, nat_lt, ◌<◌, ◌-◌, ◌+◌, ℕ, zero, suc, Bool, true, false, not, Option, None, Some, List, [], ◌∷◌, ◌++◌, map, refl, IfSome, IsTrue, if◌then◌else◌}
 use Rattle.std.specs.Prelude.{⊤, codes, slice_get, slice_index_or, string_bytes, option_map, unwrap_or}
 use Rattle.std.specs.List.{All, range_with_len}
 use Rattle.std.specs.Option.{option_or, option_map_or}
@@ -18,8 +18,8 @@ use Rattle.datastream.specs.declared.wanted.Want.{Want}
 use Rattle.datastream.specs.declared.wanted.Want.TheVariants as want
 use Rattle.panels.proofs.Codes.{character_of_code}
 use Rattle.panels.specs.Characters.{is_character, AreCharacters}
-use Rattle.panels.specs.Panel.{PanelParts}
-use Rattle.panels.specs.Screen.{Values, distance_in, item_cell, kept_cell, autoskip_attr, shown, text_cell, is_fresh, field_attr, field_content, field_cell, stopper_cell, coded, field_numbered, message_text, message_cell, first_some, wanted_cell}
+use Rattle.panels.specs.Panel.{PanelParts, HasCharacters, IsOfCharacters}
+use Rattle.panels.specs.Screen.{Values, distance_in, item_cell, kept_cell, autoskip_attr, shown, text_cell, is_fresh, field_attr, field_content, field_cell, stopper_cell, coded, field_numbered, message_text, message_cell, first_some, wanted_cell, screen_of}
 use Rattle.panels.specs.Size.{message_start}
 use Rattle.panels.specs.Values.{value_of}
 use Rattle.panels.specs.declared.message.Message.{Message}
@@ -28,9 +28,9 @@ use Rattle.panels.specs.declared.panel.Content.{Content}
 use Rattle.panels.specs.declared.panel.Content.TheVariants.{Literal, Show}
 use Rattle.panels.specs.declared.panel.Field.{Field}
 use Rattle.panels.specs.declared.panel.TextItem.{TextItem}
-use Rattle.host_core.specs.Application.{AreTexts, screen_of, no_screen}
-use Rattle.host_core.specs.Laws.{HasCharacters, IsOfCharacters, PanelsAskForScreens}
-use Rattle.host_core.proofs.Showing.{cursor_on}
+use Rattle.host_core.specs.Application.{AreTexts, no_panel, panel_at}
+use Rattle.host_core.specs.Laws.{PanelsAskForScreens}
+use Rattle.host_core.proofs.Showing.{at_panel, cursor_on, cursors_on}
 
 -- ---- texts
 
@@ -164,19 +164,16 @@ cell_held panel values message keep cell is texts =
 all_held : (cell_of : ℕ → Want) → ((cell : ℕ) → IsProper (cell_of cell)) → (cells : List ℕ) → All IsProper (map cell_of cells)
 all_held cell_of each cells = All-map IsProper cell_of cells (λ k d below. each (slice_index_or cells k d))
 
-asks : (panel : Option PanelParts) (values : Values) (message : Message) (keep : Bool) → AreTexts values
-    → ((parts : PanelParts) → panel ≡ Some parts → parts.cursor < cell_count) → ((parts : PanelParts) → panel ≡ Some parts → IsOfCharacters parts)
-    → IsScreen (option_map_or (λ (parts : PanelParts). screen_of parts values message keep) panel (no_screen message))
-asks None values message keep texts on is = record {
-  size = length-map-range_with_len (λ cell. want.Char 0) 0 cell_count;
-  proper = all_held (λ cell. want.Char 0) (λ cell. refl) (range_with_len 0 cell_count);
-  cursor_in_range = omega arith;
-}
-asks (Some parts) values message keep texts on is = record {
-  size = length-map-range_with_len (wanted_cell parts values message keep) 0 cell_count;
-  proper = all_held (wanted_cell parts values message keep) (λ cell. cell_held parts values message keep cell (is parts refl) texts) (range_with_len 0 cell_count);
-  cursor_in_range = cursor_on parts message (on parts refl);
+asks : (panel : PanelParts) (values : Values) (message : Message) (keep : Bool) → AreTexts values → panel.cursor < cell_count → IsOfCharacters panel → IsScreen (screen_of panel values message keep)
+asks panel values message keep texts on is = record {
+  size = length-map-range_with_len (wanted_cell panel values message keep) 0 cell_count;
+  proper = all_held (wanted_cell panel values message keep) (λ cell. cell_held panel values message keep cell is texts) (range_with_len 0 cell_count);
+  cursor_in_range = cursor_on panel message on;
 }
 
+no_characters : IsOfCharacters no_panel
+no_characters = record { texts = All-nil (λ text. HasCharacters text.content); fills = All-nil (λ field. AreCharacters field.fill) }
+
 pub panels_ask : PanelsAskForScreens
-panels_ask set on is panel values message keep texts = asks (slice_get set.panels panel) values message keep texts (on panel) (is panel)
+panels_ask set on is number values message keep texts =
+    asks (panel_at set number) values message keep texts (cursors_on set number on) (at_panel IsOfCharacters (slice_get set.panels number) no_characters (is number))

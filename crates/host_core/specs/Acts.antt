@@ -2,22 +2,22 @@
 use Rattle.std.specs.Prelude.{◌==◌, ◌-◌, ◌&&◌, not, ℕ, Bool, true, false, List, [], ◌∷◌, Option, Some, None, option_and_then, unwrap_or, if◌then◌else◌}
 use Rattle.std.specs.List.{list_any, list_all}
 use Rattle.std.specs.Option.{option_map_or}
-use Rattle.std.specs.BTreeMap.{insert_entry}
-use Rattle.std.specs.Ordering.{nat_cmp}
 use Rattle.codes3270.specs.declared.attention.Aid.{Aid}
 use Rattle.codes3270.specs.declared.attention.Aid.TheVariants.{Enter, Clear, Pa}
+use Rattle.codes3270.specs.Size.{cells_in}
 use Rattle.datastream.specs.Wanted.{WantedScreen}
 use Rattle.shadow.specs.Asked.{field_at}
 use Rattle.shadow.specs.Belief.{Fact, Belief, Shadow}
 use Rattle.shadow.specs.Fits.{fits}
 use Rattle.shadow.specs.Meets.{told}
+use Rattle.shadow.specs.Paint.{paint}
 use Rattle.panels.specs.declared.panel.Field.{Field}
 use Rattle.panels.specs.declared.message.Message.{Message}
 use Rattle.panels.specs.declared.message.Message.TheVariants.{Fresh, Plain, KeyNotActive, Required}
 use Rattle.panels.specs.declared.next.Next.{Next}
 use Rattle.panels.specs.declared.next.Next.TheVariants.{Go, Again}
 use Rattle.panels.specs.Screen.{Values}
-use Rattle.panels.specs.Values.{value_of}
+use Rattle.panels.specs.Values.{set_if, value_of}
 use Rattle.tn3270e_msg.specs.Header.{next_number}
 use Rattle.host_core.specs.Application.{Application}
 use Rattle.host_core.specs.Messages.{ToTerminal}
@@ -53,10 +53,6 @@ is_to_be_read app conn aid = list_any (is_in_doubt conn.shadow) (app.fields conn
 -- the text of a field, without nulls, where it is known
 abbrev pub text_known : Shadow → Field → Option (List ℕ)
 text_known shadow field = option_and_then (λ belief. told belief.fact) (belief_of shadow field)
-
-abbrev pub set_if : ℕ → Option (List ℕ) → Values → Values
-set_if field None values = values
-set_if field (Some text) values = insert_entry nat_cmp values field text
 
 -- the values of fields, once the known texts are set
 abbrev pub learned : Shadow → List Field → Values → Values
@@ -140,7 +136,7 @@ done app conn (Act.Show panel message keep values) =
     record {
       conn = record conn {
         turn = Turn.Terminal;
-        pending = Pending.Writing conn.number wanted;
+        pending = Pending.Writing conn.number (paint (cells_in conn.shape) conn.shadow wanted);
         number = next_number conn.number;
         panel = panel;
         message = message;
@@ -152,8 +148,9 @@ done app conn (Act.Show panel message keep values) =
 -- it acts in its turn, once the session is agreed and its last command answered
 abbrev pub may_act : Turn → Pending → Bool → Bool
 may_act Turn.Host Pending.Nothing agreed = agreed
-may_act Turn.Host (Pending.Writing number wanted) agreed = false
+may_act Turn.Host (Pending.Writing number command) agreed = false
 may_act Turn.Host (Pending.Reading number) agreed = false
+may_act Turn.Host (Pending.Noting number command) agreed = false
 may_act Turn.Terminal pending agreed = false
 
 abbrev pub acted : Application → Conn → Option Sent

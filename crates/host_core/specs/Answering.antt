@@ -1,9 +1,10 @@
 -- What a host believes of a command, by which numbers commands go, and which response answers one (RFC 1647, section 8.1:
 -- SEQ-NUMBER; the rest is our profile).
-use Rattle.std.specs.Prelude.{◌≡◌, ◌≢◌, true, ℕ, Option, None, Some}
+use Rattle.std.specs.Prelude.{◌≡◌, ◌≢◌, true, ℕ, List, Option, None, Some}
 use Rattle.tn3270e_msg.specs.declared.cause.Cause.TheVariants.{BadResponse}
 use Rattle.tn3270e_msg.specs.Header.{next_number}
 use Rattle.host_core.specs.Acts.{Act, Sent, done}
+use Rattle.host_core.specs.Notes.{noted_as}
 use Rattle.host_core.specs.Application.{Application}
 use Rattle.host_core.specs.Messages.{ToTerminal, ToHost, Verdict}
 use Rattle.host_core.specs.Session.{Conn, Pending, is_agreed}
@@ -13,17 +14,23 @@ use Rattle.host_core.specs.Takes.{Answers, closed_by, took}
 abbrev pub BelievesNoSooner : Type 0
 BelievesNoSooner = (app : Application) (conn : Conn) (act : Act) → (done app conn act).conn.shadow ≡ conn.shadow
 
+-- Nor is a note.
+abbrev pub BelievesNotesNoSooner : Type 0
+BelievesNotesNoSooner = (text : List ℕ) (conn : Conn) → (noted_as text conn).conn.shadow ≡ conn.shadow
+
 -- the number of the command that isn't answered yet
 abbrev pub number_of : Pending → Option ℕ
 number_of Pending.Nothing = None
-number_of (Pending.Writing number wanted) = Some number
+number_of (Pending.Writing number command) = Some number
 number_of (Pending.Reading number) = Some number
+number_of (Pending.Noting number command) = Some number
 
 -- the number that a command carries
 abbrev pub number_in : ToTerminal → Option ℕ
 number_in (ToTerminal.TalksDown saying) = None
 number_in (ToTerminal.Paint number wanted over) = Some number
 number_in (ToTerminal.ReadBuffer number) = Some number
+number_in (ToTerminal.Note number command) = Some number
 
 -- A command carries its connection's number, by which its response is awaited; the number behind it is for the next one.
 pub record IsNumbered (old : Conn) (sent : Sent) : Type 0 where
@@ -34,7 +41,10 @@ pub record IsNumbered (old : Conn) (sent : Sent) : Type 0 where
 abbrev pub CommandsAreNumbered : Type 0
 CommandsAreNumbered = (app : Application) (conn : Conn) (act : Act) → IsNumbered conn (done app conn act)
 
+abbrev pub NotesAreNumbered : Type 0
+NotesAreNumbered = (text : List ℕ) (conn : Conn) → IsNumbered conn (noted_as text conn)
+
 -- In a session a response with another number than the pending command's closes the connection.
 abbrev pub OnlyItsResponse : Type 0
-OnlyItsResponse = (app : Application) (pool : Answers) (conn : Conn) (number : ℕ) (verdict : Verdict)
-    → is_agreed conn.talk.state ≡ true → number_of conn.pending ≢ Some number → took app pool conn (ToHost.Response number verdict) ≡ closed_by BadResponse conn
+OnlyItsResponse = (pool : Answers) (conn : Conn) (number : ℕ) (verdict : Verdict)
+    → is_agreed conn.talk.state ≡ true → number_of conn.pending ≢ Some number → took pool conn (ToHost.Response number verdict) ≡ closed_by BadResponse conn

@@ -1,44 +1,70 @@
 -- What a host shows, and where its keys lead (our profile).
-use Rattle.std.specs.Prelude.{◌≡◌, ◌<◌, ℕ, Bool, false, List, [], length, map, slice_get, All}
-use Rattle.std.specs.List.{list_any, range_with_len}
+use Rattle.std.specs.Prelude.{◌≡◌, ◌<◌, ◌≤◌, ◌-◌, ℕ, Bool, true, false, List, [], ◌∷◌, length, drop, slice_get, unwrap_or, All}
+use Rattle.std.specs.List.{list_any, list_all}
 use Rattle.std.specs.Map.{values_of}
-use Rattle.std.specs.Option.{option_map_or}
-use Rattle.codes3270.specs.Size.{cell_count, columns}
+use Rattle.codes3270.specs.Size.{Shape, cells_in, model_2, cell_count}
 use Rattle.codes3270.specs.declared.attention.Aid.{Aid}
 use Rattle.datastream.specs.Wanted.{WantedScreen, IsScreen}
-use Rattle.datastream.specs.declared.wanted.Want.TheVariants.{Char}
+use Rattle.datastream.specs.declared.wanted.Want.{Want}
+use Rattle.datastream.specs.declared.wanted.Want.TheVariants.{Char, Attr, Keep}
 use Rattle.shadow.specs.Fits.{is_keep}
 use Rattle.panels.specs.declared.panel.Field.{Field}
 use Rattle.panels.specs.declared.message.Message.{Message}
 use Rattle.panels.specs.declared.next.Next.{Next}
-use Rattle.panels.specs.declared.next.Next.TheVariants.{Again}
 use Rattle.panels.specs.Characters.{AreCharacters}
 use Rattle.panels.specs.Panel.{PanelParts, Panels}
 use Rattle.panels.specs.Next.{next_of}
-use Rattle.panels.specs.Screen.{Values, wanted_cell, wanted_cursor, is_fresh}
+use Rattle.panels.specs.Screen.{Values, screen_of}
 
--- Panels by their numbers, on a screen of some size: the panel shown first, the fields of each, where a key leads from it, and
--- the screen that it asks for; with `keep`, fields keep what the operator left in them.
+-- Panels by their numbers: the panel shown first, the fields of each, where a key leads from it, and the screen that it asks for; with
+-- `keep`, fields keep what the operator left in them. Each connection begins with a screen of the shape `begins`.
 pub record Application : Type 0 where
-  pub size : ℕ
-  pub columns : ℕ
+  pub begins : Shape
   pub start : ℕ
   pub fields : ℕ → List Field
   pub next : ℕ → Aid → Next
   pub screen : (panel : ℕ) → Values → Message → (keep : Bool) → WantedScreen
 
--- each screen that is asked for has the size, and its cursor on it
-pub record IsShowable (size : ℕ) (wanted : WantedScreen) : Type 0 where
-  pub cells : length wanted.cells ≡ size
-  pub cursor : wanted.cursor < size
+-- ---- the last row is for messages
+
+-- where it starts
+abbrev pub message_place : Shape → ℕ
+message_place shape = cells_in shape - shape.columns
+
+abbrev pub is_wanted_char : Want → Bool
+is_wanted_char (Char byte) = true
+is_wanted_char (Attr attribute) = false
+is_wanted_char Keep = false
+
+-- a protected field to the end: its attribute, then characters alone
+abbrev pub IsMessageRow : List Want → Type 0
+IsMessageRow [] = ⊥
+IsMessageRow (Char byte ∷ wants) = ⊥
+IsMessageRow (Keep ∷ wants) = ⊥
+IsMessageRow (Attr attribute ∷ wants) = (attribute.protected ≡ true) × (list_all is_wanted_char wants ≡ true)
+
+-- ---- applications
+
+-- a screen that has a whole row at least, with room behind an attribute, and an address for each of its cells
+pub record IsShape (shape : Shape) : Type 0 where
+  pub columns : 1 < shape.columns
+  pub row : shape.columns ≤ cells_in shape
+  pub addresses : cells_in shape ≤ cell_count
+
+-- a screen of that shape, with its cursor on it, and its last row for messages
+pub record IsShowable (shape : Shape) (wanted : WantedScreen) : Type 0 where
+  pub cells : length wanted.cells ≡ cells_in shape
+  pub cursor : wanted.cursor < cells_in shape
+  pub messages : IsMessageRow (drop (message_place shape) wanted.cells)
 
 -- no cell of it is kept
 abbrev pub KeepsNothing : WantedScreen → Type 0
 KeepsNothing wanted = list_any is_keep wanted.cells ≡ false
 
+-- For now each screen that is asked for has the shape that connections begin with.
 pub record IsApplication (app : Application) : Type 0 where
-  pub some : 0 < app.size
-  pub showable : (panel : ℕ) (values : Values) (message : Message) (keep : Bool) → IsShowable app.size (app.screen panel values message keep)
+  pub shape : IsShape app.begins
+  pub showable : (panel : ℕ) (values : Values) (message : Message) (keep : Bool) → IsShowable app.begins (app.screen panel values message keep)
   pub whole : (panel : ℕ) (values : Values) (message : Message) → KeepsNothing (app.screen panel values message false)
 
 -- values of characters that a cell can hold
@@ -53,23 +79,18 @@ AsksForScreens app =
 
 -- ---- the application that panels are
 
-abbrev pub screen_of : PanelParts → Values → Message → Bool → WantedScreen
-screen_of panel values message keep = record {
-  cells = map (wanted_cell panel values message keep) (range_with_len 0 cell_count);
-  cursor = wanted_cursor panel message;
-  reset = is_fresh message;
-}
+-- one without texts and fields, for a number that no panel has
+abbrev pub no_panel : PanelParts
+no_panel = record { texts = []; fields = []; cursor = 0; targets = [] }
 
--- where there is no panel of a number
-abbrev pub no_screen : Message → WantedScreen
-no_screen message = record { cells = map (λ cell. Char 0) (range_with_len 0 cell_count); cursor = 0; reset = is_fresh message }
+abbrev pub panel_at : Panels → ℕ → PanelParts
+panel_at set number = unwrap_or (slice_get set.panels number) no_panel
 
 abbrev pub application_of : Panels → Application
 application_of set = record {
-  size = cell_count;
-  columns = columns;
+  begins = model_2;
   start = set.start;
-  fields = λ panel. option_map_or (λ parts. parts.fields) (slice_get set.panels panel) [];
-  next = λ panel aid. option_map_or (λ parts. next_of parts aid) (slice_get set.panels panel) Again;
-  screen = λ panel values message keep. option_map_or (λ parts. screen_of parts values message keep) (slice_get set.panels panel) (no_screen message);
+  fields = λ panel. (panel_at set panel).fields;
+  next = λ panel aid. next_of (panel_at set panel) aid;
+  screen = λ panel values message keep. screen_of (panel_at set panel) values message keep;
 }

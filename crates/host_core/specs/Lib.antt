@@ -3,6 +3,8 @@ pub mod Messages
 pub mod Session
 pub mod Takes
 pub mod Acts
+pub mod Notes
+pub mod NoteLaws
 pub mod Pool
 pub mod PoolLaws
 pub mod Laws

@@ -1,7 +1,8 @@
 -- One connection as the host has it (our profile).
-use Rattle.std.specs.Prelude.{ℕ, Bool, true, false, []}
+use Rattle.std.specs.Prelude.{ℕ, Bool, true, false, List, [], Option, Some, None}
+use Rattle.codes3270.specs.Size.{Shape}
 use Rattle.codes3270.specs.declared.attention.Aid.{Aid}
-use Rattle.datastream.specs.Wanted.{WantedScreen}
+use Rattle.datastream.specs.Grammar.{CommandParts}
 use Rattle.shadow.specs.Belief.{Shadow}
 use Rattle.panels.specs.declared.message.Message.{Message}
 use Rattle.panels.specs.declared.message.Message.TheVariants.{Fresh}
@@ -15,11 +16,12 @@ pub data Turn : Type 0 where
   Host : Turn
   Terminal : Turn
 
--- the command that isn't answered yet, with its number
+-- the command that isn't answered yet, with its number: a paint, a Read Buffer, or a note
 pub data Pending : Type 0 where
   Nothing : Pending
-  Writing : ℕ → WantedScreen → Pending
+  Writing : ℕ → CommandParts → Pending
   Reading : ℕ → Pending
+  Noting : ℕ → CommandParts → Pending
 
 -- Why the host holds the turn: the session was agreed; a key was pressed, and whether a Read Buffer was answered since; or its
 -- last command was refused.
@@ -30,6 +32,7 @@ pub data Occasion : Type 0 where
 
 pub record Conn : Type 0 where
   pub talk : Talk HostState
+  pub shape : Shape  -- of the terminal's screen, as the host's last erase set it
   pub turn : Turn
   pub pending : Pending
   pub number : ℕ  -- of the next command
@@ -39,10 +42,11 @@ pub record Conn : Type 0 where
   pub values : Values  -- of the fields
   pub occasion : Occasion
 
--- at the begin of a connection, when the host has offered TN3270E
-abbrev pub new_conn : Conn
-new_conn = record {
+-- at the begin of a connection, when the host has offered TN3270E, to a screen of this shape
+abbrev pub new_conn : Shape → Conn
+new_conn shape = record {
   talk = host_start;
+  shape = shape;
   turn = Turn.Host;
   pending = Pending.Nothing;
   number = 0;
@@ -62,3 +66,13 @@ is_agreed (Asking device) = false
 is_agreed (Named device lu) = false
 is_agreed (Countered device lu) = false
 is_agreed (Closed cause) = false
+
+-- the LU that they agreed on
+abbrev pub agreed_lu : HostState → Option (List ℕ)
+agreed_lu (Agreed device lu) = Some lu
+agreed_lu Offered = None
+agreed_lu Asked = None
+agreed_lu (Asking device) = None
+agreed_lu (Named device lu) = None
+agreed_lu (Countered device lu) = None
+agreed_lu (Closed cause) = None

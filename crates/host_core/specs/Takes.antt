@@ -3,13 +3,14 @@
 use Rattle.std.specs.Prelude.{◌==◌, ℕ, Bool, true, false, List, [], map, Option, Some, None, Result, Ok, Err, if◌then◌else◌}
 use Rattle.codes3270.specs.declared.attention.Aid.{Aid}
 use Rattle.codes3270.specs.declared.attention.Aid.TheVariants.{NoAid, Enter, Clear, Pf, Pa}
+use Rattle.codes3270.specs.Size.{cells_in}
+use Rattle.datastream.specs.Grammar.{CommandParts}
 use Rattle.datastream.specs.InboundText.{InboundParts}
-use Rattle.datastream.specs.Wanted.{WantedScreen}
 use Rattle.datastream.specs.declared.inbound_part.Form.{Form}
 use Rattle.datastream.specs.declared.inbound_part.Form.TheVariants.{Modified, All as AllModified, Buffer}
 use Rattle.shadow.specs.Belief.{Shadow}
+use Rattle.shadow.specs.Exactness.{is_erase}
 use Rattle.shadow.specs.Heard.{heard}
-use Rattle.shadow.specs.Paint.{paint}
 use Rattle.shadow.specs.Taken.{taken}
 use Rattle.shadow.specs.declared.fault.HeardFault.{HeardFault}
 use Rattle.tn3270e_msg.specs.Talk.{Talk, follow, Saying, says, sayings, closing}
@@ -21,7 +22,6 @@ use Rattle.tn3270e_msg.specs.declared.host_talk.HostState.TheVariants.{Asking, C
 use Rattle.tn3270e_msg.specs.declared.reply.Reason.{Reason}
 use Rattle.tn3270e_msg.specs.declared.reply.Reply.{Reply}
 use Rattle.tn3270e_msg.specs.declared.reply.Reply.TheVariants as reply
-use Rattle.host_core.specs.Application.{Application}
 use Rattle.host_core.specs.Messages.{ToTerminal, ToHost, Verdict}
 use Rattle.host_core.specs.Session.{Conn, Turn, Pending, Occasion, is_agreed}
 
@@ -73,11 +73,15 @@ talked pool conn talk saying = let next = follow Closed talk (host_line talk.sta
 
 -- ---- data
 
--- what was heard is believed, and the turn is the host's
-abbrev pub believed : Occasion → Conn → Result Shadow HeardFault → Step
-believed occasion conn (Ok shadow) =
-    quiet (record conn { shadow = shadow; turn = Turn.Host; pending = Pending.Nothing; occasion = occasion })
-believed occasion conn (Err fault) = closed_by BadInbound conn
+-- what the host believes once it hears this, of a screen of the connection's shape
+abbrev pub hears : InboundParts → Conn → Result Shadow HeardFault
+hears parts conn = heard (cells_in conn.shape) conn.shadow parts
+
+-- what was heard is believed, and the turn is the host's; what still waits for an answer then
+abbrev pub believed : Occasion → Pending → Conn → Result Shadow HeardFault → Step
+believed occasion pending conn (Ok shadow) =
+    quiet (record conn { shadow = shadow; turn = Turn.Host; pending = pending; occasion = occasion })
+believed occasion pending conn (Err fault) = closed_by BadInbound conn
 
 -- the key that was pressed last, and its screen was read
 abbrev pub once_read : Occasion → Occasion
@@ -86,62 +90,67 @@ once_read Occasion.Agreement = Occasion.Agreement
 once_read Occasion.Refusal = Occasion.Refusal
 
 -- the answer to Read Buffer
-abbrev pub buffer_came : Application → InboundParts → Form → Conn → Step
-buffer_came app parts Buffer conn = believed (once_read conn.occasion) conn (heard app.size conn.shadow parts)
-buffer_came app parts Modified conn = closed_by BadInbound conn
-buffer_came app parts AllModified conn = closed_by BadInbound conn
+abbrev pub buffer_came : InboundParts → Form → Conn → Step
+buffer_came parts Buffer conn = believed (once_read conn.occasion) Pending.Nothing conn (hears parts conn)
+buffer_came parts Modified conn = closed_by BadInbound conn
+buffer_came parts AllModified conn = closed_by BadInbound conn
 
--- a key was pressed
-abbrev pub key_came : Application → InboundParts → Aid → Conn → Step
-key_came app parts NoAid conn = closed_by BadInbound conn
-key_came app parts Enter conn = believed (Occasion.Key Enter false) conn (heard app.size conn.shadow parts)
-key_came app parts Clear conn = believed (Occasion.Key Clear false) conn (heard app.size conn.shadow parts)
-key_came app parts (Pf key) conn = believed (Occasion.Key (Pf key) false) conn (heard app.size conn.shadow parts)
-key_came app parts (Pa key) conn = believed (Occasion.Key (Pa key) false) conn (heard app.size conn.shadow parts)
+-- a key was pressed; a note that isn't answered yet still waits
+abbrev pub key_came : InboundParts → Aid → Conn → Step
+key_came parts NoAid conn = closed_by BadInbound conn
+key_came parts Enter conn = believed (Occasion.Key Enter false) conn.pending conn (hears parts conn)
+key_came parts Clear conn = believed (Occasion.Key Clear false) conn.pending conn (hears parts conn)
+key_came parts (Pf key) conn = believed (Occasion.Key (Pf key) false) conn.pending conn (hears parts conn)
+key_came parts (Pa key) conn = believed (Occasion.Key (Pa key) false) conn.pending conn (hears parts conn)
 
-abbrev pub key_data_came : Application → InboundParts → Form → Conn → Step
-key_data_came app parts Modified conn = key_came app parts parts.aid conn
-key_data_came app parts AllModified conn = closed_by BadInbound conn
-key_data_came app parts Buffer conn = closed_by BadInbound conn
+abbrev pub key_data_came : InboundParts → Form → Conn → Step
+key_data_came parts Modified conn = key_came parts parts.aid conn
+key_data_came parts AllModified conn = closed_by BadInbound conn
+key_data_came parts Buffer conn = closed_by BadInbound conn
 
--- While a read is pending, data is its answer. Otherwise it is a key's, in the terminal's turn with nothing pending.
-abbrev pub data_came : Application → InboundParts → Turn → Pending → Conn → Step
-data_came app parts turn (Pending.Reading number) conn = buffer_came app parts parts.form conn
-data_came app parts turn (Pending.Writing number wanted) conn = closed_by BadInbound conn
-data_came app parts Turn.Host Pending.Nothing conn = closed_by BadInbound conn
-data_came app parts Turn.Terminal Pending.Nothing conn = key_data_came app parts parts.form conn
+-- While a read is pending, data is its answer. Otherwise it is a key's, in the terminal's turn with nothing pending but a note.
+abbrev pub data_came : InboundParts → Turn → Pending → Conn → Step
+data_came parts turn (Pending.Reading number) conn = buffer_came parts parts.form conn
+data_came parts turn (Pending.Writing number command) conn = closed_by BadInbound conn
+data_came parts Turn.Host Pending.Nothing conn = closed_by BadInbound conn
+data_came parts Turn.Host (Pending.Noting number command) conn = closed_by BadInbound conn
+data_came parts Turn.Terminal Pending.Nothing conn = key_data_came parts parts.form conn
+data_came parts Turn.Terminal (Pending.Noting number command) conn = key_data_came parts parts.form conn
 
 -- ---- responses
 
 -- the command is answered: what it wrote is believed now, not when it was sent
-abbrev pub answered : Application → WantedScreen → Conn → Conn
-answered app wanted conn =
-    record conn { shadow = taken app.size (paint app.size conn.shadow wanted) conn.shadow; pending = Pending.Nothing }
+abbrev pub answered : CommandParts → Conn → Conn
+answered command conn = record conn { shadow = taken (cells_in conn.shape) command conn.shadow; pending = Pending.Nothing }
 
 -- the command was refused: nothing is known any more
 abbrev pub refused : Conn → Conn
 refused conn =
     record conn { shadow = Shadow.NothingKnown; turn = Turn.Host; pending = Pending.Nothing; occasion = Occasion.Refusal }
 
--- whether a paint on what is believed is an Erase/Write, after whose refusal the host has nothing left to try
-abbrev pub erases : Shadow → Bool
-erases Shadow.NothingKnown = true
-erases (Shadow.Unformatted known) = true
-erases (Shadow.Formatted beliefs) = false
-
-abbrev pub write_refused : Conn → Step
-write_refused conn = if erases conn.shadow then closed_by NegativeCause conn else quiet (refused conn)
+-- after the refusal of an erase the host has nothing left to try
+abbrev pub write_refused : CommandParts → Conn → Step
+write_refused command conn = if is_erase command.code then closed_by NegativeCause conn else quiet (refused conn)
 
 abbrev pub if_answers : Bool → Step → Conn → Step
 if_answers true step conn = step
 if_answers false step conn = closed_by BadResponse conn
 
-abbrev pub response_came : Application → ℕ → Verdict → Pending → Conn → Step
-response_came app number verdict Pending.Nothing conn = closed_by BadResponse conn
-response_came app number Verdict.Positive (Pending.Writing pending wanted) conn = if_answers (number == pending) (quiet (answered app wanted conn)) conn
-response_came app number Verdict.Negative (Pending.Writing pending wanted) conn = if_answers (number == pending) (write_refused conn) conn
-response_came app number Verdict.Positive (Pending.Reading pending) conn = closed_by BadResponse conn
-response_came app number Verdict.Negative (Pending.Reading pending) conn = if_answers (number == pending) (quiet (refused conn)) conn
+-- a write was answered
+abbrev pub verdict_came : CommandParts → Verdict → Conn → Step
+verdict_came command Verdict.Positive conn = quiet (answered command conn)
+verdict_came command Verdict.Negative conn = write_refused command conn
+
+-- the response to a read can only refuse it
+abbrev pub read_verdict_came : Bool → Verdict → Conn → Step
+read_verdict_came answers Verdict.Positive conn = closed_by BadResponse conn
+read_verdict_came answers Verdict.Negative conn = if_answers answers (quiet (refused conn)) conn
+
+abbrev pub response_came : ℕ → Verdict → Pending → Conn → Step
+response_came number verdict Pending.Nothing conn = closed_by BadResponse conn
+response_came number verdict (Pending.Writing pending command) conn = if_answers (number == pending) (verdict_came command verdict conn) conn
+response_came number verdict (Pending.Noting pending command) conn = if_answers (number == pending) (verdict_came command verdict conn) conn
+response_came number verdict (Pending.Reading pending) conn = read_verdict_came (number == pending) verdict conn
 
 -- ---- any message
 
@@ -150,7 +159,7 @@ abbrev pub once_agreed : Bool → Step → Conn → Step
 once_agreed true step conn = step
 once_agreed false step conn = quiet conn
 
-abbrev pub took : Application → Answers → Conn → ToHost → Step
-took app pool conn (ToHost.TalksUp saying) = talked pool conn conn.talk saying
-took app pool conn (ToHost.Data parts) = once_agreed (is_agreed conn.talk.state) (data_came app parts conn.turn conn.pending conn) conn
-took app pool conn (ToHost.Response number verdict) = once_agreed (is_agreed conn.talk.state) (response_came app number verdict conn.pending conn) conn
+abbrev pub took : Answers → Conn → ToHost → Step
+took pool conn (ToHost.TalksUp saying) = talked pool conn conn.talk saying
+took pool conn (ToHost.Data parts) = once_agreed (is_agreed conn.talk.state) (data_came parts conn.turn conn.pending conn) conn
+took pool conn (ToHost.Response number verdict) = once_agreed (is_agreed conn.talk.state) (response_came number verdict conn.pending conn) conn

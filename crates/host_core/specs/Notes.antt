@@ -1,0 +1,57 @@
+-- Notes (our profile): a host writes a short text into the last row while the operator has the turn.
+use Rattle.std.specs.Prelude.{◌≤◌, ◌-◌, ◌+◌, nat_lt, ◌&&◌, not, ℕ, Bool, false, IsTrue, List, ◌∷◌, ◌++◌, length, map, take, replicate, All, Option, Some, None, if◌then◌else◌}
+use Rattle.codes3270.specs.Size.{Shape}
+use Rattle.datastream.specs.Grammar.{CommandParts}
+use Rattle.datastream.specs.Note.{quiet}
+use Rattle.datastream.specs.declared.command_code.CommandCode.TheVariants.{Write}
+use Rattle.datastream.specs.declared.order.Order.{Order}
+use Rattle.datastream.specs.declared.order.Order.TheVariants.{Sba, Char as Data}
+use Rattle.tn3270e_msg.specs.Header.{next_number}
+use Rattle.host_core.specs.Acts.{Sent}
+use Rattle.host_core.specs.Application.{message_place}
+use Rattle.host_core.specs.Messages.{ToTerminal}
+use Rattle.host_core.specs.Session.{Conn, Turn, Pending, is_agreed}
+
+-- a character of code page 037
+abbrev pub is_graphic : ℕ → Bool
+is_graphic byte = not (nat_lt byte 0x40) && nat_lt byte 0xFF
+
+-- the room of the longest last row that a 3278 has, that of 132 columns, behind its attribute
+abbrev pub longest_note : ℕ
+longest_note = 131
+
+pub record IsNoteText (text : List ℕ) : Type 0 where
+  pub short : length text ≤ longest_note
+  pub graphic : All (λ byte. IsTrue (is_graphic byte)) text
+
+-- the text in so many cells: cut to them, or nulls behind it
+abbrev pub in_cells : ℕ → List ℕ → List ℕ
+in_cells room text = take room (text ++ replicate room 0)
+
+-- the row behind its attribute, written over
+abbrev pub note_orders : Shape → List ℕ → List Order
+note_orders shape text = Sba (message_place shape + 1) ∷ map Data (in_cells (shape.columns - 1) text)
+
+-- A Write that restores nothing, resets nothing and moves no cursor.
+abbrev pub note_command : Shape → List ℕ → CommandParts
+note_command shape text = record { code = Write; wcc = Some quiet; orders = note_orders shape text }
+
+-- in the operator's turn, where nothing waits for an answer
+abbrev pub may_note : Turn → Pending → Bool → Bool
+may_note Turn.Terminal Pending.Nothing agreed = agreed
+may_note Turn.Terminal (Pending.Writing number command) agreed = false
+may_note Turn.Terminal (Pending.Reading number) agreed = false
+may_note Turn.Terminal (Pending.Noting number command) agreed = false
+may_note Turn.Host pending agreed = false
+
+-- the turn stays, and what is believed, until the note is answered
+abbrev pub noted_as : List ℕ → Conn → Sent
+noted_as text conn =
+    let command = note_command conn.shape text in
+    record {
+      conn = record conn { pending = Pending.Noting conn.number command; number = next_number conn.number };
+      message = ToTerminal.Note conn.number command;
+    }
+
+abbrev pub noted : List ℕ → Conn → Option Sent
+noted text conn = if may_note conn.turn conn.pending (is_agreed conn.talk.state) then Some (noted_as text conn) else None
