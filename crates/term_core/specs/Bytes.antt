@@ -1,4 +1,5 @@
--- What a terminal makes of bytes.
+-- What a terminal makes of bytes: they are read as the stream of RFC 854, 855 and 885, and what this hands out is taken. That
+-- the terminal closes where the stream is broken is our profile.
 use Rattle.std.specs.Prelude.{◌≡◌, ℕ, false, List, [], ◌∷◌, ◌++◌, Option, None, Some}
 use Rattle.telnet_wire.specs.Items.{WireItem}
 use Rattle.telnet_wire.specs.Reading.{Rest, Delivers, GoesWrong}

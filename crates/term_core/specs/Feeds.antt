@@ -1,4 +1,4 @@
--- What feeding a terminal says.
+-- What feeding a terminal says (our profile).
 use Rattle.std.specs.Prelude.{◌≡◌, ◌<◌, ◌≤◌, ◌⊎◌, ℕ, List, take, length}
 use Rattle.tn3270e_msg.specs.declared.cause.Fed.{Fed}
 use Rattle.tn3270e_msg.specs.declared.cause.Stop.{Stop}

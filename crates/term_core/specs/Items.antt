@@ -1,4 +1,4 @@
--- What a terminal makes of what the stream hands out.
+-- What a terminal makes of what the stream hands out: options and subnegotiations (RFC 1647, section 7), and records (section 8).
 use Rattle.std.specs.Prelude.{◌≡◌, List, Option}
 use Rattle.telnet_wire.specs.Items.{WireItem, Record}
 use Rattle.tn3270e_msg.specs.TermTable.{Term, TermTakes}

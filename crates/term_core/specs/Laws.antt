@@ -1,5 +1,5 @@
 -- A terminal is one machine: what it becomes and what it sends is a function of what it was and of the bytes, however they
--- are cut into pieces.
+-- are cut into pieces (our profile: RFC 854 knows no pieces).
 use Rattle.std.specs.Prelude.{◌≡◌, ℕ, List, [], ◌∷◌, ◌++◌, None}
 use Rattle.telnet_wire.specs.Items.{WireItem}
 use Rattle.telnet_wire.specs.Reading.{Rest, IsRest, Delivers}

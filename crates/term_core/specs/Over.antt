@@ -1,4 +1,5 @@
--- The steps as the code takes them: over the parts of a terminal, and what is sent is appended to a vector.
+-- The steps as the code takes them (our profile), for the contracts of private functions and for what a terminal's parts
+-- are seen as: over these parts, and what is sent is appended to a vector.
 use Rattle.std.specs.Prelude.{◌≡◌, ℕ, false, List, ◌++◌, Option, None, Some, Vec}
 use Rattle.std.specs.declared.alloc.Global.{Global}
 use Rattle.telnet_wire.specs.Items.{WireItem}

@@ -1,4 +1,5 @@
--- What a terminal makes of a key.
+-- What a terminal makes of a key: keyboard and screen change as GA23-0059-07 says on the keyboard, and what a key sends goes in
+-- a record (RFC 1647, section 8). That a terminal which isn't bound sends nothing is our profile.
 use Rattle.std.specs.Prelude.{ℕ, Bool, true, false, List, ◌++◌, Option, None, Some}
 use Rattle.codes3270.specs.Size.{columns}
 use Rattle.datastream.specs.Screen.{Screen}

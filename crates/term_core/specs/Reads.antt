@@ -1,4 +1,4 @@
--- The reads that a terminal does, as the code names them.
+-- The reads that a terminal does, as the code names them (GA23-0059-07, "3270 Data Stream Commands").
 use Rattle.std.specs.Prelude.{ℕ, true, false, List, Option, None, Some}
 use Rattle.datastream.specs.Screen.{Screen}
 use Rattle.datastream.specs.Inbound.{read_modified, read_buffer}

@@ -1,4 +1,5 @@
--- What a terminal makes of a record, once it is bound (RFC 1647, sections 8.1 and 10.4; the refusals of commands are our profile).
+-- What a terminal makes of a record, once it is bound (RFC 1647, sections 8.1 and 10.4; for what a command does and which
+-- data it gets GA23-0059-07, "3270 Data Stream Commands"; the refusals of commands are our profile).
 use Rattle.std.specs.Prelude.{◌≡◌, ◌≢◌, ◌==◌, ◌&&◌, ℕ, Bool, true, false, List, [], ◌∷◌, ◌++◌, Option, None, Some, if◌then◌else◌}
 use Rattle.datastream.specs.Screen.{Screen}
 use Rattle.datastream.specs.Grammar.{CommandParts, IsCommand, IsNoCommand, is_write}

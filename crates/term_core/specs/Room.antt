@@ -1,4 +1,4 @@
--- How much room the largest reply takes, so that it can be made before a byte is taken or a key acted on.
+-- How much room the largest reply takes (our profile), so that it can be made before a byte is taken or a key acted on.
 use Rattle.std.specs.Prelude.{ℕ, ◌+◌, ◌*◌, ◌≤◌, vec_len, Vec}
 use Rattle.std.specs.Vec.{vec_capacity}
 use Rattle.std.specs.declared.alloc.Global.{Global}

@@ -1,4 +1,4 @@
--- What a terminal sends (RFC 1647, sections 8.1 and 10.4).
+-- What a terminal sends (RFC 1647, sections 8.1 and 10.4; a record's end is RFC 885's).
 use Rattle.std.specs.Prelude.{ℕ, List, [], ◌∷◌, ◌++◌}
 use Rattle.std.specs.List.{flat_map}
 use Rattle.telnet_wire.specs.Items.{WireItem, Record, item_tokens}

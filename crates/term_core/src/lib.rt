@@ -1,4 +1,30 @@
-//! The terminal whole: Telnet bytes and keystrokes come in, Telnet bytes and a printed screen go out.
+//! The terminal whole: Telnet bytes and keystrokes come in, Telnet bytes and a printed screen go out. It owns no connection
+//! and waits for nothing: who owns one feeds it what comes, and sends what it has to send.
+//!
+//! ```rust
+//! let mut terminal = Terminal::new(alloc)?;
+//! terminal.connected(Lu::read(b"PNL01"));
+//!
+//! // The host says DO TN3270E; the terminal has WILL TN3270E to send.
+//! let fed = terminal.feed(b"\xff\xfd\x28");
+//! assert_eq!(rt; fed, Fed { taken: 3, stop: Stop::Going });
+//! assert_eq!(rt; terminal.out(), b"\xff\xfb\x28".as_slice());
+//! let count = terminal.out().len();
+//! terminal.sent(count);
+//!
+//! // Once the host has granted an LU and written a panel, the operator types.
+//! if terminal.phase().is_bound() && terminal.lock() == Lock::Free {
+//!     terminal.press(Key::Char('A'))?;
+//!     terminal.press(Key::Enter)?;
+//! }
+//!
+//! // What the operator sees: here blank rows, and below them `cursor 0 lock wait aid 60`.
+//! println!(rt; "{}", terminal.screen_text(alloc)?)?;
+//! ```
+//!
+//! The repository's `dialogue3270` holds whole dialogues with a terminal, byte for byte, which stand in its `stdin`.
+//! `specs/Feeds` says what feeding is, `Bytes`, `Items` and `Records` what bytes make of a terminal, `Presses` what keys do,
+//! `Says` what is sent, and `ScreenText` what is printed. [`one_machine`] has the laws of these as its contract.
 #![tactic(auto)]
 
 mod feeding;

@@ -34,8 +34,8 @@ pub(crate) struct Station {
     keyboard: Keyboard,
     number: u16,
     took_write: bool,
-    // Room for the largest record that is sent.
-    record: Vec<u8>,
+    // For the largest record that is sent.
+    room: Vec<u8>,
 }
 
 impl Model for Station {
@@ -48,7 +48,7 @@ impl Model for Station {
 
     ghost view = { λ s. record { screen = s.screen; keyboard = s.keyboard; number = s.number; took_write = s.took_write } };
 
-    ghost invariant = { λ s. record_room ≤ vec_capacity s.record };
+    ghost invariant = { λ s. record_room ≤ vec_capacity s.room };
 }
 
 /// A read: the modified fields as a key sends them, all of them whatever the AID, or the whole buffer.
@@ -122,13 +122,13 @@ impl Station {
     pub(crate) fn new(alloc: Global) -> Result<Station, Memory>
         ensures { IfOk result (λ station. station ≡ waiting (blank_screen cell_count)) }
     {
-        let record = Vec::with_capacity(alloc, RECORD_ROOM)?;
+        let room = Vec::with_capacity(alloc, RECORD_ROOM)?;
         Ok(Station {
             screen: Screen::blank(),
             keyboard: Keyboard::new(),
             number: 0,
             took_write: false,
-            record,
+            room,
         })
     }
 
@@ -188,12 +188,10 @@ impl Station {
             flag: NO_RESPONSE,
             seq: self.number,
         };
-        self.record.clear();
-        self.record
-            .extend_from_slice(&header_bytes(&header))
-            .unwrap();
-        put_reading(&self.screen, reading, &mut self.record);
-        put_record(out, self.record.as_slice()).unwrap();
+        self.room.clear();
+        self.room.extend_from_slice(&header_bytes(&header)).unwrap();
+        put_reading(&self.screen, reading, &mut self.room);
+        put_record(out, self.room.as_slice()).unwrap();
         self.number = next_seq(self.number);
     }
 
