@@ -6,6 +6,7 @@ use Rattle.tn3270e_msg.specs.declared.reply.Reason.{Reason}
 use Rattle.lu_pool.specs.declared.entry.Entry.{Entry}
 use Rattle.lu_pool.specs.Pool.{entry, HoldsNone}
 
+-- the reasons have the codes of RFC 1647, section 3
 abbrev pub device_in_use : Reason
 device_in_use = record { 0 = 1 }
 

@@ -1,4 +1,4 @@
--- How a list of names becomes a pool, and why it doesn't.
+-- How a list of names becomes a pool, and why it doesn't (our profile).
 use Rattle.std.specs.Prelude.{◌≡◌, ℕ, ◌<◌, List, length, map, Option, None, Some, slice_get, IsTrue, String}
 use Rattle.std.specs.String.{string_bytes}
 use Rattle.tn3270e_msg.specs.Lu.{is_lu, lu_of}

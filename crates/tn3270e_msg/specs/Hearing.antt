@@ -1,4 +1,4 @@
--- What the code heard, as the tables name it.
+-- What the code heard, as the tables name it (RFC 1647, section 7); only private contracts and proofs need it.
 use Rattle.tn3270e_msg.specs.declared.hearing.Heard.{Heard}
 use Rattle.tn3270e_msg.specs.declared.hearing.Heard.TheVariants as heard
 use Rattle.tn3270e_msg.specs.Lent.{message_of}

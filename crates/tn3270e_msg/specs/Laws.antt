@@ -1,4 +1,4 @@
--- Bytes are read in one way.
+-- Bytes are read in one way: what follows of RFC 1647, sections 3, 7 and 8.1, as the other modules have them.
 use Rattle.std.specs.Prelude.{◌≡◌, ℕ, List, Some, IsTrue}
 use Rattle.telnet_wire.specs.Items.{WireItem}
 use Rattle.tn3270e_msg.specs.declared.header.HeadFault.{HeadFault}

@@ -1,4 +1,4 @@
--- Messages as the code lends them: what they mean, and the payload that they lie in or are written as.
+-- Messages as the code lends them: what they mean, and the payload that they lie in or are written as (RFC 1647, sections 3 and 7).
 use Rattle.std.specs.Prelude.{◌≡◌, ℕ, List, [], ◌∷◌, ◌++◌, Option, None, Some}
 use Rattle.tn3270e_msg.specs.Functions.{functions_of}
 use Rattle.tn3270e_msg.specs.Message.{Message, Name, Connect, Associate, SendType, TypeRequest, TypeIs, TypeReject, FunRequest, FunIs, IsMessage, name_part}

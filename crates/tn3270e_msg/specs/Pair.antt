@@ -1,4 +1,4 @@
--- A host's talk and a terminal's with each other, and with the host's pool of LUs.
+-- A host's talk and a terminal's with each other (RFC 1647, section 7), and with the host's pool of LUs (our profile).
 use Rattle.std.specs.Prelude.{◌≡◌, ℕ, ◌≤◌, List, [], ◌∷◌, ◌++◌, length, Option, None, Some, Result, Ok, Err, IsTrue}
 use Rattle.telnet_wire.specs.declared.wire.Verb.TheVariants.{Do as DoVerb}
 use Rattle.telnet_wire.specs.Items.{WireItem, Opt as OptItem}

@@ -1,4 +1,5 @@
--- What both ends' talks have in common: what an item says to them, and what they say.
+-- What both ends' talks have in common: what an item says to them, and what they say (RFC 1647, section 7). Other options are
+-- refused as RFC 854 and 855 have it; that a talk closes with the eighth refusal is our profile.
 use Rattle.std.specs.Prelude.{◌≡◌, ℕ, ◌-◌, ◌==◌, if◌then◌else◌, List, [], ◌∷◌, ◌++◌, map, Option, None, Some, option_map, IsTrue}
 use Rattle.telnet_wire.specs.declared.wire.Verb.{Verb}
 use Rattle.telnet_wire.specs.declared.wire.Verb.TheVariants.{Will as WillVerb, Wont as WontVerb, Do as DoVerb, Dont as DontVerb}

@@ -1,4 +1,4 @@
--- What writing a message does.
+-- What writing a message does: it is a subnegotiation (RFC 855; RFC 1647, section 3).
 use Rattle.std.specs.Prelude.{ℕ, Result, Vec}
 use Rattle.std.specs.declared.alloc.Global.{Global}
 use Rattle.telnet_wire.specs.Token.{spelling, Sub}
