@@ -1,4 +1,4 @@
--- The two views of fields agree (GA23-0059, "Fields"): the list of fields by address, and for each cell the attribute
+-- The two views of fields agree (GA23-0059-07 on fields): the list of fields by address, and for each cell the attribute
 -- that stands nearest before it, round the end.
 use Rattle.std.specs.Prelude.{◌≡◌, ◌↔◌, ◌+◌, ◌<◌, not, ℕ, Bool, true, false, List, [], map, length, slice_index_or, Some, None}
 use Rattle.std.specs.List.{list_all, sum_by, Contains}

@@ -1,4 +1,4 @@
--- The fields of a screen as a list (GA23-0059, "Fields"): each once, in the order of their attributes' addresses.
+-- The fields of a screen as a list (GA23-0059-07 on fields): each once, in the order of their attributes' addresses.
 use Rattle.std.specs.Prelude.{ℕ, ◌+◌, List, [], ◌∷◌, ◌++◌}
 use Rattle.codes3270.specs.declared.attribute.Cell.{Cell}
 use Rattle.codes3270.specs.declared.attribute.Cell.TheVariants.{Char, Attr}

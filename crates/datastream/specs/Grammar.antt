@@ -1,4 +1,5 @@
--- What bytes spell commands of the 3270 data stream (GA23-0059, "Commands" and "Orders").
+-- What bytes spell commands of the 3270 data stream (GA23-0059-07, "3270 Data Stream Commands" and "Buffer Control Orders
+-- and Order Codes"), and where others go wrong, in reading order (our profile).
 use Rattle.std.specs.Prelude.{◌≡◌, ℕ, ◌<◌, ◌≤◌, List, [], ◌∷◌, ◌++◌, length, Bool, true, false, ◌==◌, ◌||◌, ◌⊎◌, Option, Some, None}
 use Rattle.codes3270.specs.Size.{cell_count}
 use Rattle.codes3270.specs.Address.{address_of}
@@ -13,7 +14,7 @@ use Rattle.datastream.specs.declared.command_code.CommandCode.TheVariants.{Write
 use Rattle.datastream.specs.declared.fault.CommandFault.{CommandFault}
 use Rattle.datastream.specs.declared.fault.CommandFault.TheVariants.{BadCommand, BadOrder, BadAddress, Truncated}
 
--- ---- orders
+-- ---- orders (GA23-0059-07, "Buffer Control Orders and Order Codes")
 
 -- the codes of the orders
 abbrev pub start_field : ℕ
@@ -73,7 +74,7 @@ has_address code = code == set_buffer_address || code == erase_unprotected_to_ad
 abbrev pub is_order_code : ℕ → Bool
 is_order_code code = has_address code || code == start_field || code == insert_cursor || code == program_tab
 
--- What stands where an order should, and is none: the fault that a reader from left to right meets first.
+-- What stands where an order should, and is none: the fault that a reader from left to right meets first (our profile).
 pub data IsNoOrder (fault : CommandFault) (bytes : List ℕ) : Type 0 where
   unknown_code : (code : ℕ) (more : List ℕ) → is_order_code code ≡ false → is_storable code ≡ false
       → fault ≡ BadOrder → bytes ≡ code ∷ more → IsNoOrder fault bytes
@@ -87,11 +88,11 @@ pub data IsNoOrder (fault : CommandFault) (bytes : List ℕ) : Type 0 where
   unstorable_character : (high low char : ℕ) (more : List ℕ) → address_of high low < cell_count → is_storable char ≡ false
       → fault ≡ BadOrder → bytes ≡ repeat_to_address ∷ high ∷ low ∷ char ∷ more → IsNoOrder fault bytes
 
--- the text is orders up to a place where none stands, and this is the fault there
+-- the text is orders up to a place where none stands, and this is the fault there (our profile)
 abbrev pub HasFault : CommandFault → List ℕ → Type 0
 HasFault fault text = (orders : List Order) × (front back : List ℕ) × AreOrders orders front × IsNoOrder fault back × (text ≡ front ++ back)
 
--- ---- commands
+-- ---- commands (GA23-0059-07, "3270 Data Stream Commands")
 
 -- what a command says
 pub record CommandParts : Type 0 where
@@ -112,7 +113,7 @@ codes_of EraseAllUnprotected = (0x0F, 0x6F)
 abbrev pub IsCode : CommandCode → ℕ → Type 0
 IsCode code byte = (byte ≡ (codes_of code).0) ⊎ (byte ≡ (codes_of code).1)
 
--- whether a command has a write control character and orders
+-- whether a command has a write control character (GA23-0059-07, "Write Control Character (WCC)") and orders
 abbrev pub is_write : CommandCode → Bool
 is_write Write = true
 is_write EraseWrite = true
@@ -135,7 +136,7 @@ pub data IsCommand (command : CommandParts) (bytes : List ℕ) : Type 0 where
 abbrev pub IsSpelt : CommandParts → Type 0
 IsSpelt command = (bytes : List ℕ) × IsCommand command bytes
 
--- the bytes spell no command, and this is the first fault in them
+-- the bytes spell no command, and this is the first fault in them (our profile)
 pub data IsNoCommand (fault : CommandFault) (bytes : List ℕ) : Type 0 where
   no_bytes : fault ≡ Truncated → bytes ≡ [] → IsNoCommand fault bytes
   unknown_command : (byte : ℕ) (more : List ℕ) → ((code : CommandCode) → IsCode code byte → ⊥)

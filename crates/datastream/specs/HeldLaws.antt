@@ -1,4 +1,4 @@
--- What keys keep: by place and by a walk it is the same, and what several keys keep one after another.
+-- What keys keep (our profile): by place and by a walk it is the same, and what several keys keep one after another.
 use Rattle.std.specs.Prelude.{◌↔◌, ◌||◌, Bool, true, false, List}
 use Rattle.codes3270.specs.declared.attribute.Cell.{Cell}
 use Rattle.datastream.specs.Held.{Held, erased_input}

@@ -1,4 +1,4 @@
--- The same relation cell after cell, as a walk from address 0 sees it.
+-- What keys keep (our profile), cell after cell, as a walk from address 0 sees it.
 use Rattle.std.specs.Prelude.{⊤, Bool, false, if◌then◌else◌, List, [], ◌∷◌}
 use Rattle.codes3270.specs.declared.attribute.Cell.{Cell}
 use Rattle.codes3270.specs.declared.attribute.Cell.TheVariants.{Char, Attr}

@@ -1,4 +1,5 @@
--- What the terminal sends (GA23-0059, "Read Modified" and "Read Buffer"): the modified fields, or the whole buffer.
+-- What the terminal sends (GA23-0059-07 on Read Modified, Read Modified All and Read Buffer): the modified fields, or the
+-- whole buffer.
 use Rattle.std.specs.Prelude.{◌+◌, ◌%◌, ◌==◌, ◌&&◌, not, ℕ, Bool, false, List, [], ◌∷◌, ◌++◌, length, filter, if◌then◌else◌}
 use Rattle.std.specs.List.{flat_map, list_all}
 use Rattle.codes3270.specs.declared.attribute.Cell.{Cell}

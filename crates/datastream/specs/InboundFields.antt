@@ -1,5 +1,5 @@
--- Inbound data by fields: what came before any address, each field that came with its first address and its text, and the
--- cells of a buffer.
+-- Inbound data (GA23-0059-07 on inbound data streams) by fields: what came before any address, each field that came with its
+-- first address and its text, and the cells of a buffer.
 use Rattle.std.specs.Prelude.{◌≡◌, ⊤, ◌+◌, ◌%◌, ◌<◌, ℕ, Bool, true, false, List, [], ◌∷◌, ◌++◌, length, map, filter, All, Option, Some, None, if◌then◌else◌}
 use Rattle.std.specs.List.{flat_map, list_all}
 use Rattle.codes3270.specs.Size.{cell_count}

@@ -1,4 +1,4 @@
--- Reading inbound data from left to right: what a value that borrows the bytes has still to give.
+-- Reading inbound data from left to right (our profile): what a value that borrows the bytes has still to give.
 use Rattle.std.specs.Prelude.{◌≡◌, ℕ, zero, suc, List, [], ◌∷◌, length, Result, Ok, Err, nat_lt, ◌==◌, if◌then◌else◌}
 use Rattle.codes3270.specs.Size.{cell_count}
 use Rattle.codes3270.specs.Address.{address_of}

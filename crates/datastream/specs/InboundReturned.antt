@@ -1,4 +1,4 @@
--- What a field of the Rust API says.
+-- What a field of the Rust API says (our profile).
 use Rattle.datastream.specs.declared.inbound_fields.ReturnedField.{ReturnedField}
 use Rattle.datastream.specs.InboundFields.{Returned}
 

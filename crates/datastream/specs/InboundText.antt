@@ -1,5 +1,5 @@
--- Which bytes are inbound data, in each of three forms (GA23-0059, "Inbound data stream", "Read commands"): what Read
--- Modified, Read Modified All and Read Buffer are answered with.
+-- Which bytes are inbound data, in each of three forms (GA23-0059-07 on inbound data streams): what Read Modified, Read
+-- Modified All and Read Buffer are answered with. The order of faults is our profile.
 use Rattle.std.specs.Prelude.{◌≡◌, ⊤, ℕ, ◌<◌, ◌≤◌, List, [], ◌∷◌, ◌++◌, length, Bool, true, false, not, ◌==◌, ◌&&◌, ◌||◌, Option, Some, None}
 use Rattle.codes3270.specs.Size.{cell_count}
 use Rattle.codes3270.specs.Address.{address_of}
@@ -71,7 +71,7 @@ HasRoom Modified parts = ⊤
 HasRoom AllModified parts = ⊤
 HasRoom Buffer parts = length parts < cell_count
 
--- ---- faults of parts
+-- ---- faults of parts (our profile)
 
 -- What stands where a part of the modified fields should, and is none. An order that is cut short is out of place.
 pub data IsNoTextPart (fault : InboundFault) (bytes : List ℕ) : Type 0 where
@@ -129,7 +129,7 @@ pub data IsInbound (inbound : InboundParts) (bytes : List ℕ) : Type 0 where
 abbrev pub IsSent : InboundParts → Type 0
 IsSent inbound = (bytes : List ℕ) × IsInbound inbound bytes
 
--- the bytes are no inbound data of the form, and this is the first fault in them
+-- the bytes are no inbound data of the form, and this is the first fault in them (our profile)
 pub data IsNoInbound (form : Form) (fault : InboundFault) (bytes : List ℕ) : Type 0 where
   no_bytes : fault ≡ Short → bytes ≡ [] → IsNoInbound form fault bytes
   unknown_aid : (byte : ℕ) (more : List ℕ) → aid_of byte ≡ None

@@ -1,4 +1,4 @@
--- Laws that join the definitions.
+-- Laws that join the definitions of commands, of what is written, and of inbound data.
 use Rattle.std.specs.Prelude.{◌≡◌, ℕ, Bool, false, List, All, length}
 use Rattle.codes3270.specs.declared.write_control.Wcc.{Wcc}
 use Rattle.datastream.specs.declared.command_code.CommandCode.{CommandCode}
@@ -9,12 +9,13 @@ use Rattle.datastream.specs.Meaning.{Draft, all_ordered}
 use Rattle.datastream.specs.OrderPlaces.{ByPlace}
 use Rattle.datastream.specs.Writing.{Call, IsAllowed, command_bytes, command_of_calls}
 
--- What is written in any calls spells the command that they name. It is the only one that they spell: see `read_command`.
+-- What is written in any calls (our profile) spells the command that they name. It is the only one: see `OneCommand`.
 abbrev pub WrittenIsRead : Type 0
 WrittenIsRead = (code : CommandCode) (wcc : Wcc) (calls : List Call) → All IsAllowed calls
     → IsCommand (command_of_calls code wcc calls) (command_bytes code wcc calls)
 
--- Each write goes by the places of its orders, and ends as its meaning says.
+-- Each write goes by the places of its orders (GA23-0059-07, "Buffer Control Orders and Order Codes"), and ends as its
+-- meaning says.
 abbrev pub TabsByPlace : Type 0
 TabsByPlace = (orders : List Order) (start : Draft)
     → (drafts : ℕ → Draft) × (nulls : ℕ → Bool) × ByPlace orders start drafts nulls × (drafts (length orders) ≡ all_ordered orders false start)
@@ -28,7 +29,7 @@ OnlyByPlace = (orders : List Order) (start : Draft) (drafts : ℕ → Draft) (nu
 abbrev pub OneCommand : Type 0
 OneCommand = (bytes : List ℕ) (command other : CommandParts) → IsCommand command bytes → IsCommand other bytes → command ≡ other
 
--- Bytes are one inbound data of each form at most.
+-- Bytes are one inbound data of each form at most (GA23-0059-07 on inbound data streams).
 abbrev pub OneInbound : Type 0
 OneInbound = (bytes : List ℕ) (inbound other : InboundParts) → inbound.form ≡ other.form
     → IsInbound inbound bytes → IsInbound other bytes → inbound ≡ other

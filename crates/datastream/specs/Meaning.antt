@@ -1,4 +1,4 @@
--- What a command makes of a screen, one equation for each order.
+-- What a command makes of a screen (GA23-0059-07, "3270 Data Stream Commands"), one equation for each order.
 use Rattle.std.specs.Prelude.{◌+◌, ◌-◌, ◌%◌, ◌&&◌, ℕ, Bool, true, false, List, [], ◌∷◌, length, drop, map, replicate, zip, position, slice_set, Option, Some, None, if◌then◌else◌}
 use Rattle.std.specs.List.{list_all, prefix_len}
 use Rattle.codes3270.specs.declared.attribute.Cell.{Cell}
@@ -46,7 +46,8 @@ filled from count new cells = across from count (λ at old. new) cells
 abbrev pub opened : ℕ → ℕ → List Cell → List Cell
 opened from count cells = across from count (λ at old. if is_protected cells at then old else erased old) cells
 
--- the cell after the first unprotected attribute from an address up to the last cell, else 0
+-- where a program tab leads (GA23-0059-07 on Program Tab): to the cell after the first unprotected attribute from an address
+-- up to the last cell, else to 0
 abbrev pub after_open_attribute : Option ℕ → ℕ → ℕ → ℕ
 after_open_attribute None at size = 0
 after_open_attribute (Some distance) at size = (at + distance + 1) % size
@@ -69,27 +70,41 @@ stored draft cell =
     let cells = draft.screen.cells in
     with_cells draft (slice_set cells draft.address cell) ((draft.address + 1) % length cells)
 
--- The meaning of one order; `nulls` says whether a PT at its place nulls. A PT at the attribute of an
--- unprotected field needs no case of its own: nothing lies before that attribute, and it is the first.
-abbrev pub ordered : Order → Bool → Draft → Draft
-ordered (Data byte) nulls draft = stored draft (Char byte)
-ordered (Sf attribute) nulls draft = stored draft (Attr attribute)
-ordered (Sba address) nulls draft = record draft { address = address }
-ordered Ic nulls draft = record draft { screen = record draft.screen { cursor = draft.address } }
-ordered (Ra stop byte) nulls draft =
+-- a character in each cell up to an address, round the end (GA23-0059-07 on Repeat to Address)
+abbrev pub repeated : ℕ → ℕ → Draft → Draft
+repeated stop byte draft =
     let cells = draft.screen.cells in
     with_cells draft (filled draft.address (distance (length cells) draft.address stop) (Char byte) cells) stop
-ordered (Eua stop) nulls draft =
+
+-- nulls in the unprotected cells up to an address, round the end (GA23-0059-07 on Erase Unprotected to Address)
+abbrev pub erased_up_to : ℕ → Draft → Draft
+erased_up_to stop draft =
     let cells = draft.screen.cells in
     with_cells draft (opened draft.address (distance (length cells) draft.address stop) cells) stop
-ordered Pt nulls draft =
+
+-- The next unprotected field; `nulls` says whether nulls are put in the characters before it (GA23-0059-07 on Program Tab).
+-- A PT at the attribute of an unprotected field needs no case of its own: nothing lies before that attribute, and it is the
+-- first.
+abbrev pub tabbed : Bool → Draft → Draft
+tabbed nulls draft =
     let cells = draft.screen.cells in
     let run = prefix_len is_char (drop draft.address cells) in
     with_cells draft (if nulls then filled draft.address run (Char 0) cells else cells)
     (tab_stop cells draft.address)
 
--- whether a PT nulls that directly follows an order: after data, and after a PT that nulled and met
--- no attribute through the last cell
+-- The meaning of one order (GA23-0059-07, "Buffer Control Orders and Order Codes"); `nulls` says whether a PT at its place
+-- nulls.
+abbrev pub ordered : Order → Bool → Draft → Draft
+ordered (Data byte) nulls draft = stored draft (Char byte)
+ordered (Sf attribute) nulls draft = stored draft (Attr attribute)
+ordered (Sba address) nulls draft = record draft { address = address }
+ordered Ic nulls draft = record draft { screen = record draft.screen { cursor = draft.address } }
+ordered (Ra stop byte) nulls draft = repeated stop byte draft
+ordered (Eua stop) nulls draft = erased_up_to stop draft
+ordered Pt nulls draft = tabbed nulls draft
+
+-- whether a PT nulls that directly follows an order (GA23-0059-07 on Program Tab): after data, and after a PT that nulled and
+-- met no attribute through the last cell
 abbrev pub nulls_after : Order → Bool → Draft → Bool
 nulls_after (Data byte) nulls draft = true
 nulls_after Pt nulls draft = nulls && list_all is_char (drop draft.address draft.screen.cells)
@@ -105,18 +120,20 @@ all_ordered [] nulls draft = draft
 all_ordered (order ∷ orders) nulls draft =
     all_ordered orders (nulls_after order nulls draft) (ordered order nulls draft)
 
--- a screen of nulls, with the cursor at 0
+-- a screen of nulls, with the cursor at 0 (GA23-0059-07 on Erase/Write)
 abbrev pub cleared : Screen → Screen
 cleared screen = record screen { cells = replicate (length screen.cells) (Char 0); cursor = 0 }
 
+-- MDT off in all attributes where the control character resets (GA23-0059-07, "Write Control Character (WCC)")
 abbrev pub prepared : Wcc → Screen → Screen
 prepared wcc screen =
     record screen { cells = if wcc.reset then map unmodified screen.cells else screen.cells }
 
+-- no AID where it restores the keyboard (GA23-0059-07, "Write Control Character (WCC)")
 abbrev pub restored : Wcc → Screen → Screen
 restored wcc screen = record screen { aid = if wcc.restore then NoAid else screen.aid }
 
--- a write from the cursor on; each write has a write control character
+-- a write from the cursor on (GA23-0059-07 on Write); each write has a write control character
 abbrev pub written : Option Wcc → List Order → Screen → Screen
 written None orders screen = screen
 written (Some wcc) orders screen =
@@ -139,13 +156,15 @@ home cells = place_or_first (position is_start (zip (ring (length cells - 1) cel
 abbrev pub open_unmodified : Cell → Cell
 open_unmodified cell = if is_open_attribute cell then unmodified cell else cell
 
--- what Erase All Unprotected and Erase Input do to the screen; the former also sets the AID
+-- what Erase All Unprotected and Erase Input do to the screen (GA23-0059-07 on Erase All Unprotected, and on the Erase Input
+-- key); the former also sets the AID
 abbrev pub unprotected_erased : Screen → Screen
 unprotected_erased screen =
     let cells = screen.cells in
     record screen { cells = map open_unmodified (opened 0 (length cells) cells); cursor = home cells }
 
--- the screen after a command of a code, with a write control character and orders where it has them
+-- The screen after a command of a code, with a write control character and orders where it has them. That Erase/Write
+-- Alternate has the one size too is our profile.
 abbrev pub after_code : CommandCode → Option Wcc → List Order → Screen → Screen
 after_code Write wcc orders screen = written wcc orders screen
 after_code EraseWrite wcc orders screen = written wcc orders (cleared screen)

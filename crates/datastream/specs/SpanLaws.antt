@@ -1,4 +1,5 @@
--- A span by steps from its first address, round the end.
+-- A span by steps from its first address, round the end (GA23-0059-07 on Repeat to Address and on Erase Unprotected to
+-- Address).
 use Rattle.std.specs.Prelude.{◌≡◌, ◌↔◌, ◌+◌, ◌%◌, ◌<◌, ◌≤◌, ℕ, true}
 use Rattle.datastream.specs.Span.{distance, is_within}
 

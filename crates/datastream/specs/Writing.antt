@@ -1,4 +1,5 @@
--- What writing appends.
+-- What writing appends: the bytes of orders and commands (GA23-0059-07, "3270 Data Stream Commands" and "Buffer Control Orders
+-- and Order Codes"). The calls, and what one leaves that is refused, are our profile.
 use Rattle.std.specs.Prelude.{◌≡◌, ℕ, ◌+◌, ◌<◌, ◌≤◌, List, [], ◌∷◌, ◌++◌, length, map, All, Some, None, Result, if◌then◌else◌, OnOk, OnErr, Vec, vec_len, vec_capacity}
 use Rattle.std.specs.Borrow.{MutBor}
 use Rattle.std.specs.List.{flat_map}

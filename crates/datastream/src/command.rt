@@ -10,7 +10,7 @@ use crate::orders::{Orders, byte_of, order_of};
 use codes3270::Wcc;
 use std::marker::Model;
 
-/// A command (GA23-0059, "3270 Data Stream Commands"), lent from its bytes. Contracts see its code, its write control
+/// A command (GA23-0059-07, "3270 Data Stream Commands"), lent from its bytes. Contracts see its code, its write control
 /// character and its orders.
 #[derive(Drop)]
 pub struct Command<'a> {

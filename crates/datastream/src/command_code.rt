@@ -3,7 +3,7 @@ ghost use Rattle.std.specs.Prelude.{◌≡◌, MatchOption};
 ghost use Rattle.datastream.specs.declared.command_code.CommandCode.{CommandCode as Code};
 ghost use Rattle.datastream.specs.Grammar.{IsCode, codes_of, is_write};
 
-/// What a command does (GA23-0059, "3270 Data Stream Commands").
+/// What a command does (GA23-0059-07, "3270 Data Stream Commands").
 #[derive(Clone, Copy, Debug, PartialEq, Eq, Hash)]
 pub enum CommandCode {
     /// Write: stores from the cursor on.

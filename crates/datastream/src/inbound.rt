@@ -197,7 +197,7 @@ fn long_inbound(form: Form, aid: Aid, byte: u8, rest: &[u8]) -> Result<Inbound<'
 ///
 /// Modified and All begin with the AID and the cursor's address; then come characters and, for each field, SBA with the
 /// address of its first cell and its characters. In form Modified a PA key or Clear stands alone. Buffer has a part for each
-/// cell of the screen behind AID and cursor (GA23-0059, "Read commands"). That a field's text has no null, and the order of
+/// cell of the screen behind AID and cursor (GA23-0059-07 on read commands). That a field's text has no null, and the order of
 /// the faults, are our profile.
 pub fn read_inbound(bytes: &[u8], form: Form) -> Result<Inbound<'_>, InboundFault>
     ensures found { MatchResult result (λ inbound. (inbound.form ≡ form) × IsInbound inbound bytes.now) (λ fault. IsNoInbound form fault bytes.now) }

@@ -8,7 +8,7 @@ ghost use Rattle.datastream.specs.InboundReturned.{returned_of_field};
 use codes3270::{Addr, addr_from_bytes, storable};
 use std::marker::Model;
 
-/// A field that came (GA23-0059, "Read Modified").
+/// A field that came (GA23-0059-07 on Read Modified).
 #[derive(Clone, Copy, Debug, PartialEq, Eq)]
 pub struct ReturnedField<'a> {
     /// The address of its first cell: the one behind its attribute, round the end.

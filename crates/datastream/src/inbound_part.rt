@@ -6,7 +6,7 @@ use codes3270::{Addr, Attr, Cell};
 use std::error::Error;
 use std::fmt;
 
-/// Which read the data answers (GA23-0059, "Read commands").
+/// Which read the data answers (GA23-0059-07 on read commands).
 #[derive(Clone, Copy, Debug, PartialEq, Eq)]
 pub enum Form {
     /// Read Modified, or a key: the modified fields; a PA key or Clear stands alone.

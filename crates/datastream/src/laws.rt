@@ -32,7 +32,7 @@ pub fn spans_are_steps()
     ensures lead { DistancesLead }
 {}
 
-/// Does nothing: its contract says that the two views of fields agree (GA23-0059, "Fields"): the list of fields by the
+/// Does nothing: its contract says that the two views of fields agree (GA23-0059-07 on fields): the list of fields by the
 /// addresses of their attributes, and for each cell the attribute that stands nearest before it, round the end.
 pub fn fields_both_ways()
     ensures ascend { FieldsAscend }

@@ -1,4 +1,4 @@
-//! The commands of the 3270 data stream (GA23-0059), read and written, what they mean, and the inbound data that terminals
+//! The commands of the 3270 data stream (GA23-0059-07), read and written, what they mean, and the inbound data that terminals
 //! send.
 //!
 //! [`read_command`] reads a command whole before anything comes of it: it answers the command, which lends its orders one

@@ -1,7 +1,7 @@
 //! Orders.
 use codes3270::{Addr, Attr};
 
-/// One step of a write (GA23-0059, "Orders"). A character that a command stores is an order of its own here.
+/// One step of a write (GA23-0059-07, "Buffer Control Orders and Order Codes"). A character that a command stores is an order of its own here.
 #[derive(Clone, Copy, Debug, PartialEq, Eq)]
 pub enum Order {
     /// Start Field: stores an attribute at the current address, which advances.

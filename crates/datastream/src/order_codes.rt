@@ -1,4 +1,4 @@
-//! The codes of the orders (GA23-0059, "Orders"), for reading and for writing. Inbound data has two of them.
+//! The codes of the orders (GA23-0059-07, "Buffer Control Orders and Order Codes"), for reading and for writing. Inbound data has two of them.
 
 /// Start Field (SF): an attribute follows.
 pub const START_FIELD: u8 = 0x1D;

@@ -33,8 +33,8 @@ impl<'a> CommandWriter<'a> {
         CommandWriter { out }
     }
 
-    /// Begins a command: its code, and for a write its write control character (GA23-0059, "Write Control Character
-    /// (WCC)"). The other commands have none, and what follows them is ignored.
+    /// Begins a command: its code, and for a write its write control character (GA23-0059-07, "Write Control
+    /// Character (WCC)"). The other commands have none, and what follows them is ignored.
     pub fn begin(&mut self, code: CommandCode, wcc: Wcc) -> Result<(), Memory>
         ensures { Appends self.old.out self.new.out result (command_start code wcc) }
     {
@@ -45,7 +45,7 @@ impl<'a> CommandWriter<'a> {
         }
     }
 
-    /// Sets the current address (GA23-0059, "Set Buffer Address (SBA)").
+    /// Sets the current address (GA23-0059-07 on Set Buffer Address (SBA)).
     pub fn sba(&mut self, addr: Addr) -> Result<(), Memory>
         ensures { Appends self.old.out self.new.out result (order_bytes (Sba addr)) }
     {
@@ -53,7 +53,7 @@ impl<'a> CommandWriter<'a> {
         self.out.extend_from_slice(&[SET_BUFFER_ADDRESS, high, low])
     }
 
-    /// Starts a field (GA23-0059, "Start Field (SF)").
+    /// Starts a field (GA23-0059-07 on Start Field (SF)).
     pub fn sf(&mut self, attr: Attr) -> Result<(), Memory>
         ensures { Appends self.old.out self.new.out result (order_bytes (Sf attr)) }
     {
@@ -68,7 +68,7 @@ impl<'a> CommandWriter<'a> {
         self.out.extend_from_slice(chars)
     }
 
-    /// Stores a character, which has to be storable, up to an address (GA23-0059, "Repeat to Address (RA)").
+    /// Stores a character, which has to be storable, up to an address (GA23-0059-07 on Repeat to Address (RA)).
     pub fn ra(&mut self, stop: Addr, char: u8) -> Result<(), Memory>
         requires { is_storable char ≡ true }
         ensures { Appends self.old.out self.new.out result (order_bytes (Ra stop char)) }
@@ -78,7 +78,7 @@ impl<'a> CommandWriter<'a> {
             .extend_from_slice(&[REPEAT_TO_ADDRESS, high, low, char])
     }
 
-    /// Puts the cursor at the current address (GA23-0059, "Insert Cursor (IC)").
+    /// Puts the cursor at the current address (GA23-0059-07 on Insert Cursor (IC)).
     pub fn ic(&mut self) -> Result<(), Memory>
         ensures { Appends self.old.out self.new.out result (order_bytes Ic) }
     {

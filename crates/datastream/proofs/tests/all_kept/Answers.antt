@@ -5,4 +5,4 @@ use Rattle.datastream.specs.declared.wanted.Want.TheVariants.{Keep}
 use Rattle.datastream.proofs.tests.all_kept.Goals as goal
 
 pub returns : goal.returns
-returns c = All-replicate IsProper 1920 Keep refl
+returns c = All-replicate IsProper _ Keep refl
