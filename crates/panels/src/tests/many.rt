@@ -1,0 +1,214 @@
+//! Texts with as much as there may be, and with more.
+use super::prints;
+use super::texts::{AIRLINE, BANK};
+use crate::{Next, PanelFault, PanelSet};
+use codes3270::{Aid, PfNo};
+use std::alloc::{AllocError, Global};
+use std::test::Fail;
+
+/// Appends a text so many times.
+fn push_times(text: &mut String, item: &str, count: usize) -> Result<(), AllocError> {
+    for _ in 0..count {
+        text.push_str(item)?;
+    }
+    Ok(())
+}
+
+/// A text in which one thing stands so many times, and the fault that it prints.
+struct Many {
+    count: usize,
+    head: &'static str,
+    item: &'static str,
+    tail: &'static str,
+    fault: &'static str,
+}
+
+static MANY: [Many; 6] = [
+    Many {
+        count: 64,
+        head: "panel = [",
+        item: "{name = \"A\"},",
+        tail: "]",
+        fault: "panel 1: TwiceNamed",
+    },
+    Many {
+        count: 65,
+        head: "panel = [",
+        item: "{name = \"A\"},",
+        tail: "]",
+        fault: "top: TooMany",
+    },
+    Many {
+        count: 256,
+        head: "panel = [{name = \"A\", text = [",
+        item: "{row = 1, col = 2, text = \"X\"},",
+        tail: "]}]",
+        fault: "panel 0 text 1: Overlap",
+    },
+    Many {
+        count: 257,
+        head: "panel = [{name = \"A\", text = [",
+        item: "{row = 1, col = 2, text = \"X\"},",
+        tail: "]}]",
+        fault: "panel 0: TooMany",
+    },
+    Many {
+        count: 128,
+        head: "panel = [{name = \"A\", field = [",
+        item: "{name = \"f\", row = 1, col = 2, length = 1},",
+        tail: "]}]",
+        fault: "panel 0 field 1: TwiceNamed",
+    },
+    Many {
+        count: 129,
+        head: "panel = [{name = \"A\", field = [",
+        item: "{name = \"f\", row = 1, col = 2, length = 1},",
+        tail: "]}]",
+        fault: "panel 0: TooMany",
+    },
+];
+
+fn push_many(text: &mut String, many: &Many) -> Result<(), AllocError> {
+    text.push_str("start = \"A\"\nlus = []\n")?;
+    text.push_str(many.head)?;
+    push_times(text, many.item, many.count)?;
+    text.push_str(many.tail)
+}
+
+fn many_print(alloc: Global, many: &Many) -> Result<bool, AllocError> {
+    let mut text = String::new(alloc);
+    push_many(&mut text, many)?;
+    prints(alloc, text.as_str(), many.fault)
+}
+
+#[test]
+fn too_many_is_a_fault(rt: HostRuntime) -> Result<(), Fail> {
+    for many in &MANY {
+        assert!(rt; many_print(rt.alloc(), many)?, "at {}", many.count);
+    }
+    Ok(())
+}
+
+/// A panel with too many fields, and so many others.
+fn push_panels(text: &mut String, more: usize) -> Result<(), AllocError> {
+    text.push_str("start = \"A\"\nlus = []\npanel = [{name = \"A\", field = [")?;
+    push_times(text, "{name = \"f\", row = 1, col = 2, length = 1},", 129)?;
+    text.push_str("]}")?;
+    push_times(text, ", {name = \"A\"}", more)?;
+    text.push_str("]")
+}
+
+fn panels_print(alloc: Global, more: usize, fault: &str) -> Result<bool, AllocError> {
+    let mut text = String::new(alloc);
+    push_panels(&mut text, more)?;
+    prints(alloc, text.as_str(), fault)
+}
+
+#[test]
+fn too_many_panels_come_before_too_many_items(rt: HostRuntime) -> Result<(), Fail> {
+    assert!(rt; panels_print(rt.alloc(), 63, "panel 0: TooMany")?);
+    assert!(rt; panels_print(rt.alloc(), 64, "top: TooMany")?);
+    Ok(())
+}
+
+fn push_field(text: &mut String, panel: usize, field: usize) -> Result<(), AllocError> {
+    let row = 1 + field / 20;
+    let col = 2 + field % 20 * 3;
+    write!(
+        text,
+        "{{name = \"f{panel}_{field}\", row = {row}, col = {col}, length = 1}},"
+    )
+}
+
+/// A text that shows a field.
+fn push_shown(text: &mut String, panel: usize, item: usize) -> Result<(), AllocError> {
+    let row = 8 + item / 20;
+    let col = 2 + item % 20 * 3;
+    let shown = item % 128;
+    write!(
+        text,
+        "{{row = {row}, col = {col}, show = \"f{panel}_{shown}\", length = 1}},"
+    )
+}
+
+/// A panel with as many fields and texts as there may be.
+fn push_full_panel(text: &mut String, panel: usize) -> Result<(), AllocError> {
+    write!(text, "[[panel]]\nname = \"P{panel}\"\nfield = [")?;
+    for field in 0..128 {
+        push_field(text, panel, field)?;
+    }
+    write!(text, "]\ntext = [")?;
+    for item in 0..256 {
+        push_shown(text, panel, item)?;
+    }
+    write!(text, "]\n")
+}
+
+/// As many panels as there may be, each full.
+fn push_all_panels(text: &mut String) -> Result<(), AllocError> {
+    write!(text, "start = \"P0\"\nlus = []\n")?;
+    for panel in 0..64 {
+        push_full_panel(text, panel)?;
+    }
+    Ok(())
+}
+
+fn large_text(alloc: Global) -> Result<String, AllocError> {
+    let mut text = String::new(alloc);
+    push_all_panels(&mut text)?;
+    Ok(text)
+}
+
+/// Whether all fields of a panel have at least a number.
+fn numbers_begin_at(set: &PanelSet, index: usize, first: usize) -> bool {
+    match set.panel(index) {
+        Some(panel) => panel.fields().iter().all(|field| first <= field.number),
+        None => false,
+    }
+}
+
+fn last_numbers_begin_at(alloc: Global, text: &str, first: usize) -> Result<bool, PanelFault> {
+    let set = PanelSet::read(alloc, text)?;
+    Ok(numbers_begin_at(&set, 63, first))
+}
+
+#[test]
+fn a_large_text_is_read(rt: HostRuntime) -> Result<(), Fail> {
+    let text = large_text(rt.alloc())?;
+    let is_large = 1_048_576 < text.len();
+    let is_read = last_numbers_begin_at(rt.alloc(), text.as_str(), 8064)?;
+    assert!(rt; is_large && is_read);
+    Ok(())
+}
+
+fn pf(number: u8) -> Aid {
+    match PfNo::new(number) {
+        Some(key) => Aid::Pf(key),
+        None => Aid::NoAid,
+    }
+}
+
+/// Whether a key leads from the second panel to another.
+fn leads_to(set: &PanelSet, aid: Aid, target: usize) -> bool {
+    match set.panel(1) {
+        Some(panel) => panel.next(aid) == Next::Go(target),
+        None => false,
+    }
+}
+
+fn bank_is_read(alloc: Global) -> Result<bool, PanelFault> {
+    let bank = PanelSet::read(alloc, BANK)?;
+    Ok(leads_to(&bank, pf(3), 0) && leads_to(&bank, Aid::Clear, 0) && bank.lus().len() == 4)
+}
+
+fn airline_is_read(alloc: Global) -> Result<bool, PanelFault> {
+    let airline = PanelSet::read(alloc, AIRLINE)?;
+    Ok(leads_to(&airline, pf(12), 0) && leads_to(&airline, Aid::Enter, 2))
+}
+
+#[test]
+fn the_examples_are_read(rt: HostRuntime) -> Result<(), Fail> {
+    assert!(rt; bank_is_read(rt.alloc())?);
+    assert!(rt; airline_is_read(rt.alloc())?);
+    Ok(())
+}
