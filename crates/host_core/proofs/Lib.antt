@@ -1,5 +1,4 @@
 pub mod Fitting
-pub mod Pools
 pub mod Showing
 pub mod Answering
 pub mod Writable

@@ -1,4 +1,4 @@
--- What holds of a host's acts.
+-- What holds of a host's acts (our profile).
 use Rattle.std.specs.Prelude.{◌≡◌, Bool, true}
 use Rattle.codes3270.specs.Size.{Shape}
 use Rattle.datastream.specs.Wanted.{WantedScreen}

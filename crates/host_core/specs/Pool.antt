@@ -1,25 +1,2 @@
--- The pool of LUs, as connections take from it and give back (our profile).
-use Rattle.std.specs.Prelude.{ℕ, List, map, find, Option, Some, None, option_and_then, if◌then◌else◌}
-use Rattle.std.specs.Str.{bytes_eq}
-use Rattle.lu_pool.specs.declared.entry.Entry.{Entry}
-use Rattle.lu_pool.specs.Pool.{entry, is_held_by}
-
--- the connection that holds an LU
-abbrev pub holder : List Entry → List ℕ → Option ℕ
-holder pool lu = option_and_then (λ (at : Entry). at.holder) (find (λ at. bytes_eq at.lu lu) pool)
-
--- an LU is a connection's now
-abbrev pub granted_to : ℕ → List ℕ → List Entry → List Entry
-granted_to conn lu pool = map (λ at. if bytes_eq at.lu lu then entry at.lu (Some conn) else at) pool
-
-abbrev pub granted_if : ℕ → Option (List ℕ) → List Entry → List Entry
-granted_if conn None pool = pool
-granted_if conn (Some lu) pool = granted_to conn lu pool
-
--- what a connection holds is free
-abbrev pub given_back : ℕ → List Entry → List Entry
-given_back conn pool = map (λ at. if is_held_by conn at.holder then entry at.lu None else at) pool
-
--- all are free
-abbrev pub all_free : List Entry → List Entry
-all_free pool = map (λ at. entry at.lu None) pool
+-- The pool, as lu_pool has it (our profile).
+pub use Rattle.lu_pool.specs.Holders.{holder, granted_to, granted_if, given_back, all_free}

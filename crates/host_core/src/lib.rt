@@ -4,7 +4,6 @@
 ghost use Rattle.host_core.specs.Answering.{BelievesNoSooner, BelievesNotesNoSooner, CommandsAreNumbered, NotesAreNumbered, OnlyItsResponse};
 ghost use Rattle.host_core.specs.Laws.{ActsFit, PanelsAreShown, PanelsAskForScreens, ScreensAreWanted};
 ghost use Rattle.host_core.specs.NoteLaws.{HeldTakesNotes, NotesAreNotes, NotesAreOverCharacters, NotesOverwrite, NotesWriteProtected, PaintsTakeNotes, SameAttributesTakeNotes};
-ghost use Rattle.host_core.specs.PoolLaws.{PoolsAreSound, StaysSoundFree, StaysSoundGranted, StaysSoundBack, NobodyHolds, AnswersWhatIsFree, AnswersNames, AnswersTheName, GrantIsHeld, OthersStay, OthersKeep, BackIsFree, GrantsOneEntry, FreesOneEntry};
 
 use datastream::{kept_since_the_write, written_is_read};
 use panels::the_last_row_is_for_messages;
@@ -13,25 +12,6 @@ use shadow::what_a_note_leaves;
 /// Does nothing: its contract says that whatever a host does, it paints what fits its belief.
 pub fn what_is_shown_fits()
     ensures { ActsFit }
-{}
-
-/// Does nothing: its contract says that the pool is a map from LUs to the connections that hold them. What it grants is free,
-/// is the one that was asked for, and is held then; and no other entry changes, as lu_pool's calls have it.
-pub fn the_pool_is_a_map()
-    ensures sound { PoolsAreSound }
-    ensures sound_free { StaysSoundFree }
-    ensures sound_granted { StaysSoundGranted }
-    ensures sound_back { StaysSoundBack }
-    ensures nobody { NobodyHolds }
-    ensures free { AnswersWhatIsFree }
-    ensures names { AnswersNames }
-    ensures asked { AnswersTheName }
-    ensures held { GrantIsHeld }
-    ensures others_stay { OthersStay }
-    ensures others_keep { OthersKeep }
-    ensures back { BackIsFree }
-    ensures grants { GrantsOneEntry }
-    ensures frees { FreesOneEntry }
 {}
 
 /// Does nothing: its contract says that panels whose cursors are on the screen are an application: each screen that they ask
