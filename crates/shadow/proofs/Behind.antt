@@ -14,7 +14,7 @@ use Rattle.shadow.specs.declared.known.Known.TheVariants.{Attr as KnownAttr}
 use Rattle.shadow.specs.Pairs.{Pairwise}
 use Rattle.shadow.specs.Belief.{Fact, Belief}
 use Rattle.shadow.specs.Meets.{FieldMeets, KnownIs}
-use Rattle.shadow.specs.Heard.{known_chars}
+use Rattle.shadow.specs.Seen.{known_chars}
 use Rattle.shadow.specs.Taken.{old_char, field_cells, first_place, laid_out, known_ahead, fact_before}
 use Rattle.shadow.proofs.Pairs.{pairwise-length}
 use Rattle.shadow.proofs.HeardOthers.{chars_known}

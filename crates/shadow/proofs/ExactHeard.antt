@@ -23,7 +23,8 @@ use Rattle.shadow.specs.declared.mark.Mark.TheVariants.{Unknown}
 use Rattle.shadow.specs.Pairs.{Pairwise}
 use Rattle.shadow.specs.Belief.{Fact, Belief, Shadow, nulls, fields_of}
 use Rattle.shadow.specs.Meets.{FieldMeets, Holds, told, FieldTold}
-use Rattle.shadow.specs.Heard.{Answer, starts_at, is_nowhere, answer_and, answers, contradicts, was_erased, text_fact, or_nulls, unprotected_fact, after_long, settled, heard_long, unknown_fact, after_attention, heard_attention, heard_short, belief_seen, formatted_or, seen, known_chars, denies_buffer, heard_parts, heard}
+use Rattle.shadow.specs.Heard.{Answer, starts_at, is_nowhere, answer_and, answers, contradicts, was_erased, text_fact, or_nulls, unprotected_fact, after_long, settled, heard_long, unknown_fact, after_attention, heard_attention, heard_short, heard_parts, heard}
+use Rattle.shadow.specs.Seen.{belief_seen, formatted_or, seen, known_chars, denies_buffer}
 use Rattle.shadow.specs.Exactness.{IsExact, IsExactWhereKnown, FieldIsExact, IsExactIfProtected, HeardStaysExact, HeardStaysProtected, NothingIsExact, ProtectedSeen, ProtectedIsSeen, ReturnedTold, ReturnedIsTold}
 use Rattle.shadow.proofs.FieldPlaces.{both_false}
 

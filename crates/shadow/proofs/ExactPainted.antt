@@ -20,7 +20,7 @@ use Rattle.shadow.specs.declared.known.Known.TheVariants.{Attr as KnownAttr, Cha
 use Rattle.shadow.specs.Pairs.{Pairwise}
 use Rattle.shadow.specs.Belief.{Fact, Belief, Shadow}
 use Rattle.shadow.specs.Meets.{FieldMeets}
-use Rattle.shadow.specs.Heard.{known_chars, same_attr}
+use Rattle.shadow.specs.Seen.{known_chars, same_attr}
 use Rattle.shadow.specs.Stores.{Store, store_also}
 use Rattle.shadow.specs.Taken.{laid_out, new_cell, known_stored, mark_off, marks_off_if, known_ahead, fresh_ahead, exact_or_any, fact_known, fact_before, fact_after, belief_after, beliefs_from, known_after}
 use Rattle.shadow.specs.Painted.{keeps_ahead, count_ahead}

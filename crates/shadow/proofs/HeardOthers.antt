@@ -11,7 +11,8 @@ use Rattle.shadow.specs.declared.mark.Mark.TheVariants.{Unknown}
 use Rattle.shadow.specs.Pairs.{Pairwise}
 use Rattle.shadow.specs.Belief.{Fact, Belief, Shadow}
 use Rattle.shadow.specs.Meets.{FieldMeets, MarkIs, Holds, KnownIs, Meets, Knows, ListsFields, IsFormatted, FieldTold, IsTold}
-use Rattle.shadow.specs.Heard.{heard_attention, after_attention, unknown_fact, mark_seen, belief_seen, formatted_or, seen, same_attr, misses, differs, known_chars, is_other, others, denies_buffer}
+use Rattle.shadow.specs.Heard.{heard_attention, after_attention, unknown_fact}
+use Rattle.shadow.specs.Seen.{mark_seen, belief_seen, formatted_or, seen, same_attr, misses, differs, known_chars, is_other, others, denies_buffer}
 use Rattle.shadow.proofs.Keyed.{Keyed, FieldKeyed}
 use Rattle.shadow.proofs.Pairs.{nothing_known, all_known}
 use Rattle.shadow.proofs.FieldPlaces.{or_neither}

@@ -11,7 +11,8 @@ use Rattle.codes3270.specs.Size.{cell_count}
 use Rattle.std.specs.Prelude.{bytes_eq}
 use Rattle.shadow.specs.declared.mark.Mark.TheVariants.{Unknown}
 use Rattle.shadow.specs.Belief.{Fact, Belief, nulls}
-use Rattle.shadow.specs.Heard.{Answer, after_attention, unprotected_fact, after_long, unknown_fact, text_fact, or_nulls, contradicts, contradicts_text, known_chars}
+use Rattle.shadow.specs.Heard.{Answer, after_attention, unprotected_fact, after_long, unknown_fact, text_fact, or_nulls, contradicts, contradicts_text}
+use Rattle.shadow.specs.Seen.{known_chars}
 use Rattle.shadow.specs.Held.{cells_in, IsSized, Sized}
 
 module _ {X : Type 0} (f : X → Belief) (cells : X → ℕ) (same : (x : X) → suc (f x).length ≡ cells x) where

@@ -22,7 +22,7 @@ use Rattle.shadow.specs.declared.known.Known.{Known}
 use Rattle.shadow.specs.declared.known.Known.TheVariants.{Attr as KnownAttr, Char as KnownChar}
 use Rattle.shadow.specs.Belief.{Fact, Belief, Shadow, fields_of}
 use Rattle.shadow.specs.Exactness.{IsOverCharacter}
-use Rattle.shadow.specs.Heard.{known_chars}
+use Rattle.shadow.specs.Seen.{known_chars}
 use Rattle.shadow.specs.Meets.{FieldMeets, Holds, KnownIs, Meets, Knows, ListsFields, told, FieldTold, IsTold}
 use Rattle.shadow.specs.Notes.{IsOverProtected, OverwritesProtected, PlacedStaysKnown, NoteStaysListed, NoteStaysTold, NoteStaysExact, NoteOpensNothing, NoteStaysWhole}
 use Rattle.shadow.specs.Openness.{is_any, IsNotOpen, NothingIsOpen}

@@ -5,7 +5,7 @@ use Rattle.std.proofs.lemmas.Bool.Decides.{nat_tests}
 use Rattle.datastream.specs.Fields.{Field}
 use Rattle.codes3270.specs.declared.attribute.Display.TheVariants.{Normal}
 use Rattle.shadow.specs.Belief.{Belief}
-use Rattle.shadow.specs.Heard.{belief_seen, is_other, others, differs}
+use Rattle.shadow.specs.Seen.{belief_seen, is_other, others, differs}
 
 abbrev unknown : ℕ → List (Option ℕ)
 unknown n = replicate n None

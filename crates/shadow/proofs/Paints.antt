@@ -25,7 +25,7 @@ use Rattle.shadow.specs.declared.mark.Mark.TheVariants.{On, Off, Unknown}
 use Rattle.shadow.specs.Pairs.{Pairwise}
 use Rattle.shadow.specs.Belief.{Belief, Shadow, next_address}
 use Rattle.shadow.specs.Meets.{MarkIs, KnownIs, Knows, Meets}
-use Rattle.shadow.specs.Heard.{same_attr, formatted_or}
+use Rattle.shadow.specs.Seen.{same_attr, formatted_or}
 use Rattle.shadow.specs.Stores.{Store, store_also, stores, stores_unplaced, is_plain_order}
 use Rattle.shadow.specs.Taken.{laid_out, marks_off_if, mark_off, formatted_as, taken}
 use Rattle.shadow.specs.Painted.{keeps_ahead, attr_or_kept, painted_from, plainly_painted}

@@ -9,7 +9,7 @@ use Rattle.datastream.specs.Fields.{Field, fields, fields_from}
 use Rattle.datastream.specs.Held.{without_mdt}
 use Rattle.shadow.specs.declared.known.Known.{Known}
 use Rattle.shadow.specs.Belief.{Fact, Belief, Shadow}
-use Rattle.shadow.specs.Heard.{belief_seen, formatted_or, seen, mark_seen}
+use Rattle.shadow.specs.Seen.{belief_seen, formatted_or, seen, mark_seen}
 use Rattle.shadow.specs.Stores.{Store}
 use Rattle.shadow.specs.Taken.{new_cell, known_stored, known_ahead, fresh_ahead, fact_known, whole_text, and_char, exact_or_any, fact_after, belief_after, beliefs_from, formatted_as, believed}
 use Rattle.shadow.proofs.Stored.{stored}

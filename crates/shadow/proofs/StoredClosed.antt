@@ -12,7 +12,7 @@ use Rattle.datastream.proofs.Fields.{option_or_assoc, option_or-none, last_attri
 use Rattle.shadow.specs.declared.known.Known.{Known}
 use Rattle.shadow.specs.declared.known.Known.TheVariants.{Attr as KnownAttr, Char as KnownChar}
 use Rattle.shadow.specs.Belief.{Belief}
-use Rattle.shadow.specs.Heard.{known_chars}
+use Rattle.shadow.specs.Seen.{known_chars}
 use Rattle.shadow.specs.Notes.{IsOutsideInput, IsOverProtected}
 use Rattle.shadow.specs.Pairs.{Pairwise}
 use Rattle.shadow.specs.Stores.{Store}

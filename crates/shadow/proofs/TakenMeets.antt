@@ -16,7 +16,7 @@ use Rattle.shadow.specs.declared.known.Known.TheVariants.{Attr as KnownAttr, Cha
 use Rattle.shadow.specs.Pairs.{Pairwise}
 use Rattle.shadow.specs.Belief.{Fact, Belief}
 use Rattle.shadow.specs.Meets.{FieldMeets, MarkIs, Holds, KnownIs, Meets}
-use Rattle.shadow.specs.Heard.{mark_seen}
+use Rattle.shadow.specs.Seen.{mark_seen}
 use Rattle.shadow.specs.Stores.{Store, stores, stores_unplaced, is_plain_order}
 use Rattle.shadow.specs.Taken.{new_cell, known_stored, mark_off, known_ahead, fresh_ahead, and_char, whole_text, exact_or_any, fact_known, fact_before, fact_after, beliefs_from, formatted_as, believed}
 use Rattle.shadow.proofs.Stored.{stored}

@@ -1,4 +1,4 @@
--- What a call of several parts appends to a vector.
+-- For proofs alone: what a call of several parts appends to a vector (our profile).
 use Rattle.std.specs.Prelude.{◌≡◌, ⊤, true, ℕ, ◌+◌, ◌<◌, ◌≤◌, List, ◌++◌, length, take, Result, OnOk, OnErr, Vec, vec_len, vec_capacity}
 use Rattle.std.specs.Borrow.{MutBor}
 use Rattle.codes3270.specs.declared.attribute.Cell.{Cell}

@@ -1,4 +1,4 @@
--- What a shadow answers when it is asked.
+-- What a belief answers when it is asked (our profile).
 use Rattle.std.specs.Prelude.{◌==◌, ℕ, List, [], ◌∷◌, map, slice_get, Option, Some, None, option_map, option_and_then, if◌then◌else◌}
 use Rattle.codes3270.specs.declared.attribute.Cell.{Cell}
 use Rattle.codes3270.specs.declared.attribute.Cell.TheVariants.{Char, Attr}

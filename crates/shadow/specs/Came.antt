@@ -1,4 +1,4 @@
--- The fields that came, one after another.
+-- For proofs alone: the fields that came, one after another (our profile).
 use Rattle.std.specs.Prelude.{◌==◌, ℕ, List, [], ◌∷◌, Option, Some, None, if◌then◌else◌}
 use Rattle.datastream.specs.InboundFields.{Returned}
 use Rattle.shadow.specs.declared.hearing.Came.{Came}

@@ -12,7 +12,8 @@ use Rattle.datastream.specs.Wanted.{WantedScreen}
 use Rattle.shadow.specs.Pairs.{Pairwise}
 use Rattle.shadow.specs.Belief.{Fact, Belief, Shadow, fields_of}
 use Rattle.shadow.specs.Meets.{Meets, told, IsTold}
-use Rattle.shadow.specs.Heard.{known_chars, heard}
+use Rattle.shadow.specs.Heard.{heard}
+use Rattle.shadow.specs.Seen.{known_chars}
 use Rattle.shadow.specs.Stores.{Store, stores}
 use Rattle.shadow.specs.Taken.{taken}
 use Rattle.shadow.specs.Fits.{fits}

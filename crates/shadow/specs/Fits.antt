@@ -1,11 +1,11 @@
--- Where Keep may stand: in unprotected fields that are believed to be there, with the same attribute and length.
+-- Where Keep may stand (our profile): in unprotected fields that are believed to be there, with the same attribute and length.
 use Rattle.std.specs.Prelude.{◌==◌, ◌+◌, ◌&&◌, ◌||◌, not, ℕ, Bool, true, false, List, [], ◌∷◌, ◌++◌}
 use Rattle.std.specs.List.{list_any}
 use Rattle.codes3270.specs.declared.attribute.Attr.{Attr as Attribute}
 use Rattle.datastream.specs.declared.wanted.Want.{Want}
 use Rattle.datastream.specs.declared.wanted.Want.TheVariants.{Char as WantChar, Attr as WantAttr, Keep}
 use Rattle.shadow.specs.Belief.{Belief, Shadow, fields_of}
-use Rattle.shadow.specs.Heard.{same_attr}
+use Rattle.shadow.specs.Seen.{same_attr}
 use Rattle.datastream.specs.Wanted.{WantedScreen}
 use Rattle.shadow.specs.Painted.{keeps_ahead, count_ahead}
 

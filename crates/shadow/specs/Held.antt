@@ -1,4 +1,4 @@
--- Fields as the code lends them, and the beliefs that they are.
+-- For proofs alone: fields as the code lends them, and the beliefs that they are (our profile).
 use Rattle.std.specs.Prelude.{◌≡◌, ℕ, suc, ◌≤◌, ◌<◌, List, [], ◌∷◌, length, Option, option_map}
 use Rattle.std.specs.List.{sum_by}
 use Rattle.std.specs.Borrow.{Bor}

@@ -1,4 +1,5 @@
--- What holds of beliefs: what is heard, taken and painted is so.
+-- What holds of beliefs (our profile): what is heard, taken and painted is so. That Clear leaves nulls, and other keys what was
+-- typed, is GA23-0059-07 on attention keys.
 use Rattle.std.specs.Prelude.{◌≡◌, ◌≤◌, ◌+◌, ◌*◌, ℕ, Bool, true, false, List, length, replicate, Some, slice_get, IsOkAnd}
 use Rattle.codes3270.specs.declared.attention.Aid.{Aid}
 use Rattle.codes3270.specs.declared.attention.Aid.TheVariants.{NoAid, Enter, Clear, Pf, Pa}

@@ -1,6 +1,7 @@
 pub mod Pairs
 pub mod Belief
 pub mod Meets
+pub mod Seen
 pub mod Heard
 pub mod Stores
 pub mod Taken

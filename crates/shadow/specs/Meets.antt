@@ -1,4 +1,4 @@
--- The screens that a belief allows.
+-- The screens that a belief allows (our profile).
 use Rattle.std.specs.Prelude.{◌≡◌, ◌⊎◌, ⊤, ℕ, Bool, true, false, List, [], length, Option, Some, None}
 use Rattle.datastream.specs.Screen.{Screen, text_before_attribute}
 use Rattle.datastream.specs.Fields.{Field, fields}

@@ -1,4 +1,5 @@
--- The write that paints a wanted screen: which cells it stores, and its orders.
+-- The write that paints a wanted screen (our profile): which cells it stores, and its orders, which are those of GA23-0059-07,
+-- "Buffer Control Orders and Order Codes".
 use Rattle.std.specs.Prelude.{◌==◌, ◌+◌, ◌&&◌, ◌||◌, ℕ, Bool, true, false, List, [], ◌∷◌, ◌++◌, map, replicate, Option, Some, None, if◌then◌else◌}
 use Rattle.codes3270.specs.declared.attribute.Cell.{Cell}
 use Rattle.codes3270.specs.declared.attribute.Cell.TheVariants.{Char, Attr}
@@ -14,7 +15,8 @@ use Rattle.shadow.specs.declared.mark.Mark.{Mark}
 use Rattle.datastream.specs.declared.wanted.Want.{Want}
 use Rattle.datastream.specs.declared.wanted.Want.TheVariants.{Char as WantChar, Attr as WantAttr, Keep}
 use Rattle.shadow.specs.Belief.{Shadow, next_address}
-use Rattle.shadow.specs.Heard.{same_attr, is_on, is_off}
+use Rattle.shadow.specs.Heard.{is_on, is_off}
+use Rattle.shadow.specs.Seen.{same_attr}
 use Rattle.shadow.specs.Stores.{Store, store_also}
 use Rattle.shadow.specs.Taken.{old_char, laid_out, marks_off_if}
 use Rattle.datastream.specs.Wanted.{WantedScreen}

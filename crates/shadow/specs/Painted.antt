@@ -1,4 +1,4 @@
--- A screen once what is wanted is painted on it.
+-- A screen once what is wanted is painted on it (our profile).
 use Rattle.std.specs.Prelude.{suc, ℕ, Bool, true, false, List, [], ◌∷◌, ◌++◌, if◌then◌else◌}
 use Rattle.codes3270.specs.declared.attention.Aid.TheVariants.{NoAid}
 use Rattle.codes3270.specs.declared.attribute.Attr.{Attr as Attribute}

@@ -1,4 +1,4 @@
--- Two lists that agree, item by item.
+-- Two lists that agree, item by item: of such pairs the relations of our profile are built.
 use Rattle.std.specs.Prelude.{⊤, List, [], ◌∷◌}
 
 abbrev pub Pairwise : {X Y : Type 0} → (X → Y → Type 0) → List X → List Y → Type 0

@@ -1,4 +1,4 @@
--- How the field that had an address is found without a search among all fields.
+-- For proofs alone: how the field that had an address is found without a search among all fields (our profile).
 use Rattle.std.specs.Prelude.{◌≡◌, ℕ, ◌<◌, List, slice_index_or, drop}
 use Rattle.codes3270.specs.Size.{cell_count}
 use Rattle.shadow.specs.Belief.{Belief}

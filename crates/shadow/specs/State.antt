@@ -1,4 +1,4 @@
--- The states of a shadow, and what is believed in each.
+-- The states in which the code keeps a belief, and what is believed in each (our profile).
 use Rattle.std.specs.Prelude.{◌≡◌, ⊤, length, Result, Ok, Err, MatchResult}
 use Rattle.codes3270.specs.Size.{cell_count}
 use Rattle.shadow.specs.Belief.{Shadow}

@@ -1,4 +1,4 @@
--- How fields are kept in fixed space.
+-- For proofs alone: how fields are kept in fixed space (our profile).
 use Rattle.std.specs.Prelude.{ℕ, ◌+◌, ◌≤◌, List, length, map, slice_range, Option, All}
 use Rattle.codes3270.specs.Size.{cell_count}
 use Rattle.shadow.specs.Belief.{Fact, Belief}

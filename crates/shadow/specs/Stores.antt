@@ -1,4 +1,5 @@
--- Plain writes: of the orders SBA, SF, IC and data alone (our profile). What they store, and where.
+-- Plain writes (our profile): of the orders SBA, SF, IC and data alone. What they store, and where, as GA23-0059-07, "Buffer Control
+-- Orders and Order Codes", has it.
 use Rattle.std.specs.Prelude.{◌&&◌, ℕ, Bool, true, false, List, [], ◌∷◌, Option, Some, None}
 use Rattle.std.specs.List.{list_all}
 use Rattle.codes3270.specs.declared.attribute.Cell.{Cell}

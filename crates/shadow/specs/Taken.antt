@@ -1,4 +1,5 @@
--- What a host believes once a plain write was taken.
+-- What a host believes once a plain write was taken (our profile). That a write may set each MDT off is GA23-0059-07, "Write
+-- Control Character (WCC)".
 use Rattle.std.specs.Prelude.{◌==◌, ◌+◌, ◌-◌, ◌&&◌, ◌||◌, ℕ, Bool, true, false, List, [], ◌∷◌, ◌++◌, length, map, flat_map, slice_set, take, drop, Option, Some, None, option_map, unwrap_or, if◌then◌else◌}
 use Rattle.codes3270.specs.declared.attribute.Attr.{Attr as Attribute}
 use Rattle.codes3270.specs.declared.attribute.Cell.{Cell}
@@ -16,7 +17,7 @@ use Rattle.shadow.specs.declared.mark.Mark.TheVariants.{Off}
 use Rattle.shadow.specs.declared.known.Known.{Known}
 use Rattle.shadow.specs.declared.known.Known.TheVariants.{Attr as KnownAttr, Char as KnownChar}
 use Rattle.shadow.specs.Belief.{Fact, Belief, Shadow}
-use Rattle.shadow.specs.Heard.{known_chars, mark_seen, seen}
+use Rattle.shadow.specs.Seen.{known_chars, mark_seen, seen}
 use Rattle.shadow.specs.Stores.{Store, stores, stores_unplaced}
 
 -- ---- what is known of each cell

@@ -7,7 +7,7 @@ ghost use Rattle.datastream.specs.InboundFields.{cells_sent};
 ghost use Rattle.datastream.specs.InboundText.{IsCellProper};
 ghost use Rattle.datastream.specs.declared.inbound_part.Part.{Part as SentPart};
 ghost use Rattle.shadow.specs.Belief.Fact.{Exact as ExactText};
-ghost use Rattle.shadow.specs.Heard.{differs, known_chars, belief_seen, is_other as is_other_field, others, same_attr as are_same};
+ghost use Rattle.shadow.specs.Seen.{differs, known_chars, belief_seen, is_other as is_other_field, others, same_attr as are_same};
 ghost use Rattle.shadow.specs.Held.{fact_of, belief_of};
 ghost use Rattle.shadow.specs.Taken.{new_cell};
 

@@ -3,50 +3,23 @@ ghost use Rattle.std.specs.Prelude.{All};
 ghost use Rattle.datastream.specs.Wanted.{IsProper};
 
 use crate::tests::{
-    SIGN_ON, answered_in_part, buffer_of, fact_at, has_value, hear, known_at, sign_on, take,
+    SIGN_ON, answered_in_part, believes, contradicts, fact_at, followed_by, has_no_field, hears,
+    hears_buffer, is_unknown, known_at, knows, sign_on, take,
 };
-use crate::{Fact, HeardFault, Shadow};
+use crate::{Fact, Shadow};
 use codes3270::{Addr, Attr, CELLS, Cell, storable};
-use datastream::{Form, Want, Wanted};
+use datastream::{Form, Memory, Want, Wanted};
+use std::alloc::{AllocError, Global};
 use std::test::Fail;
 
-#[test]
-fn a_screen_of_attributes_is_read(rt: HostRuntime) -> Result<(), Fail> {
-    let mut buffer = buffer_of(rt)?;
-    for _ in 0..CELLS {
-        buffer.extend_from_slice(&[0x1D, 0xF0])?;
-    }
-    let mut shadow = Shadow::blank();
-    assert!(rt; hear(&mut shadow, &buffer, Form::Buffer) == Some(Ok(())));
-    assert!(rt; fact_at(&shadow, 0) == Some(Fact::Exact));
-    assert!(rt; fact_at(&shadow, 1919) == Some(Fact::Exact));
-    assert!(rt; has_value(&shadow, 1919, &[]));
-    let wanted = Wanted::new(wanted_again(&shadow), Addr::first(), false);
-    assert!(rt; paints(rt, &shadow, &wanted, &[0xF1, 0xC2, 0x11, 0x40, 0x40, 0x13])?);
-    Ok(())
-}
+// ---- what is wanted
 
-#[test]
-fn a_screen_of_characters_is_read(rt: HostRuntime) -> Result<(), Fail> {
-    let mut buffer = buffer_of(rt)?;
-    for _ in 0..CELLS {
-        buffer.extend_from_slice(&[0x5C])?;
+/// The address of a place on the screen. The tests ask for no place beyond.
+fn at(place: u16) -> Addr {
+    match Addr::new(place) {
+        Some(addr) => addr,
+        None => Addr::first(),
     }
-    let mut shadow = Shadow::blank();
-    assert!(rt; hear(&mut shadow, &buffer, Form::Buffer) == Some(Ok(())));
-    assert!(rt; fact_at(&shadow, 0) == None);
-    assert!(rt; known_at(&shadow, 0) == Some(Cell::Char(0x5C)));
-    assert!(rt; known_at(&shadow, 1919) == Some(Cell::Char(0x5C)));
-    // without fields it is erased, and painted anew
-    let mut expected = Vec::new(rt.alloc());
-    expected.extend_from_slice(&[0xF5, 0xC2, 0x11, 0x40, 0x40])?;
-    for _ in 0..CELLS {
-        expected.push(0x5C)?;
-    }
-    expected.extend_from_slice(&[0x11, 0x40, 0x40, 0x13])?;
-    let wanted = Wanted::new(wanted_again(&shadow), Addr::first(), false);
-    assert!(rt; paints(rt, &shadow, &wanted, &expected)?);
-    Ok(())
 }
 
 fn all_null() -> [Want; CELLS as usize]
@@ -109,100 +82,161 @@ fn put_text(wants: &mut [Want; CELLS as usize], from: u16, text: &[u8])
     }
 }
 
+/// What is believed, with a text from an address on.
+fn with_text(shadow: &Shadow, from: u16, text: &[u8], cursor: u16, reset: bool) -> Wanted {
+    let mut wants = wanted_again(shadow);
+    put_text(&mut wants, from, text);
+    Wanted::new(wants, at(cursor), reset)
+}
+
+/// What is believed.
+fn again(shadow: &Shadow) -> Wanted {
+    with_text(shadow, 0, &[], 0, false)
+}
+
+/// The sign-on panel, with cells to be kept from its first field on.
+fn keeping(to: u16) -> Wanted {
+    let mut wants = wanted_again(&sign_on());
+    keep(&mut wants, 167, to);
+    Wanted::new(wants, at(167), false)
+}
+
+/// The sign-on panel once more, with a message, each field to be kept.
+fn sign_on_again(message: &[u8]) -> Wanted {
+    let mut wants = wanted_again(&sign_on());
+    keep(&mut wants, 167, 175);
+    keep(&mut wants, 247, 251);
+    put_text(&mut wants, 1841, message);
+    Wanted::new(wants, at(167), false)
+}
+
+// ---- what is painted
+
 /// Whether these bytes paint a wanted screen.
-fn paints(rt: HostRuntime, shadow: &Shadow, wanted: &Wanted, bytes: &[u8]) -> Result<bool, Fail> {
+fn paints(alloc: Global, shadow: &Shadow, wanted: &Wanted, bytes: &[u8]) -> Result<bool, Memory> {
     if !shadow.fits(wanted) {
         return Ok(false);
     }
-    let mut out = Vec::new(rt.alloc());
+    let mut out = Vec::new(alloc);
     shadow.paint(&mut out, wanted)?;
     Ok(out.as_slice() == bytes)
+}
+
+fn put_attributes(buffer: &mut Vec<u8>) -> Result<(), AllocError> {
+    for _ in 0..CELLS {
+        buffer.extend_from_slice(&[0x1D, 0xF0])?;
+    }
+    Ok(())
+}
+
+/// Whether a screen of attributes alone is heard.
+fn attributes_are_read(alloc: Global, shadow: &mut Shadow) -> Result<bool, AllocError> {
+    let mut buffer = followed_by(alloc, &[0x60, 0x40, 0x40], 0x00, 0)?;
+    put_attributes(&mut buffer)?;
+    Ok(hears_buffer(shadow, buffer.as_slice()))
+}
+
+fn each_is_a_field(shadow: &Shadow) -> bool {
+    fact_at(shadow, 0) == Some(Fact::Exact) && believes(shadow, 1919, Fact::Exact, &[])
+}
+
+#[test]
+fn a_screen_of_attributes_is_read(rt: HostRuntime) -> Result<(), Fail> {
+    let mut shadow = Shadow::blank();
+    assert!(rt;
+        attributes_are_read(rt.alloc(), &mut shadow)?
+            && each_is_a_field(&shadow)
+            && paints(
+                rt.alloc(),
+                &shadow,
+                &again(&shadow),
+                &[0xF1, 0xC2, 0x11, 0x40, 0x40, 0x13]
+            )?
+    );
+    Ok(())
+}
+
+/// Whether a screen of characters alone is heard.
+fn characters_are_read(alloc: Global, shadow: &mut Shadow) -> Result<bool, AllocError> {
+    let buffer = followed_by(alloc, &[0x60, 0x40, 0x40], 0x5C, CELLS)?;
+    Ok(
+        hears_buffer(shadow, buffer.as_slice())
+            && has_no_field(shadow, 0)
+            && knows(shadow, 0, Cell::Char(0x5C))
+            && knows(shadow, 1919, Cell::Char(0x5C)),
+    )
+}
+
+/// Without fields it is erased, and painted anew.
+fn characters_are_painted_anew(alloc: Global, shadow: &Shadow) -> Result<bool, Fail> {
+    let mut expected = followed_by(alloc, &[0xF5, 0xC2, 0x11, 0x40, 0x40], 0x5C, CELLS)?;
+    expected.extend_from_slice(&[0x11, 0x40, 0x40, 0x13])?;
+    Ok(paints(alloc, shadow, &again(shadow), expected.as_slice())?)
+}
+
+#[test]
+fn a_screen_of_characters_is_read(rt: HostRuntime) -> Result<(), Fail> {
+    let mut shadow = Shadow::blank();
+    assert!(rt;
+        characters_are_read(rt.alloc(), &mut shadow)?
+            && characters_are_painted_anew(rt.alloc(), &shadow)?
+    );
+    Ok(())
+}
+
+fn is_told_a_text(shadow: &mut Shadow) -> bool {
+    let panel = [
+        0xF5, 0xC3, 0x11, 0x40, 0x40, 0x1D, 0x40, 0x13, 0x11, 0x40, 0xC5, 0x1D, 0x60,
+    ];
+    take(shadow, &panel) && hears(shadow, &[0x7D, 0x40, 0xC4, 0x11, 0x40, 0xC1, 0xC1, 0xC2])
+}
+
+fn the_whole_field_is_painted(alloc: Global, shadow: &Shadow) -> Result<bool, Memory> {
+    let wanted = with_text(shadow, 1, &[0xC1, 0xC2], 1, true);
+    let bytes = [
+        0xF1, 0xC3, 0x11, 0x40, 0xC1, 0xC1, 0xC2, 0x00, 0x00, 0x11, 0x40, 0xC1, 0x13,
+    ];
+    paints(alloc, shadow, &wanted, &bytes)
 }
 
 #[test]
 fn a_text_with_a_gap_is_painted_anew(rt: HostRuntime) -> Result<(), Fail> {
     let mut shadow = Shadow::blank();
-    take(
-        &mut shadow,
-        &[
-            0xF5, 0xC3, 0x11, 0x40, 0x40, 0x1D, 0x40, 0x13, 0x11, 0x40, 0xC5, 0x1D, 0x60,
-        ],
-    );
-    hear(
-        &mut shadow,
-        &[0x7D, 0x40, 0xC4, 0x11, 0x40, 0xC1, 0xC1, 0xC2],
-        Form::Modified,
-    );
-    let mut wants = wanted_again(&shadow);
-    put_char(&mut wants, 1, 0xC1);
-    put_char(&mut wants, 2, 0xC2);
-    let wanted = Wanted::new(wants, Addr::first().next(), true);
-    assert!(rt;
-        paints(
-            rt,
-            &shadow,
-            &wanted,
-            &[
-                0xF1, 0xC3, 0x11, 0x40, 0xC1, 0xC1, 0xC2, 0x00, 0x00, 0x11, 0x40, 0xC1, 0x13
-            ]
-        )?
-    );
+    assert!(rt; is_told_a_text(&mut shadow) && the_whole_field_is_painted(rt.alloc(), &shadow)?);
     Ok(())
 }
 
+/// Whether the cursor alone is painted.
+fn is_left(alloc: Global, shadow: &Shadow, wanted: &Wanted) -> Result<bool, Memory> {
+    paints(alloc, shadow, wanted, &[0xF1, 0xC2, 0x11, 0xC2, 0xE7, 0x13])
+}
+
+/// The operator's fields are kept, whatever they hold; a field of another length isn't one that is believed to be there.
 #[test]
 fn what_is_right_is_not_painted(rt: HostRuntime) -> Result<(), Fail> {
     let mut shadow = sign_on();
-    let cursor = Addr::new(167).ok_or("no address")?;
-    let mut wants = wanted_again(&shadow);
     assert!(rt;
-        paints(
-            rt,
-            &shadow,
-            &Wanted::new(wants, cursor, false),
-            &[0xF1, 0xC2, 0x11, 0xC2, 0xE7, 0x13]
-        )?
+        is_left(rt.alloc(), &shadow, &keeping(167))?
+            && hears(&mut shadow, &[0x7D, 0xC2, 0xE8, 0x11, 0xC2, 0xE7, 0xC1])
+            && is_left(rt.alloc(), &shadow, &keeping(175))?
+            && !shadow.fits(&keeping(176))
     );
-    // the operator's fields are kept, whatever they hold
-    hear(
-        &mut shadow,
-        &[0x7D, 0xC2, 0xE8, 0x11, 0xC2, 0xE7, 0xC1],
-        Form::Modified,
-    );
-    keep(&mut wants, 167, 175);
-    assert!(rt;
-        paints(
-            rt,
-            &shadow,
-            &Wanted::new(wants, cursor, false),
-            &[0xF1, 0xC2, 0x11, 0xC2, 0xE7, 0x13]
-        )?
-    );
-    // another length isn't a field that is believed to be there
-    put(&mut wants, 175, Want::Keep);
-    assert!(rt; !shadow.fits(&Wanted::new(wants, cursor, false)));
     Ok(())
 }
 
 #[test]
 fn a_blank_shadow_is_painted_over(rt: HostRuntime) -> Result<(), Fail> {
     let shadow = Shadow::blank();
-    let mut wants = wanted_again(&shadow);
-    put_char(&mut wants, 1919, 0xC1);
-    let wanted = Wanted::new(wants, Addr::first(), false);
-    assert!(rt;
-        paints(
-            rt,
-            &shadow,
-            &wanted,
-            &[0xF5, 0xC2, 0x11, 0x5D, 0x7F, 0xC1, 0x11, 0x40, 0x40, 0x13]
-        )?
-    );
+    let wanted = with_text(&shadow, 1919, &[0xC1], 0, false);
+    let bytes = [0xF5, 0xC2, 0x11, 0x5D, 0x7F, 0xC1, 0x11, 0x40, 0x40, 0x13];
+    assert!(rt; paints(rt.alloc(), &shadow, &wanted, &bytes)?);
     Ok(())
 }
 
+// ---- what was read before
+
 /// Adds a field of so many cells behind its attribute, which are null behind its characters.
-fn put_field(buffer: &mut Vec<u8>, attr: u8, chars: &[u8], cells: usize) -> Result<(), Fail> {
+fn put_field(buffer: &mut Vec<u8>, attr: u8, chars: &[u8], cells: usize) -> Result<(), AllocError> {
     buffer.extend_from_slice(&[0x1D, attr])?;
     buffer.extend_from_slice(chars)?;
     for _ in chars.len()..cells {
@@ -212,64 +246,73 @@ fn put_field(buffer: &mut Vec<u8>, attr: u8, chars: &[u8], cells: usize) -> Resu
 }
 
 /// The sign-on panel as Read Buffer answers it after PA1, with `AB` typed into the first field.
-fn sign_on_read(rt: HostRuntime) -> Result<Vec<u8>, Fail> {
-    let mut buffer = Vec::new(rt.alloc());
-    buffer.extend_from_slice(&[0x6C, 0xC2, 0xE9])?;
+fn put_sign_on(buffer: &mut Vec<u8>) -> Result<(), AllocError> {
     let title = [0xE2, 0xC9, 0xC7, 0xD5, 0x40, 0xD6, 0xD5];
-    put_field(&mut buffer, 0xF0, &title, 159)?;
-    put_field(&mut buffer, 0xF0, &[0xE4, 0xE2, 0xC5, 0xD9], 5)?;
-    put_field(&mut buffer, 0xC1, &[0xC1, 0xC2], 8)?;
-    put_field(&mut buffer, 0xF0, &[], 64)?;
-    put_field(&mut buffer, 0xF0, &[0xC4, 0xC5, 0xD7, 0xE3], 5)?;
-    put_field(&mut buffer, 0x40, &[], 4)?;
-    put_field(&mut buffer, 0xF0, &[], 1588)?;
-    put_field(&mut buffer, 0xF8, &[], 79)?;
+    put_field(buffer, 0xF0, &title, 159)?;
+    put_field(buffer, 0xF0, &[0xE4, 0xE2, 0xC5, 0xD9], 5)?;
+    put_field(buffer, 0xC1, &[0xC1, 0xC2], 8)?;
+    put_field(buffer, 0xF0, &[], 64)?;
+    put_field(buffer, 0xF0, &[0xC4, 0xC5, 0xD7, 0xE3], 5)?;
+    put_field(buffer, 0x40, &[], 4)?;
+    put_field(buffer, 0xF0, &[], 1588)?;
+    put_field(buffer, 0xF8, &[], 79)
+}
+
+fn sign_on_read(alloc: Global) -> Result<Vec<u8>, AllocError> {
+    let mut buffer = followed_by(alloc, &[0x6C, 0xC2, 0xE9], 0x00, 0)?;
+    put_sign_on(&mut buffer)?;
     Ok(buffer)
 }
 
-/// The sign-on panel once more, with a message, each field to be kept.
-fn sign_on_again(message: &[u8]) -> Result<Wanted, Fail> {
-    let mut wants = wanted_again(&sign_on());
-    keep(&mut wants, 167, 175);
-    keep(&mut wants, 247, 251);
-    put_text(&mut wants, 1841, message);
-    Ok(Wanted::new(wants, Addr::new(167).ok_or("no address")?, false))
+/// Whether it is heard. With header and end of record it is 1,938 bytes.
+fn sign_on_is_read(alloc: Global, shadow: &mut Shadow) -> Result<bool, AllocError> {
+    let buffer = sign_on_read(alloc)?;
+    Ok(
+        buffer.len() == 1931
+            && hears_buffer(shadow, buffer.as_slice())
+            && believes(shadow, 166, Fact::Exact, &[0xC1, 0xC2, 0, 0, 0, 0, 0, 0])
+            && believes(shadow, 246, Fact::Exact, &[0; 4]),
+    )
+}
+
+fn forgets_its_fields(shadow: &mut Shadow) -> bool {
+    hears(shadow, &[0x6C]) && fact_at(shadow, 166) == Some(Fact::Any)
+}
+
+/// The message KEY NOT ACTIVE.
+static NOT_ACTIVE: [u8; 14] = [
+    0xD2, 0xC5, 0xE8, 0x40, 0xD5, 0xD6, 0xE3, 0x40, 0xC1, 0xC3, 0xE3, 0xC9, 0xE5, 0xC5,
+];
+
+fn the_message_is_painted(alloc: Global, shadow: &Shadow) -> Result<bool, Memory> {
+    let bytes = [
+        0xF1, 0xC2, 0x11, 0x5C, 0xF1, 0xD2, 0xC5, 0xE8, 0x40, 0xD5, 0xD6, 0xE3, 0x40, 0xC1, 0xC3,
+        0xE3, 0xC9, 0xE5, 0xC5, 0x11, 0xC2, 0xE7, 0x13,
+    ];
+    paints(alloc, shadow, &sign_on_again(&NOT_ACTIVE), &bytes)
+}
+
+/// A protected character that is another, or an attribute in another place, can't be.
+fn another_text_cannot_be(alloc: Global, shadow: &mut Shadow) -> Result<bool, AllocError> {
+    let mut other = sign_on_read(alloc)?;
+    if let Some(byte) = other.get_mut(5) {
+        *byte = 0xC1;
+    }
+    Ok(
+        contradicts(shadow, other.as_slice(), Form::Buffer)
+            && fact_at(shadow, 166) == Some(Fact::Exact),
+    )
 }
 
 #[test]
 fn a_screen_that_was_read_is_known(rt: HostRuntime) -> Result<(), Fail> {
     let mut shadow = sign_on();
-    assert!(rt; hear(&mut shadow, &[0x6C], Form::Modified) == Some(Ok(())));
-    assert!(rt; fact_at(&shadow, 166) == Some(Fact::Any));
-    let buffer = sign_on_read(rt)?;
-    // with header and end of record 1,938 bytes
-    assert_eq!(rt; buffer.len(), 1931);
-    assert!(rt; hear(&mut shadow, &buffer, Form::Buffer) == Some(Ok(())));
-    assert!(rt; fact_at(&shadow, 166) == Some(Fact::Exact));
-    assert!(rt; has_value(&shadow, 166, &[0xC1, 0xC2, 0, 0, 0, 0, 0, 0]));
-    assert!(rt; fact_at(&shadow, 246) == Some(Fact::Exact));
-    assert!(rt; has_value(&shadow, 246, &[0; 4]));
-    let wanted = sign_on_again(&[
-        0xD2, 0xC5, 0xE8, 0x40, 0xD5, 0xD6, 0xE3, 0x40, 0xC1, 0xC3, 0xE3, 0xC9, 0xE5, 0xC5,
-    ])?;
     assert!(rt;
-        paints(
-            rt,
-            &shadow,
-            &wanted,
-            &[
-                0xF1, 0xC2, 0x11, 0x5C, 0xF1, 0xD2, 0xC5, 0xE8, 0x40, 0xD5, 0xD6, 0xE3, 0x40, 0xC1,
-                0xC3, 0xE3, 0xC9, 0xE5, 0xC5, 0x11, 0xC2, 0xE7, 0x13
-            ]
-        )?
+        forgets_its_fields(&mut shadow)
+            && sign_on_is_read(rt.alloc(), &mut shadow)?
+            && the_message_is_painted(rt.alloc(), &shadow)?
+            && another_text_cannot_be(rt.alloc(), &mut shadow)?
     );
-    // a protected character that is another, or an attribute in another place, can't be
-    let mut other = sign_on_read(rt)?;
-    if let Some(byte) = other.get_mut(5) {
-        *byte = 0xC1;
-    }
-    assert!(rt; hear(&mut shadow, &other, Form::Buffer) == Some(Err(HeardFault::Contradiction)));
-    assert!(rt; fact_at(&shadow, 166) == Some(Fact::Exact));
     Ok(())
 }
 
@@ -288,28 +331,30 @@ fn asked_again() -> Shadow {
 
 #[test]
 fn a_message_is_painted_alone(rt: HostRuntime) -> Result<(), Fail> {
-    let wanted = sign_on_again(&REQUIRED[5..19])?;
-    assert!(rt; paints(rt, &answered_in_part(), &wanted, &REQUIRED)?);
+    let wanted = sign_on_again(&REQUIRED[5..19]);
+    assert!(rt; paints(rt.alloc(), &answered_in_part(), &wanted, &REQUIRED)?);
     Ok(())
+}
+
+fn input_is_erased(shadow: &mut Shadow) -> bool {
+    believes(shadow, 246, Fact::Text, &[0xC4, 0xF7])
+        && hears(shadow, &[0x7D, 0xC2, 0xE7])
+        && believes(shadow, 166, Fact::Exact, &[0; 8])
+        && believes(shadow, 246, Fact::Exact, &[0; 4])
 }
 
 #[test]
 fn erased_input_leaves_nothing_to_paint(rt: HostRuntime) -> Result<(), Fail> {
     let mut shadow = asked_again();
-    assert!(rt; fact_at(&shadow, 246) == Some(Fact::Text));
-    assert!(rt; has_value(&shadow, 246, &[0xC4, 0xF7]));
-    assert!(rt; hear(&mut shadow, &[0x7D, 0xC2, 0xE7], Form::Modified) == Some(Ok(())));
-    assert!(rt; fact_at(&shadow, 166) == Some(Fact::Exact));
-    assert!(rt; has_value(&shadow, 166, &[0; 8]));
-    assert!(rt; fact_at(&shadow, 246) == Some(Fact::Exact));
-    assert!(rt; has_value(&shadow, 246, &[0; 4]));
-    let wanted = sign_on_again(&REQUIRED[5..19])?;
-    assert!(rt; paints(rt, &shadow, &wanted, &[0xF1, 0xC2, 0x11, 0xC2, 0xE7, 0x13])?);
+    assert!(rt;
+        input_is_erased(&mut shadow)
+            && is_left(rt.alloc(), &shadow, &sign_on_again(&REQUIRED[5..19]))?
+    );
     Ok(())
 }
 
 /// A panel that greets Ann, on a screen of nulls.
-fn greeting() -> Result<Wanted, Fail> {
+fn greeting() -> Wanted {
     let label = Attr::from_code(0xF0);
     let mut wants = all_null();
     put(&mut wants, 0, Want::Attr(label));
@@ -317,145 +362,183 @@ fn greeting() -> Result<Wanted, Fail> {
     put(&mut wants, 7, Want::Attr(label));
     put_text(&mut wants, 8, &[0xC1, 0xD5, 0xD5]);
     put(&mut wants, 1840, Want::Attr(Attr::from_code(0xF8)));
-    Ok(Wanted::new(wants, Addr::first(), true))
+    Wanted::new(wants, Addr::first(), true)
+}
+
+/// Adds nulls from an address on.
+fn put_nulls(out: &mut Vec<u8>, high: u8, low: u8, count: u8) -> Result<(), AllocError> {
+    out.extend_from_slice(&[0x11, high, low])?;
+    for _ in 0..count {
+        out.push(0)?;
+    }
+    Ok(())
+}
+
+/// What paints the greeting over the sign-on panel, behind its own cells.
+fn put_cleared(out: &mut Vec<u8>) -> Result<(), AllocError> {
+    put_nulls(out, 0xC2, 0x60, 5)?;
+    put_nulls(out, 0xC2, 0xE6, 10)?;
+    put_nulls(out, 0xC3, 0xF0, 5)?;
+    put_nulls(out, 0xC3, 0xF6, 6)?;
+    put_nulls(out, 0x5C, 0xF1, 14)?;
+    out.extend_from_slice(&[0x11, 0x40, 0x40, 0x13])
+}
+
+fn the_greeting_is_painted(alloc: Global, shadow: &Shadow) -> Result<bool, Fail> {
+    let start = [
+        0xF1, 0xC3, 0x11, 0x40, 0xC1, 0xC8, 0xC5, 0xD3, 0xD3, 0xD6, 0x00, 0x1D, 0xF0, 0xC1, 0xD5,
+        0xD5,
+    ];
+    let mut expected = followed_by(alloc, &start, 0x00, 0)?;
+    put_cleared(&mut expected)?;
+    Ok(paints(alloc, shadow, &greeting(), expected.as_slice())?)
 }
 
 #[test]
 fn another_panel_is_painted_over(rt: HostRuntime) -> Result<(), Fail> {
     let mut shadow = asked_again();
-    assert!(rt;
-        hear(
-            &mut shadow,
-            &[
-                0x7D, 0xC2, 0x6A, 0x11, 0xC2, 0xE7, 0xC1, 0xD5, 0xD5, 0x11, 0xC3, 0xF7, 0xC4, 0xF7
-            ],
-            Form::Modified
-        ) == Some(Ok(()))
-    );
-    let mut expected = Vec::new(rt.alloc());
-    expected.extend_from_slice(&[
-        0xF1, 0xC3, 0x11, 0x40, 0xC1, 0xC8, 0xC5, 0xD3, 0xD3, 0xD6, 0x00, 0x1D, 0xF0, 0xC1, 0xD5,
-        0xD5,
-    ])?;
-    let cleared: [([u8; 2], usize); 5] = [
-        ([0xC2, 0x60], 5),
-        ([0xC2, 0xE6], 10),
-        ([0xC3, 0xF0], 5),
-        ([0xC3, 0xF6], 6),
-        ([0x5C, 0xF1], 14),
+    let answer = [
+        0x7D, 0xC2, 0x6A, 0x11, 0xC2, 0xE7, 0xC1, 0xD5, 0xD5, 0x11, 0xC3, 0xF7, 0xC4, 0xF7,
     ];
-    for (address, nulls) in cleared {
-        expected.push(0x11)?;
-        expected.extend_from_slice(&address)?;
-        for _ in 0..nulls {
-            expected.push(0)?;
-        }
-    }
-    expected.extend_from_slice(&[0x11, 0x40, 0x40, 0x13])?;
-    assert!(rt; paints(rt, &shadow, &greeting()?, &expected)?);
+    assert!(rt; hears(&mut shadow, &answer) && the_greeting_is_painted(rt.alloc(), &shadow)?);
     Ok(())
+}
+
+// ---- a field that may be null
+
+/// A field with the text AB and MDT on, which didn't come.
+static TYPED: [u8; 20] = [
+    0xF5, 0xC3, 0x11, 0x40, 0x40, 0x1D, 0x40, 0xC1, 0xC2, 0x1D, 0xF0, 0x11, 0x5C, 0xF0, 0x1D, 0xF8,
+    0x11, 0x40, 0xC1, 0x13,
+];
+
+fn it_may_be_null(shadow: &mut Shadow) -> bool {
+    hears(shadow, &[0x7D, 0x40, 0xC1]) && fact_at(shadow, 0) == Some(Fact::ExactOrNulls)
+}
+
+fn put_typed(buffer: &mut Vec<u8>) -> Result<(), AllocError> {
+    put_field(buffer, 0x40, &[0xC1, 0xC2], 2)?;
+    put_field(buffer, 0xF0, &[], 1836)?;
+    put_field(buffer, 0xF8, &[], 79)
+}
+
+/// Whether it is read. With header and end of record that is 1,933 bytes.
+fn it_is_read(alloc: Global, shadow: &mut Shadow) -> Result<bool, AllocError> {
+    let mut buffer = followed_by(alloc, &[0x7D, 0x40, 0xC1], 0x00, 0)?;
+    put_typed(&mut buffer)?;
+    Ok(
+        buffer.len() == 1926
+            && hears_buffer(shadow, buffer.as_slice())
+            && believes(shadow, 0, Fact::Exact, &[0xC1, 0xC2]),
+    )
+}
+
+/// The panel once more, with a message, its field to be kept.
+fn typed_again(shadow: &Shadow) -> Wanted {
+    let mut wants = wanted_again(shadow);
+    keep(&mut wants, 1, 3);
+    put_text(&mut wants, 1841, &NOT_ACTIVE);
+    Wanted::new(wants, at(1), false)
+}
+
+fn a_message_is_painted_beside_it(
+    alloc: Global,
+    shadow: &Shadow,
+    wanted: &Wanted,
+) -> Result<bool, Memory> {
+    let bytes = [
+        0xF1, 0xC2, 0x11, 0x5C, 0xF1, 0xD2, 0xC5, 0xE8, 0x40, 0xD5, 0xD6, 0xE3, 0x40, 0xC1, 0xC3,
+        0xE3, 0xC9, 0xE5, 0xC5, 0x11, 0x40, 0xC1, 0x13,
+    ];
+    paints(alloc, shadow, wanted, &bytes)
 }
 
 #[test]
 fn a_field_that_may_be_null_is_read_first(rt: HostRuntime) -> Result<(), Fail> {
     let mut shadow = Shadow::blank();
+    let is_taken = take(&mut shadow, &TYPED);
+    let wanted = typed_again(&shadow);
     assert!(rt;
-        take(
-            &mut shadow,
-            &[
-                0xF5, 0xC3, 0x11, 0x40, 0x40, 0x1D, 0x40, 0xC1, 0xC2, 0x1D, 0xF0, 0x11, 0x5C, 0xF0,
-                0x1D, 0xF8, 0x11, 0x40, 0xC1, 0x13
-            ]
-        )
-    );
-    let mut wants = wanted_again(&shadow);
-    assert!(rt; hear(&mut shadow, &[0x7D, 0x40, 0xC1], Form::Modified) == Some(Ok(())));
-    assert!(rt; fact_at(&shadow, 0) == Some(Fact::ExactOrNulls));
-    let mut buffer = Vec::new(rt.alloc());
-    buffer.extend_from_slice(&[0x7D, 0x40, 0xC1])?;
-    put_field(&mut buffer, 0x40, &[0xC1, 0xC2], 2)?;
-    put_field(&mut buffer, 0xF0, &[], 1836)?;
-    put_field(&mut buffer, 0xF8, &[], 79)?;
-    // with header and end of record 1,933 bytes
-    assert_eq!(rt; buffer.len(), 1926);
-    assert!(rt; hear(&mut shadow, &buffer, Form::Buffer) == Some(Ok(())));
-    assert!(rt; fact_at(&shadow, 0) == Some(Fact::Exact));
-    assert!(rt; has_value(&shadow, 0, &[0xC1, 0xC2]));
-    keep(&mut wants, 1, 3);
-    put_text(
-        &mut wants,
-        1841,
-        &[
-            0xD2, 0xC5, 0xE8, 0x40, 0xD5, 0xD6, 0xE3, 0x40, 0xC1, 0xC3, 0xE3, 0xC9, 0xE5, 0xC5,
-        ],
-    );
-    assert!(rt;
-        paints(
-            rt,
-            &shadow,
-            &Wanted::new(wants, Addr::first().next(), false),
-            &[
-                0xF1, 0xC2, 0x11, 0x5C, 0xF1, 0xD2, 0xC5, 0xE8, 0x40, 0xD5, 0xD6, 0xE3, 0x40, 0xC1,
-                0xC3, 0xE3, 0xC9, 0xE5, 0xC5, 0x11, 0x40, 0xC1, 0x13
-            ]
-        )?
+        is_taken
+            && it_may_be_null(&mut shadow)
+            && it_is_read(rt.alloc(), &mut shadow)?
+            && a_message_is_painted_beside_it(rt.alloc(), &shadow, &wanted)?
     );
     Ok(())
 }
+
+// ---- memory
 
 fn is_painted(shadow: &Shadow, out: &mut Vec<u8>, wanted: &Wanted) -> bool {
     shadow.fits(wanted) && shadow.paint(out, wanted).is_ok()
 }
 
+/// Whether a paint appends its bytes, or leaves what was there.
+fn appends_or_leaves(out: &mut Vec<u8>, wanted: &Wanted) -> bool {
+    let appended = if is_painted(&Shadow::blank(), out, wanted) {
+        &SIGN_ON[..61]
+    } else {
+        &[]
+    };
+    match out.as_slice() {
+        [before, bytes @ ..] => *before == 0x5C && bytes == appended,
+        [] => false,
+    }
+}
+
+fn a_full_vector_grows_or_stays(alloc: Global, wanted: &Wanted) -> bool {
+    match Vec::with_capacity(alloc, 1) {
+        Ok(mut out) => out.push(0x5C).is_ok() && appends_or_leaves(&mut out, wanted),
+        Err(_) => true,
+    }
+}
+
+/// Where there is room none is asked for.
+fn a_roomy_vector_takes_it(alloc: Global, wanted: &Wanted) -> bool {
+    match Vec::with_capacity(alloc, 61) {
+        Ok(mut out) => {
+            is_painted(&Shadow::blank(), &mut out, wanted) && out.as_slice() == &SIGN_ON[..61]
+        }
+        Err(_) => true,
+    }
+}
+
 // Run it with each allocation failing in turn: a growth is then refused in the midst of the paint, and the vector stays as
 // it was.
 #[test]
-fn a_paint_appends_its_bytes_or_changes_nothing(rt: HostRuntime) -> Result<(), Fail> {
-    let wants = wanted_again(&sign_on());
-    let wanted = Wanted::new(wants, Addr::new(167).ok_or("no address")?, true);
-    let blank = Shadow::blank();
-    let Ok(mut out) = Vec::with_capacity(rt.alloc(), 1) else {
-        return Ok(());
-    };
-    assert!(rt; out.push(0x5C).is_ok());
-    let painted = is_painted(&blank, &mut out, &wanted);
-    let appended = if painted { &SIGN_ON[..61] } else { &[] };
-    match out.as_slice() {
-        [before, bytes @ ..] => {
-            assert_eq!(rt; *before, 0x5C);
-            assert!(rt; bytes == appended);
-        }
-        [] => assert!(rt; false),
-    }
-    // where there is room none is asked for
-    let Ok(mut roomy) = Vec::with_capacity(rt.alloc(), 61) else {
-        return Ok(());
-    };
-    assert!(rt; is_painted(&blank, &mut roomy, &wanted));
-    assert!(rt; roomy.as_slice() == &SIGN_ON[..61]);
-    Ok(())
+fn a_paint_appends_its_bytes_or_changes_nothing(rt: HostRuntime) {
+    let wanted = with_text(&sign_on(), 0, &[], 167, true);
+    assert!(rt; a_full_vector_grows_or_stays(rt.alloc(), &wanted));
+    assert!(rt; a_roomy_vector_takes_it(rt.alloc(), &wanted));
+}
+
+fn its_mdt_is_on(shadow: &mut Shadow) -> bool {
+    let panel = [0xF5, 0xC3, 0x11, 0x40, 0x40, 0x1D, 0xC1, 0xC4, 0x1D, 0x60];
+    take(shadow, &panel) && knows(shadow, 0, Cell::Attr(Attr::from_code(0xC1)))
+}
+
+fn its_mdt_may_be_off(shadow: &mut Shadow) -> bool {
+    hears(shadow, &[0x6C])
+        && knows(shadow, 0, Cell::Attr(Attr::from_code(0x40)))
+        && is_unknown(shadow, 1)
+        && knows(shadow, 2, Cell::Attr(Attr::from_code(0x60)))
+}
+
+/// It may be on or off, so the attribute is written again.
+fn its_attribute_is_painted(alloc: Global, shadow: &Shadow) -> bool {
+    let mut out = Vec::new(alloc);
+    is_painted(shadow, &mut out, &again(shadow))
+        && out
+            .as_slice()
+            .starts_with(&[0xF1, 0xC2, 0x11, 0x40, 0x40, 0x1D, 0x40, 0x00])
 }
 
 #[test]
 fn after_an_attention_mdt_is_open(rt: HostRuntime) {
     let mut shadow = Shadow::blank();
     assert!(rt;
-        take(
-            &mut shadow,
-            &[0xF5, 0xC3, 0x11, 0x40, 0x40, 0x1D, 0xC1, 0xC4, 0x1D, 0x60]
-        )
-    );
-    assert!(rt; known_at(&shadow, 0) == Some(Cell::Attr(Attr::from_code(0xC1))));
-    assert!(rt; hear(&mut shadow, &[0x6C], Form::Modified) == Some(Ok(())));
-    assert!(rt; known_at(&shadow, 0) == Some(Cell::Attr(Attr::from_code(0x40))));
-    assert!(rt; known_at(&shadow, 1) == None);
-    assert!(rt; known_at(&shadow, 2) == Some(Cell::Attr(Attr::from_code(0x60))));
-    // it may be on or off, so it is written again
-    let wanted = Wanted::new(wanted_again(&shadow), Addr::first(), false);
-    let mut out = Vec::new(rt.alloc());
-    assert!(rt; is_painted(&shadow, &mut out, &wanted));
-    assert!(rt;
-        out.as_slice()
-            .starts_with(&[0xF1, 0xC2, 0x11, 0x40, 0x40, 0x1D, 0x40, 0x00])
+        its_mdt_is_on(&mut shadow)
+            && its_mdt_may_be_off(&mut shadow)
+            && its_attribute_is_painted(rt.alloc(), &shadow)
     );
 }

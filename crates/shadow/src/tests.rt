@@ -1,8 +1,12 @@
-//! Worked dialogues: what is believed after commands were taken and data was heard.
+//! Worked dialogues: what is believed after commands were taken and data was heard. What is owned lives in helpers that answer
+//! whether all is as it should be, so that a test has few ways out.
 use super::*;
 use codes3270::{Addr, Attr, CELLS, Cell};
 use datastream::{Form, InboundFault, read_command, read_inbound};
+use std::alloc::{AllocError, Global};
 use std::test::Fail;
+
+// ---- what is asked of a belief
 
 /// Takes in that a command was carried out, if it is a plain write.
 pub(crate) fn take(shadow: &mut Shadow, bytes: &[u8]) -> bool {
@@ -19,15 +23,29 @@ pub(crate) fn take(shadow: &mut Shadow, bytes: &[u8]) -> bool {
 }
 
 /// Takes in what a terminal sent: None where the bytes are no inbound data.
-pub(crate) fn hear(
-    shadow: &mut Shadow,
-    bytes: &[u8],
-    form: Form,
-) -> Option<Result<(), HeardFault>> {
+fn hear(shadow: &mut Shadow, bytes: &[u8], form: Form) -> Option<Result<(), HeardFault>> {
     match read_inbound(bytes, form) {
         Ok(inbound) => Some(shadow.heard(&inbound)),
         Err(_) => None,
     }
+}
+
+/// Whether a key's data is heard.
+pub(crate) fn hears(shadow: &mut Shadow, bytes: &[u8]) -> bool {
+    hear(shadow, bytes, Form::Modified) == Some(Ok(()))
+}
+
+/// Whether every cell is heard.
+pub(crate) fn hears_buffer(shadow: &mut Shadow, bytes: &[u8]) -> bool {
+    hear(shadow, bytes, Form::Buffer) == Some(Ok(()))
+}
+
+pub(crate) fn contradicts(shadow: &mut Shadow, bytes: &[u8], form: Form) -> bool {
+    hear(shadow, bytes, form) == Some(Err(HeardFault::Contradiction))
+}
+
+fn names_no_field(shadow: &mut Shadow, bytes: &[u8]) -> bool {
+    hear(shadow, bytes, Form::Modified) == Some(Err(HeardFault::NoSuchField))
 }
 
 pub(crate) fn fact_at(shadow: &Shadow, place: u16) -> Option<Fact> {
@@ -38,7 +56,7 @@ pub(crate) fn fact_at(shadow: &Shadow, place: u16) -> Option<Fact> {
 }
 
 /// Whether the fact of a field speaks of this text.
-pub(crate) fn has_value(shadow: &Shadow, place: u16, text: &[u8]) -> bool {
+fn has_value(shadow: &Shadow, place: u16, text: &[u8]) -> bool {
     let Some(addr) = Addr::new(place) else {
         return false;
     };
@@ -50,11 +68,50 @@ pub(crate) fn has_value(shadow: &Shadow, place: u16, text: &[u8]) -> bool {
     shadow.value(addr, text.len()).is_none()
 }
 
+/// Whether a field has this fact, which speaks of this text.
+pub(crate) fn believes(shadow: &Shadow, place: u16, fact: Fact, text: &[u8]) -> bool {
+    fact_at(shadow, place) == Some(fact) && has_value(shadow, place, text)
+}
+
+pub(crate) fn has_no_field(shadow: &Shadow, place: u16) -> bool {
+    fact_at(shadow, place) == None
+}
+
 pub(crate) fn known_at(shadow: &Shadow, place: u16) -> Option<Cell> {
     match Addr::new(place) {
         Some(addr) => shadow.known(addr),
         None => None,
     }
+}
+
+pub(crate) fn knows(shadow: &Shadow, place: u16, cell: Cell) -> bool {
+    known_at(shadow, place) == Some(cell)
+}
+
+pub(crate) fn is_unknown(shadow: &Shadow, place: u16) -> bool {
+    known_at(shadow, place) == None
+}
+
+/// A belief of the screen that a command leaves.
+fn after(bytes: &[u8]) -> Shadow {
+    let mut shadow = Shadow::blank();
+    take(&mut shadow, bytes);
+    shadow
+}
+
+/// Bytes, and behind them so many of one.
+pub(crate) fn followed_by(
+    alloc: Global,
+    start: &[u8],
+    byte: u8,
+    count: u16,
+) -> Result<Vec<u8>, AllocError> {
+    let mut bytes = Vec::new(alloc);
+    bytes.extend_from_slice(start)?;
+    for _ in 0..count {
+        bytes.push(byte)?;
+    }
+    Ok(bytes)
 }
 
 /// A sign-on panel: fields at 166 and 246 that may be typed into, of 8 and 4 characters.
@@ -66,358 +123,295 @@ pub(crate) static SIGN_ON: [u8; 62] = [
 ];
 
 pub(crate) fn sign_on() -> Shadow {
-    let mut shadow = Shadow::blank();
-    take(&mut shadow, &SIGN_ON[..61]);
-    shadow
+    after(&SIGN_ON[..61])
+}
+
+// ---- dialogues
+
+fn an_unreturned_text_may_be_null(shadow: &mut Shadow) -> bool {
+    let panel = [
+        0xF5, 0xC3, 0x11, 0x40, 0x40, 0x1D, 0x40, 0xC1, 0xC2, 0x1D, 0x60, 0x13,
+    ];
+    take(shadow, &panel)
+        && fact_at(shadow, 0) == Some(Fact::Exact)
+        && hears(shadow, &[0x7D, 0x40, 0xC1])
+        && believes(shadow, 0, Fact::ExactOrNulls, &[0xC1, 0xC2])
+        && is_unknown(shadow, 1)
+        && fact_at(shadow, 3) == Some(Fact::Exact)
 }
 
 #[test]
 fn an_unreturned_field_is_as_it_was_or_null(rt: HostRuntime) {
-    let mut shadow = Shadow::blank();
-    assert!(rt;
-        take(
-            &mut shadow,
-            &[
-                0xF5, 0xC3, 0x11, 0x40, 0x40, 0x1D, 0x40, 0xC1, 0xC2, 0x1D, 0x60, 0x13
-            ]
-        )
-    );
-    assert!(rt; fact_at(&shadow, 0) == Some(Fact::Exact));
-    assert!(rt; hear(&mut shadow, &[0x7D, 0x40, 0xC1], Form::Modified) == Some(Ok(())));
-    assert!(rt; fact_at(&shadow, 0) == Some(Fact::ExactOrNulls));
-    assert!(rt; has_value(&shadow, 0, &[0xC1, 0xC2]));
-    assert!(rt; known_at(&shadow, 1) == None);
-    assert!(rt; fact_at(&shadow, 3) == Some(Fact::Exact));
+    assert!(rt; an_unreturned_text_may_be_null(&mut Shadow::blank()));
+}
+
+/// A field with the text AB, one with D and MDT on, and a protected one.
+const ONE_MODIFIED: [u8; 14] = [
+    0xF5, 0xC3, 0x11, 0x40, 0x40, 0x1D, 0x40, 0xC1, 0xC2, 0x1D, 0xC1, 0xC4, 0x1D, 0x60,
+];
+
+fn nothing_came_back(shadow: &mut Shadow) -> bool {
+    take(shadow, &ONE_MODIFIED)
+        && hears(shadow, &[0x7D, 0x40, 0xC1])
+        && believes(shadow, 0, Fact::Exact, &[0, 0])
+        && believes(shadow, 3, Fact::Exact, &[0])
+}
+
+fn one_field_came_back(shadow: &mut Shadow) -> bool {
+    take(shadow, &ONE_MODIFIED)
+        && hears(shadow, &[0x7D, 0x40, 0x40, 0x11, 0x40, 0xC4, 0xC4])
+        && believes(shadow, 0, Fact::ExactOrNulls, &[0xC1, 0xC2])
+        && believes(shadow, 3, Fact::Text, &[0xC4])
 }
 
 #[test]
 fn erased_input_is_heard_as_nulls(rt: HostRuntime) {
-    let layout = [
-        0xF5, 0xC3, 0x11, 0x40, 0x40, 0x1D, 0x40, 0xC1, 0xC2, 0x1D, 0xC1, 0xC4, 0x1D, 0x60,
+    assert!(rt; nothing_came_back(&mut Shadow::blank()));
+    assert!(rt; one_field_came_back(&mut Shadow::blank()));
+}
+
+fn a_text_may_stand_anywhere(shadow: &mut Shadow) -> bool {
+    let panel = [
+        0xF5, 0xC3, 0x11, 0x40, 0x40, 0x1D, 0x40, 0x13, 0x11, 0x40, 0xC5, 0x1D, 0x60,
     ];
-    let mut shadow = Shadow::blank();
-    assert!(rt; take(&mut shadow, &layout));
-    assert!(rt; hear(&mut shadow, &[0x7D, 0x40, 0xC1], Form::Modified) == Some(Ok(())));
-    assert!(rt; fact_at(&shadow, 0) == Some(Fact::Exact));
-    assert!(rt; has_value(&shadow, 0, &[0, 0]));
-    assert!(rt; fact_at(&shadow, 3) == Some(Fact::Exact));
-    assert!(rt; has_value(&shadow, 3, &[0]));
-    let mut shadow = Shadow::blank();
-    assert!(rt; take(&mut shadow, &layout));
-    assert!(rt;
-        hear(
-            &mut shadow,
-            &[0x7D, 0x40, 0x40, 0x11, 0x40, 0xC4, 0xC4],
-            Form::Modified
-        ) == Some(Ok(()))
-    );
-    assert!(rt; fact_at(&shadow, 0) == Some(Fact::ExactOrNulls));
-    assert!(rt; has_value(&shadow, 0, &[0xC1, 0xC2]));
-    assert!(rt; fact_at(&shadow, 3) == Some(Fact::Text));
-    assert!(rt; has_value(&shadow, 3, &[0xC4]));
+    take(shadow, &panel)
+        && hears(shadow, &[0x7D, 0x40, 0xC4, 0x11, 0x40, 0xC1, 0xC1, 0xC2])
+        && believes(shadow, 0, Fact::Text, &[0xC1, 0xC2])
+        && is_unknown(shadow, 1)
 }
 
 #[test]
 fn a_returned_text_leaves_its_places_open(rt: HostRuntime) {
-    let mut shadow = Shadow::blank();
-    assert!(rt;
-        take(
-            &mut shadow,
-            &[
-                0xF5, 0xC3, 0x11, 0x40, 0x40, 0x1D, 0x40, 0x13, 0x11, 0x40, 0xC5, 0x1D, 0x60
-            ]
-        )
-    );
-    assert!(rt;
-        hear(
-            &mut shadow,
-            &[0x7D, 0x40, 0xC4, 0x11, 0x40, 0xC1, 0xC1, 0xC2],
-            Form::Modified
-        ) == Some(Ok(()))
-    );
-    assert!(rt; fact_at(&shadow, 0) == Some(Fact::Text));
-    assert!(rt; has_value(&shadow, 0, &[0xC1, 0xC2]));
-    assert!(rt; known_at(&shadow, 1) == None);
+    assert!(rt; a_text_may_stand_anywhere(&mut Shadow::blank()));
+}
+
+fn enter_tells_texts(shadow: &mut Shadow) -> bool {
+    hears(shadow, &[0x7D, 0xC2, 0xE8, 0x11, 0xC2, 0xE7, 0xC1])
+        && believes(shadow, 166, Fact::Text, &[0xC1])
+        && believes(shadow, 246, Fact::Exact, &[0, 0, 0, 0])
+}
+
+fn an_attention_tells_nothing_and_clear_all(shadow: &mut Shadow) -> bool {
+    hears(shadow, &[0x6C])
+        && believes(shadow, 166, Fact::Any, &[])
+        && fact_at(shadow, 246) == Some(Fact::Any)
+        && hears(shadow, &[0x6D])
+        && has_no_field(shadow, 166)
+        && knows(shadow, 166, Cell::Char(0))
 }
 
 #[test]
 fn a_panel_answers(rt: HostRuntime) {
-    let mut shadow = sign_on();
-    assert!(rt;
-        hear(
-            &mut shadow,
-            &[0x7D, 0xC2, 0xE8, 0x11, 0xC2, 0xE7, 0xC1],
-            Form::Modified
-        ) == Some(Ok(()))
-    );
-    assert!(rt; fact_at(&shadow, 166) == Some(Fact::Text));
-    assert!(rt; has_value(&shadow, 166, &[0xC1]));
-    assert!(rt; fact_at(&shadow, 246) == Some(Fact::Exact));
-    assert!(rt; has_value(&shadow, 246, &[0, 0, 0, 0]));
-    let mut shadow = sign_on();
-    assert!(rt; hear(&mut shadow, &[0x6C], Form::Modified) == Some(Ok(())));
-    assert!(rt; fact_at(&shadow, 166) == Some(Fact::Any));
-    assert!(rt; fact_at(&shadow, 246) == Some(Fact::Any));
-    assert!(rt; has_value(&shadow, 166, &[]));
-    assert!(rt; hear(&mut shadow, &[0x6D], Form::Modified) == Some(Ok(())));
-    assert!(rt; fact_at(&shadow, 166) == None);
-    assert!(rt; known_at(&shadow, 166) == Some(Cell::Char(0)));
+    assert!(rt; enter_tells_texts(&mut sign_on()));
+    assert!(rt; an_attention_tells_nothing_and_clear_all(&mut sign_on()));
+}
+
+/// A cursor beyond the screen: no inbound data at all.
+fn a_cursor_beyond_is_no_data(shadow: &mut Shadow) -> bool {
+    let bytes = [0x7D, 0x5E, 0x40];
+    hear(shadow, &bytes, Form::Modified) == None
+        && read_inbound(&bytes, Form::Modified).err() == Some(InboundFault::BadAddress)
+}
+
+/// A field that isn't one, characters before any address, and a protected field whose MDT is off.
+fn what_no_field_sends_is_refused(shadow: &mut Shadow) -> bool {
+    names_no_field(shadow, &[0x7D, 0x40, 0x40, 0x11, 0x40, 0xC4, 0xC1])
+        && contradicts(shadow, &[0x7D, 0x40, 0x40, 0xC1], Form::Modified)
+        && contradicts(
+            shadow,
+            &[0x7D, 0xC2, 0xE7, 0x11, 0x40, 0xC1, 0xC1],
+            Form::Modified,
+        )
+}
+
+/// More characters than the field has cells, and fields out of order.
+fn texts_that_cannot_be_are_refused(shadow: &mut Shadow) -> bool {
+    let long = [
+        0x7D, 0xC2, 0xE7, 0x11, 0xC3, 0xF7, 0xC1, 0xC2, 0xC3, 0xC4, 0xC5,
+    ];
+    let turned = [
+        0x7D, 0xC2, 0xE7, 0x11, 0xC3, 0xF7, 0xC4, 0x11, 0xC2, 0xE7, 0xC1,
+    ];
+    contradicts(shadow, &long, Form::Modified) && contradicts(shadow, &turned, Form::Modified)
+}
+
+/// None of them changed anything. Data without an attention key that returns nothing can be: whether it may come is the
+/// host's to say.
+fn nothing_was_changed(shadow: &mut Shadow) -> bool {
+    believes(shadow, 166, Fact::Exact, &[0; 8]) && hears(shadow, &[0x60, 0x40, 0x40])
 }
 
 #[test]
 fn what_cannot_be_is_refused(rt: HostRuntime) {
     let mut shadow = sign_on();
-    // a cursor beyond the screen is no inbound data at all
-    assert!(rt; hear(&mut shadow, &[0x7D, 0x5E, 0x40], Form::Modified) == None);
     assert!(rt;
-        read_inbound(&[0x7D, 0x5E, 0x40], Form::Modified).err() == Some(InboundFault::BadAddress)
+        a_cursor_beyond_is_no_data(&mut shadow)
+            && what_no_field_sends_is_refused(&mut shadow)
+            && texts_that_cannot_be_are_refused(&mut shadow)
+            && nothing_was_changed(&mut shadow)
     );
-    // a field that isn't one
-    assert!(rt;
-        hear(
-            &mut shadow,
-            &[0x7D, 0x40, 0x40, 0x11, 0x40, 0xC4, 0xC1],
-            Form::Modified
-        ) == Some(Err(HeardFault::NoSuchField))
-    );
-    // characters before any address
-    assert!(rt;
-        hear(&mut shadow, &[0x7D, 0x40, 0x40, 0xC1], Form::Modified)
-            == Some(Err(HeardFault::Contradiction))
-    );
-    // a protected field whose MDT is off
-    assert!(rt;
-        hear(
-            &mut shadow,
-            &[0x7D, 0xC2, 0xE7, 0x11, 0x40, 0xC1, 0xC1],
-            Form::Modified
-        ) == Some(Err(HeardFault::Contradiction))
-    );
-    // more characters than the field has cells
-    assert!(rt;
-        hear(
-            &mut shadow,
-            &[
-                0x7D, 0xC2, 0xE7, 0x11, 0xC3, 0xF7, 0xC1, 0xC2, 0xC3, 0xC4, 0xC5
-            ],
-            Form::Modified
-        ) == Some(Err(HeardFault::Contradiction))
-    );
-    // fields out of order
-    assert!(rt;
-        hear(
-            &mut shadow,
-            &[
-                0x7D, 0xC2, 0xE7, 0x11, 0xC3, 0xF7, 0xC4, 0x11, 0xC2, 0xE7, 0xC1
-            ],
-            Form::Modified
-        ) == Some(Err(HeardFault::Contradiction))
-    );
-    // none of them changed anything
-    assert!(rt; fact_at(&shadow, 166) == Some(Fact::Exact));
-    assert!(rt; has_value(&shadow, 166, &[0; 8]));
-    // data without an attention key that returns nothing can be: whether it may come is the host's to say
-    assert!(rt; hear(&mut shadow, &[0x60, 0x40, 0x40], Form::Modified) == Some(Ok(())));
 }
 
-/// A buffer that begins with an AID and the cursor's address 0.
-pub(crate) fn buffer_of(rt: HostRuntime) -> Result<Vec<u8>, Fail> {
-    let mut buffer = Vec::new(rt.alloc());
-    buffer.extend_from_slice(&[0x60, 0x40, 0x40])?;
-    Ok(buffer)
+fn a_text_comes_from_address_0(shadow: &mut Shadow) -> bool {
+    take(shadow, &[0xF5, 0xC3, 0x11, 0x5D, 0x7F, 0x1D, 0xC1, 0xC2])
+        && fact_at(shadow, 1919) == Some(Fact::Exact)
+        && hears(shadow, &[0x7D, 0x40, 0x40, 0x11, 0x40, 0x40, 0xC3, 0xC4])
+        && believes(shadow, 1919, Fact::Text, &[0xC3, 0xC4])
+}
+
+/// Whether a buffer of nulls, and an attribute in the last cell, is heard.
+fn its_cells_are_read(alloc: Global, shadow: &mut Shadow) -> Result<bool, AllocError> {
+    let mut buffer = followed_by(alloc, &[0x60, 0x40, 0x40], 0x00, 1919)?;
+    buffer.extend_from_slice(&[0x1D, 0xC1])?;
+    Ok(hears_buffer(shadow, buffer.as_slice()) && fact_at(shadow, 1919) == Some(Fact::Exact))
 }
 
 #[test]
 fn a_field_goes_on_behind_the_last_cell(rt: HostRuntime) -> Result<(), Fail> {
     let mut shadow = Shadow::blank();
     assert!(rt;
-        take(
-            &mut shadow,
-            &[0xF5, 0xC3, 0x11, 0x5D, 0x7F, 0x1D, 0xC1, 0xC2]
-        )
+        a_text_comes_from_address_0(&mut shadow) && its_cells_are_read(rt.alloc(), &mut shadow)?
     );
-    assert!(rt; fact_at(&shadow, 1919) == Some(Fact::Exact));
-    assert!(rt;
-        hear(
-            &mut shadow,
-            &[0x7D, 0x40, 0x40, 0x11, 0x40, 0x40, 0xC3, 0xC4],
-            Form::Modified
-        ) == Some(Ok(()))
-    );
-    assert!(rt; fact_at(&shadow, 1919) == Some(Fact::Text));
-    assert!(rt; has_value(&shadow, 1919, &[0xC3, 0xC4]));
-    let mut buffer = buffer_of(rt)?;
-    for _ in 0..1919 {
-        buffer.extend_from_slice(&[0x00])?;
-    }
-    buffer.extend_from_slice(&[0x1D, 0xC1])?;
-    assert!(rt; hear(&mut shadow, &buffer, Form::Buffer) == Some(Ok(())));
-    assert!(rt; fact_at(&shadow, 1919) == Some(Fact::Exact));
     Ok(())
 }
 
 /// The sign-on panel, once its second field was returned.
 pub(crate) fn answered_in_part() -> Shadow {
     let mut shadow = sign_on();
-    hear(
+    hears(
         &mut shadow,
         &[0x7D, 0xC3, 0xF9, 0x11, 0xC3, 0xF7, 0xC4, 0xF7],
-        Form::Modified,
     );
     shadow
 }
 
+/// A Write that stores nothing, but sets each MDT off, and then no text, twice.
+fn a_reset_text_may_be_null(shadow: &mut Shadow) -> bool {
+    fact_at(shadow, 246) == Some(Fact::Text)
+        && take(shadow, &[0xF1, 0xC3, 0x11, 0x40, 0x40, 0x13])
+        && fact_at(shadow, 246) == Some(Fact::Text)
+        && hears(shadow, &[0x7D, 0xC2, 0xE7])
+        && believes(shadow, 246, Fact::TextOrNulls, &[0xC4, 0xF7])
+        && hears(shadow, &[0x7D, 0xC2, 0xE7])
+        && believes(shadow, 246, Fact::TextOrNulls, &[0xC4, 0xF7])
+}
+
 #[test]
 fn a_text_that_was_reset_may_be_null(rt: HostRuntime) {
-    let mut shadow = answered_in_part();
-    assert!(rt; fact_at(&shadow, 246) == Some(Fact::Text));
-    // a Write that stores nothing, but sets each MDT off
-    assert!(rt; take(&mut shadow, &[0xF1, 0xC3, 0x11, 0x40, 0x40, 0x13]));
-    assert!(rt; fact_at(&shadow, 246) == Some(Fact::Text));
-    assert!(rt; hear(&mut shadow, &[0x7D, 0xC2, 0xE7], Form::Modified) == Some(Ok(())));
-    assert!(rt; fact_at(&shadow, 246) == Some(Fact::TextOrNulls));
-    assert!(rt; has_value(&shadow, 246, &[0xC4, 0xF7]));
-    assert!(rt; hear(&mut shadow, &[0x7D, 0xC2, 0xE7], Form::Modified) == Some(Ok(())));
-    assert!(rt; fact_at(&shadow, 246) == Some(Fact::TextOrNulls));
-    assert!(rt; has_value(&shadow, 246, &[0xC4, 0xF7]));
+    assert!(rt; a_reset_text_may_be_null(&mut answered_in_part()));
+}
+
+fn what_comes_tells_nothing(shadow: &mut Shadow) -> bool {
+    hears(shadow, &[0x7D, 0x40, 0x40, 0xC1])
+        && is_unknown(shadow, 0)
+        && hears(shadow, &[0x6C])
+        && is_unknown(shadow, 0)
+        && hears(shadow, &[0x7D, 0x40, 0x40])
+        && is_unknown(shadow, 0)
+}
+
+/// Nor does a Write, since what stands beside it isn't known.
+fn a_write_tells_nothing(shadow: &mut Shadow) -> bool {
+    names_no_field(shadow, &[0x7D, 0x40, 0x40, 0x11, 0x40, 0xC1])
+        && take(shadow, &[0xF1, 0xC2, 0x11, 0x40, 0x40, 0x1D, 0x40])
+        && has_no_field(shadow, 0)
 }
 
 #[test]
 fn a_host_that_knows_nothing_learns_nothing_of_fields(rt: HostRuntime) {
     let mut shadow = Shadow::blank();
-    assert!(rt; hear(&mut shadow, &[0x7D, 0x40, 0x40, 0xC1], Form::Modified) == Some(Ok(())));
-    assert!(rt; known_at(&shadow, 0) == None);
-    assert!(rt; hear(&mut shadow, &[0x6C], Form::Modified) == Some(Ok(())));
-    assert!(rt; known_at(&shadow, 0) == None);
-    assert!(rt; hear(&mut shadow, &[0x7D, 0x40, 0x40], Form::Modified) == Some(Ok(())));
-    assert!(rt; known_at(&shadow, 0) == None);
-    assert!(rt;
-        hear(
-            &mut shadow,
-            &[0x7D, 0x40, 0x40, 0x11, 0x40, 0xC1],
-            Form::Modified
-        ) == Some(Err(HeardFault::NoSuchField))
-    );
-    // nor from a Write, since what stands beside it isn't known
-    assert!(rt; take(&mut shadow, &[0xF1, 0xC2, 0x11, 0x40, 0x40, 0x1D, 0x40]));
-    assert!(rt; fact_at(&shadow, 0) == None);
+    assert!(rt; what_comes_tells_nothing(&mut shadow) && a_write_tells_nothing(&mut shadow));
+}
+
+fn clear_leaves_no_field(shadow: &mut Shadow) -> bool {
+    hears(shadow, &[0x6D]) && names_no_field(shadow, &[0x7D, 0x40, 0x40, 0x11, 0x40, 0xC1])
+}
+
+/// Whether a character more than there are cells can't be.
+fn too_many_cannot_be(alloc: Global, shadow: &mut Shadow) -> Result<bool, AllocError> {
+    let bytes = followed_by(alloc, &[0x7D, 0x40, 0x40], 0xC1, 1921)?;
+    Ok(contradicts(shadow, bytes.as_slice(), Form::Modified) && knows(shadow, 1919, Cell::Char(0)))
+}
+
+fn as_many_as_cells_can_be(alloc: Global, shadow: &mut Shadow) -> Result<bool, AllocError> {
+    let bytes = followed_by(alloc, &[0x7D, 0x40, 0x40], 0xC1, CELLS)?;
+    Ok(hears(shadow, bytes.as_slice()) && is_unknown(shadow, 1919))
 }
 
 #[test]
 fn a_cleared_screen_is_null_until_it_is_typed_on(rt: HostRuntime) -> Result<(), Fail> {
     let mut shadow = sign_on();
-    assert!(rt; hear(&mut shadow, &[0x6D], Form::Modified) == Some(Ok(())));
     assert!(rt;
-        hear(
-            &mut shadow,
-            &[0x7D, 0x40, 0x40, 0x11, 0x40, 0xC1],
-            Form::Modified
-        ) == Some(Err(HeardFault::NoSuchField))
+        clear_leaves_no_field(&mut shadow)
+            && too_many_cannot_be(rt.alloc(), &mut shadow)?
+            && as_many_as_cells_can_be(rt.alloc(), &mut shadow)?
     );
-    let mut bytes = Vec::new(rt.alloc());
-    bytes.extend_from_slice(&[0x7D, 0x40, 0x40])?;
-    for _ in 0..1921 {
-        bytes.push(0xC1)?;
-    }
-    assert!(rt; hear(&mut shadow, &bytes, Form::Modified) == Some(Err(HeardFault::Contradiction)));
-    assert!(rt; known_at(&shadow, 1919) == Some(Cell::Char(0)));
-    bytes.truncate(1923);
-    assert!(rt; hear(&mut shadow, &bytes, Form::Modified) == Some(Ok(())));
-    assert!(rt; known_at(&shadow, 1919) == None);
     Ok(())
-}
-
-fn is_contradicted(shadow: &mut Shadow, bytes: &[u8], form: Form) -> bool {
-    hear(shadow, bytes, form) == Some(Err(HeardFault::Contradiction))
 }
 
 /// A protected field of three cells with MDT on, and one of one cell that may be typed into.
 fn with_a_protected_field() -> Shadow {
-    let mut shadow = Shadow::blank();
-    take(
-        &mut shadow,
-        &[
-            0xF5, 0xC2, 0x11, 0x40, 0x40, 0x1D, 0x61, 0xC1, 0x00, 0xC2, 0x1D, 0x40, 0xC4, 0x1D,
-            0x60,
-        ],
-    );
-    shadow
+    after(&[
+        0xF5, 0xC2, 0x11, 0x40, 0x40, 0x1D, 0x61, 0xC1, 0x00, 0xC2, 0x1D, 0x40, 0xC4, 0x1D, 0x60,
+    ])
+}
+
+/// It doesn't come, in either long form, or with another text.
+fn it_has_to_come(shadow: &mut Shadow) -> bool {
+    let other = [0x7D, 0x40, 0x40, 0x11, 0x40, 0xC1, 0xC1, 0xC3];
+    contradicts(shadow, &[0x7D, 0x40, 0x40], Form::Modified)
+        && contradicts(shadow, &[0x6C, 0x40, 0x40], Form::All)
+        && contradicts(shadow, &other, Form::Modified)
+}
+
+/// Characters come before it, or it comes twice. An address of no field is looked for before anything else.
+fn it_comes_alone(shadow: &mut Shadow) -> bool {
+    let behind = [0x7D, 0x40, 0x40, 0xC1, 0x11, 0x40, 0xC1, 0xC1, 0xC2];
+    let twice = [
+        0x7D, 0x40, 0x40, 0x11, 0x40, 0xC1, 0xC1, 0xC2, 0x11, 0x40, 0xC1, 0xC1, 0xC2,
+    ];
+    contradicts(shadow, &behind, Form::Modified)
+        && contradicts(shadow, &twice, Form::Modified)
+        && names_no_field(shadow, &[0x7D, 0x40, 0x40, 0xC1, 0x11, 0x40, 0xC3, 0xC1])
+}
+
+fn its_text_is_the_one_that_is_known(shadow: &mut Shadow) -> bool {
+    hears(shadow, &[0x7D, 0x40, 0x40, 0x11, 0x40, 0xC1, 0xC1, 0xC2])
+        && believes(shadow, 0, Fact::Exact, &[0xC1, 0x00, 0xC2])
+        && believes(shadow, 4, Fact::ExactOrNulls, &[0xC4])
 }
 
 #[test]
 fn a_protected_field_that_is_on_comes_with_its_text(rt: HostRuntime) {
     let mut shadow = with_a_protected_field();
-    // it doesn't come, in either long form
-    assert!(rt; is_contradicted(&mut shadow, &[0x7D, 0x40, 0x40], Form::Modified));
-    assert!(rt; is_contradicted(&mut shadow, &[0x6C, 0x40, 0x40], Form::All));
-    // another text
     assert!(rt;
-        is_contradicted(
-            &mut shadow,
-            &[0x7D, 0x40, 0x40, 0x11, 0x40, 0xC1, 0xC1, 0xC3],
-            Form::Modified
-        )
+        it_has_to_come(&mut shadow)
+            && it_comes_alone(&mut shadow)
+            && its_text_is_the_one_that_is_known(&mut shadow)
     );
-    // characters before it
-    assert!(rt;
-        is_contradicted(
-            &mut shadow,
-            &[0x7D, 0x40, 0x40, 0xC1, 0x11, 0x40, 0xC1, 0xC1, 0xC2],
-            Form::Modified
-        )
-    );
-    // twice
-    assert!(rt;
-        is_contradicted(
-            &mut shadow,
-            &[
-                0x7D, 0x40, 0x40, 0x11, 0x40, 0xC1, 0xC1, 0xC2, 0x11, 0x40, 0xC1, 0xC1, 0xC2
-            ],
-            Form::Modified
-        )
-    );
-    // an address of no field is looked for before anything else
-    assert!(rt;
-        hear(
-            &mut shadow,
-            &[0x7D, 0x40, 0x40, 0xC1, 0x11, 0x40, 0xC3, 0xC1],
-            Form::Modified
-        ) == Some(Err(HeardFault::NoSuchField))
-    );
-    assert!(rt;
-        hear(
-            &mut shadow,
-            &[0x7D, 0x40, 0x40, 0x11, 0x40, 0xC1, 0xC1, 0xC2],
-            Form::Modified
-        ) == Some(Ok(()))
-    );
-    assert!(rt; fact_at(&shadow, 0) == Some(Fact::Exact));
-    assert!(rt; has_value(&shadow, 0, &[0xC1, 0x00, 0xC2]));
-    assert!(rt; fact_at(&shadow, 4) == Some(Fact::ExactOrNulls));
-    assert!(rt; has_value(&shadow, 4, &[0xC4]));
+}
+
+fn a_character_is_stored(shadow: &mut Shadow) -> bool {
+    hears(shadow, &[0x6C])
+        && fact_at(shadow, 166) == Some(Fact::Any)
+        && take(shadow, &[0xF1, 0xC2, 0x11, 0xC2, 0xE8, 0xC1])
+        && believes(shadow, 166, Fact::Any, &[])
+        && is_unknown(shadow, 167)
+        && knows(shadow, 168, Cell::Char(0xC1))
+}
+
+/// The whole of the shorter field; and then a cell before the first address: where the write began isn't known.
+fn a_field_is_stored(shadow: &mut Shadow) -> bool {
+    let text = [0xF1, 0xC2, 0x11, 0xC3, 0xF7, 0xC1, 0xC2, 0x00, 0xC3];
+    take(shadow, &text)
+        && believes(shadow, 246, Fact::Exact, &[0xC1, 0xC2, 0x00, 0xC3])
+        && take(shadow, &[0xF1, 0xC2, 0xC1])
+        && has_no_field(shadow, 246)
+        && is_unknown(shadow, 0)
 }
 
 #[test]
 fn a_write_makes_known_what_it_stores(rt: HostRuntime) {
     let mut shadow = sign_on();
-    assert!(rt; hear(&mut shadow, &[0x6C], Form::Modified) == Some(Ok(())));
-    assert!(rt; fact_at(&shadow, 166) == Some(Fact::Any));
-    assert!(rt; take(&mut shadow, &[0xF1, 0xC2, 0x11, 0xC2, 0xE8, 0xC1]));
-    assert!(rt; fact_at(&shadow, 166) == Some(Fact::Any));
-    assert!(rt; known_at(&shadow, 167) == None);
-    assert!(rt; known_at(&shadow, 168) == Some(Cell::Char(0xC1)));
-    assert!(rt; has_value(&shadow, 166, &[]));
-    // the whole of the shorter field
-    assert!(rt;
-        take(
-            &mut shadow,
-            &[0xF1, 0xC2, 0x11, 0xC3, 0xF7, 0xC1, 0xC2, 0x00, 0xC3]
-        )
-    );
-    assert!(rt; fact_at(&shadow, 246) == Some(Fact::Exact));
-    assert!(rt; has_value(&shadow, 246, &[0xC1, 0xC2, 0x00, 0xC3]));
-    // a cell before the first address: where the write began isn't known
-    assert!(rt; take(&mut shadow, &[0xF1, 0xC2, 0xC1]));
-    assert!(rt; fact_at(&shadow, 246) == None);
-    assert!(rt; known_at(&shadow, 0) == None);
+    assert!(rt; a_character_is_stored(&mut shadow) && a_field_is_stored(&mut shadow));
 }

@@ -3,7 +3,7 @@ ghost use Rattle.std.specs.Prelude.{◌≡◌, ◌∷◌, List, length, map};
 ghost use Rattle.std.specs.List.{list_all};
 ghost use Rattle.codes3270.specs.Size.{cell_count};
 ghost use Rattle.datastream.specs.declared.order.Order.{Order as PlainOrder};
-ghost use Rattle.shadow.specs.Heard.{mark_seen as mark_read};
+ghost use Rattle.shadow.specs.Seen.{mark_seen as mark_read};
 ghost use Rattle.shadow.specs.Stores.{is_plain, is_plain_order as is_plain_one, stores, stores_unplaced as any_unplaced};
 ghost use Rattle.shadow.specs.Taken.{new_cell, known_stored, mark_off, resets as resets_marks};
 

@@ -1,6 +1,6 @@
 use Rattle.std.proofs.Common.{arith, ap, sym, ◌∙◌, length, ◌||◌, Bool, ◌+◌, drop}
 use Rattle.std.proofs.lemmas.List.{length-map}
-use Rattle.shadow.specs.Heard.{belief_seen, others}
+use Rattle.shadow.specs.Seen.{belief_seen, others}
 use Rattle.shadow.specs.Held.{belief_of}
 use Rattle.shadow.proofs.Others.{uneven, one_more}
 use Rattle.shadow.proofs.buffer.any_other.Goals as goal

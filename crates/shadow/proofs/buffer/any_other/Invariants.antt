@@ -1,5 +1,5 @@
 use Rattle.std.proofs.Common.{◌≡◌, List, map, drop}
-use Rattle.shadow.specs.Heard.{others, belief_seen}
+use Rattle.shadow.specs.Seen.{others, belief_seen}
 use Rattle.datastream.specs.Fields.{Field}
 use Rattle.shadow.proofs.buffer.any_other.Given as goal
 

@@ -1,5 +1,5 @@
 use Rattle.std.proofs.Common.{◌≡◌, drop}
-use Rattle.shadow.specs.Heard.{differs}
+use Rattle.shadow.specs.Seen.{differs}
 use Rattle.shadow.proofs.buffer.are_others.Given as goal
 
 abbrev pub invariant-loop-char : goal.invariant-loop-char

@@ -1,6 +1,6 @@
 use Rattle.std.proofs.Common.{◌≡◌, ◌<◌, ℕ, List, [], ◌∷◌, length, map, drop, Some, true, ap, sym, arith, ◌∙◌}
 use Rattle.std.proofs.lemmas.List.{drop_more}
-use Rattle.shadow.specs.Heard.{differs}
+use Rattle.shadow.specs.Seen.{differs}
 use Rattle.shadow.proofs.buffer.is_other_text.Goals as goal
 
 too_long : (v rest : List ℕ) (i : ℕ) → i < length v → length rest < 1 → differs (map Some (drop i v)) rest ≡ true

@@ -1,5 +1,5 @@
 use Rattle.std.proofs.Common.{◌≡◌, drop, map, Some}
-use Rattle.shadow.specs.Heard.{differs}
+use Rattle.shadow.specs.Seen.{differs}
 use Rattle.shadow.proofs.buffer.is_other_text.Given as goal
 
 abbrev pub invariant-loop-c : goal.invariant-loop-c

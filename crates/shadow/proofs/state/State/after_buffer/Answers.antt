@@ -2,7 +2,7 @@ use Rattle.std.proofs.Common.{ap, sym, ◌∙◌, Bool, Ok, Err, if◌then◌els
 use Rattle.datastream.specs.InboundFields.{cells_sent}
 use Rattle.shadow.specs.declared.fault.HeardFault.{HeardFault}
 use Rattle.shadow.specs.declared.fault.HeardFault.TheVariants.{Contradiction}
-use Rattle.shadow.specs.Heard.{seen}
+use Rattle.shadow.specs.Seen.{seen}
 use Rattle.shadow.specs.Belief.{Shadow}
 use Rattle.shadow.proofs.Seen.{seen_fresh}
 use Rattle.shadow.proofs.state.State.after_buffer.Goals as goal
