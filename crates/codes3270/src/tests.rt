@@ -1,9 +1,13 @@
 //! The published tables of codes, byte by byte, and each call once on its happy path.
+//!
+//! A helper says of a table whether all of it is right, and the test asserts once: each assertion costs a proof.
 use super::*;
+use std::alloc::{AllocError, Global};
+use std::ops::RangeInclusive;
 use std::test::Fail;
 
 /// The runs of six-bit codes, in the order of their values: the first and the last code of each.
-const SIX_BIT_RUNS: [(u8, u8); 11] = [
+static SIX_BIT_RUNS: [(u8, u8); 11] = [
     (0x40, 0x40),
     (0xC1, 0xC9),
     (0x4A, 0x4F),
@@ -18,7 +22,7 @@ const SIX_BIT_RUNS: [(u8, u8); 11] = [
 ];
 
 /// The runs of program function keys: the number of the first, its code, and the code of the last.
-const PF_RUNS: [(u8, u8, u8); 4] = [
+static PF_RUNS: [(u8, u8, u8); 4] = [
     (1, 0xF1, 0xF9),
     (10, 0x7A, 0x7C),
     (13, 0xC1, 0xC9),
@@ -26,7 +30,7 @@ const PF_RUNS: [(u8, u8, u8); 4] = [
 ];
 
 /// Code page 037 from 40 on, sixteen codes to a row. Python's codec cp037 has the same, and a control at FF.
-const CODE_PAGE_037: [&str; 12] = [
+static CODE_PAGE_037: [&str; 12] = [
     " \u{A0}âäàáãåçñ¢.<(+|",
     "&éêëèíîïìß!$*);¬",
     "-/ÂÄÀÁÃÅÇÑ¦,%_>?",
@@ -42,239 +46,409 @@ const CODE_PAGE_037: [&str; 12] = [
 ];
 
 /// The control codes that a cell can hold.
-const STORED_CONTROLS: [u8; 9] = [0x00, 0x0C, 0x0D, 0x15, 0x19, 0x1C, 0x1E, 0x3F, 0xFF];
+static STORED_CONTROLS: [u8; 9] = [0x00, 0x0C, 0x0D, 0x15, 0x19, 0x1C, 0x1E, 0x3F, 0xFF];
 
-#[test]
-fn each_six_bit_value_has_its_code(rt: HostRuntime) -> Result<(), Fail> {
+/// Says whether the address with this number is written as these bytes.
+fn is_written_as(number: u16, bytes: [u8; 2]) -> bool {
+    match Addr::new(number) {
+        Some(addr) => addr_to_bytes(addr) == bytes,
+        None => false,
+    }
+}
+
+/// Says whether the bytes are read as the address with this number.
+fn is_read_as(bytes: [u8; 2], number: u16) -> bool {
+    match (addr_from_bytes(bytes), Addr::new(number)) {
+        (Ok(read), Some(addr)) => read == addr && addr.get() == number,
+        _ => false,
+    }
+}
+
+/// Says whether the code is the value's, as the low six bits of an address, and as the high ones where there is one.
+fn is_code_of(value: u8, code: u8) -> bool {
+    let high = u16::from(value) * 64;
+    is_written_as(u16::from(value), [0x40, code])
+        && (Addr::new(high).is_none() || is_written_as(high, [code, 0x40]))
+}
+
+/// Says whether the runs are the codes of the values from 0 to 63.
+fn runs_agree() -> bool {
     let mut values = 0..64;
-    for (first, last) in SIX_BIT_RUNS {
-        for code in first..=last {
-            let value = values.next().ok_or("more than 64 codes")?;
-            let low = Addr::new(value).ok_or("not an address")?;
-            assert_eq!(rt;
-                addr_to_bytes(low),
-                [0x40, code],
-                "the low six bits {value}"
-            );
-            if let Some(high) = Addr::new(value * 64) {
-                assert_eq!(rt;
-                    addr_to_bytes(high),
-                    [code, 0x40],
-                    "the high six bits {value}"
-                );
+    for (first, last) in &SIX_BIT_RUNS {
+        for code in *first..=*last {
+            let Some(value) = values.next() else {
+                return false;
+            };
+            if !is_code_of(value, code) {
+                return false;
             }
         }
     }
-    assert_eq!(rt; values.next(), None);
-    Ok(())
+    values.next().is_none()
 }
 
 #[test]
-fn addresses_are_written_and_read(rt: HostRuntime) -> Result<(), Fail> {
-    for (number, bytes) in [
-        (0, [0x40, 0x40]),
-        (79, [0xC1, 0x4F]),
-        (80, [0xC1, 0x50]),
-        (1919, [0x5D, 0x7F]),
-    ] {
-        let addr = Addr::new(number).ok_or("not an address")?;
-        assert_eq!(rt; addr.get(), number);
-        assert_eq!(rt; addr_to_bytes(addr), bytes, "{number} written");
-        assert_eq!(rt; addr_from_bytes(bytes), Ok(addr), "{number} read");
+fn each_six_bit_value_has_its_code(rt: HostRuntime) {
+    assert!(rt; runs_agree());
+}
+
+static ADDRESSES: [(u16, [u8; 2]); 4] = [
+    (0, [0x40, 0x40]),
+    (79, [0xC1, 0x4F]),
+    (80, [0xC1, 0x50]),
+    (1919, [0x5D, 0x7F]),
+];
+
+/// Bytes that are read, of fourteen bits or with other codes, and nobody writes.
+static OTHER_ADDRESSES: [([u8; 2], u16); 6] = [
+    ([0x07, 0x7F], 1919),
+    ([0x00, 0x00], 0),
+    ([0x01, 0x40], 320),
+    ([0x80, 0x81], 1),
+    ([0xC0, 0xC1], 1),
+    ([0xDD, 0xFF], 1919),
+];
+
+static NO_ADDRESSES: [[u8; 2]; 4] = [[0x5E, 0x40], [0x07, 0x80], [0x3F, 0xFF], [0x7F, 0x7F]];
+
+fn addresses_agree() -> bool {
+    for (number, bytes) in &ADDRESSES {
+        if !(is_written_as(*number, *bytes) && is_read_as(*bytes, *number)) {
+            return false;
+        }
     }
-    for (bytes, number) in [
-        ([0x07, 0x7F], 1919),
-        ([0x00, 0x00], 0),
-        ([0x01, 0x40], 320),
-        ([0x80, 0x81], 1),
-        ([0xC0, 0xC1], 1),
-        ([0xDD, 0xFF], 1919),
-    ] {
-        let addr = Addr::new(number).ok_or("not an address")?;
-        assert_eq!(rt; addr_from_bytes(bytes), Ok(addr), "{number} read");
+    true
+}
+
+fn other_addresses_are_read() -> bool {
+    for (bytes, number) in &OTHER_ADDRESSES {
+        if !is_read_as(*bytes, *number) {
+            return false;
+        }
     }
-    for bytes in [[0x5E, 0x40], [0x07, 0x80], [0x3F, 0xFF], [0x7F, 0x7F]] {
-        assert_eq!(rt;
-            addr_from_bytes(bytes),
-            Err(AddrFault::TooLarge),
-            "{bytes:?}"
-        );
+    true
+}
+
+fn no_addresses_are_refused() -> bool {
+    for bytes in &NO_ADDRESSES {
+        if addr_from_bytes(*bytes) != Err(AddrFault::TooLarge) {
+            return false;
+        }
     }
-    assert_eq!(rt; Addr::new(1920), None);
-    let fault = AddrFault::TooLarge;
-    assert_eq!(rt;
-        format!(in rt.alloc(); "{fault}")?.as_str(),
-        "address beyond the screen"
-    );
-    Ok(())
+    Addr::new(1920).is_none()
+}
+
+fn fault_is_printed(alloc: Global) -> Result<bool, AllocError> {
+    let printed = format!(in alloc; "{}", AddrFault::TooLarge)?;
+    Ok(printed.as_str() == "address beyond the screen")
+}
+
+#[test]
+fn addresses_are_written_and_read(rt: HostRuntime) {
+    assert!(rt; addresses_agree(), "written and read");
+    assert!(rt; other_addresses_are_read(), "read");
+    assert!(rt; no_addresses_are_refused(), "refused");
+    assert_eq!(rt; fault_is_printed(rt.alloc()), Ok(true));
+}
+
+fn goes_forward(last: Addr) -> bool {
+    Addr::first().get() == 0
+        && Addr::first().next().get() == 1
+        && last.next().get() == 0
+        && last.forward(80).get() == 79
+        && last.forward(1920).get() == 1919
+}
+
+fn goes_backward(last: Addr) -> bool {
+    last.backward(80).get() == 1839
+        && Addr::first().backward(1).get() == 1919
+        && Addr::first().backward(1920).get() == 0
 }
 
 #[test]
 fn addresses_go_round_the_screen(rt: HostRuntime) -> Result<(), Fail> {
-    assert_eq!(rt; (ROWS, COLUMNS, CELLS), (24, 80, 1920));
     size_laws();
     code_laws();
     let last = Addr::new(1919).ok_or("not an address")?;
-    assert_eq!(rt; Addr::first().get(), 0);
-    assert_eq!(rt; Addr::first().next().get(), 1);
-    assert_eq!(rt; last.next().get(), 0);
-    assert_eq!(rt; last.forward(80).get(), 79);
-    assert_eq!(rt; last.forward(1920).get(), 1919);
-    assert_eq!(rt; last.backward(80).get(), 1839);
-    assert_eq!(rt; Addr::first().backward(1).get(), 1919);
-    assert_eq!(rt; Addr::first().backward(1920).get(), 0);
+    assert!(rt; ROWS == 24 && COLUMNS == 80 && CELLS == 1920);
+    assert!(rt; goes_forward(last) && goes_backward(last));
     Ok(())
+}
+
+/// Attributes by their codes: protected, numeric, display, modified data tag.
+static ATTRIBUTES: [(u8, bool, bool, Display, bool); 10] = [
+    (0x40, false, false, Display::Normal, false),
+    (0xC1, false, false, Display::Normal, true),
+    (0xC4, false, false, Display::Detectable, false),
+    (0xC8, false, false, Display::Bright, false),
+    (0x4C, false, false, Display::Hidden, false),
+    (0x50, false, true, Display::Normal, false),
+    (0x60, true, false, Display::Normal, false),
+    (0xF0, true, true, Display::Normal, false),
+    (0xF8, true, true, Display::Bright, false),
+    (0x7D, true, true, Display::Hidden, true),
+];
+
+fn attribute_agrees(code: u8, attr: Attr) -> bool {
+    attr_code(attr) == code && Attr::from_code(code) == attr && attr.with_mdt(attr.mdt) == attr
+}
+
+/// Says whether each question is answered by the fields.
+fn answers_agree(attr: Attr) -> bool {
+    attr.protected() == attr.protected
+        && attr.numeric() == attr.numeric
+        && attr.mdt() == attr.mdt
+        && attr.autoskip() == (attr.protected && attr.numeric)
+        && attr.bright() == (attr.display == Display::Bright)
+        && attr.hidden() == (attr.display == Display::Hidden)
+}
+
+fn attributes_agree() -> bool {
+    for (code, protected, numeric, display, mdt) in &ATTRIBUTES {
+        let attr = Attr {
+            protected: *protected,
+            numeric: *numeric,
+            display: *display,
+            mdt: *mdt,
+        };
+        if !(attribute_agrees(*code, attr) && answers_agree(attr)) {
+            return false;
+        }
+    }
+    true
+}
+
+fn tags_are_changed() -> bool {
+    attr_code(Attr::from_code(0x40).with_mdt(true)) == 0xC1
+        && attr_code(Attr::from_code(0xC1).with_mdt(false)) == 0x40
 }
 
 #[test]
 fn attributes_have_their_codes(rt: HostRuntime) {
-    use Display::{Bright, Detectable, Hidden, Normal};
-    for (code, protected, numeric, display, mdt) in [
-        (0x40, false, false, Normal, false),
-        (0xC1, false, false, Normal, true),
-        (0xC4, false, false, Detectable, false),
-        (0xC8, false, false, Bright, false),
-        (0x4C, false, false, Hidden, false),
-        (0x50, false, true, Normal, false),
-        (0x60, true, false, Normal, false),
-        (0xF0, true, true, Normal, false),
-        (0xF8, true, true, Bright, false),
-        (0x7D, true, true, Hidden, true),
-    ] {
-        let attr = Attr {
-            protected,
-            numeric,
-            display,
-            mdt,
-        };
-        assert_eq!(rt; attr_code(attr), code, "{attr:?}");
-        assert_eq!(rt; Attr::from_code(code), attr, "{code:x}");
-        assert_eq!(rt;
-            (attr.protected(), attr.numeric(), attr.mdt()),
-            (protected, numeric, mdt)
-        );
-        assert_eq!(rt; attr.autoskip(), protected && numeric, "{attr:?}");
-        assert_eq!(rt;
-            (attr.bright(), attr.hidden()),
-            (display == Bright, display == Hidden)
-        );
-        assert_eq!(rt; attr.with_mdt(mdt), attr);
+    assert!(rt; attributes_agree() && tags_are_changed());
+}
+
+/// Bytes that are read as an attribute, and the code that it is written as.
+static OTHER_BITS: [(u8, u8); 7] = [
+    (0xE0, 0x60),
+    (0x20, 0x60),
+    (0xA2, 0x60),
+    (0x00, 0x40),
+    (0xC2, 0x40),
+    (0x1D, 0x5D),
+    (0xFF, 0x7D),
+];
+
+fn other_bits_are_dropped() -> bool {
+    for (byte, written) in &OTHER_BITS {
+        if attr_code(Attr::from_code(*byte)) != *written {
+            return false;
+        }
     }
-    assert_eq!(rt; attr_code(Attr::from_code(0x40).with_mdt(true)), 0xC1);
-    assert_eq!(rt; attr_code(Attr::from_code(0xC1).with_mdt(false)), 0x40);
+    true
 }
 
 #[test]
 fn other_bits_of_an_attribute_are_dropped(rt: HostRuntime) {
-    for (byte, written) in [
-        (0xE0, 0x60),
-        (0x20, 0x60),
-        (0xA2, 0x60),
-        (0x00, 0x40),
-        (0xC2, 0x40),
-        (0x1D, 0x5D),
-        (0xFF, 0x7D),
-    ] {
-        assert_eq!(rt; attr_code(Attr::from_code(byte)), written, "{byte:x}");
+    assert!(rt; other_bits_are_dropped());
+}
+
+/// Write control characters by their bytes: alarm, restore, reset.
+static WRITE_CONTROLS: [(u8, bool, bool, bool); 6] = [
+    (0x40, false, false, false),
+    (0xC1, false, false, true),
+    (0xC2, false, true, false),
+    (0xC3, false, true, true),
+    (0xC4, true, false, false),
+    (0xC7, true, true, true),
+];
+
+fn write_control_agrees(byte: u8, wcc: Wcc) -> bool {
+    wcc.byte() == byte
+        && Wcc::from_byte(byte) == wcc
+        && wcc.alarm() == wcc.alarm
+        && wcc.restore() == wcc.restore
+        && wcc.reset() == wcc.reset
+}
+
+fn write_controls_agree() -> bool {
+    for (byte, alarm, restore, reset) in &WRITE_CONTROLS {
+        let wcc = Wcc {
+            alarm: *alarm,
+            restore: *restore,
+            reset: *reset,
+        };
+        if !write_control_agrees(*byte, wcc) {
+            return false;
+        }
     }
+    true
+}
+
+fn other_bits_of_a_write_control_are_dropped() -> bool {
+    Wcc::from_byte(0xF8).byte() == 0x40
+        && Wcc::from_byte(0x03).byte() == 0xC3
+        && Wcc::from_byte(0xFF).byte() == 0xC7
 }
 
 #[test]
 fn write_control_characters_have_their_codes(rt: HostRuntime) {
-    for (byte, alarm, restore, reset) in [
-        (0x40, false, false, false),
-        (0xC1, false, false, true),
-        (0xC2, false, true, false),
-        (0xC3, false, true, true),
-        (0xC4, true, false, false),
-        (0xC7, true, true, true),
-    ] {
-        let wcc = Wcc {
-            alarm,
-            restore,
-            reset,
-        };
-        assert_eq!(rt; wcc.byte(), byte, "{wcc:?}");
-        assert_eq!(rt; Wcc::from_byte(byte), wcc, "{byte:x}");
-        assert_eq!(rt;
-            (wcc.alarm(), wcc.restore(), wcc.reset()),
-            (alarm, restore, reset)
-        );
-    }
-    for (byte, written) in [(0xF8, 0x40), (0x03, 0xC3), (0xFF, 0xC7)] {
-        assert_eq!(rt; Wcc::from_byte(byte).byte(), written, "{byte:x}");
+    assert!(rt; write_controls_agree() && other_bits_of_a_write_control_are_dropped());
+}
+
+fn is_read_as_aid(byte: u8, aid: &Aid) -> bool {
+    match aid_from_byte(byte) {
+        Some(read) => read == *aid,
+        None => false,
     }
 }
 
-#[test]
-fn attention_identifiers_have_their_bytes(rt: HostRuntime) -> Result<(), Fail> {
-    for (byte, aid, is_short) in [
-        (0x60, Aid::NoAid, false),
-        (0x7D, Aid::Enter, false),
-        (0x6D, Aid::Clear, true),
-    ] {
-        assert_eq!(rt; aid_byte(aid), byte, "{aid:?}");
-        assert_eq!(rt; aid_from_byte(byte), Some(aid), "{byte:x}");
-        assert_eq!(rt; aid.is_short(), is_short, "{aid:?}");
+fn aid_agrees(byte: u8, aid: &Aid, is_short: bool) -> bool {
+    is_read_as_aid(byte, aid) && aid_byte(*aid) == byte && (*aid).is_short() == is_short
+}
+
+fn pf_agrees(number: u8, byte: u8) -> bool {
+    match PfNo::new(number) {
+        Some(key) => key.get() == number && aid_agrees(byte, &Aid::Pf(key), false),
+        None => false,
     }
-    for (first, low, high) in PF_RUNS {
-        for (number, byte) in (first..=24).zip(low..=high) {
-            let key = PfNo::new(number).ok_or("no such key")?;
-            assert_eq!(rt; key.get(), number);
-            assert_eq!(rt; aid_byte(Aid::Pf(key)), byte, "PF{number}");
-            assert_eq!(rt; aid_from_byte(byte), Some(Aid::Pf(key)), "{byte:x}");
-            assert!(rt; !Aid::Pf(key).is_short(), "PF{number}");
+}
+
+fn pa_agrees(number: u8, byte: u8) -> bool {
+    match PaNo::new(number) {
+        Some(key) => key.get() == number && aid_agrees(byte, &Aid::Pa(key), true),
+        None => false,
+    }
+}
+
+/// Says whether the codes are those of the keys with the next numbers.
+fn pf_run_agrees(numbers: RangeInclusive<u8>, low: u8, high: u8) -> bool {
+    let mut numbers = numbers;
+    for byte in low..=high {
+        let Some(number) = numbers.next() else {
+            return false;
+        };
+        if !pf_agrees(number, byte) {
+            return false;
         }
     }
-    for (number, byte) in [(1, 0x6C), (2, 0x6E), (3, 0x6B)] {
-        let key = PaNo::new(number).ok_or("no such key")?;
-        assert_eq!(rt; key.get(), number);
-        assert_eq!(rt; aid_byte(Aid::Pa(key)), byte, "PA{number}");
-        assert_eq!(rt; aid_from_byte(byte), Some(Aid::Pa(key)), "{byte:x}");
-        assert!(rt; Aid::Pa(key).is_short(), "PA{number}");
+    true
+}
+
+fn pf_runs_agree() -> bool {
+    for (first, low, high) in &PF_RUNS {
+        if !pf_run_agrees(*first..=24, *low, *high) {
+            return false;
+        }
     }
-    assert_eq!(rt;
-        (0..=255)
-            .filter(|byte| aid_from_byte(*byte).is_some())
-            .count(),
-        30
+    true
+}
+
+/// Says whether as many bytes as this are identifiers.
+fn identifiers_number(count: u8) -> bool {
+    let mut numbers = 0..count;
+    for byte in 0..=255 {
+        if aid_from_byte(byte).is_some() && numbers.next().is_none() {
+            return false;
+        }
+    }
+    numbers.next().is_none()
+}
+
+fn other_numbers_have_no_key() -> bool {
+    PfNo::new(0).is_none()
+        && PfNo::new(25).is_none()
+        && PfNo::new(255).is_none()
+        && PaNo::new(0).is_none()
+        && PaNo::new(4).is_none()
+        && PaNo::new(255).is_none()
+}
+
+fn keys_without_number_agree() -> bool {
+    aid_agrees(0x60, &Aid::NoAid, false)
+        && aid_agrees(0x7D, &Aid::Enter, false)
+        && aid_agrees(0x6D, &Aid::Clear, true)
+}
+
+#[test]
+fn attention_identifiers_have_their_bytes(rt: HostRuntime) {
+    assert!(rt; keys_without_number_agree(), "no key, Enter, Clear");
+    assert!(rt; pf_runs_agree(), "PF1 to PF24");
+    assert!(rt;
+        pa_agrees(1, 0x6C) && pa_agrees(2, 0x6E) && pa_agrees(3, 0x6B),
+        "PA1 to PA3"
     );
-    for number in [0, 25, 255] {
-        assert_eq!(rt; PfNo::new(number), None, "PF{number}");
+    assert!(rt;
+        identifiers_number(30) && other_numbers_have_no_key(),
+        "no others"
+    );
+}
+
+/// Says whether a cell holds the listed bytes, as many as this.
+fn listed_bytes_are_held(count: u8) -> bool {
+    let mut numbers = 0..count;
+    for byte in 0..=255 {
+        let listed = STORED_CONTROLS.contains(&byte) || (0x40..=0xFE).contains(&byte);
+        if storable(byte) != listed || listed && numbers.next().is_none() {
+            return false;
+        }
     }
-    for number in [0, 4, 255] {
-        assert_eq!(rt; PaNo::new(number), None, "PA{number}");
-    }
-    Ok(())
+    numbers.next().is_none()
 }
 
 #[test]
 fn cells_hold_the_listed_bytes(rt: HostRuntime) {
-    for byte in 0..=255 {
-        let listed = STORED_CONTROLS.contains(&byte) || (0x40..=0xFE).contains(&byte);
-        assert_eq!(rt; storable(byte), listed, "{byte:x}");
+    assert!(rt; listed_bytes_are_held(200));
+}
+
+fn character_agrees(code: u8, character: char) -> bool {
+    to_latin1(code) == Some(character) && from_latin1(character) == Some(code)
+}
+
+/// Says whether the rows are the characters of the codes from 40 to FE.
+fn rows_agree() -> bool {
+    let mut codes = 0x40..=0xFE;
+    for row in &CODE_PAGE_037 {
+        for character in row.chars() {
+            let Some(code) = codes.next() else {
+                return false;
+            };
+            if !character_agrees(code, character) {
+                return false;
+            }
+        }
     }
-    assert_eq!(rt; (0..=255).filter(|byte| storable(*byte)).count(), 200);
+    codes.next().is_none()
+}
+
+fn controls_have_no_character() -> bool {
+    for code in 0x00..0x40 {
+        if to_latin1(code).is_some() {
+            return false;
+        }
+    }
+    to_latin1(0xFF).is_none()
+}
+
+/// Characters that no code has.
+static OTHER_CHARACTERS: [char; 7] = [
+    '\0', '\n', '\u{7F}', '\u{85}', '\u{9F}', '\u{100}', '\u{20AC}',
+];
+
+fn other_characters_have_no_code() -> bool {
+    for character in &OTHER_CHARACTERS {
+        if from_latin1(*character).is_some() {
+            return false;
+        }
+    }
+    true
 }
 
 #[test]
-fn the_code_page_is_the_published_one(rt: HostRuntime) -> Result<(), Fail> {
-    let mut codes = 0x40..=0xFE;
-    for row in CODE_PAGE_037 {
-        for character in row.chars() {
-            let code = codes.next().ok_or("more than 191 characters")?;
-            assert_eq!(rt; to_latin1(code), Some(character), "{code:x}");
-            assert_eq!(rt; from_latin1(character), Some(code), "{character}");
-        }
-    }
-    assert_eq!(rt; codes.next(), None);
-    for code in (0x00..0x40).chain(0xFF..=0xFF) {
-        assert_eq!(rt; to_latin1(code), None, "{code:x}");
-    }
-    for character in [
-        '\0', '\n', '\u{7F}', '\u{85}', '\u{9F}', '\u{100}', '\u{20AC}',
-    ] {
-        assert_eq!(rt; from_latin1(character), None, "{character:?}");
-    }
-    Ok(())
+fn the_code_page_is_the_published_one(rt: HostRuntime) {
+    assert!(rt; rows_agree(), "the rows");
+    assert!(rt;
+        controls_have_no_character() && other_characters_have_no_code(),
+        "no others"
+    );
 }
