@@ -1,4 +1,4 @@
--- Characters as the host's codes.
+-- Characters as the host's codes (our profile; code page 037).
 use Rattle.std.specs.Prelude.{ℕ, ◌==◌, ◌&&◌, not, Bool, IsTrue, List, All, filter_map}
 use Rattle.codes3270.specs.CodePage.{code_of}
 use Rattle.codes3270.specs.Storable.{is_storable}

@@ -1,4 +1,4 @@
--- The panels that a tree defines.
+-- The panels that a tree defines (our profile).
 use Rattle.std.specs.Prelude.{◌≡◌, codes, ℕ, ◌+◌, List, [], ◌∷◌, length, Option, Some, None, option_and_then, slice_get, string_bytes, IsTrue, IsFalse}
 use Rattle.codes3270.specs.declared.attention.Aid.{Aid}
 use Rattle.toml.specs.Data.{Members}

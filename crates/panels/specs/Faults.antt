@@ -1,4 +1,4 @@
--- What is wrong with a panel text, and where.
+-- What is wrong with a panel text, and where (our profile).
 use Rattle.std.specs.Prelude.{◌≡◌, codes, ℕ, ◌<◌, ◌==◌, nat_lt, Bool, true, false, not, ◌&&◌, ◌||◌, ◌⊎◌, List, [], ◌∷◌, Option, Some, None, option_and_then, IsTrue, ℤ, Contains, if◌then◌else◌}
 use Rattle.std.specs.List.{list_any}
 use Rattle.toml.specs.Data.{Items, no_items, item, Members, get_member, as_array}

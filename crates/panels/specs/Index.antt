@@ -1,4 +1,4 @@
--- Where each name of a panel text stands first.
+-- Where each name of a panel text stands first (our profile; only for the contracts of private functions).
 use Rattle.std.specs.Prelude.{◌≡◌, ◌≢◌, codes, ℕ, List, Option, Some, None, is_none, ◌⊎◌, Bool, false, bytes_eq, if◌then◌else◌}
 use Rattle.std.specs.Option.{option_or}
 use Rattle.std.specs.BTreeMap.{get_by_text}

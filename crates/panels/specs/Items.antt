@@ -1,4 +1,4 @@
--- Names and items of a panel text.
+-- Names and items of a panel text (our profile).
 use Rattle.std.specs.Prelude.{codes, ℕ, ◌==◌, ℤ, pos, ◌+ℤ◌, ◌-ℤ◌, ◌*ℤ◌, ◌≤ℤ◌, int_le, Bool, false, ◌&&◌, ◌||◌, List, [], length, Option, Some, None, is_none, unwrap_or, chars}
 use Rattle.std.specs.List.{list_any, list_all}
 use Rattle.std.specs.Int.{is_in_range}

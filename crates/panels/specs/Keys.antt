@@ -1,4 +1,4 @@
--- The keys that a panel names targets for.
+-- The keys that a panel names targets for (our profile).
 use Rattle.std.specs.Prelude.{codes, ℕ, ◌+◌, ◌≤◌, Bool, List, [], ◌∷◌, Option, Some, None, option_and_then, slice_get, bytes_eq}
 use Rattle.std.specs.List.{list_any}
 use Rattle.codes3270.specs.declared.attention.Aid.{Aid}

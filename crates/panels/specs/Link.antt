@@ -1,4 +1,4 @@
--- The numbers and indexes that names stand for.
+-- The numbers and indexes that names stand for (our profile; only for the contracts of private functions).
 use Rattle.std.specs.Prelude.{◌≡◌, codes, ℕ, ◌+◌, ◌^◌, ◌<◌, List, length, Option, Some, slice_get, slice_index_or}
 use Rattle.toml.specs.Data.{Members}
 use Rattle.panels.specs.declared.part.Part.{Part}

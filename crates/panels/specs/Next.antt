@@ -1,4 +1,4 @@
--- Where the keys lead.
+-- Where the keys lead (our profile).
 use Rattle.std.specs.Prelude.{ℕ, Option, Some, None}
 use Rattle.codes3270.specs.declared.attention.Aid.{Aid}
 use Rattle.panels.specs.declared.next.Next.{Next}

@@ -1,4 +1,4 @@
--- What reading a panel text answers.
+-- What reading a panel text answers (our profile).
 use Rattle.std.specs.Prelude.{◌≡◌, ℕ, ◌<◌, List, Contains, None, Some}
 use Rattle.toml.specs.Data.{Members}
 use Rattle.toml.specs.Parse.{parse_document}

@@ -1,4 +1,4 @@
--- Lists of the parts of a panel text.
+-- Lists of the parts of a panel text (our profile; only for the contracts of private functions).
 use Rattle.std.specs.Prelude.{◌≡◌, ℕ, ◌<◌, List, Contains, IsSome}
 use Rattle.toml.specs.Data.{Members}
 use Rattle.panels.specs.declared.part.Part.{Part}

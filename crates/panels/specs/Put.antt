@@ -1,4 +1,4 @@
--- What is put on a wanted screen, one thing over another.
+-- What is put on a wanted screen, one thing over another (our profile; only for the contracts of private functions).
 use Rattle.std.specs.Prelude.{◌≡◌, codes, ℕ, ◌<◌, List, [], ◌++◌, Option, Some, None, unwrap_or, slice_index_or, string_bytes}
 use Rattle.std.specs.Option.{option_map_or}
 use Rattle.codes3270.specs.Size.{cell_count}

@@ -32,7 +32,7 @@ distance_in extent cell = if is_in_range extent.first (extent.first + extent.len
 abbrev pub item_cell : Attr → List ℕ → ℕ → Want
 item_cell attr content distance = if distance == 0 then want.Attr attr else want.Char (slice_index_or content (distance - 1) 0)
 
--- protected and numeric: the cursor skips it
+-- protected and numeric: the cursor skips it (GA23-0059-07 on field attributes)
 abbrev pub autoskip_attr : Bool → Attr
 autoskip_attr bright = record { protected = true; numeric = true; display = (if bright then Bright else Normal); mdt = false }
 

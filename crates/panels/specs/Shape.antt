@@ -1,4 +1,4 @@
--- Which keys each table has, and the types of their values.
+-- Which keys each table has, and the types of their values (our profile).
 use Rattle.std.specs.Prelude.{codes, ℕ, Bool, true, false, not, ◌&&◌, List, [], ◌∷◌, Option, Some, None, is_some, bytes_eq, if◌then◌else◌}
 use Rattle.std.specs.List.{list_any}
 use Rattle.std.specs.Option.{option_map_or}

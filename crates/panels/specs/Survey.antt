@@ -1,4 +1,4 @@
--- What is gathered of a panel text before its faults are looked for.
+-- What is gathered of a panel text before its faults are looked for (our profile).
 use Rattle.std.specs.Prelude.{◌≡◌, codes, ℕ, ◌+◌, nat_le, pos, Bool, true, false, ◌&&◌, ◌||◌, List, length, take, Option, Some, None, MatchOption, slice_get}
 use Rattle.std.specs.List.{list_any}
 use Rattle.toml.specs.Data.{Members}

@@ -1,4 +1,4 @@
--- The tables of a panel text, and what stands at their keys.
+-- The tables of a panel text, and what stands at their keys (our profile).
 use Rattle.std.specs.Prelude.{codes, ℕ, zero, suc, ◌+◌, ℤ, Bool, List, [], ◌∷◌, Option, Some, None, option_and_then, unwrap_or}
 use Rattle.std.specs.Option.{option_map_or}
 use Rattle.toml.specs.Data as tree
