@@ -1,4 +1,4 @@
--- What a decoder holds between two bytes, and what a byte makes of it.
+-- What a decoder holds between two bytes, and what a byte makes of it (our profile).
 use Rattle.std.specs.Prelude.{◌≡◌, ℕ, Bool, true, false, List, [], ◌∷◌, ◌++◌, Option, None, Some}
 use Rattle.std.specs.Option.{option_to_list}
 use Rattle.telnet_wire.specs.declared.wire.Step.{Step}

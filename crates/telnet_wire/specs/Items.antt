@@ -1,11 +1,13 @@
--- What a list of tokens says: its items, and the data of the record that isn't finished.
+-- What a list of tokens says: its items, and the data of the record that isn't finished. Records are those of RFC 885; that
+-- a subnegotiation is one item, and commands don't end a record, is our profile.
 use Rattle.std.specs.Prelude.{ℕ, ◌≤◌, List, [], ◌∷◌, ◌++◌, length, map}
 use Rattle.telnet_wire.specs.declared.wire.Verb.{Verb}
 use Rattle.telnet_wire.specs.declared.wire.Item.{Item}
 use Rattle.telnet_wire.specs.declared.wire.Item.TheVariants as lent
 use Rattle.telnet_wire.specs.Token.{Token, Data, End, Opt as OptToken, Sub as SubToken, Other as OtherToken, IsOtherCode}
 
--- What a stream hands out: a whole record, an option's negotiation, a subnegotiation, or another command (RFC 854, 885).
+-- What a stream hands out: a whole record (RFC 885), an option's negotiation or a subnegotiation (RFC 855), or another
+-- command (RFC 854, "TELNET Command Structure").
 pub data WireItem : Type 0 where
   Record : List ℕ → WireItem
   Opt : Verb → ℕ → WireItem

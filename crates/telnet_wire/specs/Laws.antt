@@ -1,4 +1,5 @@
--- A stream is read in one way, however it is cut into pieces, and goes wrong in one.
+-- A stream is read in one way, however it is cut into pieces, and goes wrong in one: laws about the definitions of Token,
+-- Items, Reading and Held (our profile).
 use Rattle.std.specs.Prelude.{◌≡◌, ℕ, List, [], ◌∷◌, ◌++◌}
 use Rattle.std.specs.List.{AllByRecursion, flat_map}
 use Rattle.telnet_wire.specs.declared.wire.WireFault.{WireFault}

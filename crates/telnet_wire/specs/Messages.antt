@@ -1,4 +1,4 @@
--- What `{}` prints of a fault.
+-- What `{}` prints of a fault (our profile).
 use Rattle.std.specs.Prelude.{ℕ, List, codes}
 use Rattle.telnet_wire.specs.declared.wire.WireFault.{WireFault}
 use Rattle.telnet_wire.specs.declared.wire.WireFault.TheVariants.{TooLong, BadSub, Memory, Failed}

@@ -1,4 +1,4 @@
--- What a decoder's place and buffers stand for.
+-- What a decoder's place and buffers stand for (our profile). Only private contracts and the decoder's view speak of it.
 use Rattle.std.specs.Prelude.{◌≡◌, ℕ, ◌≤◌, Bool, true, false, List, [], ◌∷◌, ◌++◌, length, Option, None, Some}
 use Rattle.telnet_wire.specs.declared.decoding.Place.{Place}
 use Rattle.telnet_wire.specs.declared.decoding.Place.TheVariants.{Done, AfterIac, AfterVerb, InSub, AfterIacInSub, Failed}

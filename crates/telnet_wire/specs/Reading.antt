@@ -1,5 +1,5 @@
--- How a stream is read: its tokens, its items and its rest, and where it goes wrong. It speaks of whole texts, never of
--- a state between two bytes.
+-- How a stream is read: its tokens, its items and its rest, and where it goes wrong (the tokens: RFC 854, 855 and 885, in
+-- Token; the limits and faults: our profile). It speaks of whole texts, never of a state between two bytes.
 use Rattle.std.specs.Prelude.{◌≡◌, ◌≢◌, ℕ, ◌≤◌, ◌⊎◌, List, [], ◌∷◌, ◌++◌, length}
 use Rattle.std.specs.List.{AllByRecursion}
 use Rattle.telnet_wire.specs.declared.wire.WireFault.{WireFault}
@@ -37,8 +37,8 @@ pub record Delivers (limit : ℕ) (from : Rest) (bytes : List ℕ) (items : List
   pub is_rest : IsRest limit to
   pub said : items ≡ items_after from.unfinished tokens
 
--- A rest that is wrong at its last byte, and at no byte before (our profile; RFC 854 and 855 give no limits and don't
--- say what a command inside a subnegotiation means). TooLong: one byte of data more than a record may have, or byte 257
+-- A rest that is wrong at its last byte, and at no byte before (our profile: RFC 854 and 855 give no limits, and RFC 855
+-- doesn't say what a command inside a subnegotiation means). TooLong: one byte of data more than a record may have, or byte 257
 -- of a subnegotiation, with the second byte of its spelling where it is 255. BadSub: inside a subnegotiation, a byte
 -- behind IAC that is neither IAC nor SE.
 abbrev pub IsWrong : ℕ → Rest → WireFault → Type 0

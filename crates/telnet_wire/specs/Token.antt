@@ -4,8 +4,8 @@ use Rattle.std.specs.List.{flat_map}
 use Rattle.telnet_wire.specs.declared.wire.Verb.{Verb}
 use Rattle.telnet_wire.specs.declared.wire.Verb.TheVariants.{Will, Wont, Do, Dont}
 
--- What a stream is made of (RFC 854, "TELNET Command Structure"; RFC 885 for End): a byte of data, the end of a record,
--- the negotiation of an option, a subnegotiation with its bytes, or any other command by its code.
+-- What a stream is made of (RFC 854, "TELNET Command Structure"): a byte of data, the end of a record (RFC 885), the
+-- negotiation of an option, a subnegotiation with its bytes (both RFC 855), or any other command by its code.
 pub data Token : Type 0 where
   Data : ℕ → Token
   End : Token
@@ -18,14 +18,14 @@ pub data Token : Type 0 where
 abbrev pub escaped : ℕ → List ℕ
 escaped byte = if byte == 255 then 255 ∷ 255 ∷ [] else byte ∷ []
 
--- WILL, WONT, DO and DONT (RFC 854, "TELNET Command Structure").
+-- WILL, WONT, DO and DONT (RFC 854, "TELNET Command Structure"; RFC 855 on options).
 abbrev pub code_of : Verb → ℕ
 code_of Will = 251
 code_of Wont = 252
 code_of Do = 253
 code_of Dont = 254
 
--- A subnegotiation without its end: IAC SB and the escaped bytes (RFC 855).
+-- A subnegotiation without its end: IAC SB and the escaped bytes, the option's code first (RFC 855 on subnegotiation).
 abbrev pub opened : List ℕ → List ℕ
 opened bytes = 255 ∷ 250 ∷ flat_map escaped bytes
 
@@ -42,8 +42,8 @@ spelling (Other code) = 255 ∷ code ∷ []
 abbrev pub text : List Token → List ℕ
 text tokens = flat_map spelling tokens
 
--- A byte that is a command by itself: any but EOR (239), SB (250), the four verbs and IAC. SE (240) is one too: a
--- subnegotiation's end where none is open.
+-- A byte that is a command by itself: any but EOR (239), SB (250), the four verbs and IAC (RFC 854, "TELNET Command
+-- Structure"). Our profile takes the codes that RFC 854 doesn't list too, and SE (240) where no subnegotiation is open.
 abbrev pub IsOtherCode : ℕ → Type 0
 IsOtherCode code = (code ≢ 239) × (code < 250)
 

@@ -1,4 +1,4 @@
--- What a call that adds bytes to a vector does.
+-- What a call that adds bytes to a vector does (our profile).
 use Rattle.std.specs.Prelude.{◌≡◌, ℕ, ◌+◌, ◌≤◌, List, ◌++◌, take, length, Result, OnOk, OnErr, IsOk, Vec, vec_len}
 use Rattle.std.specs.List.{flat_map}
 use Rattle.std.specs.Borrow.{Bor}
@@ -10,7 +10,7 @@ abbrev pub joined : List (Bor (List ℕ)) → List ℕ
 joined parts = flat_map (λ part. part.now) parts
 
 module _ {E : Type 0} (old : Vec ℕ Global) (bytes : List ℕ) (result : Result (Unit {0}) E) (new : Vec ℕ Global) where
-  -- The bytes are added behind what stood there. Memory is refused only where there was no room for them, and the
+  -- The bytes are added behind what stood there. The call is refused only where there was no room for them, and the
   -- vector then holds what it held. Its capacity never shrinks.
   pub record Appends : Type 0 where
     pub appended : OnOk result (new.items ≡ old.items ++ bytes)
@@ -18,7 +18,7 @@ module _ {E : Type 0} (old : Vec ℕ Global) (bytes : List ℕ) (result : Result
     pub room : vec_len old + length bytes ≤ vec_capacity old → IsOk result
     pub capacity : vec_capacity old ≤ vec_capacity new
 
-  -- The same, but where memory is refused some of the bytes may stay behind what stood there.
+  -- The same, but where the call is refused some of the bytes may stay behind what stood there.
   pub record Tries : Type 0 where
     pub appended : OnOk result (new.items ≡ old.items ++ bytes)
     pub kept : take (vec_len old) new.items ≡ old.items

@@ -1,7 +1,8 @@
 //! Telnet's wire (RFC 854, 855 and 885): bytes as records, option negotiations and subnegotiations, and back.
 //!
 //! A [`Decoder`] takes a stream byte by byte, cut anywhere, and lends each item that a byte completes. Its room is made
-//! once, by `new`: from then on no call takes memory. The `put_` calls add an item's bytes to a vector.
+//! once, by `new`: from then on none of its calls takes memory. The `put_` calls add an item's bytes to a vector, which may
+//! have to grow.
 //!
 //! ```text
 //! let mut decoder = Decoder::new(alloc, 16_384)?;

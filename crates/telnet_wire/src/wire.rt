@@ -8,10 +8,10 @@ use std::alloc::AllocError;
 use std::error::Error;
 use std::fmt;
 
-/// Want of memory: a growth that the allocator refused. A call that answers it has changed nothing.
+/// Want of memory: a growth that the allocator refused. A `put_` call that answers it has left the bytes as they were.
 pub type Memory = AllocError;
 
-/// What the negotiation of an option says (RFC 854, "TELNET Command Structure").
+/// What the negotiation of an option says (RFC 854, "TELNET Command Structure"; RFC 855 on options).
 #[derive(Clone, Copy, Debug, PartialEq, Eq, Hash)]
 pub enum Verb {
     /// The sender offers to use the option, or agrees to: byte 251.
@@ -43,7 +43,7 @@ impl Verb {
 pub enum Item<'a> {
     /// A record: all data since the end of the record before, each 255 once (RFC 885).
     Record(&'a [u8]),
-    /// The negotiation of the option `code` (RFC 854).
+    /// The negotiation of the option `code` (RFC 855).
     Opt {
         /// What is said of the option.
         verb: Verb,
@@ -52,7 +52,7 @@ pub enum Item<'a> {
     },
     /// A subnegotiation: the bytes between IAC SB and IAC SE, the option's number first, each 255 once (RFC 855).
     Sub(&'a [u8]),
-    /// Any other command, by the byte behind IAC: 0 to 249 but 239. Both ends of a TN3270E session ignore it.
+    /// Any other command, by the byte behind IAC: 0 to 249 but 239. Our profile gives it no meaning.
     Other(u8),
 }
 
@@ -73,7 +73,7 @@ pub enum WireFault {
     TooLong,
     /// Inside a subnegotiation, IAC is followed by a byte other than IAC and SE. It comes at that byte.
     BadSub,
-    /// The buffers could not be had. Only `Decoder::new` answers it.
+    /// Memory could not be had. `Decoder::new` alone answers it; the [`Memory`] of a `put_` call becomes it by `?`.
     Memory,
     /// An earlier byte was refused, and there was no `reset` since.
     Failed,

@@ -1,8 +1,7 @@
 //! Items as bytes, added at the end of a vector.
 //!
-//! Each call adds exactly the item's spelling behind what stands there. It succeeds wherever the vector has room for it,
-//! and answers want of memory only where a growth was refused: the vector then holds what it held before. Its capacity
-//! never shrinks.
+//! Each call adds exactly the item's spelling behind what stands there. It succeeds wherever the vector has room for it.
+//! Where it answers want of memory, the vector holds what it held before. Its capacity never shrinks.
 ghost use Rattle.std.specs.Prelude.{◌≡◌, ◌≤◌, ◌∷◌, ◌++◌, [], take, vec_len, OnOk, OnErr};
 ghost use Rattle.std.specs.List.{flat_map};
 ghost use Rattle.std.specs.Vec.{vec_capacity};
@@ -15,7 +14,7 @@ use crate::wire::{Memory, Verb};
 
 /// Adds a record: its data, in which each 255 is doubled, and IAC EOR (RFC 885).
 ///
-/// Takes at most two bytes of room for each byte of data, and two more. A vector that can't grow is left unchanged.
+/// Takes at most two bytes of room for each byte of data, and two more. A vector that can't grow keeps the bytes that it had.
 pub fn put_record(out: &mut Vec<u8>, bytes: &[u8]) -> Result<(), Memory>
     ensures { Appends out.old (text (record_tokens bytes.now)) result out.new }
 {
@@ -24,9 +23,10 @@ pub fn put_record(out: &mut Vec<u8>, bytes: &[u8]) -> Result<(), Memory>
     undo(out, start, written)
 }
 
-/// Adds the negotiation of an option: IAC, the verb and the option's code, three bytes (RFC 854).
+/// Adds the negotiation of an option: IAC, the verb and the option's code, three bytes (RFC 854,
+/// "TELNET Command Structure").
 ///
-/// A vector that can't grow is left unchanged.
+/// A vector that can't grow keeps the bytes that it had.
 pub fn put_option(out: &mut Vec<u8>, verb: Verb, code: u8) -> Result<(), Memory>
     ensures { Appends out.old (spelling (Opt verb code)) result out.new }
 {
@@ -36,7 +36,7 @@ pub fn put_option(out: &mut Vec<u8>, verb: Verb, code: u8) -> Result<(), Memory>
 /// Adds a subnegotiation: IAC SB, the bytes, in which each 255 is doubled, and IAC SE (RFC 855).
 ///
 /// The bytes begin with the option's code. A decoder of this crate refuses more than 256 of them; here any number is
-/// spelt. A vector that can't grow is left unchanged.
+/// spelt. A vector that can't grow keeps the bytes that it had.
 pub fn put_sub(out: &mut Vec<u8>, bytes: &[u8]) -> Result<(), Memory>
     ensures { Appends out.old (spelling (Sub bytes.now)) result out.new }
 {
@@ -45,7 +45,7 @@ pub fn put_sub(out: &mut Vec<u8>, bytes: &[u8]) -> Result<(), Memory>
 
 /// Adds a subnegotiation whose bytes lie in several parts, as [`put_sub`] of all of them, one behind another.
 ///
-/// A vector that can't grow is left unchanged, also by the parts that had room.
+/// A vector that can't grow keeps the bytes that it had, and no others, also of the parts that had room.
 pub fn put_sub_parts(out: &mut Vec<u8>, parts: &[&[u8]]) -> Result<(), Memory>
     ensures { Appends out.old (spelling (Sub (joined parts.now))) result out.new }
 {
