@@ -1,0 +1,64 @@
+//! Worked dialogues, byte for byte. Standard input is a script of dialogues (`stdin` is the repository's own): what a host
+//! sends, what an operator presses, and what has to come of it. For each dialogue a line is printed: `ok`, or the first of
+//! its lines that came otherwise. The exit status is 1 if one did.
+//!
+//! `script` says how a script is read and `terminal` which lines a dialogue with a terminal has. What the script expects is
+//! taken from the standards, and never from what this program printed.
+//!
+//! Run with each allocation refused in turn (`rt try --fail-alloc N < stdin`) it prints the same: a terminal is asked again
+//! in the midst of its dialogue, so that it has to stand as before the refusal, and a dialogue that this program has no
+//! memory for is held again. Only memory for the script itself is asked for once; its want is told.
+#![tactic(auto)]
+
+mod bytes;
+mod fault;
+mod script;
+mod subject;
+mod terminal;
+
+use anyhow::{Context, Result, ensure};
+use fault::Failure;
+use script::{Line, Numbered, body_of, dialogue_count, read_script};
+use std::io;
+use subject::hold;
+use terminal::Desk;
+
+/// Prints how a dialogue came out, and answers whether all of it came as expected.
+fn tell(
+    rt: &impl Print,
+    name: &str,
+    outcome: std::result::Result<(), Failure>,
+) -> io::Result<bool> {
+    match outcome {
+        Ok(()) => {
+            println!(rt; "{name}: ok")?;
+            Ok(true)
+        }
+        Err(Failure { line, fault }) => {
+            println!(rt; "{name}: line {line}: {fault}")?;
+            Ok(false)
+        }
+    }
+}
+
+/// Holds the dialogues of a script one after another, and answers whether all came as expected.
+fn hold_all(rt: &(impl Print + AllocGlobal), script: &[Numbered<'_>]) -> io::Result<bool> {
+    let mut all = true;
+    for (index, numbered) in script.iter().enumerate() {
+        if let Line::Dialogue(name) = numbered.line {
+            let outcome = hold::<Desk>(rt.alloc(), body_of(&script[index + 1..]));
+            all = tell(rt, name, outcome)? && all;
+        }
+    }
+    Ok(all)
+}
+
+fn main(rt: HostRuntime) -> Result<()> {
+    let text = io::read_to_string(rt.alloc(), rt.reader()).context("reading the script")?;
+    let script = read_script(rt.alloc(), text.as_str())?;
+    let all = hold_all(&rt, script.as_slice())?;
+    ensure!(all, "not all dialogues came as expected");
+    let count = dialogue_count(script.as_slice());
+    println!(rt; "{count} dialogues came as expected")?;
+    Ok(())
+}
