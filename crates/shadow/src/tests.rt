@@ -1,7 +1,7 @@
 //! Worked dialogues: what is believed after commands were taken and data was heard. What is owned lives in helpers that answer
 //! whether all is as it should be, so that a test has few ways out.
 use super::*;
-use codes3270::{Addr, Attr, CELLS, Cell};
+use codes3270::{Addr, CELLS, Cell};
 use datastream::{Form, InboundFault, read_command, read_inbound};
 use std::alloc::{AllocError, Global};
 use std::test::Fail;
