@@ -1,4 +1,4 @@
--- What the counted streams hold.
+-- What the counted streams hold (our profile).
 use Rattle.panel3270.specs.declared.streams.CountedReader.{CountedReader}
 use Rattle.panel3270.specs.declared.streams.CountedWriter.{CountedWriter}
 
