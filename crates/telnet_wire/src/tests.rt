@@ -60,14 +60,9 @@ fn is_as_new_after_reset(decoder: &mut Decoder) -> Result<bool, WireFault> {
     completes(decoder, b"\x07\xff\xef", Item::Record(b"\x07"))
 }
 
-/// The bytes of the beginning, and these so many times.
-fn filled(alloc: Global, beginning: &[u8], bytes: &[u8], count: usize) -> Result<Vec<u8>, Memory> {
-    let mut out = Vec::new(alloc);
-    fill(&mut out, beginning, bytes, count)?;
-    Ok(out)
-}
-
+/// Makes it the bytes of the beginning, and these so many times.
 fn fill(out: &mut Vec<u8>, beginning: &[u8], bytes: &[u8], count: usize) -> Result<(), Memory> {
+    out.clear();
     out.extend_from_slice(beginning)?;
     for _ in 0..count {
         out.extend_from_slice(bytes)?;
@@ -355,56 +350,72 @@ fn is_the_longest(
     )
 }
 
-/// Says whether a record of this byte has at most the limit.
+/// Says whether a record of this byte has at most the limit. The vectors are room for its data and its bytes.
 fn a_record_is_limited(
-    alloc: Global,
     decoder: &mut Decoder,
+    data: &mut Vec<u8>,
+    begun: &mut Vec<u8>,
     byte: u8,
     spelling: &[u8],
 ) -> Result<bool, WireFault> {
-    let data = filled(alloc, b"", &[byte], RECORD_LIMIT)?;
-    let begun = filled(alloc, b"", spelling, RECORD_LIMIT)?;
-    is_the_longest(decoder, &begun, b"\xff\xef", Item::Record(&data), spelling)
+    fill(data, b"", &[byte], RECORD_LIMIT)?;
+    fill(begun, b"", spelling, RECORD_LIMIT)?;
+    is_the_longest(decoder, begun, b"\xff\xef", Item::Record(data), spelling)
+}
+
+fn records_are_limited(
+    decoder: &mut Decoder,
+    data: &mut Vec<u8>,
+    begun: &mut Vec<u8>,
+) -> Result<bool, WireFault> {
+    // A 255 is complete, and refused, at its second byte.
+    Ok(
+        a_record_is_limited(decoder, data, begun, 5, b"\x05")?
+            && a_record_is_limited(decoder, data, begun, 255, b"\xff\xff")?,
+    )
 }
 
 #[test]
 fn a_record_has_at_most_the_limit(rt: HostRuntime) -> Result<(), Fail> {
     let mut decoder = Decoder::new(rt.alloc(), RECORD_LIMIT)?;
-    assert_eq!(rt;
-        a_record_is_limited(rt.alloc(), &mut decoder, 5, b"\x05"),
-        Ok(true)
-    );
-    // A 255 is complete, and refused, at its second byte.
-    assert_eq!(rt;
-        a_record_is_limited(rt.alloc(), &mut decoder, 255, b"\xff\xff"),
-        Ok(true)
-    );
+    let mut data = Vec::new(rt.alloc());
+    let mut begun = Vec::new(rt.alloc());
+    let are_limited = records_are_limited(&mut decoder, &mut data, &mut begun);
+    assert_eq!(rt; are_limited, Ok(true));
     Ok(())
 }
 
 /// Says whether a subnegotiation of this byte, behind the option's code, has at most 256.
 fn a_subnegotiation_is_limited(
-    alloc: Global,
     decoder: &mut Decoder,
+    content: &mut Vec<u8>,
+    begun: &mut Vec<u8>,
     byte: u8,
     spelling: &[u8],
 ) -> Result<bool, WireFault> {
-    let content = filled(alloc, &[0x29], &[byte], 255)?;
-    let begun = filled(alloc, &[255, 250, 0x29], spelling, 255)?;
-    is_the_longest(decoder, &begun, b"\xff\xf0", Item::Sub(&content), spelling)
+    fill(content, &[0x29], &[byte], 255)?;
+    fill(begun, &[255, 250, 0x29], spelling, 255)?;
+    is_the_longest(decoder, begun, b"\xff\xf0", Item::Sub(content), spelling)
+}
+
+fn subnegotiations_are_limited(
+    decoder: &mut Decoder,
+    content: &mut Vec<u8>,
+    begun: &mut Vec<u8>,
+) -> Result<bool, WireFault> {
+    Ok(
+        a_subnegotiation_is_limited(decoder, content, begun, 0, b"\x00")?
+            && a_subnegotiation_is_limited(decoder, content, begun, 255, b"\xff\xff")?,
+    )
 }
 
 #[test]
 fn a_subnegotiation_has_at_most_256_bytes(rt: HostRuntime) -> Result<(), Fail> {
     let mut decoder = Decoder::new(rt.alloc(), RECORD_LIMIT)?;
-    assert_eq!(rt;
-        a_subnegotiation_is_limited(rt.alloc(), &mut decoder, 0, b"\x00"),
-        Ok(true)
-    );
-    assert_eq!(rt;
-        a_subnegotiation_is_limited(rt.alloc(), &mut decoder, 255, b"\xff\xff"),
-        Ok(true)
-    );
+    let mut content = Vec::new(rt.alloc());
+    let mut begun = Vec::new(rt.alloc());
+    let are_limited = subnegotiations_are_limited(&mut decoder, &mut content, &mut begun);
+    assert_eq!(rt; are_limited, Ok(true));
     Ok(())
 }
 
@@ -467,14 +478,16 @@ enum Put {
 
 static PUTS: [Put; 4] = [Put::Record, Put::Opt, Put::Sub, Put::SubParts];
 
-static LONG: [u8; 100] = [255; 100];
+static LONG: &[u8] = &[255; 100];
+
+static LONG_PARTS: [&[u8]; 2] = [&[255; 100], &[255; 100]];
 
 fn put_long(put: Put, out: &mut Vec<u8>) -> Result<(), Memory> {
     match put {
-        Put::Record => put_record(out, &LONG),
+        Put::Record => put_record(out, LONG),
         Put::Opt => put_option(out, Verb::Do, 40),
-        Put::Sub => put_sub(out, &LONG),
-        Put::SubParts => put_sub_parts(out, &[&LONG, &LONG]),
+        Put::Sub => put_sub(out, LONG),
+        Put::SubParts => put_sub_parts(out, &LONG_PARTS),
     }
 }
 
