@@ -79,7 +79,8 @@ pub fn what_a_note_leaves()
 {}
 
 /// Data of Enter or a PF key, and what is asked for, opens no field whose text, or text or nulls, was believed; the answer to
-/// Read Buffer and an erase leave none open at all; Clear leaves an unformatted screen of known nulls; a paint that keeps whole fields opens none.
+/// Read Buffer and an erase leave none open at all; Clear leaves an unformatted screen of known nulls; a paint that keeps
+/// whole fields opens none.
 pub fn what_leaves_nothing_open()
     ensures long { LongOpensNothing }
     ensures buffer { ReadLeavesNothingOpen }
