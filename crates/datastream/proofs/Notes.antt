@@ -4,7 +4,7 @@ use Rattle.std.specs.Prelude.{All}
 use Rattle.std.specs.List.{Contains}
 use Rattle.std.specs.Option.{option_or}
 use Rattle.std.proofs.lemmas.List.{length-map, length-set, get_or-set_same, get_or-set_other, map-append, drop-map, take-map}
-use Rattle.std.proofs.lemmas.List.Elements.{All-head, All-tail, All-weaker, All-set, All-contains_itself}
+use Rattle.std.proofs.lemmas.List.Elements.{All-head, All-tail, All-weaker, All-set, All-contains, All-contains_itself}
 use Rattle.std.proofs.lemmas.Bool.{cases_eq}
 use Rattle.codes3270.specs.declared.attention.Aid.{Aid}
 use Rattle.codes3270.specs.declared.attribute.Cell.{Cell}
@@ -20,7 +20,7 @@ use Rattle.datastream.specs.Held.{Hold, hold_under, CharHeld, Held}
 use Rattle.datastream.specs.HeldRound.{HeldFrom}
 use Rattle.datastream.specs.InboundFields.{IsStorableCell, IsSendable}
 use Rattle.datastream.specs.Note.{quiet, IsNoteOrder, IsNote, places_from_on, places_noted, OverCharacters, IsProtectedChar, WritesProtected}
-use Rattle.datastream.specs.NoteLaws.{NoteKeepsBounds, NoteKeepsForm, NoteKeepsSendable, NoteKeepsHeld, HeldStaysProtected, ProtectedAreCharacters, NotesCompose}
+use Rattle.datastream.specs.NoteLaws.{NoteKeepsBounds, NoteKeepsForm, NoteKeepsSendable, NoteLeavesUnprotected, NoteKeepsHeld, HeldStaysProtected, ProtectedAreCharacters, NotesCompose}
 use Rattle.datastream.proofs.Texts.{last_attribute-same}
 use Rattle.datastream.proofs.HeldRounds.{held_round}
 
@@ -376,3 +376,11 @@ compose note other screen over =
     let after : List Cell = (after_command note screen).cells in
     let same : map guard screen.cells ≡ map guard after = sym (same_guards after screen.cells (attributes_after note screen over)) in
     (protected_there other screen.cells after same, characters_there other screen.cells after same)
+
+pub leaves_unprotected : NoteLeavesUnprotected
+leaves_unprotected command screen writes at unprotected =
+    (keeps_form command screen (are_characters command screen.cells writes)).elsewhere at
+    (λ there.
+    let is : IsProtectedChar screen.cells at = All-contains (IsProtectedChar screen.cells) (places_noted (length screen.cells) command) at writes.each there in
+    let wrong : true ≡ false = sym is.protected ∙ unprotected in
+    cc)

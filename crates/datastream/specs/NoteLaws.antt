@@ -1,10 +1,10 @@
 -- What notes keep (our profile): the form of the screen, what keys kept of it, and what makes other notes possible.
-use Rattle.std.specs.Prelude.{◌≡◌, ℕ, Bool, List, length, map, slice_index_or, All}
+use Rattle.std.specs.Prelude.{◌≡◌, ℕ, Bool, false, List, length, map, slice_index_or, All}
 use Rattle.std.specs.List.{Contains}
 use Rattle.codes3270.specs.declared.attribute.Cell.{Cell}
 use Rattle.codes3270.specs.declared.attribute.Cell.TheVariants.{Char}
 use Rattle.datastream.specs.Grammar.{CommandParts, IsProper}
-use Rattle.datastream.specs.Screen.{Screen, attribute_in, attribute_over}
+use Rattle.datastream.specs.Screen.{Screen, attribute_in, attribute_over, is_protected}
 use Rattle.datastream.specs.FieldLaws.{attribute_places}
 use Rattle.datastream.specs.Meaning.{after_command}
 use Rattle.datastream.specs.Held.{Held}
@@ -32,6 +32,12 @@ NoteKeepsBounds = (command : CommandParts) (screen : Screen) → IsNote command 
 abbrev pub NoteKeepsForm : Type 0
 NoteKeepsForm = (command : CommandParts) (screen : Screen) → OverCharacters command screen.cells
     → SameForm command screen (after_command command screen)
+
+-- What the operator may type over stays, over characters of protected fields.
+abbrev pub NoteLeavesUnprotected : Type 0
+NoteLeavesUnprotected = (command : CommandParts) (screen : Screen) → WritesProtected command screen.cells
+    → (at : ℕ) → is_protected screen.cells at ≡ false
+    → slice_index_or (after_command command screen).cells at (Char 0) ≡ slice_index_or screen.cells at (Char 0)
 
 -- A screen that can be sent stays one.
 abbrev pub NoteKeepsSendable : Type 0

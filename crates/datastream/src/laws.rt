@@ -2,7 +2,7 @@
 ghost use Rattle.datastream.specs.FieldLaws.{EachCellHasOneField, FieldsAreListed, FieldsAscend, FieldsTakeAll, Unformatted};
 ghost use Rattle.datastream.specs.HeldLaws.{EraseInputHolds, HeldAtFirst, HeldComposes, HeldIsRound};
 ghost use Rattle.datastream.specs.Laws.{OneCommand, OneInbound, OnlyByPlace, TabsByPlace, WrittenIsRead};
-ghost use Rattle.datastream.specs.NoteLaws.{HeldStaysProtected, NoteKeepsBounds, NoteKeepsForm, NoteKeepsHeld, NoteKeepsSendable, NotesCompose, ProtectedAreCharacters};
+ghost use Rattle.datastream.specs.NoteLaws.{HeldStaysProtected, NoteKeepsBounds, NoteKeepsForm, NoteKeepsHeld, NoteKeepsSendable, NoteLeavesUnprotected, NotesCompose, ProtectedAreCharacters};
 ghost use Rattle.datastream.specs.SpanLaws.{DistancesLead, SpansAreSteps};
 
 /// Does nothing: its contract says that what a [`CommandWriter`](crate::CommandWriter) wrote in any calls is the command
@@ -52,11 +52,12 @@ pub fn kept_since_the_write()
 {}
 
 /// Does nothing: its contract says what a note keeps, a Write of characters over characters: size, cursor and AID of the
-/// screen, its attributes and all other cells; and over characters of protected fields what keys kept since the write
-/// before, whatever it is written after.
+/// screen, its attributes and all other cells; and over characters of protected fields all unprotected ones, and what keys
+/// kept since the write before.
 pub fn what_a_note_keeps()
     ensures bounds { NoteKeepsBounds }
     ensures form { NoteKeepsForm }
+    ensures unprotected { NoteLeavesUnprotected }
     ensures sendable { NoteKeepsSendable }
     ensures held { NoteKeepsHeld }
     ensures still_protected { HeldStaysProtected }

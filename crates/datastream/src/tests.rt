@@ -39,54 +39,21 @@ const FILLED: [u8; 9] = [0xF1, 0xC3, 0x11, 0x40, 0x40, 0x3C, 0x40, 0x40, 0x5C];
 
 // ---- commands read
 
-/// Whether bytes are read as a command of this code.
-fn is_read_as(bytes: &[u8], code: CommandCode) -> bool {
-    match read_command(bytes) {
-        Ok(command) => command.code() == code,
-        Err(_) => false,
+/// Whether a command gives these orders, and then no more.
+fn gives(command: &Command, wanted: &[Order]) -> bool {
+    let mut orders = command.orders();
+    for order in wanted {
+        if orders.next() != Some(*order) {
+            return false;
+        }
     }
+    orders.next().is_none() && orders.next().is_none()
 }
 
-/// Whether a command of this code begins with this byte.
-fn begins_with(alloc: Global, code: CommandCode, byte: u8) -> Result<bool, Memory> {
-    let mut out = Vec::new(alloc);
-    CommandWriter::new(&mut out).begin(code, CLEARED_WCC)?;
-    Ok(out.first() == Some(&byte))
-}
-
-/// Whether a command is read by both its codes, and written with the second.
-fn has_codes(alloc: Global, code: CommandCode, first: u8, second: u8) -> Result<bool, Memory> {
-    Ok(
-        is_read_as(&[first, 0xC3], code)
-            && is_read_as(&[second, 0xC3], code)
-            && begins_with(alloc, code, second)?,
-    )
-}
-
-#[test]
-fn each_command_has_two_codes(rt: HostRuntime) -> Result<(), Fail> {
-    let table = [
-        (0x01, 0xF1, CommandCode::Write),
-        (0x05, 0xF5, CommandCode::EraseWrite),
-        (0x0D, 0x7E, CommandCode::EraseWriteAlternate),
-        (0x02, 0xF2, CommandCode::ReadBuffer),
-        (0x06, 0xF6, CommandCode::ReadModified),
-        (0x0E, 0x6E, CommandCode::ReadModifiedAll),
-        (0x0F, 0x6F, CommandCode::EraseAllUnprotected),
-    ];
-    for (first, second, code) in table {
-        assert!(rt;
-            has_codes(rt.alloc(), code, first, second)?,
-            "code {second}"
-        );
-    }
-    Ok(())
-}
-
-/// Whether bytes are read as a command with this write control character, or with none.
-fn has_wcc(bytes: &[u8], wcc: Option<Wcc>) -> bool {
+/// Whether bytes are read as a command of this code, this write control character or none, and these orders.
+fn reads(bytes: &[u8], code: CommandCode, wcc: Option<Wcc>, orders: &[Order]) -> bool {
     match read_command(bytes) {
-        Ok(command) => command.wcc() == wcc,
+        Ok(command) => command.code() == code && command.wcc() == wcc && gives(&command, orders),
         Err(_) => false,
     }
 }
@@ -98,46 +65,56 @@ fn begins_as(alloc: Global, code: CommandCode, bytes: &[u8]) -> Result<bool, Mem
     Ok(out.as_slice() == bytes)
 }
 
-/// Whether a command has this write control character, and orders just where it has one.
-fn begins_both_ways(
-    alloc: Global,
-    code: CommandCode,
-    bytes: &[u8],
-    wcc: Option<Wcc>,
-) -> Result<bool, Memory> {
-    Ok(has_wcc(bytes, wcc) && code.has_orders() == wcc.is_some() && begins_as(alloc, code, bytes)?)
+/// Whether a write is read by both its codes, and written with the second.
+fn is_write(alloc: Global, code: CommandCode, first: u8, second: u8) -> Result<bool, Memory> {
+    let wcc = Some(CLEARED_WCC);
+    Ok(
+        reads(&[first, 0xC3], code, wcc, &[])
+            && reads(&[second, 0xC3], code, wcc, &[])
+            && code.has_orders()
+            && begins_as(alloc, code, &[second, 0xC3])?,
+    )
+}
+
+/// Whether another command is read by both its codes, and written with the second.
+fn is_other(alloc: Global, code: CommandCode, first: u8, second: u8) -> Result<bool, Memory> {
+    Ok(
+        reads(&[first, 0xC3], code, None, &[])
+            && reads(&[second, 0xC3], code, None, &[])
+            && reads(&[second], code, None, &[])
+            && !code.has_orders()
+            && begins_as(alloc, code, &[second])?,
+    )
 }
 
 #[test]
-fn writes_alone_have_a_write_control_character(rt: HostRuntime) -> Result<(), Fail> {
-    let table: [(CommandCode, &[u8], Option<Wcc>); 4] = [
-        (CommandCode::Write, &[0xF1, 0xC3], Some(CLEARED_WCC)),
-        (CommandCode::EraseWrite, &[0xF5, 0xC3], Some(CLEARED_WCC)),
-        (CommandCode::ReadBuffer, &[0xF2], None),
-        (CommandCode::EraseAllUnprotected, &[0x6F], None),
+fn each_write_has_two_codes_and_a_write_control_character(rt: HostRuntime) -> Result<(), Fail> {
+    let table = [
+        (0x01, 0xF1, CommandCode::Write),
+        (0x05, 0xF5, CommandCode::EraseWrite),
+        (0x0D, 0x7E, CommandCode::EraseWriteAlternate),
     ];
-    for (code, bytes, wcc) in table {
-        assert!(rt; begins_both_ways(rt.alloc(), code, bytes, wcc)?, "{code:?}");
+    for (first, second, code) in table {
+        assert!(rt; is_write(rt.alloc(), code, first, second)?, "code {second}");
     }
     Ok(())
 }
 
-/// Whether bytes are read as a command with neither write control character nor orders.
-fn is_bare(bytes: &[u8]) -> bool {
-    match read_command(bytes) {
-        Ok(command) => command.wcc().is_none() && command.orders().next().is_none(),
-        Err(_) => false,
-    }
-}
-
 #[test]
-fn bytes_behind_a_command_without_orders_are_ignored(rt: HostRuntime) {
-    for code in [0xF2, 0xF6, 0x6E, 0x6F] {
-        assert!(rt;
-            is_bare(&[code, 0x11, 0x5E, 0x40, 0x02, 0xC1]),
-            "code {code}"
-        );
+fn each_other_command_has_two_codes_alone(rt: HostRuntime) -> Result<(), Fail> {
+    let table = [
+        (0x02, 0xF2, CommandCode::ReadBuffer),
+        (0x06, 0xF6, CommandCode::ReadModified),
+        (0x0E, 0x6E, CommandCode::ReadModifiedAll),
+        (0x0F, 0x6F, CommandCode::EraseAllUnprotected),
+    ];
+    for (first, second, code) in table {
+        assert!(rt; is_other(rt.alloc(), code, first, second)?, "code {second}");
+        // What follows is ignored.
+        let bytes = [second, 0x11, 0x5E, 0x40, 0x02, 0xC1];
+        assert!(rt; reads(&bytes, code, None, &[]), "code {second}");
     }
+    Ok(())
 }
 
 /// The fault of bytes that spell no command.
@@ -203,30 +180,12 @@ fn the_first_fault_is_answered(rt: HostRuntime) {
     }
 }
 
-/// Whether a command gives these orders, and then no more.
-fn gives(command: &Command, wanted: &[Order]) -> bool {
-    let mut orders = command.orders();
-    for order in wanted {
-        if orders.next() != Some(*order) {
-            return false;
-        }
-    }
-    orders.next().is_none() && orders.next().is_none()
-}
-
-/// Whether bytes are read as a command of these orders.
-fn reads_orders(bytes: &[u8], wanted: &[Order]) -> bool {
-    match read_command(bytes) {
-        Ok(command) => gives(&command, wanted),
-        Err(_) => false,
-    }
-}
-
 #[test]
 fn orders_are_read_one_by_one(rt: HostRuntime) {
-    let table: [(&[u8], &[Order]); 6] = [
+    let table: [(&[u8], CommandCode, &[Order]); 6] = [
         (
             &TWO_FIELDS,
+            CommandCode::EraseWrite,
             &[
                 Order::Sba(at(0)),
                 Order::Sf(attribute(0x60)),
@@ -236,12 +195,17 @@ fn orders_are_read_one_by_one(rt: HostRuntime) {
                 Order::Ic,
             ],
         ),
-        (&FILLED, &[Order::Sba(at(0)), Order::Ra(at(0), 0x5C)]),
+        (
+            &FILLED,
+            CommandCode::Write,
+            &[Order::Sba(at(0)), Order::Ra(at(0), 0x5C)],
+        ),
         (
             &[
                 0xF5, 0xC3, 0x3C, 0x40, 0x40, 0x5C, 0x11, 0x40, 0xC3, 0x1D, 0x60, 0x11, 0x5D, 0x7A,
                 0x1D, 0x40, 0xC1, 0x05, 0x05, 0xC2, 0x13,
             ],
+            CommandCode::EraseWrite,
             &[
                 Order::Ra(at(0), 0x5C),
                 Order::Sba(at(3)),
@@ -257,6 +221,7 @@ fn orders_are_read_one_by_one(rt: HostRuntime) {
         ),
         (
             &[0xF1, 0xC3, 0x11, 0x40, 0xC2, 0x12, 0x40, 0xC6],
+            CommandCode::Write,
             &[Order::Sba(at(2)), Order::Eua(at(6))],
         ),
         // The ends of the first row, and the last cell in both forms.
@@ -264,6 +229,7 @@ fn orders_are_read_one_by_one(rt: HostRuntime) {
             &[
                 0xF1, 0xC3, 0x11, 0xC1, 0x4F, 0x11, 0xC1, 0x50, 0x11, 0x5D, 0x7F, 0x11, 0x07, 0x7F,
             ],
+            CommandCode::Write,
             &[
                 Order::Sba(at(COLUMNS - 1)),
                 Order::Sba(at(COLUMNS)),
@@ -274,6 +240,7 @@ fn orders_are_read_one_by_one(rt: HostRuntime) {
         // The characters that look like controls are stored too.
         (
             &[0xF1, 0xC3, 0x00, 0x0C, 0x15, 0x3F, 0xFF],
+            CommandCode::Write,
             &[
                 Order::Char(0x00),
                 Order::Char(0x0C),
@@ -283,51 +250,22 @@ fn orders_are_read_one_by_one(rt: HostRuntime) {
             ],
         ),
     ];
-    for (bytes, wanted) in table {
-        assert!(rt; reads_orders(bytes, wanted), "reading {bytes:?}");
+    for (bytes, code, orders) in table {
+        assert!(rt;
+            reads(bytes, code, Some(CLEARED_WCC), orders),
+            "reading {bytes:?}"
+        );
     }
 }
 
 // ---- commands written
 
-fn put_two_fields(mut writer: CommandWriter) -> Result<(), Memory> {
-    writer.begin(CommandCode::EraseWrite, CLEARED_WCC)?;
-    writer.sba(at(0))?;
-    writer.sf(attribute(0x60))?;
-    writer.chars(&CHARS)?;
-    writer.sf(attribute(0x40))?;
-    writer.ic()
-}
-
-fn put_filled(mut writer: CommandWriter) -> Result<(), Memory> {
-    writer.begin(CommandCode::Write, CLEARED_WCC)?;
-    writer.sba(at(0))?;
-    writer.ra(at(0), 0x5C)
-}
-
-/// Whether one command is written, and then the other behind it.
-fn writes_both(out: &mut Vec<u8>) -> Result<bool, Memory> {
-    put_two_fields(CommandWriter::new(out))?;
-    let is_first = out.as_slice() == TWO_FIELDS.as_slice();
-    // What stands in the vector stays.
-    put_filled(CommandWriter::new(out))?;
-    Ok(is_first && out.strip_prefix(TWO_FIELDS.as_slice()) == Some(FILLED.as_slice()))
-}
-
-#[test]
-fn commands_are_written(rt: HostRuntime) -> Result<(), Fail> {
-    let mut out = Vec::new(rt.alloc());
-    let are_written = writes_both(&mut out)?;
-    assert!(rt; are_written);
-    Ok(())
-}
-
 /// A call of the writer.
-#[derive(Clone, Copy, Debug)]
+#[derive(Clone, Copy)]
 enum Call {
     Begin(CommandCode),
     Sba,
-    Sf,
+    Sf(u8),
     Chars,
     Ra,
     Ic,
@@ -338,11 +276,44 @@ fn put(writer: &mut CommandWriter, call: Call) -> Result<(), Memory> {
     match call {
         Call::Begin(code) => writer.begin(code, CLEARED_WCC),
         Call::Sba => writer.sba(addr),
-        Call::Sf => writer.sf(attribute(0x60)),
+        Call::Sf(code) => writer.sf(attribute(code)),
         Call::Chars => writer.chars(&CHARS),
         Call::Ra => writer.ra(addr, 0x5C),
         Call::Ic => writer.ic(),
     }
+}
+
+fn put_all(mut writer: CommandWriter, calls: &[Call]) -> Result<(), Memory> {
+    for call in calls {
+        put(&mut writer, *call)?;
+    }
+    Ok(())
+}
+
+/// Whether one command is written, and then the other behind it.
+fn writes_both(out: &mut Vec<u8>) -> Result<bool, Memory> {
+    let two_fields = [
+        Call::Begin(CommandCode::EraseWrite),
+        Call::Sba,
+        Call::Sf(0x60),
+        Call::Chars,
+        Call::Sf(0x40),
+        Call::Ic,
+    ];
+    let filled = [Call::Begin(CommandCode::Write), Call::Sba, Call::Ra];
+    put_all(CommandWriter::new(out), &two_fields)?;
+    let is_first = out.as_slice() == TWO_FIELDS.as_slice();
+    // What stands in the vector stays.
+    put_all(CommandWriter::new(out), &filled)?;
+    Ok(is_first && out.strip_prefix(TWO_FIELDS.as_slice()) == Some(FILLED.as_slice()))
+}
+
+#[test]
+fn commands_are_written(rt: HostRuntime) -> Result<(), Fail> {
+    let mut out = Vec::new(rt.alloc());
+    let are_written = writes_both(&mut out)?;
+    assert!(rt; are_written);
+    Ok(())
 }
 
 /// Whether a call appends these bytes to an empty vector, or is refused and appends nothing.
@@ -381,14 +352,14 @@ fn a_call_appends_its_bytes_or_changes_nothing(rt: HostRuntime) {
         (Call::Begin(CommandCode::Write), &[0xF1, 0xC3]),
         (Call::Begin(CommandCode::ReadBuffer), &[0xF2]),
         (Call::Sba, &[0x11, 0x40, 0x40]),
-        (Call::Sf, &[0x1D, 0x60]),
+        (Call::Sf(0x60), &[0x1D, 0x60]),
         (Call::Chars, &[0xC8, 0xC9]),
         (Call::Ra, &[0x3C, 0x40, 0x40, 0x5C]),
         (Call::Ic, &[0x13]),
     ];
     for (call, bytes) in table {
-        assert!(rt; appends_to_full(rt.alloc(), call, bytes), "{call:?}");
-        assert!(rt; appends_to_roomy(rt.alloc(), call, bytes), "{call:?}");
+        assert!(rt; appends_to_full(rt.alloc(), call, bytes), "{bytes:?}");
+        assert!(rt; appends_to_roomy(rt.alloc(), call, bytes), "{bytes:?}");
     }
 }
 
