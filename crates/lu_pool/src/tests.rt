@@ -17,7 +17,14 @@ fn texts(alloc: Global, names: &[&str]) -> Result<Vec<String>, AllocError> {
 
 fn pool_of(alloc: Global, names: &[&str]) -> Result<Pool, Fail> {
     let texts = texts(alloc, names)?;
-    Pool::read(alloc, &texts).map_err(|_| "no pool".into())
+    pool_read(alloc, &texts)
+}
+
+fn pool_read(alloc: Global, texts: &[String]) -> Result<Pool, Fail> {
+    match Pool::read(alloc, texts) {
+        Ok(pool) => Ok(pool),
+        Err(_) => Err("no pool".into()),
+    }
 }
 
 // Whether these names are no pool, for the reason that is printed so.
@@ -34,20 +41,26 @@ fn prints(alloc: Global, fault: PoolFault, printed: &str) -> Result<bool, Fail> 
     Ok(text.as_str() == printed)
 }
 
+const LISTS: [(&[&str], &str); 7] = [
+    (&[], "lu: BadCount"),
+    (&["A", "a"], "lu 1: Twice"),
+    (&["A", "B", "C", "B", "B"], "lu 3: Twice"),
+    (&["A", ""], "lu 1: BadName"),
+    (&["9A", "A", "A"], "lu 0: BadName"),
+    (&["A", "A", "9A"], "lu 1: Twice"),
+    (&["ABCDEFGHI"], "lu 0: BadName"),
+];
+
 #[test]
 fn lists_that_are_no_pool(rt: HostRuntime) -> Result<(), Fail> {
-    let cases: [(&[&str], &str); 7] = [
-        (&[], "lu: BadCount"),
-        (&["A", "a"], "lu 1: Twice"),
-        (&["A", "B", "C", "B", "B"], "lu 3: Twice"),
-        (&["A", ""], "lu 1: BadName"),
-        (&["9A", "A", "A"], "lu 0: BadName"),
-        (&["A", "A", "9A"], "lu 1: Twice"),
-        (&["ABCDEFGHI"], "lu 0: BadName"),
-    ];
-    for (names, printed) in cases {
+    for (names, printed) in LISTS {
         assert!(rt; is_refused(rt.alloc(), names, printed)?, "{printed}");
     }
+    Ok(())
+}
+
+#[test]
+fn refused_memory_is_printed(rt: HostRuntime) -> Result<(), Fail> {
     assert!(rt; prints(rt.alloc(), PoolFault::Memory, "no memory")?);
     Ok(())
 }
@@ -258,7 +271,7 @@ fn the_first_free_lu_is_granted_to_any_model(rt: HostRuntime) -> Result<(), Fail
 // The pool of these texts, at the second call where the first was refused memory.
 fn made_at_last(alloc: Global, texts: &[String]) -> Result<Pool, Fail> {
     match Pool::read(alloc, texts) {
-        Err(PoolFault::Memory) => Pool::read(alloc, texts).map_err(|_| "no pool".into()),
+        Err(PoolFault::Memory) => pool_read(alloc, texts),
         Err(_) => Err("another fault".into()),
         Ok(pool) => Ok(pool),
     }
