@@ -83,10 +83,14 @@ fn put_line<'a>(script: &mut Vec<Numbered<'a>>, number: usize, text: &'a str) ->
     if let Some(name) = text.strip_prefix("play ") {
         return put_passage(script, name);
     }
-    script.push(Numbered {
+    let line = Numbered {
         number,
         line: line_of(text),
-    })?;
+    };
+    if script.is_empty() && !line.is_heading() {
+        return Err(Fault::Needs("a heading above it"));
+    }
+    script.push(line)?;
     Ok(())
 }
 

@@ -1,4 +1,4 @@
-//! Dialogues with a terminal. Where a line expects something else than it came, it doesn't hold.
+//! Dialogues with a terminal. A line holds if what it expects came.
 //!
 //! ```text
 //! connect [LU]         a connection begins, on which the terminal asks for this LU, if one
