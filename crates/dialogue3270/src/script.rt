@@ -12,7 +12,7 @@ use crate::fault::{Failure, Fault};
 use std::alloc::Global;
 
 /// A line of a script, where `play` is replaced by what it stands for.
-#[derive(Clone, Copy, Debug)]
+#[derive(Clone, Copy)]
 pub enum Line<'a> {
     /// Begins the dialogue with this name.
     Dialogue(&'a str),
@@ -23,7 +23,7 @@ pub enum Line<'a> {
 }
 
 /// A line and its number, from 1 on, in the script.
-#[derive(Clone, Copy, Debug)]
+#[derive(Clone, Copy)]
 pub struct Numbered<'a> {
     pub number: usize,
     pub line: Line<'a>,

@@ -5,7 +5,7 @@ use crate::terminal::sights::{Sight, sight_named};
 use std::alloc::Global;
 
 /// A line of a dialogue with a terminal.
-#[derive(Debug, Drop)]
+#[derive(Drop)]
 pub enum Command<'a> {
     /// A connection begins, on which the terminal asks for this LU, if one is named.
     Connect(&'a str),

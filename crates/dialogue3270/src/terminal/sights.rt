@@ -5,7 +5,7 @@ use term_core::{TermPhase, Terminal, screen_lines};
 use tn3270e_msg::{Cause, Fed, Lu, Stop};
 
 /// What is to be seen.
-#[derive(Clone, Copy, Debug)]
+#[derive(Clone, Copy)]
 pub enum Sight {
     /// How many of the host's last bytes were taken.
     Taken,
