@@ -1,178 +1,298 @@
--- What the host sends, at each stage; and a connection that is lost.
-use Rattle.std.proofs.Common.{◌≡◌, ℕ, Bool, true, false, Option, None, Some, List, [], ◌∷◌, ◌++◌, refl, ap, sym, subst, ◌∙◌, if◌then◌else◌}
+-- What the host sends, at each moment; and a connection that is lost.
+use Rattle.std.proofs.Common.{◌≡◌, ◌<◌, ℕ, Bool, true, false, Option, None, Some, List, [], ◌∷◌, ◌++◌, length, refl, ap, sym, subst, ◌∙◌, if◌then◌else◌}
+use Rattle.codes3270.specs.Size.{Shape, cells_in}
+use Rattle.codes3270.specs.declared.attention.Aid.{Aid}
+use Rattle.codes3270.specs.declared.attention.Aid.TheVariants.{NoAid, Enter as EnterAid, Clear as ClearAid, Pf as PfAid, Pa as PaAid}
+use Rattle.datastream.specs.Grammar.{CommandParts}
+use Rattle.datastream.specs.InboundText.{InboundParts}
+use Rattle.datastream.specs.Wanted.{WantedScreen}
 use Rattle.panels.specs.declared.message.Message.{Message}
 use Rattle.panels.specs.declared.message.Message.TheVariants.{Fresh}
 use Rattle.panels.specs.Screen.{Values}
+use Rattle.shadow.specs.Belief.{Shadow}
 use Rattle.shadow.specs.Meets.{Meets}
-use Rattle.tn3270e_msg.specs.declared.device.Device.TheVariants.{Model2}
-use Rattle.tn3270e_msg.specs.Talk.{Talk, start_at, Saying}
+use Rattle.shadow.specs.Paint.{paint}
+use Rattle.tn3270e_msg.specs.Talk.{Talk, start_at}
 use Rattle.tn3270e_msg.specs.declared.host_talk.HostState.{HostState}
-use Rattle.tn3270e_msg.specs.declared.host_talk.HostState.TheVariants.{Agreed as HostAgreed}
-use Rattle.tn3270e_msg.specs.declared.term_talk.TermState.{TermState}
-use Rattle.tn3270e_msg.specs.declared.term_talk.TermState.TheVariants.{FunctionsAsked}
-use Rattle.tn3270e_msg.specs.declared.reply.Sending.TheVariants.{FunIs}
-use Rattle.host_core.specs.Acts.{Act, Sent as Sending, act_on, wanted_by, done, may_act, acted}
-use Rattle.host_core.specs.Application.{Application, IsApplication}
+use Rattle.host_core.specs.Acts.{Act, Sent as Sending, after_key, act_on, wanted_by, done, may_act, acted}
+use Rattle.host_core.specs.Application.{Application, IsShape, IsApplication}
+use Rattle.host_core.specs.Laws.{IsPaintable}
 use Rattle.host_core.specs.Messages.{ToTerminal, ToHost}
-use Rattle.host_core.specs.Session.{Conn, Turn, Pending, is_agreed}
-use Rattle.world3270.specs.Link.{Link, host_sent}
-use Rattle.world3270.specs.Stages.{At, IsNew, Moment, In, AtHost, Stage, Kept}
-use Rattle.world3270.specs.Stages.Moment.{offered, willing, type_wanted, type_asked, named, functions_asked, agreeing, rejected, refused}
-use Rattle.world3270.specs.Stages.Stage.{talking, first_paint, at_host, painting, answering, operating, sent_behind, sent_alone, asking, reporting}
-use Rattle.world3270.specs.View.{View, view_of}
+use Rattle.host_core.specs.NoteLaws.{IsNoteOf}
+use Rattle.host_core.specs.Notes.{IsNoteText, note_command, may_note, noted_as, noted}
+use Rattle.host_core.specs.Session.{Conn, Turn, Pending, Occasion, is_agreed}
 use Rattle.world3270.specs.Given.{Given}
+use Rattle.world3270.specs.Link.{Link, sent, host_sent}
+use Rattle.world3270.specs.Moments.{Kind, UnderWay, Talking, Serving, Moment, IsAt, host_talk_at, term_state_at, turn_at, pending_at, down_at, up_at}
+use Rattle.world3270.specs.Occasions.{IsOccasion}
+use Rattle.world3270.specs.Stages.{scene_of, FactsAreExact, IsNew, IsPainted, Operates, Sees, IsPressed, Decides, MayBeNoted, Fact, SameShape, Kept}
+use Rattle.world3270.specs.View.{View, view_of}
 use Rattle.world3270.proofs.Queues.{more, still}
 
 -- the connection once the host sent this
-abbrev sent_view : Sending → Link → Link
+abbrev pub sent_view : Sending → Link → Link
 sent_view sending link = host_sent (Some sending) link
 
 abbrev shown : Application → Conn → ℕ → Message → Bool → Values → Sending
 shown app conn panel message keep values = done app conn (Act.Show panel message keep values)
 
-sent_at : (link : Link) (sending : Sending) (host : Talk HostState) (wanted : Option (List ℕ)) (term : TermState) (down : List ToTerminal) (up : List ToHost)
-    → At (view_of link) host wanted term down up → sending.conn.talk ≡ link.host.talk → At (view_of (sent_view sending link)) host wanted term (down ++ sending.message ∷ []) up
-sent_at link sending host wanted term down up at same = record {
-  host_talk = same ∙ at.host_talk;
-  term_talk = at.term_talk;
-  goes_down = more link.lost link.down down (sending.message ∷ []) at.goes_down;
-  goes_up = at.goes_up;
+-- what a sending leaves of the host's end
+record Sends (link : Link) (sending : Sending) : Type 0 where
+  talk : sending.conn.talk ≡ link.host.talk
+  shape : sending.conn.shape ≡ link.host.shape
+  shadow : sending.conn.shadow ≡ link.host.shadow
+
+-- what is under way then
+sent_at : (link : Link) (sending : Sending) (wanted : Option (List ℕ)) (from to : Moment) → Sends link sending → IsAt (view_of link) wanted from
+    → host_talk_at to ≡ host_talk_at from → term_state_at to ≡ term_state_at from → sending.conn.turn ≡ turn_at to → sending.conn.pending ≡ pending_at to
+    → down_at from ++ sending.message ∷ [] ≡ down_at to → up_at wanted to ≡ up_at wanted from → IsAt (view_of (sent_view sending link)) wanted to
+sent_at link sending wanted from to same at host term turn pending down up = record {
+  host_talk = same.talk ∙ at.host_talk ∙ sym host;
+  term_talk = at.term_talk ∙ ap (λ state. record { wanted = wanted; talk = start_at state }) (sym term);
+  turn = turn;
+  pending = pending;
+  goes_down = subst (UnderWay link.lost (sent link.lost link.down (sending.message ∷ []))) down (more link.lost link.down (down_at from) (sending.message ∷ []) at.goes_down);
+  goes_up = subst (UnderWay link.lost link.up) (sym up) at.goes_up;
 }
 
--- the host paints, in its turn
-paints_first : Given → (app : Application) → IsApplication app → (link : Link) (lu : List ℕ) (wanted : Option (List ℕ)) (panel : ℕ) (message : Message) (keep : Bool) (values : Values)
-    → IsNew (view_of link) → At (view_of link) (start_at (HostAgreed Model2 lu)) wanted (FunctionsAsked lu) (ToTerminal.TalksDown (Saying.Sub FunIs) ∷ []) []
-    → Stage app (view_of (sent_view (shown app link.host panel message keep values) link))
-paints_first given app is link lu wanted panel message keep values n at =
-    let fit = given.fit app link.host (Act.Show panel message keep values) is in
-    first_paint lu link.host.number (wanted_by app link.host panel message keep values) (record {
-      wanted = wanted;
-      at = sent_at link (shown app link.host panel message keep values) _ wanted _ _ [] at refl;
-      turn = refl;
-      pending = refl;
-      lock = n.lock;
-      meets = subst (λ s. Meets s link.term.display.screen) (sym n.shadow) tt;
-      paintable = fit.0;
-    })
+-- a sending that leads to a moment
+kept_sent : (app : Application) (link : Link) (sending : Sending) (k : Kept app (view_of link)) (to : Moment) → Sends link sending → IsAt (view_of (sent_view sending link)) k.wanted to
+    → Fact k.wanted (scene_of (view_of (sent_view sending link))) to → Kept app (view_of (sent_view sending link))
+kept_sent app link sending k to same at fact = record {
+  shape = record { begins = same.shape ∙ k.shape.begins; same = k.shape.same ∙ sym same.shape };
+  whole = subst (λ (s : Shape). length link.term.display.screen.cells ≡ cells_in s) (sym same.shape) k.whole;
+  cursor = subst (λ (s : Shape). link.term.display.screen.cursor < cells_in s) (sym same.shape) k.cursor;
+  unreturned = k.unreturned;
+  exact = subst FactsAreExact (sym same.shadow) k.exact;
+  wanted = k.wanted;
+  moment = to;
+  at = at;
+  fact = fact;
+}
 
-paints : Given → (app : Application) → IsApplication app → (link : Link) (lu : List ℕ) (panel : ℕ) (message : Message) (keep : Bool) (values : Values) → AtHost (view_of link) lu
-    → Stage app (view_of (sent_view (shown app link.host panel message keep values) link))
-paints given app is link lu panel message keep values s =
-    let fit = given.fit app link.host (Act.Show panel message keep values) is in
-    painting lu link.host.number (wanted_by app link.host panel message keep values) (record {
-      session = record { wanted = s.session.wanted; at = sent_at link (shown app link.host panel message keep values) _ s.session.wanted _ [] [] s.session.at refl; turn_is = refl; pending_is = refl };
-      lock = s.lock;
-      meets = s.meets;
-      paintable = fit.0;
-    })
+-- ---- the host acts
 
-asks : (app : Application) (link : Link) (lu : List ℕ) → AtHost (view_of link) lu → Stage app (view_of (sent_view (done app link.host Act.Read) link))
-asks app link lu s =
-    asking lu link.host.number
-    (record { wanted = s.session.wanted; at = sent_at link (done app link.host Act.Read) _ s.session.wanted _ [] [] s.session.at refl; turn_is = s.session.turn_is; pending_is = refl })
-    (record { lock = s.lock; meets = s.meets })
+paintable : Given → (app : Application) → IsApplication app → (link : Link) → link.host.shape ≡ app.begins → (panel : ℕ) (message : Message) (keep : Bool) (values : Values)
+    → IsPaintable link.host.shape link.host.shadow (wanted_by app link.host panel message keep values)
+paintable given app is link begins panel message keep values =
+    subst (λ (s : Shape). IsPaintable s link.host.shadow (wanted_by app link.host panel message keep values)) (sym begins) (given.belief.fit app link.host (Act.Show panel message keep values) is).0
 
-acts_at : Given → (app : Application) → IsApplication app → (link : Link) (lu : List ℕ) (act : Act) → AtHost (view_of link) lu → Stage app (view_of (sent_view (done app link.host act) link))
-acts_at given app is link lu Act.Read s = asks app link lu s
-acts_at given app is link lu (Act.Show panel message keep values) s = paints given app is link lu panel message keep values s
+-- after Clear nothing is read
+key_uncleared : (app : Application) (conn : Conn) (pressed : Aid) (buffered : Bool) → after_key app conn pressed buffered ≡ Act.Read → pressed ≡ ClearAid → ⊥
+key_uncleared app conn ClearAid buffered e is = absurd (cc)
+key_uncleared app conn NoAid buffered e is = absurd (cc)
+key_uncleared app conn EnterAid buffered e is = absurd (cc)
+key_uncleared app conn (PfAid key) buffered e is = absurd (cc)
+key_uncleared app conn (PaAid key) buffered e is = absurd (cc)
 
--- at agreement the first panel is shown
-acts_new : Given → (app : Application) → IsApplication app → (link : Link) (lu : List ℕ) (wanted : Option (List ℕ)) → IsNew (view_of link)
-    → At (view_of link) (start_at (HostAgreed Model2 lu)) wanted (FunctionsAsked lu) (ToTerminal.TalksDown (Saying.Sub FunIs) ∷ []) []
-    → Stage app (view_of (sent_view (done app link.host (act_on app link.host link.host.occasion)) link))
-acts_new given app is link lu wanted n at =
-    subst (λ o. Stage app (view_of (sent_view (done app link.host (act_on app link.host o)) link))) (sym n.occasion)
-    (paints_first given app is link lu wanted app.start Fresh false link.host.values n at)
+reads_uncleared : (app : Application) (conn : Conn) (occasion : Occasion) (aid : Aid) → IsOccasion occasion aid → act_on app conn occasion ≡ Act.Read → aid ≡ ClearAid → ⊥
+reads_uncleared app conn Occasion.Agreement aid is e clear = absurd (cc)
+reads_uncleared app conn (Occasion.Key pressed buffered) aid is e clear = key_uncleared app conn pressed buffered e (is.0 ∙ clear)
+reads_uncleared app conn Occasion.Refusal aid is e clear = absurd is
 
-not_agreed : (link : Link) (host : Talk HostState) (wanted : Option (List ℕ)) (term : TermState) (down : List ToTerminal) (up : List ToHost) → At (view_of link) host wanted term down up → is_agreed link.host.talk.state ≡ is_agreed host.state
-not_agreed link host wanted term down up at = ap (λ (t : Talk HostState). is_agreed t.state) at.host_talk
+abbrev command_of : Application → Conn → ℕ → Message → Bool → Values → CommandParts
+command_of app conn panel message keep values = paint (cells_in conn.shape) conn.shadow (wanted_by app conn panel message keep values)
 
--- ---- whether the host may act
+module _ (given : Given) (app : Application) (is : IsApplication app) (link : Link) (k : Kept app (view_of link)) where
+  -- before the terminal knows that both agreed
+  paints_first : (lu : List ℕ) (panel : ℕ) (message : Message) (keep : Bool) (values : Values) → IsAt (view_of link) k.wanted (Moment.Talks (Talking.Agreeing lu)) → IsNew (scene_of (view_of link))
+      → Kept app (view_of (sent_view (shown app link.host panel message keep values) link))
+  paints_first lu panel message keep values at n =
+      let sending : Sending = shown app link.host panel message keep values in
+      let wants : WantedScreen = wanted_by app link.host panel message keep values in
+      let same : Sends link sending = record { talk = refl; shape = refl; shadow = refl } in
+      let to : Moment = Moment.Begins lu link.host.number (command_of app link.host panel message keep values) wants link.host.shadow in
+      kept_sent app link sending k to same
+      (sent_at link sending k.wanted (Moment.Talks (Talking.Agreeing lu)) to same at refl refl refl refl refl refl)
+      (record {
+        lock = n.lock;
+        over_is = refl;
+        command_is = refl;
+        meets = subst (λ s. Meets s link.term.display.screen) (sym n.shadow) tt;
+        paintable = paintable given app is link k.shape.begins panel message keep values;
+      })
 
-abbrev acts_if : Application → Link → Turn → Pending → Bool → Link
-acts_if app link turn pending agreed = host_sent (if may_act turn pending agreed then Some (done app link.host (act_on app link.host link.host.occasion)) else None) link
+  paints : (lu : List ℕ) (panel : ℕ) (message : Message) (keep : Bool) (values : Values) → IsAt (view_of link) k.wanted (Moment.Serves lu Serving.Deciding) → Decides (scene_of (view_of link)) link.host.shadow
+      → Kept app (view_of (sent_view (shown app link.host panel message keep values) link))
+  paints lu panel message keep values at f =
+      let sending : Sending = shown app link.host panel message keep values in
+      let wants : WantedScreen = wanted_by app link.host panel message keep values in
+      let same : Sends link sending = record { talk = refl; shape = refl; shadow = refl } in
+      let to : Moment = Moment.Serves lu (Serving.Painting link.host.number (command_of app link.host panel message keep values) wants link.host.shadow) in
+      kept_sent app link sending k to same
+      (sent_at link sending k.wanted (Moment.Serves lu Serving.Deciding) to same at refl refl refl refl refl refl)
+      (record {
+        lock = f.lock;
+        over_is = refl;
+        command_is = refl;
+        meets = f.sees.meets;
+        paintable = paintable given app is link k.shape.begins panel message keep values;
+      })
 
-may_act_at : Given → (app : Application) → IsApplication app → (link : Link) → Kept app (view_of link) → link.host.turn ≡ Turn.Host → link.host.pending ≡ Pending.Nothing → is_agreed link.host.talk.state ≡ true
-    → Stage app (view_of (sent_view (done app link.host (act_on app link.host link.host.occasion)) link))
-may_act_at given app is link k turns pends agrees = cases k.stage
-  where
-    now : Link
-    now = sent_view (done app link.host (act_on app link.host link.host.occasion)) link
+  asks : (lu : List ℕ) → (link.term.display.screen.aid ≡ ClearAid → ⊥) → IsAt (view_of link) k.wanted (Moment.Serves lu Serving.Deciding) → Decides (scene_of (view_of link)) link.host.shadow → Kept app (view_of (sent_view (done app link.host Act.Read) link))
+  asks lu not_cleared at f =
+      let sending : Sending = done app link.host Act.Read in
+      let same : Sends link sending = record { talk = refl; shape = refl; shadow = refl } in
+      let to : Moment = Moment.Serves lu (Serving.Reading link.host.number) in
+      kept_sent app link sending k to same
+      (sent_at link sending k.wanted (Moment.Serves lu Serving.Deciding) to same at refl refl at.turn refl refl refl)
+      (record { decides = f; not_cleared = not_cleared })
 
-    at_moment : IsNew (view_of link) → Moment (view_of link) → Stage app (view_of now)
-    at_moment n (agreeing wanted lu at) = acts_new given app is link lu wanted n at
-    at_moment n (offered wanted lu at) = let x = not_agreed link _ _ _ _ _ at in absurd (cc)
-    at_moment n (willing wanted lu at) = let x = not_agreed link _ _ _ _ _ at in absurd (cc)
-    at_moment n (type_wanted wanted lu at) = let x = not_agreed link _ _ _ _ _ at in absurd (cc)
-    at_moment n (type_asked wanted lu at) = let x = not_agreed link _ _ _ _ _ at in absurd (cc)
-    at_moment n (named wanted lu s at) = let x = not_agreed link _ _ _ _ _ at in absurd (cc)
-    at_moment n (functions_asked wanted lu at) = let x = not_agreed link _ _ _ _ _ at in absurd (cc)
-    at_moment n (rejected wanted reason at) = let x = not_agreed link _ _ _ _ _ at in absurd (cc)
-    at_moment n (refused wanted reason at) = let x = not_agreed link _ _ _ _ _ at in absurd (cc)
+  acts_at : (lu : List ℕ) (act : Act) → act_on app link.host link.host.occasion ≡ act → IsAt (view_of link) k.wanted (Moment.Serves lu Serving.Deciding) → Decides (scene_of (view_of link)) link.host.shadow → Kept app (view_of (sent_view (done app link.host act) link))
+  acts_at lu Act.Read e at f = asks lu (reads_uncleared app link.host link.host.occasion link.term.display.screen.aid f.occasion e) at f
+  acts_at lu (Act.Show panel message keep values) e at f = paints lu panel message keep values at f
 
-    cases : Stage app (view_of link) → Stage app (view_of now)
-    cases (talking n moment) = at_moment n moment
-    cases (at_host lu s) = acts_at given app is link lu (act_on app link.host link.host.occasion) s
-    cases (first_paint lu number c s) = let t = s.turn in absurd (cc)
-    cases (painting lu number c s) = let t = s.session.turn_is in absurd (cc)
-    cases (answering lu number c session s) = let t = session.turn_is in absurd (cc)
-    cases (operating lu session s) = let t = session.turn_is in absurd (cc)
-    cases (sent_behind lu number c session s) = let t = session.turn_is in absurd (cc)
-    cases (sent_alone lu session s) = let t = session.turn_is in absurd (cc)
-    cases (asking lu number session s) = let t = session.pending_is in absurd (cc)
-    cases (reporting lu number session s) = let t = session.pending_is in absurd (cc)
+  -- at agreement the first panel is shown
+  acts_new : (lu : List ℕ) → IsAt (view_of link) k.wanted (Moment.Talks (Talking.Agreeing lu)) → IsNew (scene_of (view_of link))
+      → Kept app (view_of (sent_view (done app link.host (act_on app link.host link.host.occasion)) link))
+  acts_new lu at n =
+      subst (λ o. Kept app (view_of (sent_view (done app link.host (act_on app link.host o)) link))) (sym n.occasion)
+      (paints_first lu app.start Fresh false link.host.values at n)
 
-same_screen : (app : Application) (link : Link) (act : Act) → Kept app (view_of link) → Stage app (view_of (sent_view (done app link.host act) link)) → Kept app (view_of (sent_view (done app link.host act) link))
-same_screen app link Act.Read k stage = record { whole = k.whole; cursor = k.cursor; unreturned = k.unreturned; exact = k.exact; stage = stage }
-same_screen app link (Act.Show panel message keep values) k stage = record { whole = k.whole; cursor = k.cursor; unreturned = k.unreturned; exact = k.exact; stage = stage }
+  abbrev now : Link
+  now = sent_view (done app link.host (act_on app link.host link.host.occasion)) link
 
-acts_by : Given → (app : Application) → IsApplication app → (link : Link) (turn : Turn) (pending : Pending) (agreed : Bool) → Kept app (view_of link)
-    → link.host.turn ≡ turn → link.host.pending ≡ pending → is_agreed link.host.talk.state ≡ agreed → Kept app (view_of (acts_if app link turn pending agreed))
-acts_by given app is link Turn.Host Pending.Nothing true k turns pends agrees = same_screen app link (act_on app link.host link.host.occasion) k (may_act_at given app is link k turns pends agrees)
-acts_by given app is link Turn.Host Pending.Nothing false k turns pends agrees = k
-acts_by given app is link Turn.Host (Pending.Writing number c) agreed k turns pends agrees = k
-acts_by given app is link Turn.Host (Pending.Reading number) agreed k turns pends agrees = k
-acts_by given app is link Turn.Terminal pending agreed k turns pends agrees = k
+  -- it may act at two moments alone
+  may_act_at : link.host.turn ≡ Turn.Host → link.host.pending ≡ Pending.Nothing → is_agreed link.host.talk.state ≡ true → Kept app (view_of now)
+  may_act_at turns pends agrees = by_moment k.moment k.at k.fact
+    where
+      not_yet : (moment : Moment) → IsAt (view_of link) k.wanted moment → is_agreed (host_talk_at moment).state ≡ true
+      not_yet moment at = sym (ap (λ (t : Talk HostState). is_agreed t.state) at.host_talk) ∙ agrees
 
--- the host acts, if it may
-pub acts : Given → (app : Application) → IsApplication app → (link : Link) → Kept app (view_of link) → Kept app (view_of (host_sent (acted app link.host) link))
-acts given app is link k = acts_by given app is link link.host.turn link.host.pending (is_agreed link.host.talk.state) k refl refl refl
+      by_talk : (talking : Talking) → IsAt (view_of link) k.wanted (Moment.Talks talking) → IsNew (scene_of (view_of link)) → Kept app (view_of now)
+      by_talk (Talking.Agreeing lu) at n = acts_new lu at n
+      by_talk Talking.Offering at n = let x = not_yet (Moment.Talks Talking.Offering) at in absurd (cc)
+      by_talk Talking.Accepting at n = let x = not_yet (Moment.Talks Talking.Accepting) at in absurd (cc)
+      by_talk Talking.AskingType at n = let x = not_yet (Moment.Talks Talking.AskingType) at in absurd (cc)
+      by_talk Talking.NamingType at n = let x = not_yet (Moment.Talks Talking.NamingType) at in absurd (cc)
+      by_talk (Talking.Granting lu) at n = let x = not_yet (Moment.Talks (Talking.Granting lu)) at in absurd (cc)
+      by_talk (Talking.AskingFunctions lu) at n = let x = not_yet (Moment.Talks (Talking.AskingFunctions lu)) at in absurd (cc)
+      by_talk (Talking.Rejecting reason) at n = let x = not_yet (Moment.Talks (Talking.Rejecting reason)) at in absurd (cc)
+      by_talk (Talking.Rejected reason) at n = let x = not_yet (Moment.Talks (Talking.Rejected reason)) at in absurd (cc)
+
+      by_serving : (lu : List ℕ) (serving : Serving) → IsAt (view_of link) k.wanted (Moment.Serves lu serving) → Fact k.wanted (scene_of (view_of link)) (Moment.Serves lu serving) → turn_at (Moment.Serves lu serving) ≡ Turn.Host
+          → pending_at (Moment.Serves lu serving) ≡ Pending.Nothing → Kept app (view_of now)
+      by_serving lu Serving.Deciding at f t p = acts_at lu (act_on app link.host link.host.occasion) refl at f
+      by_serving lu (Serving.Reading number) at f t p = absurd (cc)
+      by_serving lu (Serving.Reported number parts) at f t p = absurd (cc)
+      by_serving lu (Serving.NotedLate number command) at f t p = absurd (cc)
+      by_serving lu (Serving.AnsweredLate number command) at f t p = absurd (cc)
+      by_serving lu (Serving.Painting number command wants over) at f t p = absurd (cc)
+      by_serving lu (Serving.Answering kind number command) at f t p = absurd (cc)
+      by_serving lu Serving.Operating at f t p = absurd (cc)
+      by_serving lu (Serving.Noting number command) at f t p = absurd (cc)
+      by_serving lu (Serving.KeyAlone parts) at f t p = absurd (cc)
+      by_serving lu (Serving.KeyBehind kind number command parts) at f t p = absurd (cc)
+      by_serving lu (Serving.KeyNoted number command parts) at f t p = absurd (cc)
+      by_serving lu (Serving.KeyBefore number command parts) at f t p = absurd (cc)
+
+      by_moment : (moment : Moment) → IsAt (view_of link) k.wanted moment → Fact k.wanted (scene_of (view_of link)) moment → Kept app (view_of now)
+      by_moment (Moment.Talks talking) at f = by_talk talking at f.0
+      by_moment (Moment.Begins lu number command wants over) at f = let t = sym at.turn ∙ turns in absurd (cc)
+      by_moment (Moment.Serves lu serving) at f = by_serving lu serving at f (sym at.turn ∙ turns) (sym at.pending ∙ pends)
+
+  acts_by : (turn : Turn) (pending : Pending) (agreed : Bool) → link.host.turn ≡ turn → link.host.pending ≡ pending → is_agreed link.host.talk.state ≡ agreed
+      → Kept app (view_of (host_sent (if may_act turn pending agreed then Some (done app link.host (act_on app link.host link.host.occasion)) else None) link))
+  acts_by Turn.Host Pending.Nothing true turns pends agrees = may_act_at turns pends agrees
+  acts_by Turn.Host Pending.Nothing false turns pends agrees = k
+  acts_by Turn.Host (Pending.Writing number command) agreed turns pends agrees = k
+  acts_by Turn.Host (Pending.Reading number) agreed turns pends agrees = k
+  acts_by Turn.Host (Pending.Noting number command) agreed turns pends agrees = k
+  acts_by Turn.Terminal pending agreed turns pends agrees = k
+
+  -- the host acts, if it may
+  pub acts : Kept app (view_of (host_sent (acted app link.host) link))
+  acts = acts_by link.host.turn link.host.pending (is_agreed link.host.talk.state) refl refl refl
+
+-- ---- the host sends a note
+
+module _ (app : Application) (text : List ℕ) (is : IsNoteText text) (link : Link) (k : Kept app (view_of link)) where
+  abbrev noting : Sending
+  noting = noted_as text link.host
+
+  abbrev command : CommandParts
+  command = note_command link.host.shape text
+
+  same_end : Sends link noting
+  same_end = record { talk = refl; shape = refl; shadow = refl }
+
+  is_note : IsNoteOf link.host.shape command
+  is_note = record { text = text; is_text = is; is = refl }
+
+  notes_at : (lu : List ℕ) (from to : Serving) → IsAt (view_of link) k.wanted (Moment.Serves lu from) → turn_at (Moment.Serves lu from) ≡ turn_at (Moment.Serves lu to)
+      → Pending.Noting link.host.number command ≡ pending_at (Moment.Serves lu to)
+      → down_at (Moment.Serves lu from) ++ ToTerminal.Note link.host.number command ∷ [] ≡ down_at (Moment.Serves lu to) → up_at k.wanted (Moment.Serves lu to) ≡ up_at k.wanted (Moment.Serves lu from)
+      → Fact k.wanted (scene_of (view_of (sent_view noting link))) (Moment.Serves lu to) → Kept app (view_of (sent_view noting link))
+  notes_at lu from to at turn pending down up fact =
+      kept_sent app link noting k (Moment.Serves lu to) same_end (sent_at link noting k.wanted (Moment.Serves lu from) (Moment.Serves lu to) same_end at refl refl (at.turn ∙ turn) pending down up) fact
+
+  -- it may do so at two moments alone
+  may_note_at : link.host.turn ≡ Turn.Terminal → link.host.pending ≡ Pending.Nothing → Kept app (view_of (sent_view noting link))
+  may_note_at turns pends = by_moment k.moment k.at k.fact
+    where
+      by_serving : (lu : List ℕ) (serving : Serving) → IsAt (view_of link) k.wanted (Moment.Serves lu serving) → Fact k.wanted (scene_of (view_of link)) (Moment.Serves lu serving) → turn_at (Moment.Serves lu serving) ≡ Turn.Terminal
+          → pending_at (Moment.Serves lu serving) ≡ Pending.Nothing → Kept app (view_of (sent_view noting link))
+      by_serving lu Serving.Operating at f t p =
+          notes_at lu Serving.Operating (Serving.Noting link.host.number command) at refl refl refl refl
+          (f, is_note)
+      by_serving lu (Serving.KeyAlone parts) at f t p =
+          notes_at lu (Serving.KeyAlone parts) (Serving.KeyNoted link.host.number command parts) at refl refl refl refl
+          (f.0, f.1, record { note = is_note; takes = f.2 })
+      by_serving lu Serving.Deciding at f t p = absurd (cc)
+      by_serving lu (Serving.Reading number) at f t p = absurd (cc)
+      by_serving lu (Serving.Reported number parts) at f t p = absurd (cc)
+      by_serving lu (Serving.NotedLate number command) at f t p = absurd (cc)
+      by_serving lu (Serving.AnsweredLate number command) at f t p = absurd (cc)
+      by_serving lu (Serving.Painting number command wants over) at f t p = absurd (cc)
+      by_serving lu (Serving.Answering Kind.APaint number command) at f t p = absurd (cc)
+      by_serving lu (Serving.Answering Kind.ANote number command) at f t p = absurd (cc)
+      by_serving lu (Serving.Noting number command) at f t p = absurd (cc)
+      by_serving lu (Serving.KeyBehind Kind.APaint number command parts) at f t p = absurd (cc)
+      by_serving lu (Serving.KeyBehind Kind.ANote number command parts) at f t p = absurd (cc)
+      by_serving lu (Serving.KeyNoted number command parts) at f t p = absurd (cc)
+      by_serving lu (Serving.KeyBefore number command parts) at f t p = absurd (cc)
+
+      by_moment : (moment : Moment) → IsAt (view_of link) k.wanted moment → Fact k.wanted (scene_of (view_of link)) moment → Kept app (view_of (sent_view noting link))
+      by_moment (Moment.Talks talking) at f = let t = sym at.turn ∙ turns in absurd (cc)
+      by_moment (Moment.Begins lu number command wants over) at f = let p = sym at.pending ∙ pends in absurd (cc)
+      by_moment (Moment.Serves lu serving) at f = by_serving lu serving at f (sym at.turn ∙ turns) (sym at.pending ∙ pends)
+
+  notes_by : (turn : Turn) (pending : Pending) (agreed : Bool) → link.host.turn ≡ turn → link.host.pending ≡ pending
+      → Kept app (view_of (host_sent (if may_note turn pending agreed then Some (noted_as text link.host) else None) link))
+  notes_by Turn.Terminal Pending.Nothing true turns pends = may_note_at turns pends
+  notes_by Turn.Terminal Pending.Nothing false turns pends = k
+  notes_by Turn.Terminal (Pending.Writing number command) agreed turns pends = k
+  notes_by Turn.Terminal (Pending.Reading number) agreed turns pends = k
+  notes_by Turn.Terminal (Pending.Noting number command) agreed turns pends = k
+  notes_by Turn.Host pending agreed turns pends = k
+
+  pub notes : Kept app (view_of (host_sent (noted text link.host) link))
+  notes = notes_by link.host.turn link.host.pending (is_agreed link.host.talk.state) refl refl
 
 -- ---- a connection that is lost
 
 abbrev without : View → View
 without v = record v { lost = true }
 
-at_lost : (v : View) (host : Talk HostState) (wanted : Option (List ℕ)) (term : TermState) (down : List ToTerminal) (up : List ToHost) → At v host wanted term down up → At (without v) host wanted term down up
-at_lost v host wanted term down up at =
-    record { host_talk = at.host_talk; term_talk = at.term_talk; goes_down = still v.lost v.down down at.goes_down; goes_up = still v.lost v.up up at.goes_up }
-
-in_lost : (v : View) (lu : List ℕ) (turn : Turn) (pending : Pending) (down : List ToTerminal) (up : List ToHost) → In v lu turn pending down up → In (without v) lu turn pending down up
-in_lost v lu turn pending down up s = record { wanted = s.wanted; at = at_lost v _ s.wanted _ down up s.at; turn_is = s.turn_is; pending_is = s.pending_is }
-
-lost_moment : (v : View) → Moment v → Moment (without v)
-lost_moment v (offered wanted lu at) = offered wanted lu (at_lost v _ _ _ _ _ at)
-lost_moment v (willing wanted lu at) = willing wanted lu (at_lost v _ _ _ _ _ at)
-lost_moment v (type_wanted wanted lu at) = type_wanted wanted lu (at_lost v _ _ _ _ _ at)
-lost_moment v (type_asked wanted lu at) = type_asked wanted lu (at_lost v _ _ _ _ _ at)
-lost_moment v (named wanted lu s at) = named wanted lu s (at_lost v _ _ _ _ _ at)
-lost_moment v (functions_asked wanted lu at) = functions_asked wanted lu (at_lost v _ _ _ _ _ at)
-lost_moment v (agreeing wanted lu at) = agreeing wanted lu (at_lost v _ _ _ _ _ at)
-lost_moment v (rejected wanted reason at) = rejected wanted reason (at_lost v _ _ _ _ _ at)
-lost_moment v (refused wanted reason at) = refused wanted reason (at_lost v _ _ _ _ _ at)
-
-lost_stage : (app : Application) (v : View) → Stage app v → Stage app (without v)
-lost_stage app v (talking n moment) = talking (record { turn = n.turn; pending = n.pending; shadow = n.shadow; occasion = n.occasion; lock = n.lock; aid = n.aid; no_fields = n.no_fields }) (lost_moment v moment)
-lost_stage app v (first_paint lu number c s) =
-    first_paint lu number c (record { wanted = s.wanted; at = at_lost v _ s.wanted _ _ _ s.at; turn = s.turn; pending = s.pending; lock = s.lock; meets = s.meets; paintable = s.paintable })
-lost_stage app v (at_host lu s) = at_host lu (record { session = in_lost v lu _ _ _ _ s.session; lock = s.lock; meets = s.meets; lists = s.lists; told = s.told })
-lost_stage app v (painting lu number c s) = painting lu number c (record { session = in_lost v lu _ _ _ _ s.session; lock = s.lock; meets = s.meets; paintable = s.paintable })
-lost_stage app v (answering lu number c session s) = answering lu number c (in_lost v lu _ _ _ _ session) (record { exact = s.exact; lock = s.lock; meets = s.meets; knows = s.knows; held = s.held })
-lost_stage app v (operating lu session s) = operating lu (in_lost v lu _ _ _ _ session) (record { exact = s.exact; lock = s.lock; meets = s.meets; knows = s.knows; held = s.held })
-lost_stage app v (sent_behind lu number c session s) = sent_behind lu number c (in_lost v lu _ _ _ _ session) (record { exact = s.exact; lock = s.lock; heard = s.heard; aid = s.aid })
-lost_stage app v (sent_alone lu session s) = sent_alone lu (in_lost v lu _ _ _ _ session) (record { exact = s.exact; lock = s.lock; heard = s.heard; aid = s.aid })
-lost_stage app v (asking lu number session s) = asking lu number (in_lost v lu _ _ _ _ session) (record { lock = s.lock; meets = s.meets })
-lost_stage app v (reporting lu number session s) = reporting lu number (in_lost v lu _ _ _ _ session) (record { lock = s.lock; meets = s.meets })
+lost_at : (v : View) (wanted : Option (List ℕ)) (moment : Moment) → IsAt v wanted moment → IsAt (without v) wanted moment
+lost_at v wanted moment at = record {
+  host_talk = at.host_talk;
+  term_talk = at.term_talk;
+  turn = at.turn;
+  pending = at.pending;
+  goes_down = still v.lost v.down (down_at moment) at.goes_down;
+  goes_up = still v.lost v.up (up_at wanted moment) at.goes_up;
+}
 
 pub loses : (app : Application) (v : View) → Kept app v → Kept app (record v { lost = true })
-loses app v k = record { whole = k.whole; cursor = k.cursor; unreturned = k.unreturned; exact = k.exact; stage = lost_stage app v k.stage }
+loses app v k = record {
+  shape = record { begins = k.shape.begins; same = k.shape.same };
+  whole = k.whole;
+  cursor = k.cursor;
+  unreturned = k.unreturned;
+  exact = k.exact;
+  wanted = k.wanted;
+  moment = k.moment;
+  at = lost_at v k.wanted k.moment k.at;
+  fact = k.fact;
+}

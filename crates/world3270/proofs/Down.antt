@@ -1,16 +1,29 @@
--- What a terminal makes of the next message, at each stage.
-use Rattle.std.proofs.Common.{◌≡◌, ℕ, Bool, true, Option, None, Some, List, [], ◌∷◌, ◌++◌, length, map, suc, arith, refl, ap, sym, subst, ◌∙◌}
+-- What a terminal makes of the next message, at each moment.
+use Rattle.std.proofs.Common.{◌≡◌, ◌⊎◌, inl, inr, ◌<◌, ℕ, Bool, true, false, Option, None, Some, List, [], ◌∷◌, ◌++◌, length, map, suc, arith, refl, ap, sym, subst, ◌∙◌, Result, Ok, Err, IsOkAnd}
+use Rattle.std.specs.Prelude.{is_some, filter_map}
+use Rattle.std.specs.List.{list_any}
 use Rattle.std.specs.Str.{bytes_eq}
+use Rattle.std.proofs.lemmas.List.Elements.{All-cons}
+use Rattle.codes3270.specs.Size.{Shape, cells_in}
 use Rattle.codes3270.specs.declared.attribute.Cell.{Cell}
+use Rattle.datastream.specs.Grammar.{CommandParts}
+use Rattle.datastream.specs.InboundFields.{buffer_data}
+use Rattle.datastream.specs.InboundText.{InboundParts}
+use Rattle.datastream.specs.Meaning.{after_command}
+use Rattle.datastream.specs.Note.{OverCharacters, WritesProtected, IsProtectedChar}
 use Rattle.datastream.specs.Screen.{Screen}
 use Rattle.datastream.specs.Wanted.{WantedScreen}
 use Rattle.datastream.specs.declared.wanted.Want.{Want}
 use Rattle.datastream.specs.declared.wanted.Want.TheVariants.{Char as WantChar, Attr as WantAttr, Keep}
-use Rattle.shadow.specs.Exactness.{ProtectedIsExact}
-use Rattle.shadow.specs.Meets.{Meets}
+use Rattle.shadow.specs.Belief.{Shadow}
+use Rattle.shadow.specs.Exactness.{KnownIsExact, ProtectedIsExact}
+use Rattle.shadow.specs.Heard.{heard}
+use Rattle.shadow.specs.Meets.{Meets, Knows}
+use Rattle.shadow.specs.Notes.{OverwritesProtected}
 use Rattle.shadow.specs.Paint.{paint}
 use Rattle.shadow.specs.Painted.{painted_from, plainly_painted}
 use Rattle.shadow.specs.Taken.{taken}
+use Rattle.shadow.specs.declared.fault.HeardFault.{HeardFault}
 use Rattle.telnet_wire.specs.declared.wire.Verb.TheVariants.{Will, Do}
 use Rattle.tn3270e_msg.specs.Lu.{lu_of}
 use Rattle.tn3270e_msg.specs.Talk.{Comes, Talk, start_at, follow, Saying, says, sayings, closing}
@@ -20,23 +33,26 @@ use Rattle.tn3270e_msg.specs.declared.host_talk.HostState.{HostState}
 use Rattle.tn3270e_msg.specs.declared.reply.Reply.{Reply}
 use Rattle.tn3270e_msg.specs.declared.reply.Reply.TheVariants as reply
 use Rattle.tn3270e_msg.specs.declared.reply.After.TheVariants.{Going}
-use Rattle.host_core.specs.Session.{Turn, Pending}
 use Rattle.tn3270e_msg.specs.declared.reply.Sending.TheVariants.{SendType, TypeRequest, TypeIs, TypeReject, FunRequest, FunIs}
 use Rattle.tn3270e_msg.specs.declared.term_talk.TermState.{TermState}
 use Rattle.tn3270e_msg.specs.declared.term_talk.TermState.TheVariants.{Waiting, Willing, TypeAsked, FunctionsAsked, Agreed, Refused, Closed}
 use Rattle.tn3270e_msg.proofs.Agreement.{responses_alone, model_2, same_bytes}
-use Rattle.host_core.specs.Application.{Application, IsApplication}
+use Rattle.host_core.specs.Application.{Application, IsShape, IsApplication}
 use Rattle.host_core.specs.Messages.{ToTerminal, ToHost}
-use Rattle.world3270.specs.Headline.{SentFields}
-use Rattle.world3270.specs.Link.{Link, sent}
-use Rattle.world3270.specs.Stages.{UnderWay, At, Suits, IsNew, Moment, In, Painting, FactsAreExact, Reading, Stage, Kept}
-use Rattle.world3270.specs.Stages.Moment.{offered, willing, type_wanted, type_asked, named, functions_asked, agreeing, rejected, refused}
-use Rattle.world3270.specs.Stages.Stage.{talking, first_paint, at_host, painting, answering, operating, sent_behind, sent_alone, asking, reporting}
-use Rattle.world3270.specs.Terminal.{TermStep, with_talk, is_bound, bound_to, once_bound, paint_came, read_came, talked, took}
-use Rattle.std.specs.Prelude.{is_some}
-use Rattle.world3270.specs.View.{view_of}
+use Rattle.host_core.specs.NoteLaws.{HasMessageRow, TakesNotes, IsNoteOf}
+use Rattle.host_core.specs.Session.{Conn}
+use Rattle.world3270.specs.Always.{is_negative}
 use Rattle.world3270.specs.Given.{Given}
+use Rattle.world3270.specs.Happens.{verdict_in}
+use Rattle.world3270.specs.Headline.{SentFields, UnmodifiedIsKept}
+use Rattle.world3270.specs.Link.{Link, sent}
+use Rattle.world3270.specs.Moments.{Kind, Talking, Serving, Moment, UnderWay, IsAt, host_talk_at, term_state_at, turn_at, pending_at, down_at, up_at}
+use Rattle.world3270.specs.Occasions.{IsOccasion, IsCleared}
+use Rattle.world3270.specs.Stages.{scene_of, once_taken, FactsAreExact, Suits, IsPainted, Operates, NotedSince, Sees, IsPressed, IsRead, Decides, MayBeNoted, Fact, SameShape, Kept}
+use Rattle.world3270.specs.Terminal.{TermEnd, TermStep, with_talk, is_bound, bound_to, once_bound, paint_came, note_came, read_came, talked, took}
+use Rattle.world3270.specs.View.{View, view_of}
 use Rattle.world3270.proofs.Queues.{more, front, nothing}
+use Rattle.world3270.proofs.Unreturned.{kept_of, noted_on, kept_noted, kept_bare, still_bare, still_one}
 
 -- the connection once the terminal took the message before the rest
 abbrev pub term_view : TermStep → List ToTerminal → Link → Link
@@ -45,6 +61,29 @@ term_view step rest link = record link { down = rest; term = step.end; up = sent
 pub record Obeyed (app : Application) (link : Link) (rest : List ToTerminal) (step : TermStep) : Type 0 where
   pub kept : Kept app (view_of (term_view step rest link))
   pub open_end : step.closes ≡ None
+  pub positive : list_any is_negative (filter_map verdict_in step.sends) ≡ false
+
+-- ---- from moment to moment
+
+-- what the terminal's step makes of the moment: the host's end stays as it is
+pub record Leads (wanted : Option (List ℕ)) (from to : Moment) (sends : List ToHost) : Type 0 where
+  pub host_talk : host_talk_at to ≡ host_talk_at from
+  pub turn : turn_at to ≡ turn_at from
+  pub pending : pending_at to ≡ pending_at from
+  pub up : up_at wanted from ++ sends ≡ up_at wanted to
+
+leads : (link : Link) (step : TermStep) (rest : List ToTerminal) (wanted : Option (List ℕ)) (from to : Moment) → IsAt (view_of link) wanted from → Leads wanted from to step.sends
+    → step.end.talk ≡ record { wanted = wanted; talk = start_at (term_state_at to) } → UnderWay link.lost rest (down_at to) → IsAt (view_of (term_view step rest link)) wanted to
+leads link step rest wanted from to at l talk left = record {
+  host_talk = at.host_talk ∙ sym l.host_talk;
+  term_talk = talk;
+  turn = at.turn ∙ sym l.turn;
+  pending = at.pending ∙ sym l.pending;
+  goes_down = left;
+  goes_up = subst (UnderWay link.lost (sent link.lost link.up step.sends)) l.up (more link.lost link.up (up_at wanted from) step.sends at.goes_up);
+}
+
+-- ---- the talk
 
 abbrev talk_step : Link → TermState → List ToHost → TermStep
 talk_step link state sends = record { end = with_talk link.term (start_at state); sends = sends; closes = None }
@@ -64,33 +103,34 @@ talk_took link wanted state next saying sends e line =
     ∙ ap (λ c. record { end = with_talk link.term (start_at next); sends = map ToHost.TalksUp (sayings line.reply); closes = c }) line.quiet
     ∙ ap (λ s. record { end = with_talk link.term (start_at next); sends = s; closes = None }) line.sends_is
 
--- what is under way then
-talk_at : (link : Link) (host : Talk HostState) (wanted : Option (List ℕ)) (state next : TermState) (m : ToTerminal) (down rest : List ToTerminal) (up sends : List ToHost)
-    → At (view_of link) host wanted state (m ∷ down) up → UnderWay link.lost rest down
-    → At (view_of (term_view (talk_step link next sends) rest link)) host wanted next down (up ++ sends)
-talk_at link host wanted state next m down rest up sends at left = record {
-  host_talk = at.host_talk;
-  term_talk = ap (λ (t : Term). record { wanted = t.wanted; talk = start_at next }) at.term_talk;
-  goes_down = left;
-  goes_up = more link.lost link.up up sends at.goes_up;
-}
-
 -- the talk moves on
-talks : (app : Application) (link : Link) (rest : List ToTerminal) (wanted : Option (List ℕ)) (state next : TermState) (saying : Saying) (sends : List ToHost) (message : ToTerminal)
-    → Kept app (view_of link) → link.term.talk ≡ record { wanted = wanted; talk = start_at state } → message ≡ ToTerminal.TalksDown saying → Line wanted state saying next sends
-    → Stage app (view_of (term_view (talk_step link next sends) rest link)) → Obeyed app link rest (took link.term message)
-talks app link rest wanted state next saying sends message k e is line stage =
+talks : (app : Application) (link : Link) (rest : List ToTerminal) (k : Kept app (view_of link)) (from to : Moment) (saying : Saying) (sends : List ToHost) (message : ToTerminal)
+    → IsAt (view_of link) k.wanted from → message ≡ ToTerminal.TalksDown saying → Line k.wanted (term_state_at from) saying (term_state_at to) sends
+    → Leads k.wanted from to sends → list_any is_negative (filter_map verdict_in sends) ≡ false → UnderWay link.lost rest (down_at to)
+    → Fact k.wanted (scene_of (view_of (term_view (talk_step link (term_state_at to) sends) rest link))) to → Obeyed app link rest (took link.term message)
+talks app link rest k from to saying sends message at is line l positive left fact =
     subst (λ m. Obeyed app link rest (took link.term m)) (sym is)
-    (subst (Obeyed app link rest) (sym (talk_took link wanted state next saying sends e line))
-    (record { kept = record { whole = k.whole; cursor = k.cursor; unreturned = k.unreturned; exact = k.exact; stage = stage }; open_end = refl }))
-
-still_new : (link : Link) (rest : List ToTerminal) (next : TermState) (sends : List ToHost) → IsNew (view_of link) → IsNew (view_of (term_view (talk_step link next sends) rest link))
-still_new link rest next sends n = record { turn = n.turn; pending = n.pending; shadow = n.shadow; occasion = n.occasion; lock = n.lock; aid = n.aid; no_fields = n.no_fields }
+    (subst (Obeyed app link rest) (sym (talk_took link k.wanted (term_state_at from) (term_state_at to) saying sends at.term_talk line))
+    (record {
+      kept = record {
+        shape = record { begins = k.shape.begins; same = k.shape.same };
+        whole = k.whole;
+        cursor = k.cursor;
+        unreturned = k.unreturned;
+        exact = k.exact;
+        wanted = k.wanted;
+        moment = to;
+        at = leads link (talk_step link (term_state_at to) sends) rest k.wanted from to at l (ap (λ (t : Term). record { wanted = t.wanted; talk = start_at (term_state_at to) }) at.term_talk) left;
+        fact = fact;
+      };
+      open_end = refl;
+      positive = positive;
+    }))
 
 granted_line : Given → (wanted : Option (List ℕ)) (lu : List ℕ) → Suits wanted lu → Line wanted TypeAsked (Saying.Sub (TypeIs Model2 lu)) (FunctionsAsked lu) (ToHost.TalksUp (Saying.Sub FunRequest) ∷ [])
 granted_line given None lu suits = record {
   reply = reply.Sub FunRequest Going;
-  leads = ap (λ d. follow Closed (start_at TypeAsked) (grant_line None d (lu_of lu))) model_2 ∙ ap (λ l. follow Closed (start_at TypeAsked) (grant_line None (Some Model2) l)) (given.names lu suits.is_lu);
+  leads = ap (λ d. follow Closed (start_at TypeAsked) (grant_line None d (lu_of lu))) model_2 ∙ ap (λ l. follow Closed (start_at TypeAsked) (grant_line None (Some Model2) l)) (given.belief.names lu suits.is_lu);
   quiet = refl;
   sends_is = refl;
 }
@@ -99,7 +139,7 @@ granted_line given (Some name) lu suits =
     record {
       reply = reply.Sub FunRequest Going;
       leads = ap (λ d. follow Closed (start_at TypeAsked) (grant_line (Some name) d (lu_of lu))) model_2
-          ∙ ap (λ l. follow Closed (start_at TypeAsked) (grant_line (Some name) (Some Model2) l)) (given.names lu suits.is_lu)
+          ∙ ap (λ l. follow Closed (start_at TypeAsked) (grant_line (Some name) (Some Model2) l)) (given.belief.names lu suits.is_lu)
           ∙ (rw same refl);
       quiet = refl;
       sends_is = refl;
@@ -124,148 +164,300 @@ painted-length reset whole (WantChar byte ∷ rest) (x ∷ cells) same = ap suc 
 painted-length reset whole (Keep ∷ rest) (x ∷ cells) same = ap suc (painted-length reset whole rest cells (omega arith))
 painted-length reset whole (WantAttr attribute ∷ rest) (x ∷ cells) same = ap suc (painted-length reset whole rest cells (omega arith))
 
-bound : (link : Link) (host : Talk HostState) (wanted : Option (List ℕ)) (lu : List ℕ) (down : List ToTerminal) (up : List ToHost) → At (view_of link) host wanted (Agreed lu) down up → is_bound link.term ≡ true
-bound link host wanted lu down up at = ap (λ (t : Term). is_some (bound_to t.talk.state)) at.term_talk
 
--- what is under way once a session's terminal took the message before the rest
-session_at : (link : Link) (step : TermStep) (host : Talk HostState) (wanted : Option (List ℕ)) (lu : List ℕ) (m : ToTerminal) (down rest : List ToTerminal) (up : List ToHost)
-    → At (view_of link) host wanted (Agreed lu) (m ∷ down) up → UnderWay link.lost rest down → step.end.talk ≡ link.term.talk
-    → At (view_of (term_view step rest link)) host wanted (Agreed lu) down (up ++ step.sends)
-session_at link step host wanted lu m down rest up at left same = record {
-  host_talk = at.host_talk;
-  term_talk = same ∙ at.term_talk;
-  goes_down = left;
-  goes_up = more link.lost link.up up step.sends at.goes_up;
-}
+bound : (link : Link) (wanted : Option (List ℕ)) (lu : List ℕ) (serving : Serving) → IsAt (view_of link) wanted (Moment.Serves lu serving) → is_bound link.term ≡ true
+bound link wanted lu serving at = ap (λ (t : Term). is_some (bound_to t.talk.state)) at.term_talk
 
-takes_paint : Given → (app : Application) → IsApplication app → (link : Link) (rest : List ToTerminal) (lu : List ℕ) (number : ℕ) (paints : WantedScreen)
-    → Kept app (view_of link) → Painting app number paints (view_of link) lu → UnderWay link.lost rest []
-    → Obeyed app link rest (took link.term (ToTerminal.Paint number paints link.host.shadow))
-takes_paint given app is link rest lu number paints k s left =
+-- a step of a session that leaves the talk
+serves : (link : Link) (step : TermStep) (rest : List ToTerminal) (wanted : Option (List ℕ)) (lu : List ℕ) (from to : Serving) → IsAt (view_of link) wanted (Moment.Serves lu from)
+    → Leads wanted (Moment.Serves lu from) (Moment.Serves lu to) step.sends → step.end.talk ≡ link.term.talk → UnderWay link.lost rest (down_at (Moment.Serves lu to))
+    → IsAt (view_of (term_view step rest link)) wanted (Moment.Serves lu to)
+serves link step rest wanted lu from to at l same left = leads link step rest wanted (Moment.Serves lu from) (Moment.Serves lu to) at l (same ∙ at.term_talk) left
+
+-- ---- a paint
+
+takes_paint : Given → (app : Application) → IsApplication app → (link : Link) (rest : List ToTerminal) (k : Kept app (view_of link)) (lu : List ℕ) (number : ℕ) (command : CommandParts) (wants : WantedScreen) (over : Shadow)
+    → IsAt (view_of link) k.wanted (Moment.Serves lu (Serving.Painting number command wants over)) → IsPainted (scene_of (view_of link)) command wants over → UnderWay link.lost rest []
+    → Obeyed app link rest (took link.term (ToTerminal.Paint number wants over))
+takes_paint given app is link rest k lu number command wants over at f left =
     let screen : Screen = link.term.display.screen in
-    let at = s.session.at in
-    let same : length paints.cells ≡ length screen.cells = s.paintable.showable.cells ∙ sym k.whole in
-    let meets : Meets (taken app.size (paint app.size link.host.shadow paints) link.host.shadow) (plainly_painted paints screen) =
-    subst (λ size. Meets (taken size (paint size link.host.shadow paints) link.host.shadow) (plainly_painted paints screen)) k.whole (given.taken link.host.shadow paints screen same s.paintable.fits s.meets) in
-    let exact : FactsAreExact (taken app.size (paint app.size link.host.shadow paints) link.host.shadow) = record {
-      known = given.taken_exact app.size (paint app.size link.host.shadow paints) link.host.shadow k.exact.known;
-      protected = subst (λ size. ProtectedIsExact (taken size (paint size link.host.shadow paints) link.host.shadow)) k.whole (given.painted_exact link.host.shadow paints screen same s.paintable.fits s.meets k.exact.known);
+    let size : ℕ = cells_in link.host.shape in
+    let new : Screen = plainly_painted wants screen in
+    let same : length wants.cells ≡ length screen.cells = f.paintable.showable.cells ∙ sym k.whole in
+    let fits = f.paintable.fits in
+    let is_taken : taken (length screen.cells) (paint (length screen.cells) over wants) over ≡ once_taken link.host.shape command link.host.shadow =
+    ap (λ n. taken n (paint n over wants) over) k.whole ∙ ap (λ (c : CommandParts). taken size c over) (sym f.command_is) ∙ ap (taken size command) f.over_is in
+    let knows : taken size (paint size over wants) over ≡ once_taken link.host.shape command link.host.shadow =
+    ap (λ (c : CommandParts). taken size c over) (sym f.command_is) ∙ ap (taken size command) f.over_is in
+    let exact : FactsAreExact (once_taken link.host.shape command link.host.shadow) = record {
+      known = given.belief.taken_exact size command link.host.shadow k.exact.known;
+      protected = subst ProtectedIsExact is_taken (given.belief.painted_exact over wants screen same fits f.meets (subst KnownIsExact (sym f.over_is) k.exact.known));
     } in
-    subst (Obeyed app link rest) (ap (λ b. once_bound b (paint_came number paints link.term) link.term) (sym (bound link _ _ lu _ _ at)))
+    subst (Obeyed app link rest) (ap (λ b. once_bound b (paint_came number wants link.term) link.term) (sym (bound link k.wanted lu _ at)))
     (record {
       kept = record {
-        whole = painted-length paints.reset paints.cells paints.cells screen.cells same ∙ k.whole;
-        cursor = s.paintable.showable.cursor;
+        shape = record { begins = k.shape.begins; same = k.shape.same };
+        whole = painted-length wants.reset wants.cells wants.cells screen.cells same ∙ k.whole;
+        cursor = f.paintable.showable.cursor;
         unreturned = λ wrong. absurd wrong;
         exact = k.exact;
-        stage = answering lu number paints
-            (record {
-              wanted = s.session.wanted;
-              at = session_at link (paint_came number paints link.term) _ s.session.wanted lu _ [] rest [] at left refl;
-              turn_is = s.session.turn_is;
-              pending_is = s.session.pending_is;
-            })
-            (record {
-              exact = exact;
-              lock = λ wrong. absurd (cc);
-              meets = meets;
-              knows = given.known app.size link.host.shadow paints;
-              held = given.at_first (plainly_painted paints screen).cells;
-            });
+        wanted = k.wanted;
+        moment = Moment.Serves lu (Serving.Answering Kind.APaint number command);
+        at = serves link (paint_came number wants link.term) rest k.wanted lu _ (Serving.Answering Kind.APaint number command) at (record { host_talk = refl; turn = refl; pending = refl; up = refl }) refl left;
+        fact = record {
+          shown = new;
+          lock = λ wrong. absurd (cc);
+          exact = exact;
+          meets = subst (λ s. Meets s new) is_taken (given.belief.taken over wants screen same fits f.meets);
+          knows = subst Knows knows (given.belief.known size over wants);
+          held = given.keys.at_first new.cells;
+          messages = given.notes.painted_takes link.host.shape over wants screen f.paintable k.whole;
+          noted = λ place. inr refl;
+        };
       };
       open_end = refl;
+      positive = refl;
     })
 
-takes_read : (app : Application) (link : Link) (rest : List ToTerminal) (lu : List ℕ) (number : ℕ) → Kept app (view_of link)
-    → In (view_of link) lu Turn.Host (Pending.Reading number) (ToTerminal.ReadBuffer number ∷ []) [] → Reading (view_of link) → UnderWay link.lost rest []
-    → Obeyed app link rest (took link.term (ToTerminal.ReadBuffer number))
-takes_read app link rest lu number k session s left =
-    subst (Obeyed app link rest) (ap (λ b. once_bound b (read_came link.term) link.term) (sym (bound link _ _ lu _ _ session.at)))
+-- ---- a Read Buffer
+
+takes_read : (app : Application) (link : Link) (rest : List ToTerminal) (k : Kept app (view_of link)) (lu : List ℕ) (number : ℕ) → IsAt (view_of link) k.wanted (Moment.Serves lu (Serving.Reading number))
+    → IsRead (scene_of (view_of link)) → UnderWay link.lost rest [] → Obeyed app link rest (took link.term (ToTerminal.ReadBuffer number))
+takes_read app link rest k lu number at f left =
+    let parts : InboundParts = buffer_data link.term.display.screen in
+    subst (Obeyed app link rest) (ap (λ b. once_bound b (read_came link.term) link.term) (sym (bound link k.wanted lu _ at)))
     (record {
       kept = record {
+        shape = record { begins = k.shape.begins; same = k.shape.same };
         whole = k.whole;
         cursor = k.cursor;
         unreturned = k.unreturned;
         exact = k.exact;
-        stage = reporting lu number
-            (record {
-              wanted = session.wanted;
-              at = session_at link (read_came link.term) _ session.wanted lu _ [] rest [] session.at left refl;
-              turn_is = session.turn_is;
-              pending_is = session.pending_is;
-            })
-            (record { lock = s.lock; meets = s.meets });
+        wanted = k.wanted;
+        moment = Moment.Serves lu (Serving.Reported number parts);
+        at = serves link (read_came link.term) rest k.wanted lu _ (Serving.Reported number parts) at (record { host_talk = refl; turn = refl; pending = refl; up = refl }) refl left;
+        fact = (f, refl);
       };
       open_end = refl;
+      positive = refl;
     })
 
--- ---- any message, at any stage
+-- ---- notes
+
+-- a note on a screen that takes notes
+record Noted (command : CommandParts) (screen : Screen) : Type 0 where
+  over : OverwritesProtected command screen
+  characters : OverCharacters command screen.cells
+  size : length (after_command command screen).cells ≡ length screen.cells
+  cursor : (after_command command screen).cursor ≡ screen.cursor
+  aid : (after_command command screen).aid ≡ screen.aid
+
+noted_on_it : Given → (shape : Shape) (command : CommandParts) (screen : Screen) → IsShape shape → IsNoteOf shape command → length screen.cells ≡ cells_in shape → TakesNotes shape screen.cells → Noted command screen
+noted_on_it given shape command screen is note whole takes =
+    let bounds = given.notes.bounds command screen (given.notes.are_notes shape command is note).note in
+    record {
+      over = given.notes.overwrites shape command screen is note whole takes;
+      characters = given.notes.over_characters shape command screen.cells is note whole takes;
+      size = bounds.size;
+      cursor = bounds.cursor;
+      aid = bounds.aid;
+    }
+
+-- what wasn't returned stays, on a screen with a row for messages and on one without fields
+kept_by : Given → (shape : Shape) (command : CommandParts) (screen : Screen) (erased : Bool) (left : List Cell) → IsShape shape → IsNoteOf shape command → length screen.cells ≡ cells_in shape → TakesNotes shape screen.cells
+    → UnmodifiedIsKept erased left screen.cells → UnmodifiedIsKept erased left (after_command command screen).cells
+kept_by given shape command screen erased left is note whole takes kept = by_form takes
+  where
+    noted : Noted command screen
+    noted = noted_on_it given shape command screen is note whole takes
+
+    by_form : TakesNotes shape screen.cells → UnmodifiedIsKept erased left (after_command command screen).cells
+    by_form (TakesNotes.formatted row) =
+        kept_noted given.notes.form erased command left screen noted.size noted.characters (given.notes.writes_protected shape command screen.cells is note whole row) kept
+    by_form (TakesNotes.unformatted bare) = kept_bare erased left (after_command command screen).cells (still_bare screen.cells (after_command command screen).cells (given.notes.form command screen noted.characters).attributes bare)
+
+-- the host will see the screen with the note on it
+sees_noted : Given → (shape : Shape) (command : CommandParts) (screen : Screen) (shadow : Shadow) → IsNoteOf shape command → length screen.cells ≡ cells_in shape → Noted command screen → Sees shape screen shadow
+    → Sees shape (after_command command screen) (taken (cells_in shape) command shadow)
+sees_noted given shape command screen shadow note whole noted s =
+    subst (λ n. Sees shape (after_command command screen) (taken n command shadow)) whole
+    (record {
+      exact = let both = given.notes.exact command shadow screen noted.over s.meets s.exact.known s.exact.protected in record { known = both.0; protected = both.1 };
+      cleared = λ e. subst (λ n. IsCleared shape (taken n command shadow)) (sym whole) (by_notes (s.cleared (sym noted.aid ∙ e)));
+      meets = given.belief.written command shadow screen noted.over.spelt noted.over.plain s.meets;
+      lists = given.notes.listed command shadow screen noted.over s.meets s.lists;
+      told = λ sent. given.notes.stays_told command shadow screen noted.over s.meets (s.told (subst SentFields noted.aid sent));
+    })
+  where
+    by_notes : IsCleared shape shadow → IsCleared shape (taken (cells_in shape) command shadow)
+    by_notes cleared = record {
+      notes = command ∷ cleared.notes;
+      are_notes = All-cons (IsNoteOf shape) command cleared.notes note cleared.are_notes;
+      is = ap (taken (cells_in shape) command) cleared.is;
+    }
+
+pub ok_map : {E : Type 0} (P Q : Shadow → Type 0) (r : Result Shadow E) → ((x : Shadow) → P x → Q x) → IsOkAnd r P → IsOkAnd r Q
+ok_map P Q (Ok x) f h = f x h
+ok_map P Q (Err fault) f h = absurd h
+
+module _ (given : Given) (app : Application) (is : IsApplication app) (link : Link) (rest : List ToTerminal) (k : Kept app (view_of link)) where
+  abbrev screen : Screen
+  screen = link.term.display.screen
+
+  abbrev shape : Shape
+  shape = link.host.shape
+
+  is_shape : IsShape link.host.shape
+  is_shape = subst IsShape (sym k.shape.begins) is.shape
+
+  -- at any moment of the session at which a note goes down
+  takes_note : (lu : List ℕ) (number : ℕ) (command : CommandParts) (from to : Serving) → IsAt (view_of link) k.wanted (Moment.Serves lu from) → IsNoteOf shape command → TakesNotes shape screen.cells
+      → Leads k.wanted (Moment.Serves lu from) (Moment.Serves lu to) (note_came number command link.term).sends → UnderWay link.lost rest (down_at (Moment.Serves lu to))
+      → Fact k.wanted (scene_of (view_of (term_view (note_came number command link.term) rest link))) (Moment.Serves lu to) → Obeyed app link rest (took link.term (ToTerminal.Note number command))
+  takes_note lu number command from to at note takes l left fact =
+      let noted = noted_on_it given shape command screen is_shape note k.whole takes in
+      subst (Obeyed app link rest) (ap (λ b. once_bound b (note_came number command link.term) link.term) (sym (bound link k.wanted lu from at)))
+      (record {
+        kept = record {
+          shape = record { begins = k.shape.begins; same = k.shape.same };
+          whole = noted.size ∙ k.whole;
+          cursor = subst (λ n. n < cells_in link.host.shape) (sym noted.cursor) k.cursor;
+          unreturned = λ sent. kept_by given shape command screen link.term.display.erased link.term.display.left.cells is_shape note k.whole takes (k.unreturned (subst SentFields noted.aid sent));
+          exact = k.exact;
+          wanted = k.wanted;
+          moment = Moment.Serves lu to;
+          at = serves link (note_came number command link.term) rest k.wanted lu from to at l refl left;
+          fact = fact;
+        };
+        open_end = refl;
+        positive = refl;
+      })
+
+  -- while the operator types: the note is written over what was shown, too
+  operates_noted : (command : CommandParts) → IsNoteOf shape command → (f : Operates link.host.shadow (scene_of (view_of link))) → (number : ℕ)
+      → Operates (once_taken link.host.shape command link.host.shadow) (scene_of (view_of (term_view (note_came number command link.term) rest link)))
+  operates_noted command note f number =
+      let shown : Screen = f.shown in
+      let whole : length shown.cells ≡ cells_in link.host.shape = sym f.held.same_length ∙ k.whole in
+      let noted = noted_on_it given shape command shown is_shape note whole (TakesNotes.formatted f.messages) in
+      let writes = given.notes.writes_protected shape command shown.cells is_shape note whole f.messages in
+      let both = given.notes.exact command link.host.shadow shown noted.over f.meets f.exact.known f.exact.protected in
+      record {
+        shown = after_command command shown;
+        lock = f.lock;
+        exact = record {
+          known = subst (λ n. KnownIsExact (taken n command link.host.shadow)) whole both.0;
+          protected = subst (λ n. ProtectedIsExact (taken n command link.host.shadow)) whole both.1;
+        };
+        meets = subst (λ n. Meets (taken n command link.host.shadow) (after_command command shown)) whole (given.belief.written command link.host.shadow shown noted.over.spelt noted.over.plain f.meets);
+        knows = given.notes.placed (cells_in link.host.shape) command link.host.shadow noted.over.writes noted.over.placed f.knows;
+        held = given.notes.held link.term.display.erased command shown screen writes f.held;
+        messages = given.notes.same_takes shape shown.cells (after_command command shown).cells (given.notes.form command shown noted.characters).attributes f.messages;
+        noted = noted_on given.notes.form command link.term.display.left.cells shown noted.characters writes (still_one given.notes.composes command shown noted.characters) f.noted;
+      }
+
+-- ---- any message, at any moment
 
 as_message : (app : Application) (link : Link) (rest : List ToTerminal) (m message : ToTerminal) → message ≡ m → Obeyed app link rest (took link.term m) → Obeyed app link rest (took link.term message)
 as_message app link rest m message e o = subst (λ x. Obeyed app link rest (took link.term x)) (sym e) o
 
 pub obeys : Given → (app : Application) → IsApplication app → (link : Link) (message : ToTerminal) (rest : List ToTerminal) → link.down ≡ message ∷ rest → Kept app (view_of link) → Obeyed app link rest (took link.term message)
-obeys given app is link message rest e k = cases k.stage
+obeys given app is link message rest e k = by_moment k.moment k.at k.fact
   where
-    none : UnderWay link.lost link.down [] → Obeyed app link rest (took link.term message)
-    none way = absurd (nothing link.lost link.down message rest e way)
+    screen : Screen
+    screen = link.term.display.screen
 
-    at_moment : IsNew (view_of link) → Moment (view_of link) → Obeyed app link rest (took link.term message)
-    at_moment n (offered wanted lu at) =
-        let first = front link.lost link.down message rest _ [] e at.goes_down in
-        talks app link rest wanted Waiting Willing (Saying.Opt Do 40) (ToHost.TalksUp (Saying.Opt Will 40) ∷ []) message k at.term_talk first.0
-        (record { reply = reply.Opt Will 40; leads = refl; quiet = refl; sends_is = refl })
-        (talking (still_new link rest Willing _ n) (willing wanted lu (talk_at link _ wanted Waiting Willing _ [] rest [] _ at first.1)))
-    at_moment n (type_wanted wanted lu at) =
-        let first = front link.lost link.down message rest _ [] e at.goes_down in
-        talks app link rest wanted Willing TypeAsked (Saying.Sub SendType) (ToHost.TalksUp (Saying.Sub (TypeRequest wanted)) ∷ []) message k at.term_talk first.0
-        (record { reply = reply.Sub (TypeRequest wanted) Going; leads = refl; quiet = refl; sends_is = refl })
-        (talking (still_new link rest TypeAsked _ n) (type_asked wanted lu (talk_at link _ wanted Willing TypeAsked _ [] rest [] _ at first.1)))
-    at_moment n (named wanted lu suits at) =
-        let first = front link.lost link.down message rest _ [] e at.goes_down in
-        talks app link rest wanted TypeAsked (FunctionsAsked lu) (Saying.Sub (TypeIs Model2 lu)) (ToHost.TalksUp (Saying.Sub FunRequest) ∷ []) message k at.term_talk first.0
-        (granted_line given wanted lu suits)
-        (talking (still_new link rest (FunctionsAsked lu) _ n) (functions_asked wanted lu (talk_at link _ wanted TypeAsked (FunctionsAsked lu) _ [] rest [] _ at first.1)))
-    at_moment n (agreeing wanted lu at) =
-        let first = front link.lost link.down message rest _ [] e at.goes_down in
-        talks app link rest wanted (FunctionsAsked lu) (Agreed lu) (Saying.Sub FunIs) [] message k at.term_talk first.0 (agreed_line wanted lu)
-        (at_host lu (record {
-          session = record { wanted = wanted; at = talk_at link _ wanted (FunctionsAsked lu) (Agreed lu) _ [] rest [] [] at first.1; turn_is = n.turn; pending_is = n.pending };
-          lock = n.lock;
-          meets = subst (λ s. Meets s link.term.display.screen) (sym n.shadow) tt;
-          lists = λ some. absurd (some n.no_fields);
-          told = λ sent. absurd (subst SentFields n.aid sent);
-        }))
-    at_moment n (rejected wanted reason at) =
-        let first = front link.lost link.down message rest _ [] e at.goes_down in
-        talks app link rest wanted TypeAsked (Refused reason) (Saying.Sub (TypeReject reason)) [] message k at.term_talk first.0
-        (record { reply = reply.Refused reason; leads = refl; quiet = refl; sends_is = refl })
-        (talking (still_new link rest (Refused reason) [] n) (refused wanted reason (talk_at link _ wanted TypeAsked (Refused reason) _ [] rest [] [] at first.1)))
-    at_moment n (willing wanted lu at) = none at.goes_down
-    at_moment n (type_asked wanted lu at) = none at.goes_down
-    at_moment n (functions_asked wanted lu at) = none at.goes_down
-    at_moment n (refused wanted reason at) = none at.goes_down
+    no_more : UnderWay link.lost link.down [] → Obeyed app link rest (took link.term message)
+    no_more way = absurd (nothing link.lost link.down message rest e way)
 
-    cases : Stage app (view_of link) → Obeyed app link rest (took link.term message)
-    cases (talking n moment) = at_moment n moment
-    cases (first_paint lu number paints s) =
-        let first = front link.lost link.down message rest _ _ e s.at.goes_down in
-        talks app link rest s.wanted (FunctionsAsked lu) (Agreed lu) (Saying.Sub FunIs) [] message k s.at.term_talk first.0 (agreed_line s.wanted lu)
-        (painting lu number paints (record {
-          session = record { wanted = s.wanted; at = talk_at link _ s.wanted (FunctionsAsked lu) (Agreed lu) _ _ rest [] [] s.at first.1; turn_is = s.turn; pending_is = s.pending };
-          lock = s.lock;
-          meets = s.meets;
-          paintable = s.paintable;
+    by_talk : (talking : Talking) → IsAt (view_of link) k.wanted (Moment.Talks talking) → Fact k.wanted (scene_of (view_of link)) (Moment.Talks talking) → Obeyed app link rest (took link.term message)
+    by_talk Talking.Offering at f =
+        let first = front link.lost link.down message rest _ [] e at.goes_down in
+        talks app link rest k (Moment.Talks Talking.Offering) (Moment.Talks Talking.Accepting) (Saying.Opt Do 40) (ToHost.TalksUp (Saying.Opt Will 40) ∷ []) message at first.0
+        (record { reply = reply.Opt Will 40; leads = refl; quiet = refl; sends_is = refl }) (record { host_talk = refl; turn = refl; pending = refl; up = refl }) refl first.1
+        (f.0, f.1)
+    by_talk Talking.AskingType at f =
+        let first = front link.lost link.down message rest _ [] e at.goes_down in
+        talks app link rest k (Moment.Talks Talking.AskingType) (Moment.Talks Talking.NamingType) (Saying.Sub SendType) (ToHost.TalksUp (Saying.Sub (TypeRequest k.wanted)) ∷ []) message at first.0
+        (record { reply = reply.Sub (TypeRequest k.wanted) Going; leads = refl; quiet = refl; sends_is = refl }) (record { host_talk = refl; turn = refl; pending = refl; up = refl }) refl first.1
+        (f.0, f.1)
+    by_talk (Talking.Granting lu) at f =
+        let first = front link.lost link.down message rest _ [] e at.goes_down in
+        talks app link rest k (Moment.Talks (Talking.Granting lu)) (Moment.Talks (Talking.AskingFunctions lu)) (Saying.Sub (TypeIs Model2 lu)) (ToHost.TalksUp (Saying.Sub FunRequest) ∷ []) message at first.0
+        (granted_line given k.wanted lu f.1) (record { host_talk = refl; turn = refl; pending = refl; up = refl }) refl first.1
+        (f.0, tt)
+    by_talk (Talking.Agreeing lu) at f =
+        let first = front link.lost link.down message rest _ [] e at.goes_down in
+        talks app link rest k (Moment.Talks (Talking.Agreeing lu)) (Moment.Serves lu Serving.Deciding) (Saying.Sub FunIs) [] message at first.0
+        (agreed_line k.wanted lu) (record { host_talk = refl; turn = refl; pending = refl; up = refl }) refl first.1
+        (record {
+          lock = f.0.lock;
+          occasion = subst (λ o. IsOccasion o screen.aid) (sym f.0.occasion) f.0.aid;
+          sees = record {
+            exact = k.exact;
+            cleared = λ clear. absurd (let x = sym f.0.aid ∙ clear in cc);
+            meets = subst (λ s. Meets s screen) (sym f.0.shadow) tt;
+            lists = λ some. absurd (some f.0.no_fields);
+            told = λ sent. absurd (subst SentFields f.0.aid sent);
+          };
+        })
+    by_talk (Talking.Rejecting reason) at f =
+        let first = front link.lost link.down message rest _ [] e at.goes_down in
+        talks app link rest k (Moment.Talks (Talking.Rejecting reason)) (Moment.Talks (Talking.Rejected reason)) (Saying.Sub (TypeReject reason)) [] message at first.0
+        (record { reply = reply.Refused reason; leads = refl; quiet = refl; sends_is = refl }) (record { host_talk = refl; turn = refl; pending = refl; up = refl }) refl first.1
+        (f.0, tt)
+    by_talk Talking.Accepting at f = no_more at.goes_down
+    by_talk Talking.NamingType at f = no_more at.goes_down
+    by_talk (Talking.AskingFunctions lu) at f = no_more at.goes_down
+    by_talk (Talking.Rejected reason) at f = no_more at.goes_down
+
+    by_serving : (lu : List ℕ) (serving : Serving) → IsAt (view_of link) k.wanted (Moment.Serves lu serving) → Fact k.wanted (scene_of (view_of link)) (Moment.Serves lu serving) → Obeyed app link rest (took link.term message)
+    by_serving lu (Serving.Reading number) at f =
+        let first = front link.lost link.down message rest _ [] e at.goes_down in
+        as_message app link rest (ToTerminal.ReadBuffer number) message first.0 (takes_read app link rest k lu number at f first.1)
+    by_serving lu (Serving.Painting number command wants over) at f =
+        let first = front link.lost link.down message rest _ [] e at.goes_down in
+        as_message app link rest (ToTerminal.Paint number wants over) message first.0 (takes_paint given app is link rest k lu number command wants over at f first.1)
+    by_serving lu (Serving.Noting number command) at f =
+        let first = front link.lost link.down message rest _ [] e at.goes_down in
+        let row = given.notes.held_takes link.host.shape link.term.display.erased f.0.shown.cells screen.cells f.0.held f.0.messages in
+        as_message app link rest (ToTerminal.Note number command) message first.0
+        (takes_note given app is link rest k lu number command (Serving.Noting number command) (Serving.Answering Kind.ANote number command) at f.1 (TakesNotes.formatted row)
+        (record { host_talk = refl; turn = refl; pending = refl; up = refl }) first.1 (operates_noted given app is link rest k command f.1 f.0 number))
+    by_serving lu (Serving.KeyNoted number command parts) at f =
+        let first = front link.lost link.down message rest _ [] e at.goes_down in
+        let noted = noted_on_it given link.host.shape command screen (is_shape given app is link rest k) f.2.note k.whole f.2.takes in
+        as_message app link rest (ToTerminal.Note number command) message first.0
+        (takes_note given app is link rest k lu number command (Serving.KeyNoted number command parts) (Serving.KeyBefore number command parts) at f.2.note f.2.takes
+        (record { host_talk = refl; turn = refl; pending = refl; up = refl }) first.1
+        (record { lock = f.0.lock; form = f.0.form; pressed = f.0.pressed ∙ sym noted.aid; some = λ none. f.0.some (sym noted.aid ∙ none) },
+        ok_map (Sees link.host.shape screen) (λ shadow. Sees link.host.shape (after_command command screen) (once_taken link.host.shape command shadow)) (heard (cells_in link.host.shape) link.host.shadow parts)
+        (λ shadow s. sees_noted given link.host.shape command screen shadow f.2.note k.whole noted s) f.1))
+    by_serving lu (Serving.NotedLate number command) at f =
+        let first = front link.lost link.down message rest _ [] e at.goes_down in
+        let noted = noted_on_it given link.host.shape command screen (is_shape given app is link rest k) f.1.note k.whole f.1.takes in
+        as_message app link rest (ToTerminal.Note number command) message first.0
+        (takes_note given app is link rest k lu number command (Serving.NotedLate number command) (Serving.AnsweredLate number command) at f.1.note f.1.takes
+        (record { host_talk = refl; turn = refl; pending = refl; up = refl }) first.1
+        (record {
+          lock = f.0.lock;
+          occasion = subst (IsOccasion link.host.occasion) (sym noted.aid) f.0.occasion;
+          sees = sees_noted given link.host.shape command screen link.host.shadow f.1.note k.whole noted f.0.sees;
         }))
-    cases (at_host lu s) = none s.session.at.goes_down
-    cases (painting lu number paints s) =
-        let first = front link.lost link.down message rest _ [] e s.session.at.goes_down in
-        as_message app link rest (ToTerminal.Paint number paints link.host.shadow) message first.0 (takes_paint given app is link rest lu number paints k s first.1)
-    cases (answering lu number paints session s) = none session.at.goes_down
-    cases (operating lu session s) = none session.at.goes_down
-    cases (sent_behind lu number paints session s) = none session.at.goes_down
-    cases (sent_alone lu session s) = none session.at.goes_down
-    cases (asking lu number session s) =
-        let first = front link.lost link.down message rest _ [] e session.at.goes_down in
-        as_message app link rest (ToTerminal.ReadBuffer number) message first.0 (takes_read app link rest lu number k session s first.1)
-    cases (reporting lu number session s) = none session.at.goes_down
+    by_serving lu Serving.Deciding at f = no_more at.goes_down
+    by_serving lu (Serving.Reported number parts) at f = no_more at.goes_down
+    by_serving lu (Serving.AnsweredLate number command) at f = no_more at.goes_down
+    by_serving lu (Serving.Answering kind number command) at f = no_more at.goes_down
+    by_serving lu Serving.Operating at f = no_more at.goes_down
+    by_serving lu (Serving.KeyAlone parts) at f = no_more at.goes_down
+    by_serving lu (Serving.KeyBehind kind number command parts) at f = no_more at.goes_down
+    by_serving lu (Serving.KeyBefore number command parts) at f = no_more at.goes_down
+
+    by_moment : (moment : Moment) → IsAt (view_of link) k.wanted moment → Fact k.wanted (scene_of (view_of link)) moment → Obeyed app link rest (took link.term message)
+    by_moment (Moment.Talks talking) at f = by_talk talking at f
+    by_moment (Moment.Begins lu number command wants over) at f =
+        let first = front link.lost link.down message rest _ _ e at.goes_down in
+        talks app link rest k (Moment.Begins lu number command wants over) (Moment.Serves lu (Serving.Painting number command wants over)) (Saying.Sub FunIs) [] message at first.0
+        (agreed_line k.wanted lu) (record { host_talk = refl; turn = refl; pending = refl; up = refl }) refl first.1
+        f
+    by_moment (Moment.Serves lu serving) at f = by_serving lu serving at f

@@ -1,22 +1,26 @@
 -- Who holds the ends of a connection, and LUs, after every event.
-use Rattle.std.proofs.Common.{◌≡◌, ◌==◌, ◌&&◌, ℕ, Bool, true, false, Option, None, Some, List, [], ◌∷◌, refl, ap, ◌∙◌, if◌then◌else◌}
+use Rattle.std.proofs.Common.{◌≡◌, ◌==◌, ℕ, Bool, true, false, Option, None, Some, List, [], ◌∷◌, refl, ap, ◌∙◌, if◌then◌else◌}
+use Rattle.std.proofs.lemmas.Bool.{and_parts}
 use Rattle.keyboard.specs.declared.key.Key.{Key}
 use Rattle.lu_pool.specs.Asking.{answer_to}
+use Rattle.lu_pool.specs.Holders.{holder, granted_if, given_back}
 use Rattle.lu_pool.specs.declared.entry.Entry.{Entry}
 use Rattle.tn3270e_msg.specs.declared.cause.Cause.{Cause}
 use Rattle.host_core.specs.Acts.{Sent, acted}
 use Rattle.host_core.specs.Application.{Application}
 use Rattle.host_core.specs.Messages.{ToTerminal, ToHost}
-use Rattle.host_core.specs.Pool.{holder, granted_if, given_back}
+use Rattle.host_core.specs.Notes.{noted}
 use Rattle.host_core.specs.Takes.{Step, took as host_took}
+use Rattle.world3270.specs.Always.{Always}
 use Rattle.world3270.specs.Given.{Given}
-use Rattle.world3270.specs.Headline.{Always}
-use Rattle.world3270.specs.Link.{Link, is_up, begun, cut, host_left, host_left_if, host_stepped, host_sent, term_left, term_left_if, term_stepped}
+use Rattle.world3270.specs.Happens.{closed_if, freed_if, came_up, left_alone, came_down, went_down, key_went, host_parted, parted, term_saw, joined, term_anew, host_left_from, host_anew, done, happens, run}
+use Rattle.world3270.specs.Link.{Link, begun, cut, host_left, host_left_if, host_stepped, host_sent, term_left, term_left_if, term_stepped}
+use Rattle.world3270.specs.Placed.{has_place, is_link, is_queued, comes_up, free_number}
 use Rattle.world3270.specs.Places.{IsHeld, UpIsHeld, HoldersAreHere}
 use Rattle.world3270.specs.Terminal.{Display, TermStep, new_display, key_came, took as term_took}
-use Rattle.world3270.specs.World.{Place, World, Event, new_world, with_at, with_link, noted, freed_if, came_up, went_up, host_acted, left_alone, came_down, went_down, key_went, was_lost, host_parted, host_saw, parted, term_saw, free_number, joined, connected, term_anew, host_left_from, host_anew, there, is_link, is_terminal, happens, run}
-use Rattle.world3270.proofs.Others.{back_was, came_up_was, noted_pool}
-use Rattle.world3270.proofs.Worlds.{all_with}
+use Rattle.world3270.specs.World.{Place, World, Event, new_world, with_at, with_link}
+use Rattle.world3270.proofs.OneOfMany.{all_with}
+use Rattle.world3270.proofs.Others.{back_was, came_up_was, closed_pool}
 
 -- ---- one of many changes
 
@@ -61,9 +65,9 @@ with_host link step rest held = host_leaves_if step.closes _ (λ e. let h = held
 with_term : (link : Link) (step : TermStep) (rest : List ToTerminal) → Held link → Held (term_stepped step rest link)
 with_term link step rest held = term_leaves_if step.closes _ (λ e. let h = held e in record { host = h.host; terminal = h.terminal })
 
-noted_both : (cause : Option Cause) (world : World) → BothHold world → BothHold (noted cause world)
-noted_both None world b = b
-noted_both (Some cause) world b = b
+closed_both : (cause : Option Cause) (world : World) → BothHold world → BothHold (closed_if cause world)
+closed_both None world b = b
+closed_both (Some cause) world b = b
 
 -- ---- the host
 
@@ -72,14 +76,14 @@ here_after : Given → (pool : List Entry) (number other : ℕ) (lu : List ℕ) 
 here_after given pool number other lu None next here same e = here
 here_after given pool number other lu (Some cause) next here same e = let gone = (back_was given pool number other lu e).0 in absurd (cc)
 
-came_up_both : Given → (app : Application) (world : World) (number : ℕ) (up : List ToHost) → (world.link number).host_here ≡ true → BothHold world → BothHold (came_up app number up world)
-came_up_both given app world number [] here b = b
-came_up_both given app world number (message ∷ rest) here b =
-    noted_both step.closes (record world { pool = freed_if number step.closes (granted_if number step.grants world.pool); link = with_at number new world.link })
+came_up_both : Given → (world : World) (number : ℕ) (up : List ToHost) → (world.link number).host_here ≡ true → BothHold world → BothHold (came_up number up world)
+came_up_both given world number [] here b = b
+came_up_both given world number (message ∷ rest) here b =
+    closed_both step.closes (record world { pool = freed_if number step.closes (granted_if number step.grants world.pool); link = with_at number new world.link })
     (record { held = all_with (λ n x. Held x) number new world.link (with_host (world.link number) step rest (b.held number)) b.held; here = λ other lu e. by_test other lu e (other == number) refl })
   where
     step : Step
-    step = host_took app (answer_to world.pool) (world.link number).host message
+    step = host_took (answer_to world.pool) (world.link number).host message
 
     new : Link
     new = host_stepped step rest (world.link number)
@@ -87,14 +91,7 @@ came_up_both given app world number (message ∷ rest) here b =
     by_test : (other : ℕ) (lu : List ℕ) → holder (freed_if number step.closes (granted_if number step.grants world.pool)) lu ≡ Some other → (t : Bool) → (other == number) ≡ t
         → Link.host_here (if t then new else world.link other) ≡ true
     by_test other lu e true same = here_after given (granted_if number step.grants world.pool) number other lu step.closes _ here same e
-    by_test other lu e false differs = b.here other lu (came_up_was given app world number other lu (message ∷ rest) differs (ap (λ pool. holder pool lu) (noted_pool step.closes _) ∙ e))
-
-went_up_both : Given → (app : Application) (world : World) (number : ℕ) → BothHold world → BothHold (went_up app number world)
-went_up_both given app world number b = by_here (world.link number).host_here refl
-  where
-    by_here : (t : Bool) → (world.link number).host_here ≡ t → BothHold (if t then came_up app number (world.link number).up world else world)
-    by_here true e = came_up_both given app world number (world.link number).up e b
-    by_here false e = b
+    by_test other lu e false differs = b.here other lu (came_up_was given world number other lu (message ∷ rest) differs (ap (λ pool. holder pool lu) (closed_pool step.closes _) ∙ e))
 
 sends_held : (sending : Option Sent) (link : Link) → Held link → Held (host_sent sending link)
 sends_held None link held = held
@@ -104,18 +101,14 @@ sends_here : (sending : Option Sent) (link : Link) → (host_sent sending link).
 sends_here None link = refl
 sends_here (Some sending) link = refl
 
-host_acted_both : (app : Application) (world : World) (number : ℕ) → BothHold world → BothHold (host_acted app number world)
-host_acted_both app world number b = by_here (world.link number).host_here
-  where
-    link : Link
-    link = world.link number
+sends_both : (world : World) (number : ℕ) (sending : Option Sent) → BothHold world → BothHold (with_link number (host_sent sending (world.link number)) world)
+sends_both world number sending b =
+    let link : Link = world.link number in
+    changed world.pool world.link number (host_sent sending link) (sends_held sending link (b.held number)) (λ e. sends_here sending link ∙ e) b
 
-    by_here : (t : Bool) → BothHold (if t then with_link number (host_sent (acted app link.host) link) world else world)
-    by_here true = changed world.pool world.link number (host_sent (acted app link.host) link) (sends_held (acted app link.host) link (b.held number)) (λ e. sends_here (acted app link.host) link ∙ e) b
-    by_here false = b
-
-host_saw_both : Given → (world : World) (number : ℕ) → BothHold world → BothHold (host_saw number world)
-host_saw_both given world number b = by_loss ((world.link number).lost && (world.link number).host_here)
+host_parted_both : Given → (world : World) (number : ℕ) → BothHold world → BothHold (host_parted number world)
+host_parted_both given world number b =
+    record { held = all_with (λ n x. Held x) number new world.link (λ e. absurd (cc)) b.held; here = λ other lu e. by_test other lu e (other == number) refl }
   where
     new : Link
     new = host_left (world.link number)
@@ -123,10 +116,6 @@ host_saw_both given world number b = by_loss ((world.link number).lost && (world
     by_test : (other : ℕ) (lu : List ℕ) → holder (given_back number world.pool) lu ≡ Some other → (t : Bool) → (other == number) ≡ t → Link.host_here (if t then new else world.link other) ≡ true
     by_test other lu e true same = let gone = (back_was given world.pool number other lu e).0 in absurd (cc)
     by_test other lu e false differs = b.here other lu (back_was given world.pool number other lu e).1
-
-    by_loss : (t : Bool) → BothHold (if t then host_parted number world else world)
-    by_loss true = record { held = all_with (λ n x. Held x) number new world.link (λ e. absurd (cc)) b.held; here = λ other lu e. by_test other lu e (other == number) refl }
-    by_loss false = b
 
 host_left_from_held : (link : Link) → Held link → Held (host_left_from link)
 host_left_from_held link held = by_here link.host_here
@@ -138,7 +127,7 @@ host_left_from_held link held = by_here link.host_here
 host_anew_both : Given → (world : World) → BothHold world → BothHold (host_anew world)
 host_anew_both given world b = record {
   held = λ number. host_left_from_held (world.link number) (b.held number);
-  here = λ number lu e. let free = given.nobody world.pool lu in absurd (cc);
+  here = λ number lu e. let free = given.pool.nobody world.pool lu in absurd (cc);
 }
 
 -- ---- terminals
@@ -147,76 +136,68 @@ came_down_both : (world : World) (number terminal : ℕ) (down : List ToTerminal
 came_down_both world number terminal [] b = b
 came_down_both world number terminal (message ∷ rest) b =
     let step : TermStep = term_took (world.link number).term message in
-    noted_both step.closes _
+    closed_both step.closes _
     (changed world.pool world.link number (term_stepped step rest (world.link number)) (with_term (world.link number) step rest (b.held number)) (λ e. host_stays_if step.closes _ ∙ e) b)
 
 went_down_both : (world : World) (number : ℕ) (here : Option ℕ) → BothHold world → BothHold (went_down number here world)
 went_down_both world number None b = b
 went_down_both world number (Some terminal) b = came_down_both world number terminal (world.link number).down b
 
-key_went_both : (app : Application) (world : World) (terminal : ℕ) (key : Key) (place : Place) → BothHold world → BothHold (key_went app terminal key place world)
-key_went_both app world terminal key (Place.At number) b =
+key_went_both : (world : World) (terminal : ℕ) (key : Key) (place : Place) → BothHold world → BothHold (key_went terminal key place world)
+key_went_both world terminal key (Place.At number) b =
     let link : Link = world.link number in
-    changed world.pool world.link number (term_stepped (key_came app.columns key link.term) link.down link) (with_term link (key_came app.columns key link.term) link.down (b.held number)) (λ e. e) b
-key_went_both app world terminal key (Place.Alone display) b = record { held = b.held; here = b.here }
+    changed world.pool world.link number (term_stepped (key_came key link.term) link.down link) (with_term link (key_came key link.term) link.down (b.held number)) (λ e. e) b
+key_went_both world terminal key (Place.Alone display) b = record { held = b.held; here = b.here }
 
 parted_both : (world : World) (terminal number : ℕ) (display : Display) → BothHold world → BothHold (parted terminal number display world)
 parted_both world terminal number display b = changed world.pool world.link number (term_left (world.link number)) (λ e. absurd (cc)) (λ e. e) b
 
 term_saw_both : (world : World) (terminal : ℕ) (place : Place) → BothHold world → BothHold (term_saw terminal place world)
-term_saw_both world terminal (Place.At number) b = by_loss (world.link number).lost
-  where
-    by_loss : (t : Bool) → BothHold (if t then parted terminal number (left_alone (world.link number).term.display) world else world)
-    by_loss true = parted_both world terminal number (left_alone (world.link number).term.display) b
-    by_loss false = b
+term_saw_both world terminal (Place.At number) b = parted_both world terminal number (left_alone (world.link number).term.display) b
 term_saw_both world terminal (Place.Alone display) b = b
 
 term_anew_both : (app : Application) (world : World) (terminal : ℕ) (place : Place) → BothHold world → BothHold (term_anew app terminal place world)
-term_anew_both app world terminal (Place.At number) b = parted_both world terminal number (new_display app.size) b
+term_anew_both app world terminal (Place.At number) b = parted_both world terminal number (new_display app.begins) b
 term_anew_both app world terminal (Place.Alone display) b = record { held = b.held; here = b.here }
 
 -- ---- connections
 
-was_lost_both : (world : World) (number : ℕ) → BothHold world → BothHold (was_lost number world)
-was_lost_both world number b = by_test (is_up (world.link number))
-  where
-    by_test : (t : Bool) → BothHold (if t then with_link number (cut (world.link number)) world else world)
-    by_test true = changed world.pool world.link number (cut (world.link number)) (λ e. absurd (cc)) (λ e. e) b
-    by_test false = b
-
 joined_both : (app : Application) (world : World) (terminal : ℕ) (wanted : Option (List ℕ)) (free : Option ℕ) → BothHold world → BothHold (joined app terminal wanted free world)
 joined_both app world terminal wanted None b = b
 joined_both app world terminal wanted (Some number) b =
-    changed world.pool world.link number (begun app.size terminal wanted) (λ e. record { host = refl; terminal = refl }) (λ e. refl) b
-
-connected_both : (app : Application) (world : World) (terminal : ℕ) (wanted : Option (List ℕ)) (place : Place) → BothHold world → BothHold (connected app terminal wanted place world)
-connected_both app world terminal wanted (Place.At number) b = b
-connected_both app world terminal wanted (Place.Alone display) b = joined_both app world terminal wanted (free_number world.link) b
+    changed world.pool world.link number (begun app.begins terminal wanted) (λ e. record { host = refl; terminal = refl }) (λ e. refl) b
 
 -- ---- any event
 
-there_both : (t : Bool) (new old : World) → BothHold new → BothHold old → BothHold (there t new old)
-there_both true new old n o = n
-there_both false new old n o = o
+done_both : Given → (app : Application) (event : Event) (world : World) → has_place app event world ≡ true → BothHold world → BothHold (done app event world)
+done_both given app (Event.Press terminal key) world here b = key_went_both world terminal key (world.place terminal) b
+done_both given app (Event.Up number) world here b =
+    let link : Link = world.link number in
+    let comes = (and_parts (is_link number) (comes_up link) here).1 in
+    came_up_both given world number link.up (and_parts link.host_here (is_queued link.up) comes).0 b
+done_both given app (Event.Down number) world here b = went_down_both world number (world.link number).term_here b
+done_both given app (Event.Act number) world here b = sends_both world number (acted app (world.link number).host) b
+done_both given app (Event.Note number text) world here b = sends_both world number (noted text (world.link number).host) b
+done_both given app (Event.Lose number) world here b = changed world.pool world.link number (cut (world.link number)) (λ e. absurd (cc)) (λ e. e) b
+done_both given app (Event.HostSees number) world here b = host_parted_both given world number b
+done_both given app (Event.TermSees terminal) world here b = term_saw_both world terminal (world.place terminal) b
+done_both given app (Event.Connect terminal wanted) world here b = joined_both app world terminal wanted (free_number world.link) b
+done_both given app (Event.RestartTerm terminal) world here b = term_anew_both app world terminal (world.place terminal) b
+done_both given app Event.RestartHost world here b = host_anew_both given world b
 
 happens_both : Given → (app : Application) (event : Event) (world : World) → BothHold world → BothHold (happens app event world)
-happens_both given app (Event.Press terminal key) world b = there_both (is_terminal world terminal) _ world (key_went_both app world terminal key (world.place terminal) b) b
-happens_both given app (Event.Up number) world b = there_both (is_link number) _ world (went_up_both given app world number b) b
-happens_both given app (Event.Down number) world b = there_both (is_link number) _ world (went_down_both world number (world.link number).term_here b) b
-happens_both given app (Event.Act number) world b = there_both (is_link number) _ world (host_acted_both app world number b) b
-happens_both given app (Event.Lose number) world b = there_both (is_link number) _ world (was_lost_both world number b) b
-happens_both given app (Event.HostSees number) world b = there_both (is_link number) _ world (host_saw_both given world number b) b
-happens_both given app (Event.TermSees terminal) world b = there_both (is_terminal world terminal) _ world (term_saw_both world terminal (world.place terminal) b) b
-happens_both given app (Event.Connect terminal wanted) world b = there_both (is_terminal world terminal) _ world (connected_both app world terminal wanted (world.place terminal) b) b
-happens_both given app (Event.RestartTerm terminal) world b = there_both (is_terminal world terminal) _ world (term_anew_both app world terminal (world.place terminal) b) b
-happens_both given app Event.RestartHost world b = host_anew_both given world b
+happens_both given app event world b = by_test (has_place app event world) refl
+  where
+    by_test : (t : Bool) → has_place app event world ≡ t → BothHold (if t then done app event world else world)
+    by_test true here = done_both given app event world here b
+    by_test false here = b
 
 run_both : Given → (app : Application) (events : List Event) (world : World) → BothHold world → BothHold (run app events world)
 run_both given app [] world b = b
 run_both given app (event ∷ events) world b = run_both given app events (happens app event world) (happens_both given app event world b)
 
 new_both : Given → (app : Application) (pool : List Entry) (terminals : ℕ) → BothHold (new_world app pool terminals)
-new_both given app pool terminals = record { held = λ number e. absurd (cc); here = λ number lu e. let free = given.nobody pool lu in absurd (cc) }
+new_both given app pool terminals = record { held = λ number e. absurd (cc); here = λ number lu e. let free = given.pool.nobody pool lu in absurd (cc) }
 
 pub up_is_held : Given → Always UpIsHeld
 up_is_held given app pool terminals events is lists few are = (run_both given app events (new_world app pool terminals) (new_both given app pool terminals)).held

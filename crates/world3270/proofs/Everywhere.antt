@@ -1,44 +1,50 @@
 -- What each step keeps of a connection, and of the display of a terminal that is alone, holds of all of them after every event.
-use Rattle.std.proofs.Common.{◌≡◌, ◌&&◌, ℕ, Bool, true, false, Option, None, Some, List, [], ◌∷◌, refl, sym, subst, if◌then◌else◌}
+use Rattle.std.proofs.Common.{◌≡◌, ℕ, Bool, true, false, Option, None, Some, List, [], ◌∷◌, refl, sym, subst, if◌then◌else◌}
 use Rattle.std.specs.Prelude.{⊤}
 use Rattle.std.specs.List.{All}
 use Rattle.std.proofs.lemmas.List.Elements.{All-head, All-tail}
 use Rattle.keyboard.specs.declared.key.Key.{Key}
 use Rattle.lu_pool.specs.Asking.{answer_to}
+use Rattle.lu_pool.specs.Holders.{granted_if}
 use Rattle.lu_pool.specs.Pool.{IsPool}
 use Rattle.lu_pool.specs.declared.entry.Entry.{Entry}
 use Rattle.tn3270e_msg.specs.declared.cause.Cause.{Cause}
 use Rattle.host_core.specs.Acts.{acted}
 use Rattle.host_core.specs.Application.{Application, IsApplication}
 use Rattle.host_core.specs.Messages.{ToTerminal, ToHost}
-use Rattle.host_core.specs.Pool.{granted_if}
+use Rattle.host_core.specs.Notes.{noted}
 use Rattle.host_core.specs.Takes.{Answers, Step, took as host_took}
 use Rattle.world3270.specs.Given.{Given}
-use Rattle.world3270.specs.Link.{Link, is_up, begun, unused, cut, host_left, host_stepped, host_sent, term_left, term_left_if, term_stepped}
+use Rattle.world3270.specs.Happens.{closed_if, said, freed_if, came_up, left_alone, place_after, came_down, went_down, key_went, parted, term_saw, joined, term_anew, host_left_from, done, happens, run}
+use Rattle.world3270.specs.Link.{Link, begun, unused, cut, host_left, host_stepped, host_sent, term_left, term_left_if, term_stepped}
+use Rattle.world3270.specs.Placed.{has_place, free_number}
 use Rattle.world3270.specs.Stages.{Kept}
 use Rattle.world3270.specs.Terminal.{Display, TermStep, new_display, after_key, key_came, took as term_took}
 use Rattle.world3270.specs.View.{view_of}
-use Rattle.world3270.specs.World.{Place, World, Event, AreEvents, new_world, with_at, with_link, noted, freed_if, came_up, went_up, host_acted, left_alone, place_after, came_down, went_down, key_went, was_lost, host_parted, host_saw, parted, term_saw, free_number, joined, connected, term_anew, host_left_from, there, is_link, is_terminal, happens, run}
+use Rattle.world3270.specs.World.{Place, World, Event, AreEvents, new_world, with_at}
 use Rattle.world3270.proofs.Down.{term_view, obeys}
-use Rattle.world3270.proofs.Worlds.{all_with, GoodWorld, happens_good, new_good}
+use Rattle.world3270.proofs.OneOfMany.{all_with}
+use Rattle.world3270.proofs.Worlds.{GoodWorld, happens_good, new_good}
 
 -- what each step keeps, where events are such
 pub record Steps (app : Application) (IsSuch : Event → Type 0) (OfLink : Link → Type 0) (OfDisplay : Display → Type 0) : Type 0 where
-  pub never : OfLink (unused app.size)
-  pub begins : (terminal : ℕ) (wanted : Option (List ℕ)) → OfLink (begun app.size terminal wanted)
+  pub never : OfLink (unused app.begins)
+  pub begins : (terminal : ℕ) (wanted : Option (List ℕ)) → OfLink (begun app.begins terminal wanted)
   pub up : (pool : Answers) (link : Link) (message : ToHost) (rest : List ToHost) → link.up ≡ message ∷ rest → Kept app (view_of link) → OfLink link
-      → OfLink (host_stepped (host_took app pool link.host message) rest link)
+      → OfLink (host_stepped (host_took pool link.host message) rest link)
   pub acts : (link : Link) → Kept app (view_of link) → OfLink link → OfLink (host_sent (acted app link.host) link)
+  pub notes : (number : ℕ) (text : List ℕ) (link : Link) → IsSuch (Event.Note number text) → Kept app (view_of link) → OfLink link
+      → OfLink (host_sent (noted text link.host) link)
   pub down : (link : Link) (message : ToTerminal) (rest : List ToTerminal) → link.down ≡ message ∷ rest → Kept app (view_of link) → OfLink link
       → OfLink (term_view (term_took link.term message) rest link)
   pub key : (terminal : ℕ) (key : Key) (link : Link) → IsSuch (Event.Press terminal key) → Kept app (view_of link) → OfLink link
-      → OfLink (term_stepped (key_came app.columns key link.term) link.down link)
+      → OfLink (term_stepped (key_came key link.term) link.down link)
   pub loses : (link : Link) → OfLink link → OfLink (cut link)
   pub host_leaves : (link : Link) → OfLink link → OfLink (host_left link)
   pub term_leaves : (link : Link) → OfLink link → OfLink (term_left link)
-  pub fresh : OfDisplay (new_display app.size)
+  pub fresh : OfDisplay (new_display app.begins)
   pub alone : (link : Link) → Kept app (view_of link) → OfLink link → OfDisplay (left_alone link.term.display)
-  pub key_alone : (terminal : ℕ) (key : Key) (display : Display) → IsSuch (Event.Press terminal key) → OfDisplay display → OfDisplay (after_key app.columns key display)
+  pub key_alone : (terminal : ℕ) (key : Key) (display : Display) → IsSuch (Event.Press terminal key) → OfDisplay display → OfDisplay (after_key key display)
 
 -- the display of a terminal that is alone
 abbrev pub InPlace : (Display → Type 0) → Place → Type 0
@@ -67,43 +73,19 @@ module _ (given : Given) (app : Application) (is : IsApplication app) (IsSuch : 
     places = all_with (λ t x. InPlace OfDisplay x) terminal goes world.place alone h.places;
   }
 
-  noted_holds : (cause : Option Cause) (world : World) → Holds world → Holds (noted cause world)
-  noted_holds None world h = h
-  noted_holds (Some cause) world h = record { links = h.links; places = h.places }
+  closed_holds : (cause : Option Cause) (world : World) → Holds world → Holds (closed_if cause world)
+  closed_holds None world h = h
+  closed_holds (Some cause) world h = record { links = h.links; places = h.places }
 
   -- ---- the host
 
-  came_up_holds : (world : World) (number : ℕ) (up : List ToHost) → (world.link number).up ≡ up → GoodWorld app world → Holds world → Holds (came_up app number up world)
+  came_up_holds : (world : World) (number : ℕ) (up : List ToHost) → (world.link number).up ≡ up → GoodWorld app world → Holds world → Holds (came_up number up world)
   came_up_holds world number [] e g h = h
   came_up_holds world number (message ∷ rest) e g h =
       let link : Link = world.link number in
-      let step : Step = host_took app (answer_to world.pool) link.host message in
-      noted_holds step.closes (record world { pool = freed_if number step.closes (granted_if number step.grants world.pool); link = with_at number (host_stepped step rest link) world.link })
+      let step : Step = host_took (answer_to world.pool) link.host message in
+      closed_holds step.closes (record world { pool = freed_if number step.closes (granted_if number step.grants world.pool); link = with_at number (host_stepped step rest link) world.link })
       (changed world number (host_stepped step rest link) (steps.up (answer_to world.pool) link message rest e (g.links number) (h.links number)) h)
-
-  went_up_holds : (world : World) (number : ℕ) → GoodWorld app world → Holds world → Holds (went_up app number world)
-  went_up_holds world number g h = by_here (world.link number).host_here
-    where
-      by_here : (b : Bool) → Holds (if b then came_up app number (world.link number).up world else world)
-      by_here true = came_up_holds world number (world.link number).up refl g h
-      by_here false = h
-
-  host_acted_holds : (world : World) (number : ℕ) → GoodWorld app world → Holds world → Holds (host_acted app number world)
-  host_acted_holds world number g h = by_here (world.link number).host_here
-    where
-      link : Link
-      link = world.link number
-
-      by_here : (b : Bool) → Holds (if b then with_link number (host_sent (acted app link.host) link) world else world)
-      by_here true = changed world number (host_sent (acted app link.host) link) (steps.acts link (g.links number) (h.links number)) h
-      by_here false = h
-
-  host_saw_holds : (world : World) (number : ℕ) → Holds world → Holds (host_saw number world)
-  host_saw_holds world number h = by_test ((world.link number).lost && (world.link number).host_here)
-    where
-      by_test : (b : Bool) → Holds (if b then host_parted number world else world)
-      by_test true = changed world number (host_left (world.link number)) (steps.host_leaves (world.link number) (h.links number)) h
-      by_test false = h
 
   left_from_holds : (link : Link) → OfLink link → OfLink (host_left_from link)
   left_from_holds link h = by_here link.host_here
@@ -120,69 +102,63 @@ module _ (given : Given) (app : Application) (is : IsApplication app) (IsSuch : 
       let link : Link = world.link number in
       let step : TermStep = term_took link.term message in
       let o = obeys given app is link message rest e (g.links number) in
-      subst (λ c. Holds (noted c (record world { link = with_at number (term_left_if c (term_view step rest link)) world.link; place = with_at terminal (place_after c number step.end.display) world.place }))) (sym o.open_end)
+      subst (λ c. Holds (closed_if c (said step.sends (record world { link = with_at number (term_left_if c (term_view step rest link)) world.link; place = with_at terminal (place_after c number step.end.display) world.place })))) (sym o.open_end)
       (moved world number terminal (term_view step rest link) (Place.At number) (steps.down link message rest e (g.links number) (h.links number)) tt h)
 
   went_down_holds : (world : World) (number : ℕ) (here : Option ℕ) → GoodWorld app world → Holds world → Holds (went_down number here world)
   went_down_holds world number None g h = h
   went_down_holds world number (Some terminal) g h = came_down_holds world number terminal (world.link number).down refl g h
 
-  key_went_holds : (world : World) (terminal : ℕ) (key : Key) (place : Place) → IsSuch (Event.Press terminal key) → InPlace OfDisplay place → GoodWorld app world → Holds world → Holds (key_went app terminal key place world)
+  key_went_holds : (world : World) (terminal : ℕ) (key : Key) (place : Place) → IsSuch (Event.Press terminal key) → InPlace OfDisplay place → GoodWorld app world → Holds world → Holds (key_went terminal key place world)
   key_went_holds world terminal key (Place.At number) such alone g h =
       let link : Link = world.link number in
-      changed world number (term_stepped (key_came app.columns key link.term) link.down link) (steps.key terminal key link such (g.links number) (h.links number)) h
+      changed world number (term_stepped (key_came key link.term) link.down link) (steps.key terminal key link such (g.links number) (h.links number)) h
   key_went_holds world terminal key (Place.Alone display) such alone g h =
-      replaced world terminal (Place.Alone (after_key app.columns key display)) (steps.key_alone terminal key display such alone) h
+      replaced world terminal (Place.Alone (after_key key display)) (steps.key_alone terminal key display such alone) h
 
   parted_holds : (world : World) (terminal number : ℕ) (display : Display) → OfDisplay display → Holds world → Holds (parted terminal number display world)
   parted_holds world terminal number display is h = moved world number terminal (term_left (world.link number)) (Place.Alone display) (steps.term_leaves (world.link number) (h.links number)) is h
 
   term_saw_holds : (world : World) (terminal : ℕ) (place : Place) → GoodWorld app world → Holds world → Holds (term_saw terminal place world)
-  term_saw_holds world terminal (Place.At number) g h = by_test (world.link number).lost
-    where
-      by_test : (b : Bool) → Holds (if b then parted terminal number (left_alone (world.link number).term.display) world else world)
-      by_test true = parted_holds world terminal number (left_alone (world.link number).term.display) (steps.alone (world.link number) (g.links number) (h.links number)) h
-      by_test false = h
+  term_saw_holds world terminal (Place.At number) g h =
+      parted_holds world terminal number (left_alone (world.link number).term.display) (steps.alone (world.link number) (g.links number) (h.links number)) h
   term_saw_holds world terminal (Place.Alone display) g h = h
 
   term_anew_holds : (world : World) (terminal : ℕ) (place : Place) → Holds world → Holds (term_anew app terminal place world)
-  term_anew_holds world terminal (Place.At number) h = parted_holds world terminal number (new_display app.size) steps.fresh h
-  term_anew_holds world terminal (Place.Alone display) h = replaced world terminal (Place.Alone (new_display app.size)) steps.fresh h
+  term_anew_holds world terminal (Place.At number) h = parted_holds world terminal number (new_display app.begins) steps.fresh h
+  term_anew_holds world terminal (Place.Alone display) h = replaced world terminal (Place.Alone (new_display app.begins)) steps.fresh h
 
   -- ---- connections
 
-  was_lost_holds : (world : World) (number : ℕ) → Holds world → Holds (was_lost number world)
-  was_lost_holds world number h = by_test (is_up (world.link number))
-    where
-      by_test : (b : Bool) → Holds (if b then with_link number (cut (world.link number)) world else world)
-      by_test true = changed world number (cut (world.link number)) (steps.loses (world.link number) (h.links number)) h
-      by_test false = h
-
   joined_holds : (world : World) (terminal : ℕ) (wanted : Option (List ℕ)) (free : Option ℕ) → Holds world → Holds (joined app terminal wanted free world)
   joined_holds world terminal wanted None h = h
-  joined_holds world terminal wanted (Some number) h = moved world number terminal (begun app.size terminal wanted) (Place.At number) (steps.begins terminal wanted) tt h
-
-  connected_holds : (world : World) (terminal : ℕ) (wanted : Option (List ℕ)) (place : Place) → Holds world → Holds (connected app terminal wanted place world)
-  connected_holds world terminal wanted (Place.At number) h = h
-  connected_holds world terminal wanted (Place.Alone display) h = joined_holds world terminal wanted (free_number world.link) h
+  joined_holds world terminal wanted (Some number) h = moved world number terminal (begun app.begins terminal wanted) (Place.At number) (steps.begins terminal wanted) tt h
 
   -- ---- any event
 
-  there_holds : (b : Bool) (new old : World) → Holds new → Holds old → Holds (there b new old)
-  there_holds true new old n o = n
-  there_holds false new old n o = o
+  done_holds : (event : Event) (world : World) → IsSuch event → GoodWorld app world → Holds world → Holds (done app event world)
+  done_holds (Event.Press terminal key) world such g h = key_went_holds world terminal key (world.place terminal) such (h.places terminal) g h
+  done_holds (Event.Up number) world such g h = came_up_holds world number (world.link number).up refl g h
+  done_holds (Event.Down number) world such g h = went_down_holds world number (world.link number).term_here g h
+  done_holds (Event.Act number) world such g h =
+      let link : Link = world.link number in
+      changed world number (host_sent (acted app link.host) link) (steps.acts link (g.links number) (h.links number)) h
+  done_holds (Event.Note number text) world such g h =
+      let link : Link = world.link number in
+      changed world number (host_sent (noted text link.host) link) (steps.notes number text link such (g.links number) (h.links number)) h
+  done_holds (Event.Lose number) world such g h = changed world number (cut (world.link number)) (steps.loses (world.link number) (h.links number)) h
+  done_holds (Event.HostSees number) world such g h = changed world number (host_left (world.link number)) (steps.host_leaves (world.link number) (h.links number)) h
+  done_holds (Event.TermSees terminal) world such g h = term_saw_holds world terminal (world.place terminal) g h
+  done_holds (Event.Connect terminal wanted) world such g h = joined_holds world terminal wanted (free_number world.link) h
+  done_holds (Event.RestartTerm terminal) world such g h = term_anew_holds world terminal (world.place terminal) h
+  done_holds Event.RestartHost world such g h = record { links = λ number. left_from_holds (world.link number) (h.links number); places = h.places }
 
   happens_holds : (event : Event) (world : World) → IsSuch event → GoodWorld app world → Holds world → Holds (happens app event world)
-  happens_holds (Event.Press terminal key) world such g h = there_holds (is_terminal world terminal) _ world (key_went_holds world terminal key (world.place terminal) such (h.places terminal) g h) h
-  happens_holds (Event.Up number) world such g h = there_holds (is_link number) _ world (went_up_holds world number g h) h
-  happens_holds (Event.Down number) world such g h = there_holds (is_link number) _ world (went_down_holds world number (world.link number).term_here g h) h
-  happens_holds (Event.Act number) world such g h = there_holds (is_link number) _ world (host_acted_holds world number g h) h
-  happens_holds (Event.Lose number) world such g h = there_holds (is_link number) _ world (was_lost_holds world number h) h
-  happens_holds (Event.HostSees number) world such g h = there_holds (is_link number) _ world (host_saw_holds world number h) h
-  happens_holds (Event.TermSees terminal) world such g h = there_holds (is_terminal world terminal) _ world (term_saw_holds world terminal (world.place terminal) g h) h
-  happens_holds (Event.Connect terminal wanted) world such g h = there_holds (is_terminal world terminal) _ world (connected_holds world terminal wanted (world.place terminal) h) h
-  happens_holds (Event.RestartTerm terminal) world such g h = there_holds (is_terminal world terminal) _ world (term_anew_holds world terminal (world.place terminal) h) h
-  happens_holds Event.RestartHost world such g h = record { links = λ number. left_from_holds (world.link number) (h.links number); places = h.places }
+  happens_holds event world such g h = by_test (has_place app event world)
+    where
+      by_test : (b : Bool) → Holds (if b then done app event world else world)
+      by_test true = done_holds event world such g h
+      by_test false = h
 
   run_holds : (events : List Event) (world : World) → AreEvents events → All IsSuch events → GoodWorld app world → Holds world → Holds (run app events world)
   run_holds [] world are such g h = h

@@ -1,68 +1,70 @@
--- The headline follows from the table.
-use Rattle.std.proofs.Common.{◌≡◌, ℕ, Bool, true, false, ◌||◌, Option, Some, List, [], ◌∷◌, ◌++◌, refl, ap, sym, subst, ◌∙◌}
+-- The headline follows from what is kept of each connection.
+use Rattle.std.proofs.Common.{◌≡◌, ℕ, Bool, true, false, ◌||◌, Option, Some, None, List, [], ◌∷◌, ◌++◌, refl, ap, sym, subst, ◌∙◌}
 use Rattle.std.specs.List.{list_any}
+use Rattle.codes3270.specs.declared.attention.Aid.TheVariants.{Clear as ClearAid}
 use Rattle.shadow.specs.Meets.{Meets, ListsFields, IsTold}
-use Rattle.tn3270e_msg.specs.declared.device.Device.TheVariants.{Model2}
 use Rattle.tn3270e_msg.specs.HostTable.{granted}
 use Rattle.tn3270e_msg.specs.Talk.{Talk}
 use Rattle.tn3270e_msg.specs.TermTable.{Term}
 use Rattle.tn3270e_msg.specs.declared.host_talk.HostState.{HostState}
-use Rattle.tn3270e_msg.specs.declared.host_talk.HostState.TheVariants.{Agreed as HostAgreed}
-use Rattle.tn3270e_msg.specs.declared.term_talk.TermState.{TermState}
-use Rattle.tn3270e_msg.specs.declared.term_talk.TermState.TheVariants.{Agreed}
+use Rattle.tn3270e_msg.specs.declared.host_talk.HostState.TheVariants.{Offered, Asked, Asking, Named, Countered, Agreed, Closed}
+use Rattle.lu_pool.specs.Holders.{holder}
+use Rattle.host_core.specs.Answering.{number_of}
 use Rattle.host_core.specs.Application.{Application}
 use Rattle.host_core.specs.Messages.{ToTerminal, ToHost}
-use Rattle.host_core.specs.Pool.{holder}
-use Rattle.host_core.specs.Session.{Turn, Pending}
-use Rattle.world3270.specs.Headline.{SentFields, OneSessionEach, BoundIsGranted, IsHostsTurn, Agrees, Headline, is_refusal, NobodyRefuses, Always}
+use Rattle.host_core.specs.Session.{Turn, Pending, agreed_lu}
+use Rattle.world3270.specs.Always.{Always, HeadlineHolds, is_refusal, NobodyRefuses}
+use Rattle.world3270.specs.Given.{Given}
+use Rattle.world3270.specs.Happens.{run}
+use Rattle.world3270.specs.Headline.{SentFields, OneSessionEach, BoundIsGranted, IsHostsTurn, Agrees}
 use Rattle.world3270.specs.Link.{Link}
-use Rattle.world3270.specs.Stages.{UnderWay, At, IsNew, In, Stage, Kept}
-use Rattle.world3270.specs.Stages.Moment.{offered, willing, type_wanted, type_asked, named, functions_asked, agreeing, rejected, refused}
-use Rattle.world3270.specs.Stages.Stage.{talking, first_paint, at_host, painting, answering, operating, sent_behind, sent_alone, asking, reporting}
+use Rattle.world3270.specs.Moments.{Kind, Talking, Serving, Moment, UnderWay, IsAt, term_state_at, host_talk_at, turn_at, pending_at, up_at}
+use Rattle.world3270.specs.Occasions.{IsOccasion, IsCleared, ActsOnTheKey, KnowsTheCleared}
+use Rattle.world3270.specs.Seen.{seen, seen_link}
+use Rattle.world3270.specs.Stages.{Scene, scene_of, Fact, Kept}
 use Rattle.world3270.specs.Terminal.{bound_to}
 use Rattle.world3270.specs.View.{View, view_of}
-use Rattle.world3270.specs.World.{World, run, new_world}
-use Rattle.world3270.specs.Given.{Given}
+use Rattle.world3270.specs.World.{World, new_world}
 use Rattle.world3270.proofs.Worlds.{GoodWorld, run_good, new_good}
 
 -- ---- who is bound to what
 
-bound_at : (v : View) (host : Talk HostState) (wanted : Option (List ℕ)) (term : TermState) (down : List ToTerminal) (up : List ToHost) → At v host wanted term down up → bound_to v.talk.talk.state ≡ bound_to term
-bound_at v host wanted term down up at = ap (λ (t : Term). bound_to t.talk.state) at.term_talk
+-- where the terminal is bound to an LU, the host's end agreed on it
+agrees_at : (moment : Moment) (mine : List ℕ) → bound_to (term_state_at moment) ≡ Some mine → agreed_lu (host_talk_at moment).state ≡ Some mine
+agrees_at (Moment.Talks Talking.Offering) mine e = absurd (cc)
+agrees_at (Moment.Talks Talking.Accepting) mine e = absurd (cc)
+agrees_at (Moment.Talks Talking.AskingType) mine e = absurd (cc)
+agrees_at (Moment.Talks Talking.NamingType) mine e = absurd (cc)
+agrees_at (Moment.Talks (Talking.Granting lu)) mine e = absurd (cc)
+agrees_at (Moment.Talks (Talking.AskingFunctions lu)) mine e = absurd (cc)
+agrees_at (Moment.Talks (Talking.Agreeing lu)) mine e = absurd (cc)
+agrees_at (Moment.Talks (Talking.Rejecting reason)) mine e = absurd (cc)
+agrees_at (Moment.Talks (Talking.Rejected reason)) mine e = absurd (cc)
+agrees_at (Moment.Begins lu number command wanted over) mine e = absurd (cc)
+agrees_at (Moment.Serves lu serving) mine e = e
 
-agreed_in : (v : View) (lu : List ℕ) (turn : Turn) (pending : Pending) (down : List ToTerminal) (up : List ToHost) (mine : List ℕ) → In v lu turn pending down up → bound_to v.talk.talk.state ≡ Some mine → v.host.talk.state ≡ HostAgreed Model2 mine
-agreed_in v lu turn pending down up mine s e =
-    let both : Some lu ≡ Some mine = sym (bound_at v _ s.wanted (Agreed lu) down up s.at) ∙ e in
-    let same : lu ≡ mine = cc in
-    ap (λ (t : Talk HostState). t.state) s.at.host_talk ∙ ap (λ x. HostAgreed Model2 x) same
+bound_agrees : (app : Application) (v : View) (mine : List ℕ) → Kept app v → bound_to v.talk.talk.state ≡ Some mine → agreed_lu v.host.talk.state ≡ Some mine
+bound_agrees app v mine k e =
+    ap (λ (t : Talk HostState). agreed_lu t.state) k.at.host_talk
+    ∙ agrees_at k.moment mine (sym (ap (λ (t : Term). bound_to t.talk.state) k.at.term_talk) ∙ e)
 
--- a terminal that is bound to an LU is so with a host's end that agreed on it
-bound_agrees : (app : Application) (v : View) (mine : List ℕ) → Stage app v → bound_to v.talk.talk.state ≡ Some mine → v.host.talk.state ≡ HostAgreed Model2 mine
-bound_agrees app v mine (talking n (offered wanted lu at)) e = let x = sym (bound_at v _ _ _ _ _ at) ∙ e in absurd (cc)
-bound_agrees app v mine (talking n (willing wanted lu at)) e = let x = sym (bound_at v _ _ _ _ _ at) ∙ e in absurd (cc)
-bound_agrees app v mine (talking n (type_wanted wanted lu at)) e = let x = sym (bound_at v _ _ _ _ _ at) ∙ e in absurd (cc)
-bound_agrees app v mine (talking n (type_asked wanted lu at)) e = let x = sym (bound_at v _ _ _ _ _ at) ∙ e in absurd (cc)
-bound_agrees app v mine (talking n (named wanted lu s at)) e = let x = sym (bound_at v _ _ _ _ _ at) ∙ e in absurd (cc)
-bound_agrees app v mine (talking n (functions_asked wanted lu at)) e = let x = sym (bound_at v _ _ _ _ _ at) ∙ e in absurd (cc)
-bound_agrees app v mine (talking n (agreeing wanted lu at)) e = let x = sym (bound_at v _ _ _ _ _ at) ∙ e in absurd (cc)
-bound_agrees app v mine (talking n (rejected wanted reason at)) e = let x = sym (bound_at v _ _ _ _ _ at) ∙ e in absurd (cc)
-bound_agrees app v mine (talking n (refused wanted reason at)) e = let x = sym (bound_at v _ _ _ _ _ at) ∙ e in absurd (cc)
-bound_agrees app v mine (first_paint lu number c s) e = let x = sym (bound_at v _ _ _ _ _ s.at) ∙ e in absurd (cc)
-bound_agrees app v mine (at_host lu s) e = agreed_in v lu _ _ _ _ mine s.session e
-bound_agrees app v mine (painting lu number c s) e = agreed_in v lu _ _ _ _ mine s.session e
-bound_agrees app v mine (answering lu number c session s) e = agreed_in v lu _ _ _ _ mine session e
-bound_agrees app v mine (operating lu session s) e = agreed_in v lu _ _ _ _ mine session e
-bound_agrees app v mine (sent_behind lu number c session s) e = agreed_in v lu _ _ _ _ mine session e
-bound_agrees app v mine (sent_alone lu session s) e = agreed_in v lu _ _ _ _ mine session e
-bound_agrees app v mine (asking lu number session s) e = agreed_in v lu _ _ _ _ mine session e
-bound_agrees app v mine (reporting lu number session s) e = agreed_in v lu _ _ _ _ mine session e
+-- an LU that was agreed on was granted
+agreed_granted : (state : HostState) (mine : List ℕ) → agreed_lu state ≡ Some mine → granted state ≡ Some mine
+agreed_granted (Agreed device lu) mine e = e
+agreed_granted Offered mine e = absurd (cc)
+agreed_granted Asked mine e = absurd (cc)
+agreed_granted (Asking device) mine e = absurd (cc)
+agreed_granted (Named device lu) mine e = absurd (cc)
+agreed_granted (Countered device lu) mine e = absurd (cc)
+agreed_granted (Closed cause) mine e = absurd (cc)
 
-bound_granted : (app : Application) (world : World) → GoodWorld app world → BoundIsGranted world
+bound_granted : (app : Application) (world : World) → GoodWorld app world → BoundIsGranted (seen world)
 bound_granted app world g number lu here bound =
-    let agreed = bound_agrees app (view_of (world.link number)) lu (g.links number).stage bound in
-    record { agreed = agreed; held = g.holds number lu here (ap granted agreed) }
+    let link : Link = world.link number in
+    let agreed = bound_agrees app (view_of link) lu (g.links number) bound in
+    record { agreed = agreed; held = g.holds number lu here (agreed_granted link.host.talk.state lu agreed) }
 
-one_session : (app : Application) (world : World) → GoodWorld app world → OneSessionEach world
+one_session : (app : Application) (world : World) → GoodWorld app world → OneSessionEach (seen world)
 one_session app world g one other lu here there =
     let first : holder world.pool lu ≡ Some one = (bound_granted app world g one lu here.host here.bound).held in
     let second : holder world.pool lu ≡ Some other = (bound_granted app world g other lu there.host there.bound).held in
@@ -75,33 +77,54 @@ pub record Knows (v : View) : Type 0 where
   pub meets : Meets v.host.shadow v.screen
   pub lists : ListsFields v.host.shadow v.screen
   pub told : SentFields v.screen.aid → IsTold v.host.shadow v.screen
+  pub occasion : IsOccasion v.host.occasion v.screen.aid
+  pub cleared : v.screen.aid ≡ ClearAid → IsCleared v.host.shape v.host.shadow
 
-knows_new : (v : View) → IsNew v → Knows v
-knows_new v n = record {
-  meets = subst (λ s. Meets s v.screen) (sym n.shadow) tt;
-  lists = λ some. absurd (some n.no_fields);
-  told = λ sent. absurd (subst SentFields n.aid sent);
+-- the moments at which it holds the turn, with nothing that waits for an answer
+knows_by : (wanted : Option (List ℕ)) (v : View) (moment : Moment) → Fact wanted (scene_of v) moment → turn_at moment ≡ Turn.Host → pending_at moment ≡ Pending.Nothing → Knows v
+knows_by wanted v (Moment.Talks talking) f t p = record {
+  meets = subst (λ s. Meets s v.screen) (sym f.0.shadow) tt;
+  lists = λ some. absurd (some f.0.no_fields);
+  told = λ sent. absurd (subst SentFields f.0.aid sent);
+  occasion = subst (λ o. IsOccasion o v.screen.aid) (sym f.0.occasion) f.0.aid;
+  cleared = λ clear. absurd (let x = sym f.0.aid ∙ clear in cc);
 }
+knows_by wanted v (Moment.Begins lu number command wants over) f t p = absurd (cc)
+knows_by wanted v (Moment.Serves lu Serving.Deciding) f t p =
+    record { meets = f.sees.meets; lists = f.sees.lists; told = f.sees.told; occasion = f.occasion; cleared = f.sees.cleared }
+knows_by wanted v (Moment.Serves lu (Serving.Reading number)) f t p = absurd (cc)
+knows_by wanted v (Moment.Serves lu (Serving.Reported number parts)) f t p = absurd (cc)
+knows_by wanted v (Moment.Serves lu (Serving.NotedLate number command)) f t p = absurd (cc)
+knows_by wanted v (Moment.Serves lu (Serving.AnsweredLate number command)) f t p = absurd (cc)
+knows_by wanted v (Moment.Serves lu (Serving.Painting number command wants over)) f t p = absurd (cc)
+knows_by wanted v (Moment.Serves lu (Serving.Answering kind number command)) f t p = absurd (cc)
+knows_by wanted v (Moment.Serves lu Serving.Operating) f t p = absurd (cc)
+knows_by wanted v (Moment.Serves lu (Serving.Noting number command)) f t p = absurd (cc)
+knows_by wanted v (Moment.Serves lu (Serving.KeyAlone parts)) f t p = absurd (cc)
+knows_by wanted v (Moment.Serves lu (Serving.KeyBehind kind number command parts)) f t p = absurd (cc)
+knows_by wanted v (Moment.Serves lu (Serving.KeyNoted number command parts)) f t p = absurd (cc)
+knows_by wanted v (Moment.Serves lu (Serving.KeyBefore number command parts)) f t p = absurd (cc)
 
-pub knows_at : (app : Application) (v : View) → Stage app v → v.host.turn ≡ Turn.Host → v.host.pending ≡ Pending.Nothing → Knows v
-knows_at app v (talking n moment) t p = knows_new v n
-knows_at app v (at_host lu s) t p = record { meets = s.meets; lists = s.lists; told = s.told }
-knows_at app v (first_paint lu number c s) t p = let e = s.turn in absurd (cc)
-knows_at app v (painting lu number c s) t p = let e = s.session.turn_is in absurd (cc)
-knows_at app v (answering lu number c session s) t p = let e = session.turn_is in absurd (cc)
-knows_at app v (operating lu session s) t p = let e = session.turn_is in absurd (cc)
-knows_at app v (sent_behind lu number c session s) t p = let e = session.turn_is in absurd (cc)
-knows_at app v (sent_alone lu session s) t p = let e = session.turn_is in absurd (cc)
-knows_at app v (asking lu number session s) t p = let e = session.pending_is in absurd (cc)
-knows_at app v (reporting lu number session s) t p = let e = session.pending_is in absurd (cc)
+pub knows_at : (app : Application) (v : View) → Kept app v → v.host.turn ≡ Turn.Host → v.host.pending ≡ Pending.Nothing → Knows v
+knows_at app v k t p = knows_by k.wanted v k.moment k.fact (sym k.at.turn ∙ t) (sym k.at.pending ∙ p)
 
-agrees : Given → (app : Application) (link : Link) → Kept app (view_of link) → IsHostsTurn link → Agrees link
+-- no number waits: nothing does
+nothing_waits : (pending : Pending) → number_of pending ≡ None → pending ≡ Pending.Nothing
+nothing_waits Pending.Nothing e = refl
+nothing_waits (Pending.Writing number command) e = absurd (cc)
+nothing_waits (Pending.Reading number) e = absurd (cc)
+nothing_waits (Pending.Noting number command) e = absurd (cc)
+
+knows_turn : (app : Application) (link : Link) → Kept app (view_of link) → IsHostsTurn (seen_link link) → Knows (view_of link)
+knows_turn app link k h = knows_at app (view_of link) k h.turn (nothing_waits link.host.pending h.answered)
+
+agrees : Given → (app : Application) (link : Link) → Kept app (view_of link) → IsHostsTurn (seen_link link) → Agrees (seen_link link)
 agrees given app link k h =
     let v : View = view_of link in
-    let known = knows_at app v k.stage h.turn h.answered in
+    let known = knows_turn app link k h in
     record {
-      sees = (known.meets, known.lists, given.seen v.host.shadow v.screen known.meets k.exact.protected);
-      returned = λ sent. given.told v.host.shadow v.screen known.meets k.exact.protected (known.told sent);
+      sees = record { meets = known.meets; lists = known.lists; protected = given.belief.seen v.host.shadow v.screen known.meets k.exact.protected };
+      returned = λ sent. given.belief.told v.host.shadow v.screen known.meets k.exact.protected (known.told sent);
       unreturned = k.unreturned;
     }
 
@@ -118,32 +141,38 @@ none_of p (x ∷ xs) ys h = by_test (p x) h (none_of p xs ys)
 none_under : (lost : Bool) (queue messages : List ToHost) → UnderWay lost queue messages → list_any is_refusal messages ≡ false → list_any is_refusal queue ≡ false
 none_under lost queue messages way h = none_of is_refusal queue way.vanished (ap (list_any is_refusal) way.whole ∙ h)
 
-none_at : (v : View) (host : Talk HostState) (wanted : Option (List ℕ)) (term : TermState) (down : List ToTerminal) (up : List ToHost) → At v host wanted term down up → list_any is_refusal up ≡ false → list_any is_refusal v.up ≡ false
-none_at v host wanted term down up at h = none_under v.lost v.up up at.goes_up h
+-- at no moment is a refusal under way
+none_at : (wanted : Option (List ℕ)) (moment : Moment) → list_any is_refusal (up_at wanted moment) ≡ false
+none_at wanted (Moment.Talks Talking.Offering) = refl
+none_at wanted (Moment.Talks Talking.Accepting) = refl
+none_at wanted (Moment.Talks Talking.AskingType) = refl
+none_at wanted (Moment.Talks Talking.NamingType) = refl
+none_at wanted (Moment.Talks (Talking.Granting lu)) = refl
+none_at wanted (Moment.Talks (Talking.AskingFunctions lu)) = refl
+none_at wanted (Moment.Talks (Talking.Agreeing lu)) = refl
+none_at wanted (Moment.Talks (Talking.Rejecting reason)) = refl
+none_at wanted (Moment.Talks (Talking.Rejected reason)) = refl
+none_at wanted (Moment.Begins lu number command wants over) = refl
+none_at wanted (Moment.Serves lu Serving.Deciding) = refl
+none_at wanted (Moment.Serves lu (Serving.Reading number)) = refl
+none_at wanted (Moment.Serves lu (Serving.Reported number parts)) = refl
+none_at wanted (Moment.Serves lu (Serving.NotedLate number command)) = refl
+none_at wanted (Moment.Serves lu (Serving.AnsweredLate number command)) = refl
+none_at wanted (Moment.Serves lu (Serving.Painting number command wants over)) = refl
+none_at wanted (Moment.Serves lu (Serving.Answering kind number command)) = refl
+none_at wanted (Moment.Serves lu Serving.Operating) = refl
+none_at wanted (Moment.Serves lu (Serving.Noting number command)) = refl
+none_at wanted (Moment.Serves lu (Serving.KeyAlone parts)) = refl
+none_at wanted (Moment.Serves lu (Serving.KeyBehind kind number command parts)) = refl
+none_at wanted (Moment.Serves lu (Serving.KeyNoted number command parts)) = refl
+none_at wanted (Moment.Serves lu (Serving.KeyBefore number command parts)) = refl
 
-none_refused : (app : Application) (v : View) → Stage app v → list_any is_refusal v.up ≡ false
-none_refused app v (talking n (offered wanted lu at)) = none_at v _ _ _ _ _ at refl
-none_refused app v (talking n (willing wanted lu at)) = none_at v _ _ _ _ _ at refl
-none_refused app v (talking n (type_wanted wanted lu at)) = none_at v _ _ _ _ _ at refl
-none_refused app v (talking n (type_asked wanted lu at)) = none_at v _ _ _ _ _ at refl
-none_refused app v (talking n (named wanted lu s at)) = none_at v _ _ _ _ _ at refl
-none_refused app v (talking n (functions_asked wanted lu at)) = none_at v _ _ _ _ _ at refl
-none_refused app v (talking n (agreeing wanted lu at)) = none_at v _ _ _ _ _ at refl
-none_refused app v (talking n (rejected wanted reason at)) = none_at v _ _ _ _ _ at refl
-none_refused app v (talking n (refused wanted reason at)) = none_at v _ _ _ _ _ at refl
-none_refused app v (first_paint lu number c s) = none_at v _ _ _ _ _ s.at refl
-none_refused app v (at_host lu s) = none_at v _ _ _ _ _ s.session.at refl
-none_refused app v (painting lu number c s) = none_at v _ _ _ _ _ s.session.at refl
-none_refused app v (answering lu number c session s) = none_at v _ _ _ _ _ session.at refl
-none_refused app v (operating lu session s) = none_at v _ _ _ _ _ session.at refl
-none_refused app v (sent_behind lu number c session s) = none_at v _ _ _ _ _ session.at refl
-none_refused app v (sent_alone lu session s) = none_at v _ _ _ _ _ session.at refl
-none_refused app v (asking lu number session s) = none_at v _ _ _ _ _ session.at refl
-none_refused app v (reporting lu number session s) = none_at v _ _ _ _ _ session.at refl
+none_refused : (app : Application) (v : View) → Kept app v → list_any is_refusal v.up ≡ false
+none_refused app v k = none_under v.lost v.up (up_at k.wanted k.moment) k.at.goes_up (none_at k.wanted k.moment)
 
 -- ---- the theorems
 
-pub headline : Given → Always Headline
+pub headline : Given → Always HeadlineHolds
 headline given app pool terminals events is lists few are =
     let world : World = run app events (new_world app pool terminals) in
     let g = run_good given app is events (new_world app pool terminals) are (new_good given app is pool terminals lists) in
@@ -153,4 +182,16 @@ pub nobody_refuses : Given → Always NobodyRefuses
 nobody_refuses given app pool terminals events is lists few are =
     let world : World = run app events (new_world app pool terminals) in
     let g = run_good given app is events (new_world app pool terminals) are (new_good given app is pool terminals lists) in
-    record { none_refused = λ number. none_refused app (view_of (world.link number)) (g.links number).stage; none_closed = g.uncaused }
+    record { none_said = g.positive; none_refused = λ number. none_refused app (view_of (world.link number)) (g.links number); none_closed = g.uncaused }
+
+pub acts_on_the_key : Given → Always ActsOnTheKey
+acts_on_the_key given app pool terminals events is lists few are =
+    let world : World = run app events (new_world app pool terminals) in
+    let g = run_good given app is events (new_world app pool terminals) are (new_good given app is pool terminals lists) in
+    λ number h. (knows_turn app (world.link number) (g.links number) h).occasion
+
+pub knows_the_cleared : Given → Always KnowsTheCleared
+knows_the_cleared given app pool terminals events is lists few are =
+    let world : World = run app events (new_world app pool terminals) in
+    let g = run_good given app is events (new_world app pool terminals) are (new_good given app is pool terminals lists) in
+    λ number h. (knows_turn app (world.link number) (g.links number) h).cleared

@@ -2,11 +2,12 @@
 use Rattle.std.proofs.Common.{◌≡◌, ◌⊎◌, inl, inr, ◌==◌, ℕ, Bool, true, false, Option, None, Result, Ok, Err, List, [], map, refl, if◌then◌else◌}
 use Rattle.codes3270.specs.declared.attention.Aid.{Aid}
 use Rattle.codes3270.specs.declared.attention.Aid.TheVariants.{NoAid, Enter, Clear, Pf, Pa}
+use Rattle.datastream.specs.Grammar.{CommandParts}
 use Rattle.datastream.specs.InboundText.{InboundParts}
 use Rattle.datastream.specs.declared.inbound_part.Form.{Form}
 use Rattle.datastream.specs.declared.inbound_part.Form.TheVariants.{Modified, All as AllModified, Buffer}
 use Rattle.shadow.specs.Belief.{Shadow}
-use Rattle.shadow.specs.Heard.{heard}
+use Rattle.shadow.specs.Exactness.{is_erase}
 use Rattle.shadow.specs.declared.fault.HeardFault.{HeardFault}
 use Rattle.tn3270e_msg.specs.HostTable.{host_line, answer_line}
 use Rattle.tn3270e_msg.specs.Talk.{Talk, follow, Saying, says, sayings}
@@ -17,10 +18,9 @@ use Rattle.tn3270e_msg.specs.declared.host_talk.HostState.TheVariants.{Offered, 
 use Rattle.tn3270e_msg.specs.declared.reply.Reason.{Reason}
 use Rattle.tn3270e_msg.specs.declared.reply.Reply.{Reply}
 use Rattle.tn3270e_msg.specs.declared.reply.Reply.TheVariants as reply
-use Rattle.host_core.specs.Application.{Application}
 use Rattle.host_core.specs.Messages.{ToTerminal, ToHost, Verdict}
 use Rattle.host_core.specs.Session.{Conn, Turn, Pending, Occasion, is_agreed}
-use Rattle.host_core.specs.Takes.{Answers, Step, quiet, closed_by, replied, granted_by, asked, talked_on, believed, once_read, buffer_came, data_came, key_data_came, key_came, if_answers, refused, erases, write_refused, response_came, once_agreed, took}
+use Rattle.host_core.specs.Takes.{Answers, Step, quiet, closed_by, replied, granted_by, asked, talked_on, hears, believed, once_read, buffer_came, key_came, key_data_came, data_came, answered, refused, write_refused, if_answers, verdict_came, read_verdict_came, response_came, once_agreed, took}
 
 -- its command still waits for its answer, or nothing does
 pub record JustTalks (old : Conn) (step : Step) : Type 0 where
@@ -63,32 +63,36 @@ talks pool conn talk (reply.Close cause) = replies conn None (talk, reply.Close 
 
 -- ---- data
 
-believes : (occasion : Occasion) (conn : Conn) (result : Result Shadow HeardFault) → JustTalks conn (believed occasion conn result)
-believes occasion conn (Ok shadow) = settles conn _ refl refl refl
-believes occasion conn (Err fault) = closes conn _
+-- what waits for an answer still does, or nothing does
+believes : (occasion : Occasion) (pending : Pending) (conn : Conn) (result : Result Shadow HeardFault) → (pending ≡ conn.pending) ⊎ (pending ≡ Pending.Nothing)
+    → JustTalks conn (believed occasion pending conn result)
+believes occasion pending conn (Ok shadow) waits = record { number = refl; values = refl; pending = waits; talk = []; says = refl }
+believes occasion pending conn (Err fault) waits = closes conn _
 
-hears_key : (app : Application) (parts : InboundParts) (aid : Aid) (conn : Conn) → JustTalks conn (key_came app parts aid conn)
-hears_key app parts NoAid conn = closes conn _
-hears_key app parts Enter conn = believes (Occasion.Key Enter false) conn (heard app.size conn.shadow parts)
-hears_key app parts Clear conn = believes (Occasion.Key Clear false) conn (heard app.size conn.shadow parts)
-hears_key app parts (Pf key) conn = believes (Occasion.Key (Pf key) false) conn (heard app.size conn.shadow parts)
-hears_key app parts (Pa key) conn = believes (Occasion.Key (Pa key) false) conn (heard app.size conn.shadow parts)
+hears_key : (parts : InboundParts) (aid : Aid) (conn : Conn) → JustTalks conn (key_came parts aid conn)
+hears_key parts NoAid conn = closes conn _
+hears_key parts Enter conn = believes (Occasion.Key Enter false) conn.pending conn (hears parts conn) (inl refl)
+hears_key parts Clear conn = believes (Occasion.Key Clear false) conn.pending conn (hears parts conn) (inl refl)
+hears_key parts (Pf key) conn = believes (Occasion.Key (Pf key) false) conn.pending conn (hears parts conn) (inl refl)
+hears_key parts (Pa key) conn = believes (Occasion.Key (Pa key) false) conn.pending conn (hears parts conn) (inl refl)
 
-hears_key_data : (app : Application) (parts : InboundParts) (form : Form) (conn : Conn) → JustTalks conn (key_data_came app parts form conn)
-hears_key_data app parts Modified conn = hears_key app parts parts.aid conn
-hears_key_data app parts AllModified conn = closes conn _
-hears_key_data app parts Buffer conn = closes conn _
+hears_key_data : (parts : InboundParts) (form : Form) (conn : Conn) → JustTalks conn (key_data_came parts form conn)
+hears_key_data parts Modified conn = hears_key parts parts.aid conn
+hears_key_data parts AllModified conn = closes conn _
+hears_key_data parts Buffer conn = closes conn _
 
-hears_buffer : (app : Application) (parts : InboundParts) (form : Form) (conn : Conn) → JustTalks conn (buffer_came app parts form conn)
-hears_buffer app parts Buffer conn = believes (once_read conn.occasion) conn (heard app.size conn.shadow parts)
-hears_buffer app parts Modified conn = closes conn _
-hears_buffer app parts AllModified conn = closes conn _
+hears_buffer : (parts : InboundParts) (form : Form) (conn : Conn) → JustTalks conn (buffer_came parts form conn)
+hears_buffer parts Buffer conn = believes (once_read conn.occasion) Pending.Nothing conn (hears parts conn) (inr refl)
+hears_buffer parts Modified conn = closes conn _
+hears_buffer parts AllModified conn = closes conn _
 
-hears : (app : Application) (parts : InboundParts) (turn : Turn) (pending : Pending) (conn : Conn) → JustTalks conn (data_came app parts turn pending conn)
-hears app parts turn (Pending.Reading number) conn = hears_buffer app parts parts.form conn
-hears app parts turn (Pending.Writing number wanted) conn = closes conn _
-hears app parts Turn.Host Pending.Nothing conn = closes conn _
-hears app parts Turn.Terminal Pending.Nothing conn = hears_key_data app parts parts.form conn
+hears_data : (parts : InboundParts) (turn : Turn) (pending : Pending) (conn : Conn) → JustTalks conn (data_came parts turn pending conn)
+hears_data parts turn (Pending.Reading number) conn = hears_buffer parts parts.form conn
+hears_data parts turn (Pending.Writing number command) conn = closes conn _
+hears_data parts Turn.Host Pending.Nothing conn = closes conn _
+hears_data parts Turn.Host (Pending.Noting number command) conn = closes conn _
+hears_data parts Turn.Terminal Pending.Nothing conn = hears_key_data parts parts.form conn
+hears_data parts Turn.Terminal (Pending.Noting number command) conn = hears_key_data parts parts.form conn
 
 -- ---- responses
 
@@ -96,19 +100,26 @@ if_it_answers : (b : Bool) (step : Step) (conn : Conn) → JustTalks conn step �
 if_it_answers true step conn just = just
 if_it_answers false step conn just = closes conn _
 
-loses_a_write : (conn : Conn) → JustTalks conn (write_refused conn)
-loses_a_write conn = by_test (erases conn.shadow)
+loses_a_write : (command : CommandParts) (conn : Conn) → JustTalks conn (write_refused command conn)
+loses_a_write command conn = by_test (is_erase command.code)
   where
     by_test : (b : Bool) → JustTalks conn (if b then closed_by Negative conn else quiet (refused conn))
     by_test true = closes conn Negative
     by_test false = settles conn (refused conn) refl refl refl
 
-is_answered : (app : Application) (number : ℕ) (verdict : Verdict) (pending : Pending) (conn : Conn) → JustTalks conn (response_came app number verdict pending conn)
-is_answered app number verdict Pending.Nothing conn = closes conn _
-is_answered app number Verdict.Positive (Pending.Writing pending wanted) conn = if_it_answers (number == pending) _ conn (settles conn _ refl refl refl)
-is_answered app number Verdict.Negative (Pending.Writing pending wanted) conn = if_it_answers (number == pending) _ conn (loses_a_write conn)
-is_answered app number Verdict.Positive (Pending.Reading pending) conn = closes conn _
-is_answered app number Verdict.Negative (Pending.Reading pending) conn = if_it_answers (number == pending) _ conn (settles conn _ refl refl refl)
+judges : (command : CommandParts) (verdict : Verdict) (conn : Conn) → JustTalks conn (verdict_came command verdict conn)
+judges command Verdict.Positive conn = settles conn (answered command conn) refl refl refl
+judges command Verdict.Negative conn = loses_a_write command conn
+
+judges_read : (answers : Bool) (verdict : Verdict) (conn : Conn) → JustTalks conn (read_verdict_came answers verdict conn)
+judges_read answers Verdict.Positive conn = closes conn _
+judges_read answers Verdict.Negative conn = if_it_answers answers _ conn (settles conn (refused conn) refl refl refl)
+
+is_answered : (number : ℕ) (verdict : Verdict) (pending : Pending) (conn : Conn) → JustTalks conn (response_came number verdict pending conn)
+is_answered number verdict Pending.Nothing conn = closes conn _
+is_answered number verdict (Pending.Writing pending command) conn = if_it_answers (number == pending) _ conn (judges command verdict conn)
+is_answered number verdict (Pending.Noting pending command) conn = if_it_answers (number == pending) _ conn (judges command verdict conn)
+is_answered number verdict (Pending.Reading pending) conn = judges_read (number == pending) verdict conn
 
 -- ---- any message
 
@@ -116,9 +127,10 @@ once_it_agreed : (b : Bool) (step : Step) (conn : Conn) → JustTalks conn step 
 once_it_agreed true step conn just = just
 once_it_agreed false step conn just = quietly conn
 
-pub just_talks : (app : Application) (pool : Answers) (conn : Conn) (message : ToHost) → JustTalks conn (took app pool conn message)
-just_talks app pool conn (ToHost.TalksUp saying) =
+pub just_talks : (pool : Answers) (conn : Conn) (message : ToHost) → JustTalks conn (took pool conn message)
+just_talks pool conn (ToHost.TalksUp saying) =
     let next : Talk HostState × Reply = follow Closed conn.talk (host_line conn.talk.state (says saying)) in
     talks pool conn next.0 next.1
-just_talks app pool conn (ToHost.Data parts) = once_it_agreed (is_agreed conn.talk.state) _ conn (hears app parts conn.turn conn.pending conn)
-just_talks app pool conn (ToHost.Response number verdict) = once_it_agreed (is_agreed conn.talk.state) _ conn (is_answered app number verdict conn.pending conn)
+just_talks pool conn (ToHost.Data parts) = once_it_agreed (is_agreed conn.talk.state) _ conn (hears_data parts conn.turn conn.pending conn)
+just_talks pool conn (ToHost.Response number verdict) =
+    once_it_agreed (is_agreed conn.talk.state) _ conn (is_answered number verdict conn.pending conn)

@@ -1,13 +1,18 @@
--- What keys do to a connection, at each stage.
-use Rattle.std.proofs.Common.{◌≡◌, ◌<◌, ◌||◌, ℕ, Bool, true, false, Result, Ok, Err, List, [], ◌∷◌, ◌++◌, length, refl, ap, sym, subst, ◌∙◌, IsOkAnd}
+-- What keys do to a connection, at each moment.
+use Rattle.std.proofs.Common.{◌≡◌, ◌<◌, ◌||◌, ℕ, zero, suc, Bool, true, false, Option, Result, Ok, Err, List, [], ◌∷◌, ◌++◌, append-nil, length, map, replicate, refl, ap, sym, subst, ◌∙◌, IsOkAnd, IfOk}
+use Rattle.std.specs.Prelude.{is_some, Some}
+use Rattle.std.specs.List.{list_all}
 use Rattle.codes3270.specs.Aid.{is_short_aid}
+use Rattle.codes3270.specs.Size.{Shape, cells_in}
 use Rattle.codes3270.specs.declared.attention.Aid.{Aid}
 use Rattle.codes3270.specs.declared.attention.Aid.TheVariants.{NoAid, Enter as EnterAid, Clear as ClearAid, Pf as PfAid, Pa as PaAid}
 use Rattle.codes3270.specs.declared.attribute.Cell.{Cell}
+use Rattle.codes3270.specs.declared.attribute.Cell.TheVariants.{Char as CharCell}
+use Rattle.datastream.specs.Grammar.{CommandParts}
 use Rattle.datastream.specs.Held.{Held}
 use Rattle.datastream.specs.InboundFields.{modified_data}
-use Rattle.datastream.specs.Screen.{Screen}
-use Rattle.datastream.specs.Wanted.{WantedScreen}
+use Rattle.datastream.specs.InboundText.{InboundParts}
+use Rattle.datastream.specs.Screen.{Screen, is_char}
 use Rattle.datastream.specs.declared.inbound_part.Form.TheVariants.{Modified}
 use Rattle.keyboard.specs.Edits.{typed, with_deleted, with_field_erased}
 use Rattle.keyboard.specs.Keys.{Outcome, edited, lock_after, at_lock, pressed}
@@ -22,22 +27,28 @@ use Rattle.keyboard.specs.declared.key.Pressed.TheVariants.{Done, Refused, Send}
 use Rattle.keyboard.specs.declared.key.Refusal.{Refusal}
 use Rattle.keyboard.specs.declared.key.Refusal.TheVariants.{Locked, NoCode, Protected, NotNumeric, NoRoom}
 use Rattle.shadow.specs.Belief.{Shadow}
+use Rattle.shadow.specs.Exactness.{KnownIsExact, ProtectedIsExact}
 use Rattle.shadow.specs.Heard.{heard}
 use Rattle.shadow.specs.Laws.{Believed, IsSentFrom}
 use Rattle.shadow.specs.Meets.{Meets, Knows}
+use Rattle.shadow.specs.Openness.{IsClearedBelief}
+use Rattle.shadow.specs.declared.fault.HeardFault.{HeardFault}
 use Rattle.tn3270e_msg.specs.TermTable.{Term}
 use Rattle.host_core.specs.Application.{Application}
-use Rattle.host_core.specs.Messages.{ToTerminal, ToHost, Verdict}
-use Rattle.host_core.specs.Session.{Turn, Pending}
-use Rattle.world3270.specs.Headline.{SentFields}
-use Rattle.world3270.specs.Link.{Link, sent, term_stepped}
-use Rattle.world3270.specs.Stages.{In, Operating, Stage, Kept, once_taken, key_data, WillBeHeard}
-use Rattle.world3270.specs.Stages.Stage.{talking, first_paint, at_host, painting, answering, operating, sent_behind, sent_alone, asking, reporting}
-use Rattle.world3270.specs.Terminal.{Display, is_bound, bound_to, data_of, erases_if, key_came}
-use Rattle.std.specs.Prelude.{is_some}
-use Rattle.world3270.specs.View.{View, view_of}
+use Rattle.host_core.specs.Messages.{ToTerminal, ToHost}
+use Rattle.host_core.specs.NoteLaws.{HasMessageRow, TakesNotes}
 use Rattle.world3270.specs.Given.{Given}
+use Rattle.world3270.specs.Headline.{SentFields, UnmodifiedIsKept}
+use Rattle.world3270.specs.Link.{Link, sent, term_stepped}
+use Rattle.world3270.specs.Moments.{Kind, Talking, Serving, Moment, UnderWay, IsAt, turn_at, pending_at, down_at, up_at}
+use Rattle.world3270.specs.Occasions.{IsCleared}
+use Rattle.world3270.specs.Stages.{Scene, scene_of, once_taken, FactsAreExact, Operates, NotedSince, Sees, IsPressed, WillSee, Fact, Kept}
+use Rattle.world3270.specs.Terminal.{Display, is_bound, bound_to, data_of, erases_if, outcome_of, key_came}
+use Rattle.world3270.specs.View.{View, view_of}
+use Rattle.world3270.proofs.Down.{ok_map}
 use Rattle.world3270.proofs.Queues.{more, nothing_sent}
+use Rattle.world3270.proofs.Sent.{key_form, key_aid, sent_long, nulls_known}
+use Rattle.world3270.proofs.Unreturned.{kept_of}
 
 -- ---- in Wait
 
@@ -154,11 +165,8 @@ acts columns key keyboard screen h = acts_by columns key keyboard screen keyboar
 
 -- ---- the connection after a key
 
-abbrev outcome_of : ℕ → Key → Link → Outcome
-outcome_of columns key link = pressed columns key link.term.display.keyboard link.term.display.screen
-
-abbrev key_view : ℕ → Key → Link → Link
-key_view columns key link = term_stepped (key_came columns key link.term) link.down link
+abbrev key_view : Key → Link → Link
+key_view key link = term_stepped (key_came key link.term) link.down link
 
 -- what the view of it has, part by part
 abbrev seen_as : View → List ToHost → Screen → Lock → Bool → View
@@ -169,10 +177,10 @@ or_false true = refl
 or_false false = refl
 
 -- a key in Wait changes nothing that the headline speaks of
-key_waits : (columns : ℕ) (key : Key) (link : Link) → link.term.display.keyboard.lock ≡ Wait → view_of (key_view columns key link) ≡ view_of link
-key_waits columns key link e =
-    let w = waits columns key link.term.display.keyboard link.term.display.screen e in
-    let outcome : Outcome = outcome_of columns key link in
+key_waits : (key : Key) (link : Link) → link.term.display.keyboard.lock ≡ Wait → view_of (key_view key link) ≡ view_of link
+key_waits key link e =
+    let w = waits link.term.display.shape.columns key link.term.display.keyboard link.term.display.screen e in
+    let outcome : Outcome = outcome_of key link.term.display in
     let v : View = view_of link in
     ap (λ up. seen_as v up outcome.screen outcome.keyboard.lock (v.erased || erases_if outcome.answer key))
     (ap (λ says. sent link.lost link.up says) (w.silent (is_bound link.term) outcome.screen) ∙ nothing_sent link.lost link.up)
@@ -180,7 +188,9 @@ key_waits columns key link e =
     ∙ ap (λ l. seen_as v v.up v.screen l (v.erased || erases_if outcome.answer key)) (w.lock ∙ sym e)
     ∙ ap (λ b. seen_as v v.up v.screen v.lock b) (ap (λ b. v.erased || b) w.keeps ∙ or_false v.erased)
 
--- the key is taken as sent from the screen that was left
+-- ---- what a key that sends leaves
+
+-- the key is taken as sent from the screen that was shown
 sent_from : (erased : Bool) (left now : List Cell) (aid : Aid) → KeepsSent erased aid left now → IsSentFrom erased left now aid
 sent_from erased left now NoAid k = absurd k
 sent_from erased left now EnterAid k = k
@@ -188,141 +198,199 @@ sent_from erased left now (PfAid key) k = k
 sent_from erased left now (PaAid key) k = k
 sent_from erased left now ClearAid k = k
 
-kept_fields : (erased : Bool) (left now : List Cell) (aid : Aid) → KeepsSent erased aid left now → SentFields aid → Held erased left now
-kept_fields erased left now NoAid k s = absurd s
-kept_fields erased left now EnterAid k s = k
-kept_fields erased left now (PfAid key) k s = k
-kept_fields erased left now (PaAid key) k s = absurd s
-kept_fields erased left now ClearAid k s = absurd s
+-- fields were sent of a screen that keys kept
+held_fields : (erased : Bool) (left now : List Cell) (aid : Aid) → KeepsSent erased aid left now → SentFields aid → Held erased left now
+held_fields erased left now NoAid k s = absurd s
+held_fields erased left now EnterAid k s = k
+held_fields erased left now (PfAid key) k s = k
+held_fields erased left now (PaAid key) k s = absurd s
+held_fields erased left now ClearAid k s = absurd s
 
--- what is under way in a session once the terminal's key was pressed
-key_at : (v : View) (says : List ToHost) (screen : Screen) (lock : Lock) (erased : Bool) (lu : List ℕ) (turn : Turn) (pending : Pending) (up : List ToHost)
-    → In v lu turn pending [] up → In (seen_as v (sent v.lost v.up says) screen lock erased) lu turn pending [] (up ++ says)
-key_at v says screen lock erased lu turn pending up s = record {
-  wanted = s.wanted;
-  at = record { host_talk = s.at.host_talk; term_talk = s.at.term_talk; goes_down = s.at.goes_down; goes_up = more v.lost v.up up says s.at.goes_up };
-  turn_is = s.turn_is;
-  pending_is = s.pending_is;
-}
+all_chars : (count : ℕ) → list_all is_char (replicate count (CharCell 0)) ≡ true
+all_chars zero = refl
+all_chars (suc count) = all_chars count
 
--- the two stages in which the operator may type, and those that a key leads to
-pub data Turned (app : Application) (v : View) : Type 0 where
-  behind : (lu : List ℕ) (number : ℕ) (paints : WantedScreen)
-      → In v lu Turn.Terminal (Pending.Writing number paints) [] (ToHost.Response number Verdict.Positive ∷ []) → Operating (once_taken app v.host paints) v → Turned app v
-  alone : (lu : List ℕ) → In v lu Turn.Terminal Pending.Nothing [] [] → Operating v.host.shadow v → Turned app v
+-- notes may be written on it
+takes_notes : Given → (shape : Shape) (erased : Bool) (left now : List Cell) (aid : Aid) → KeepsSent erased aid left now → HasMessageRow shape left → TakesNotes shape now
+takes_notes given shape erased left now NoAid k row = absurd k
+takes_notes given shape erased left now EnterAid k row = TakesNotes.formatted (given.notes.held_takes shape erased left now k row)
+takes_notes given shape erased left now (PfAid key) k row = TakesNotes.formatted (given.notes.held_takes shape erased left now k row)
+takes_notes given shape erased left now (PaAid key) k row = TakesNotes.formatted (given.notes.held_takes shape erased left now k row)
+takes_notes given shape erased left now ClearAid k row = TakesNotes.unformatted (ap (list_all is_char) k ∙ all_chars (length left))
+
+-- the host will hear it, and then see the screen
+will_see : Given → (erased : Bool) (shape : Shape) (shadow : Shadow) (left screen : Screen) (aid : Aid) → screen.aid ≡ aid → length screen.cells ≡ cells_in shape → FactsAreExact shadow → Knows shadow → Meets shadow left
+    → KeepsSent erased aid left.cells screen.cells → IsOkAnd (heard (cells_in shape) shadow (modified_data Modified screen)) (Sees shape screen)
+will_see given erased shape shadow left screen aid is whole exact knows meets keeps =
+    subst (λ n. IsOkAnd (heard n shadow parts) (Sees shape screen)) whole
+    (ok_map (λ s. Believed (is_short_aid screen.aid) screen s × FactsAreExact s × (screen.aid ≡ ClearAid → IsCleared shape s)) (Sees shape screen) result
+    (λ s all. record { exact = all.1; cleared = all.2; meets = all.0.0; lists = all.0.1; told = λ sent. all.0.2 (sent_long screen.aid sent) })
+    (by_result result
+    (given.belief.hears erased shadow left screen knows meets (sent_from erased left.cells screen.cells screen.aid (subst (λ a. KeepsSent erased a left.cells screen.cells) (sym is) keeps)))
+    (given.belief.heard_exact (length screen.cells) shadow parts exact.known) (given.belief.heard_protected (length screen.cells) shadow parts exact.protected)
+    (λ clear. given.belief.cleared (length screen.cells) shadow parts (key_form screen) (key_aid screen ∙ clear))))
+  where
+    parts : InboundParts
+    parts = modified_data Modified screen
+
+    result : Result Shadow HeardFault
+    result = heard (length screen.cells) shadow parts
+
+    by_result : (r : Result Shadow HeardFault) → IsOkAnd r (Believed (is_short_aid screen.aid) screen) → IfOk r KnownIsExact → IfOk r ProtectedIsExact → (screen.aid ≡ ClearAid → IsOkAnd r (IsClearedBelief (length screen.cells)))
+        → IsOkAnd r (λ s. Believed (is_short_aid screen.aid) screen s × FactsAreExact s × (screen.aid ≡ ClearAid → IsCleared shape s))
+    by_result (Ok s) believed known protected clear = (believed, record { known = known; protected = protected }, λ e. nulls_known shape s (subst (λ n. IsClearedBelief n s) whole (clear e)))
+    by_result (Err fault) believed known protected clear = absurd believed
 
 -- ---- by what the key is answered
 
--- a key that sends nothing
-stays : (app : Application) (v : View) (screen : Screen) (lock : Lock) (erased : Bool) → Kept app v → Turned app v
-    → length screen.cells ≡ app.size → screen.cursor < app.size → (lock ≡ Wait → ⊥) → Held erased v.left.cells screen.cells
-    → Kept app (seen_as v (sent v.lost v.up []) screen lock erased)
-stays app v screen lock erased k (behind lu number paints session s) whole cursor free held = record {
-  whole = whole;
-  cursor = cursor;
-  unreturned = λ _. held;
-  exact = k.exact;
-  stage = answering lu number paints (key_at v [] screen lock erased lu _ _ _ session)
-      (record { exact = s.exact; lock = free; meets = s.meets; knows = s.knows; held = held });
-}
-stays app v screen lock erased k (alone lu session s) whole cursor free held = record {
-  whole = whole;
-  cursor = cursor;
-  unreturned = λ _. held;
-  exact = k.exact;
-  stage = operating lu (key_at v [] screen lock erased lu _ _ _ session)
-      (record { exact = s.exact; lock = free; meets = s.meets; knows = s.knows; held = held });
-}
+module _ (given : Given) (app : Application) (link : Link) (key : Key) (k : Kept app (view_of link)) (lu : List ℕ) (from : Serving) (shadow : Shadow)
+    (at : IsAt (view_of link) k.wanted (Moment.Serves lu from)) (f : Operates shadow (scene_of (view_of link))) where
+  abbrev v : View
+  v = view_of link
 
-will_be_heard : Given → (app : Application) (erased : Bool) (shadow : Shadow) (left screen : Screen) (aid : Aid) → screen.aid ≡ aid → length screen.cells ≡ app.size → Knows shadow → Meets shadow left
-    → KeepsSent erased aid left.cells screen.cells → WillBeHeard app shadow screen
-will_be_heard given app erased shadow left screen aid is whole knows meets keeps =
-    subst (λ size. IsOkAnd (heard size shadow (modified_data Modified screen)) (Believed (is_short_aid screen.aid) screen)) whole
-    (given.hears erased shadow left screen knows meets (sent_from erased left.cells screen.cells screen.aid (subst (λ a. KeepsSent erased a left.cells screen.cells) (sym is) keeps)))
+  -- where nothing is sent, it is the same moment
+  stays_at : (screen : Screen) (lock : Lock) (erased : Bool) → IsAt (seen_as v (sent v.lost v.up []) screen lock erased) k.wanted (Moment.Serves lu from)
+  stays_at screen lock erased = record {
+    host_talk = at.host_talk;
+    term_talk = at.term_talk;
+    turn = at.turn;
+    pending = at.pending;
+    goes_down = at.goes_down;
+    goes_up = subst (UnderWay v.lost (sent v.lost v.up [])) (append-nil (up_at k.wanted (Moment.Serves lu from))) (more v.lost v.up (up_at k.wanted (Moment.Serves lu from)) [] at.goes_up);
+  }
 
--- a key that sends
-sends : Given → (app : Application) (v : View) (screen : Screen) (lock : Lock) (erased : Bool) (aid : Aid) → Kept app v → Turned app v
-    → length screen.cells ≡ app.size → screen.cursor < app.size → lock ≡ Wait → screen.aid ≡ aid → (aid ≡ NoAid → ⊥) → KeepsSent erased aid v.left.cells screen.cells
-    → Kept app (seen_as v (sent v.lost v.up (key_data screen)) screen lock erased)
-sends given app v screen lock erased aid k (behind lu number paints session s) whole cursor waits is some keeps = record {
-  whole = whole;
-  cursor = cursor;
-  unreturned = λ f. kept_fields erased v.left.cells screen.cells aid keeps (subst SentFields is f);
-  exact = k.exact;
-  stage = sent_behind lu number paints (key_at v (key_data screen) screen lock erased lu _ _ _ session)
-      (record { exact = s.exact; lock = waits; heard = will_be_heard given app erased (once_taken app v.host paints) v.left screen aid is whole s.knows s.meets keeps; aid = λ e. some (sym is ∙ e) });
-}
-sends given app v screen lock erased aid k (alone lu session s) whole cursor waits is some keeps = record {
-  whole = whole;
-  cursor = cursor;
-  unreturned = λ f. kept_fields erased v.left.cells screen.cells aid keeps (subst SentFields is f);
-  exact = k.exact;
-  stage = sent_alone lu (key_at v (key_data screen) screen lock erased lu _ _ _ session)
-      (record { exact = s.exact; lock = waits; heard = will_be_heard given app erased v.host.shadow v.left screen aid is whole s.knows s.meets keeps; aid = λ e. some (sym is ∙ e) });
-}
+  sends_at : (to : Serving) (parts : InboundParts) (screen : Screen) (lock : Lock) (erased : Bool) → turn_at (Moment.Serves lu to) ≡ turn_at (Moment.Serves lu from) → pending_at (Moment.Serves lu to) ≡ pending_at (Moment.Serves lu from)
+      → down_at (Moment.Serves lu to) ≡ down_at (Moment.Serves lu from) → up_at k.wanted (Moment.Serves lu from) ++ ToHost.Data parts ∷ [] ≡ up_at k.wanted (Moment.Serves lu to)
+      → IsAt (seen_as v (sent v.lost v.up (ToHost.Data parts ∷ [])) screen lock erased) k.wanted (Moment.Serves lu to)
+  sends_at to parts screen lock erased turn pending down up = record {
+    host_talk = at.host_talk;
+    term_talk = at.term_talk;
+    turn = at.turn ∙ sym turn;
+    pending = at.pending ∙ sym pending;
+    goes_down = subst (UnderWay v.lost v.down) (sym down) at.goes_down;
+    goes_up = subst (UnderWay v.lost (sent v.lost v.up (ToHost.Data parts ∷ []))) up (more v.lost v.up (up_at k.wanted (Moment.Serves lu from)) (ToHost.Data parts ∷ []) at.goes_up);
+  }
 
-bound_in : (link : Link) (lu : List ℕ) (turn : Turn) (pending : Pending) (down : List ToTerminal) (up : List ToHost) → In (view_of link) lu turn pending down up → is_bound link.term ≡ true
-bound_in link lu turn pending down up s = ap (λ (t : Term). is_some (bound_to t.talk.state)) s.at.term_talk
+  abbrev scene_now : Screen → Lock → Bool → Scene
+  scene_now screen lock erased = scene_of (seen_as v v.up screen lock erased)
 
-turned_bound : (app : Application) (link : Link) → Turned app (view_of link) → is_bound link.term ≡ true
-turned_bound app link (behind lu number paints session s) = bound_in link lu _ _ _ _ session
-turned_bound app link (alone lu session s) = bound_in link lu _ _ _ _ session
+  -- what a moment has of an operator who types, and of a key that was pressed
+  record Typing : Type 0 where
+    to : InboundParts → Serving
+    stay : (screen : Screen) (lock : Lock) (erased : Bool) → Operates shadow (scene_now screen lock erased) → Fact k.wanted (scene_now screen lock erased) (Moment.Serves lu from)
+    press : (parts : InboundParts) (screen : Screen) (lock : Lock) (erased : Bool) → IsPressed (scene_now screen lock erased) parts → WillSee (scene_now screen lock erased) shadow parts → TakesNotes v.host.shape screen.cells
+        → Fact k.wanted (scene_now screen lock erased) (Moment.Serves lu (to parts))
+    at_to : (parts : InboundParts) (screen : Screen) (lock : Lock) (erased : Bool) → IsAt (seen_as v (sent v.lost v.up (ToHost.Data parts ∷ [])) screen lock erased) k.wanted (Moment.Serves lu (to parts))
 
-turned_held : (app : Application) (v : View) → Turned app v → Held v.erased v.left.cells v.screen.cells
-turned_held app v (behind lu number paints session s) = s.held
-turned_held app v (alone lu session s) = s.held
+  -- a key that sends nothing
+  stays : Typing → (screen : Screen) (lock : Lock) (erased : Bool) → length screen.cells ≡ cells_in v.host.shape → screen.cursor < cells_in v.host.shape → (lock ≡ Wait → ⊥) → Held erased f.shown.cells screen.cells
+      → Kept app (seen_as v (sent v.lost v.up []) screen lock erased)
+  stays typing screen lock erased whole cursor free held = record {
+    shape = record { begins = k.shape.begins; same = k.shape.same };
+    whole = whole;
+    cursor = cursor;
+    unreturned = λ _. kept_of given.notes.still_protected erased v.left.cells f.shown.cells screen.cells held f.noted;
+    exact = k.exact;
+    wanted = k.wanted;
+    moment = Moment.Serves lu from;
+    at = stays_at screen lock erased;
+    fact = typing.stay screen lock erased (record { shown = f.shown; lock = free; exact = f.exact; meets = f.meets; knows = f.knows; held = held; messages = f.messages; noted = f.noted });
+  }
 
-turned_lock : (app : Application) (v : View) → Turned app v → v.lock ≡ Wait → ⊥
-turned_lock app v (behind lu number paints session s) = s.lock
-turned_lock app v (alone lu session s) = s.lock
+  -- a key that sends
+  sends : Typing → (screen : Screen) (lock : Lock) (erased : Bool) (aid : Aid) → length screen.cells ≡ cells_in v.host.shape → screen.cursor < cells_in v.host.shape → lock ≡ Wait → screen.aid ≡ aid → (aid ≡ NoAid → ⊥)
+      → KeepsSent erased aid f.shown.cells screen.cells → Kept app (seen_as v (sent v.lost v.up (ToHost.Data (modified_data Modified screen) ∷ [])) screen lock erased)
+  sends typing screen lock erased aid whole cursor waits is some keeps =
+      let parts : InboundParts = modified_data Modified screen in
+      record {
+        shape = record { begins = k.shape.begins; same = k.shape.same };
+        whole = whole;
+        cursor = cursor;
+        unreturned = λ fields. kept_of given.notes.still_protected erased v.left.cells f.shown.cells screen.cells (held_fields erased f.shown.cells screen.cells aid keeps (subst SentFields is fields)) f.noted;
+        exact = k.exact;
+        wanted = k.wanted;
+        moment = Moment.Serves lu (typing.to parts);
+        at = typing.at_to parts screen lock erased;
+        fact = typing.press parts screen lock erased
+            (record { lock = waits; form = key_form screen; pressed = key_aid screen; some = λ none. some (sym is ∙ none) })
+            (will_see given erased v.host.shape shadow f.shown screen aid is whole f.exact f.knows f.meets keeps)
+            (takes_notes given v.host.shape erased f.shown.cells screen.cells aid keeps f.messages);
+      }
 
--- the connection with what was said, by the answer
-abbrev said : Link → Key → Outcome → Pressed → View
-said link key outcome answer =
-    let v = view_of link in
-    seen_as v (sent v.lost v.up (data_of (is_bound link.term) answer outcome.screen)) outcome.screen outcome.keyboard.lock (v.erased || erases_if answer key)
+  -- the connection with what was said, by the answer
+  abbrev said : Outcome → Pressed → View
+  said outcome answer =
+      seen_as v (sent v.lost v.up (data_of (is_bound link.term) answer outcome.screen)) outcome.screen outcome.keyboard.lock (v.erased || erases_if answer key)
 
-by_answer : Given → (app : Application) (link : Link) (key : Key) (outcome : Outcome) (answer : Pressed) → Kept app (view_of link) → Turned app (view_of link)
-    → length outcome.screen.cells ≡ app.size → outcome.screen.cursor < app.size → ActsBy answer outcome
-    → Keeps link.term.display.erased key answer link.term.display.left.cells outcome.screen.cells
-    → Kept app (said link key outcome answer)
-by_answer given app link key outcome Done k t whole cursor a keeps =
-    subst (λ says. Kept app (seen_as (view_of link) (sent link.lost link.up says) outcome.screen outcome.keyboard.lock (link.term.display.erased || erases key))) (sym (quiet_done (is_bound link.term) outcome.screen))
-    (stays app (view_of link) outcome.screen outcome.keyboard.lock (link.term.display.erased || erases key) k t whole cursor a keeps)
-by_answer given app link key outcome (Refused why) k t whole cursor a keeps =
-    subst (λ says. Kept app (seen_as (view_of link) (sent link.lost link.up says) outcome.screen outcome.keyboard.lock (link.term.display.erased || false))) (sym (quiet_refused (is_bound link.term) why outcome.screen))
-    (stays app (view_of link) outcome.screen outcome.keyboard.lock (link.term.display.erased || false) k t whole cursor a (subst (λ b. Held b link.term.display.left.cells outcome.screen.cells) (sym (or_false link.term.display.erased)) keeps))
-by_answer given app link key outcome (Send aid) k t whole cursor a keeps =
-    subst (λ b. Kept app (seen_as (view_of link) (sent link.lost link.up (data_of b (Send aid) outcome.screen)) outcome.screen outcome.keyboard.lock (link.term.display.erased || false))) (sym (turned_bound app link t))
-    (sends given app (view_of link) outcome.screen outcome.keyboard.lock (link.term.display.erased || false) aid k t whole cursor a.0 a.1 a.2
-    (subst (λ b. KeepsSent b aid link.term.display.left.cells outcome.screen.cells) (sym (or_false link.term.display.erased)) keeps))
+  bound : is_bound link.term ≡ true
+  bound = ap (λ (t : Term). is_some (bound_to t.talk.state)) at.term_talk
 
-turned_key : Given → (app : Application) (link : Link) (key : Key) → Kept app (view_of link) → Turned app (view_of link) → Kept app (view_of (key_view app.columns key link))
-turned_key given app link key k t =
-    let display : Display = link.term.display in
-    let outcome : Outcome = outcome_of app.columns key link in
-    let on : display.screen.cursor < length display.screen.cells = rw k.whole k.cursor in
-    let stayed = given.on_screen app.columns key display.keyboard display.screen on in
-    by_answer given app link key outcome outcome.answer k t (stayed.0 ∙ k.whole) (rw k.whole at stayed.1)
-    (acts app.columns key display.keyboard display.screen (turned_lock app (view_of link) t))
-    (given.keep display.erased display.left.cells app.columns key display.keyboard display.screen on (turned_held app (view_of link) t))
+  by_answer : Typing → (outcome : Outcome) (answer : Pressed) → length outcome.screen.cells ≡ cells_in v.host.shape → outcome.screen.cursor < cells_in v.host.shape → ActsBy answer outcome
+      → Keeps v.erased key answer f.shown.cells outcome.screen.cells → Kept app (said outcome answer)
+  by_answer typing outcome Done whole cursor a keeps =
+      subst (λ says. Kept app (seen_as v (sent v.lost v.up says) outcome.screen outcome.keyboard.lock (v.erased || erases key))) (sym (quiet_done (is_bound link.term) outcome.screen))
+      (stays typing outcome.screen outcome.keyboard.lock (v.erased || erases key) whole cursor a keeps)
+  by_answer typing outcome (Refused why) whole cursor a keeps =
+      subst (λ says. Kept app (seen_as v (sent v.lost v.up says) outcome.screen outcome.keyboard.lock (v.erased || false))) (sym (quiet_refused (is_bound link.term) why outcome.screen))
+      (stays typing outcome.screen outcome.keyboard.lock (v.erased || false) whole cursor a (subst (λ b. Held b f.shown.cells outcome.screen.cells) (sym (or_false v.erased)) keeps))
+  by_answer typing outcome (Send aid) whole cursor a keeps =
+      subst (λ b. Kept app (seen_as v (sent v.lost v.up (data_of b (Send aid) outcome.screen)) outcome.screen outcome.keyboard.lock (v.erased || false))) (sym bound)
+      (sends typing outcome.screen outcome.keyboard.lock (v.erased || false) aid whole cursor a.0 a.1 a.2 (subst (λ b. KeepsSent b aid f.shown.cells outcome.screen.cells) (sym (or_false v.erased)) keeps))
 
--- ---- any key, at any stage
+  types : Typing → Kept app (view_of (key_view key link))
+  types typing =
+      let display : Display = link.term.display in
+      let outcome : Outcome = outcome_of key display in
+      let columns : ℕ = display.shape.columns in
+      let on : display.screen.cursor < length display.screen.cells = subst (λ n. display.screen.cursor < n) (sym k.whole) k.cursor in
+      let stayed = given.keys.on_screen columns key display.keyboard display.screen on in
+      by_answer typing outcome outcome.answer (stayed.0 ∙ k.whole) (subst (λ n. outcome.screen.cursor < n) k.whole stayed.1)
+      (acts columns key display.keyboard display.screen f.lock)
+      (given.keys.keep display.erased f.shown.cells columns key display.keyboard display.screen on f.held)
 
-pub keys : Given → (app : Application) (link : Link) (key : Key) → Kept app (view_of link) → Kept app (view_of (key_view app.columns key link))
-keys given app link key k = cases k.stage
+-- ---- any key, at any moment
+
+pub keys : Given → (app : Application) (link : Link) (key : Key) → Kept app (view_of link) → Kept app (view_of (key_view key link))
+keys given app link key k = by_moment k.moment k.at k.fact
   where
-    wait : link.term.display.keyboard.lock ≡ Wait → Kept app (view_of (key_view app.columns key link))
-    wait e = subst (Kept app) (sym (key_waits app.columns key link e)) k
+    wait : link.term.display.keyboard.lock ≡ Wait → Kept app (view_of (key_view key link))
+    wait e = subst (Kept app) (sym (key_waits key link e)) k
 
-    cases : Stage app (view_of link) → Kept app (view_of (key_view app.columns key link))
-    cases (talking n moment) = wait n.lock
-    cases (first_paint lu number c s) = wait s.lock
-    cases (at_host lu s) = wait s.lock
-    cases (painting lu number c s) = wait s.lock
-    cases (answering lu number c session s) = turned_key given app link key k (behind lu number c session s)
-    cases (operating lu session s) = turned_key given app link key k (alone lu session s)
-    cases (sent_behind lu number c session s) = wait s.lock
-    cases (sent_alone lu session s) = wait s.lock
-    cases (asking lu number session s) = wait s.lock
-    cases (reporting lu number session s) = wait s.lock
+    by_serving : (lu : List ℕ) (serving : Serving) → IsAt (view_of link) k.wanted (Moment.Serves lu serving) → Fact k.wanted (scene_of (view_of link)) (Moment.Serves lu serving) → Kept app (view_of (key_view key link))
+    by_serving lu (Serving.Answering kind number command) at f =
+        let shadow : Shadow = once_taken link.host.shape command link.host.shadow in
+        types given app link key k lu (Serving.Answering kind number command) shadow at f (record {
+          to = λ parts. Serving.KeyBehind kind number command parts;
+          stay = λ screen lock erased operates. operates;
+          press = λ parts screen lock erased pressed sees takes. (pressed, sees, takes, f.exact);
+          at_to = λ parts screen lock erased. sends_at given app link key k lu (Serving.Answering kind number command) shadow at f (Serving.KeyBehind kind number command parts) parts screen lock erased refl refl refl refl;
+        })
+    by_serving lu Serving.Operating at f =
+        types given app link key k lu Serving.Operating link.host.shadow at f (record {
+          to = λ parts. Serving.KeyAlone parts;
+          stay = λ screen lock erased operates. operates;
+          press = λ parts screen lock erased pressed sees takes. (pressed, sees, takes);
+          at_to = λ parts screen lock erased. sends_at given app link key k lu Serving.Operating link.host.shadow at f (Serving.KeyAlone parts) parts screen lock erased refl refl refl refl;
+        })
+    by_serving lu (Serving.Noting number command) at f =
+        types given app link key k lu (Serving.Noting number command) link.host.shadow at f.0 (record {
+          to = λ parts. Serving.KeyNoted number command parts;
+          stay = λ screen lock erased operates. (operates, f.1);
+          press = λ parts screen lock erased pressed sees takes. (pressed, sees, record { note = f.1; takes = takes });
+          at_to = λ parts screen lock erased. sends_at given app link key k lu (Serving.Noting number command) link.host.shadow at f.0 (Serving.KeyNoted number command parts) parts screen lock erased refl refl refl refl;
+        })
+    by_serving lu Serving.Deciding at f = wait f.lock
+    by_serving lu (Serving.Reading number) at f = wait f.decides.lock
+    by_serving lu (Serving.Reported number parts) at f = wait f.0.decides.lock
+    by_serving lu (Serving.NotedLate number command) at f = wait f.0.lock
+    by_serving lu (Serving.AnsweredLate number command) at f = wait f.lock
+    by_serving lu (Serving.Painting number command wants over) at f = wait f.lock
+    by_serving lu (Serving.KeyAlone parts) at f = wait f.0.lock
+    by_serving lu (Serving.KeyBehind kind number command parts) at f = wait f.0.lock
+    by_serving lu (Serving.KeyNoted number command parts) at f = wait f.0.lock
+    by_serving lu (Serving.KeyBefore number command parts) at f = wait f.0.lock
+
+    by_moment : (moment : Moment) → IsAt (view_of link) k.wanted moment → Fact k.wanted (scene_of (view_of link)) moment → Kept app (view_of (key_view key link))
+    by_moment (Moment.Talks talking) at f = wait f.0.lock
+    by_moment (Moment.Begins lu number command wants over) at f = wait f.lock
+    by_moment (Moment.Serves lu serving) at f = by_serving lu serving at f

@@ -1,19 +1,22 @@
 -- A lost connection takes nothing new.
-use Rattle.std.proofs.Common.{◌≡◌, ◌==◌, ◌&&◌, ◌++◌, ℕ, Bool, true, false, Option, None, Some, List, [], ◌∷◌, refl, sym, subst, if◌then◌else◌}
+use Rattle.std.proofs.Common.{◌≡◌, ◌==◌, ◌++◌, ℕ, Bool, true, false, Option, None, Some, List, [], ◌∷◌, refl, sym, subst, if◌then◌else◌}
 use Rattle.std.proofs.lemmas.Bool.{eqb-true}
 use Rattle.keyboard.specs.declared.key.Key.{Key}
 use Rattle.lu_pool.specs.Asking.{answer_to}
+use Rattle.lu_pool.specs.Holders.{granted_if}
 use Rattle.tn3270e_msg.specs.declared.cause.Cause.{Cause}
 use Rattle.host_core.specs.Acts.{Sent, acted}
 use Rattle.host_core.specs.Application.{Application}
 use Rattle.host_core.specs.Messages.{ToTerminal, ToHost}
-use Rattle.host_core.specs.Pool.{granted_if}
+use Rattle.host_core.specs.Notes.{noted}
 use Rattle.host_core.specs.Takes.{Step, took as host_took}
-use Rattle.world3270.specs.Link.{Link, is_up, begun, cut, sent, host_left, host_left_if, host_stepped, host_sent, term_left, term_left_if, term_stepped}
+use Rattle.world3270.specs.Happens.{freed_if, came_up, came_down, went_down, key_went, term_saw, joined, term_anew, host_left_from, done}
+use Rattle.world3270.specs.Link.{Link, begun, cut, sent, host_left, host_left_if, host_stepped, host_sent, term_left, term_left_if, term_stepped}
 use Rattle.world3270.specs.Losses.{IsRest, NothingNew, LostTakesNothing}
+use Rattle.world3270.specs.Placed.{has_place, free_number}
 use Rattle.world3270.specs.Terminal.{TermStep, key_came, took as term_took}
-use Rattle.world3270.specs.World.{Place, World, Event, with_at, with_link, freed_if, came_up, went_up, host_acted, left_alone, came_down, went_down, key_went, was_lost, host_parted, host_saw, parted, term_saw, free_number, joined, connected, term_anew, host_left_from, there, is_link, is_terminal}
-use Rattle.world3270.proofs.Others.{noted_link}
+use Rattle.world3270.specs.World.{Place, World, Event, with_at}
+use Rattle.world3270.proofs.Others.{closed_link}
 
 abbrev Fades : Link → Link → Type 0
 Fades old new = old.lost ≡ true → new.lost ≡ true → NothingNew old new
@@ -55,87 +58,48 @@ sends link (Some sending) = λ before after. record { down = nothing_out link.lo
 
 -- ---- the events
 
-came_up_fades : (app : Application) (world : World) (at number : ℕ) (up : List ToHost) → (world.link at).up ≡ up → Fades (world.link number) ((came_up app at up world).link number)
-came_up_fades app world at number [] e = as_it_is (world.link number)
-came_up_fades app world at number (message ∷ rest) e =
+came_up_fades : (world : World) (at number : ℕ) (up : List ToHost) → (world.link at).up ≡ up → Fades (world.link number) ((came_up at up world).link number)
+came_up_fades world at number [] e = as_it_is (world.link number)
+came_up_fades world at number (message ∷ rest) e =
     let link : Link = world.link at in
-    let step : Step = host_took app (answer_to world.pool) link.host message in
+    let step : Step = host_took (answer_to world.pool) link.host message in
     let new : Link = host_stepped step rest link in
-    subst (λ (links : ℕ → Link). Fades (world.link number) (links number)) (sym (noted_link step.closes (record world { pool = freed_if at step.closes (granted_if at step.grants world.pool); link = with_at at new world.link })))
+    subst (λ (links : ℕ → Link). Fades (world.link number) (links number)) (sym (closed_link step.closes (record world { pool = freed_if at step.closes (granted_if at step.grants world.pool); link = with_at at new world.link })))
     (at_number world.link at number new (host_steps link step message rest step.closes e))
-
-went_up_fades : (app : Application) (world : World) (at number : ℕ) → Fades (world.link number) ((went_up app at world).link number)
-went_up_fades app world at number = by_here (world.link at).host_here
-  where
-    by_here : (b : Bool) → Fades (world.link number) (World.link (if b then came_up app at (world.link at).up world else world) number)
-    by_here true = came_up_fades app world at number (world.link at).up refl
-    by_here false = as_it_is (world.link number)
 
 came_down_fades : (world : World) (at terminal number : ℕ) (down : List ToTerminal) → (world.link at).down ≡ down → Fades (world.link number) ((came_down at terminal down world).link number)
 came_down_fades world at terminal number [] e = as_it_is (world.link number)
 came_down_fades world at terminal number (message ∷ rest) e =
     let link : Link = world.link at in
     let step : TermStep = term_took link.term message in
-    subst (λ (links : ℕ → Link). Fades (world.link number) (links number)) (sym (noted_link step.closes _))
+    subst (λ (links : ℕ → Link). Fades (world.link number) (links number)) (sym (closed_link step.closes _))
     (at_number world.link at number (term_stepped step rest link) (term_steps link step (message ∷ []) rest step.closes e))
 
 went_down_fades : (world : World) (at number : ℕ) (here : Option ℕ) → Fades (world.link number) ((went_down at here world).link number)
 went_down_fades world at number None = as_it_is (world.link number)
 went_down_fades world at number (Some terminal) = came_down_fades world at terminal number (world.link at).down refl
 
-host_acted_fades : (app : Application) (world : World) (at number : ℕ) → Fades (world.link number) ((host_acted app at world).link number)
-host_acted_fades app world at number = by_here (world.link at).host_here
-  where
-    link : Link
-    link = world.link at
-
-    by_here : (b : Bool) → Fades (world.link number) (World.link (if b then with_link at (host_sent (acted app link.host) link) world else world) number)
-    by_here true = at_number world.link at number (host_sent (acted app link.host) link) (sends link (acted app link.host))
-    by_here false = as_it_is (world.link number)
-
-key_went_fades : (app : Application) (world : World) (terminal number : ℕ) (key : Key) (place : Place) → Fades (world.link number) ((key_went app terminal key place world).link number)
-key_went_fades app world terminal number key (Place.At at) =
+key_went_fades : (world : World) (terminal number : ℕ) (key : Key) (place : Place) → Fades (world.link number) ((key_went terminal key place world).link number)
+key_went_fades world terminal number key (Place.At at) =
     let link : Link = world.link at in
-    at_number world.link at number (term_stepped (key_came app.columns key link.term) link.down link) (term_steps link (key_came app.columns key link.term) [] link.down None refl)
-key_went_fades app world terminal number key (Place.Alone display) = as_it_is (world.link number)
-
-host_saw_fades : (world : World) (at number : ℕ) → Fades (world.link number) ((host_saw at world).link number)
-host_saw_fades world at number = by_test ((world.link at).lost && (world.link at).host_here)
-  where
-    by_test : (b : Bool) → Fades (world.link number) (World.link (if b then host_parted at world else world) number)
-    by_test true = at_number world.link at number (host_left (world.link at)) (λ before after. record { down = whole _; up = whole _ })
-    by_test false = as_it_is (world.link number)
+    at_number world.link at number (term_stepped (key_came key link.term) link.down link) (term_steps link (key_came key link.term) [] link.down None refl)
+key_went_fades world terminal number key (Place.Alone display) = as_it_is (world.link number)
 
 leaves : (world : World) (at number : ℕ) → Fades (world.link number) (with_at at (term_left (world.link at)) world.link number)
 leaves world at number = at_number world.link at number (term_left (world.link at)) (λ before after. record { down = whole _; up = whole _ })
 
 term_saw_fades : (world : World) (terminal number : ℕ) (place : Place) → Fades (world.link number) ((term_saw terminal place world).link number)
-term_saw_fades world terminal number (Place.At at) = by_test (world.link at).lost
-  where
-    by_test : (b : Bool) → Fades (world.link number) (World.link (if b then parted terminal at (left_alone (world.link at).term.display) world else world) number)
-    by_test true = leaves world at number
-    by_test false = as_it_is (world.link number)
+term_saw_fades world terminal number (Place.At at) = leaves world at number
 term_saw_fades world terminal number (Place.Alone display) = as_it_is (world.link number)
 
 term_anew_fades : (app : Application) (world : World) (terminal number : ℕ) (place : Place) → Fades (world.link number) ((term_anew app terminal place world).link number)
 term_anew_fades app world terminal number (Place.At at) = leaves world at number
 term_anew_fades app world terminal number (Place.Alone display) = as_it_is (world.link number)
 
-was_lost_fades : (world : World) (at number : ℕ) → Fades (world.link number) ((was_lost at world).link number)
-was_lost_fades world at number = by_test (is_up (world.link at))
-  where
-    by_test : (b : Bool) → Fades (world.link number) (World.link (if b then with_link at (cut (world.link at)) world else world) number)
-    by_test true = at_number world.link at number (cut (world.link at)) (λ before after. record { down = whole _; up = whole _ })
-    by_test false = as_it_is (world.link number)
-
 -- a connection that begins isn't lost
 joined_fades : (app : Application) (world : World) (terminal number : ℕ) (wanted : Option (List ℕ)) (free : Option ℕ) → Fades (world.link number) ((joined app terminal wanted free world).link number)
 joined_fades app world terminal number wanted None = as_it_is (world.link number)
-joined_fades app world terminal number wanted (Some found) = at_number world.link found number (begun app.size terminal wanted) (λ before after. absurd (cc))
-
-connected_fades : (app : Application) (world : World) (terminal number : ℕ) (wanted : Option (List ℕ)) (place : Place) → Fades (world.link number) ((connected app terminal wanted place world).link number)
-connected_fades app world terminal number wanted (Place.At at) = as_it_is (world.link number)
-connected_fades app world terminal number wanted (Place.Alone display) = joined_fades app world terminal number wanted (free_number world.link)
+joined_fades app world terminal number wanted (Some found) = at_number world.link found number (begun app.begins terminal wanted) (λ before after. absurd (cc))
 
 host_anew_fades : (link : Link) → Fades link (host_left_from link)
 host_anew_fades link = by_here link.host_here
@@ -144,18 +108,26 @@ host_anew_fades link = by_here link.host_here
     by_here true = λ before after. record { down = whole _; up = whole _ }
     by_here false = as_it_is link
 
-there_fades : (b : Bool) (new old : World) (number : ℕ) → Fades (old.link number) (new.link number) → Fades (old.link number) ((there b new old).link number)
-there_fades true new old number fades = fades
-there_fades false new old number fades = as_it_is (old.link number)
+done_fades : (app : Application) (event : Event) (world : World) (number : ℕ) → Fades (world.link number) ((done app event world).link number)
+done_fades app (Event.Press terminal key) world number = key_went_fades world terminal number key (world.place terminal)
+done_fades app (Event.Up at) world number = came_up_fades world at number (world.link at).up refl
+done_fades app (Event.Down at) world number = went_down_fades world at number (world.link at).term_here
+done_fades app (Event.Act at) world number =
+    let link : Link = world.link at in
+    at_number world.link at number (host_sent (acted app link.host) link) (sends link (acted app link.host))
+done_fades app (Event.Note at text) world number =
+    let link : Link = world.link at in
+    at_number world.link at number (host_sent (noted text link.host) link) (sends link (noted text link.host))
+done_fades app (Event.Lose at) world number = at_number world.link at number (cut (world.link at)) (λ before after. record { down = whole _; up = whole _ })
+done_fades app (Event.HostSees at) world number = at_number world.link at number (host_left (world.link at)) (λ before after. record { down = whole _; up = whole _ })
+done_fades app (Event.TermSees terminal) world number = term_saw_fades world terminal number (world.place terminal)
+done_fades app (Event.Connect terminal wanted) world number = joined_fades app world terminal number wanted (free_number world.link)
+done_fades app (Event.RestartTerm terminal) world number = term_anew_fades app world terminal number (world.place terminal)
+done_fades app Event.RestartHost world number = host_anew_fades (world.link number)
 
 pub lost_takes_nothing : LostTakesNothing
-lost_takes_nothing app (Event.Press terminal key) world number = there_fades (is_terminal world terminal) _ world number (key_went_fades app world terminal number key (world.place terminal))
-lost_takes_nothing app (Event.Up at) world number = there_fades (is_link at) _ world number (went_up_fades app world at number)
-lost_takes_nothing app (Event.Down at) world number = there_fades (is_link at) _ world number (went_down_fades world at number (world.link at).term_here)
-lost_takes_nothing app (Event.Act at) world number = there_fades (is_link at) _ world number (host_acted_fades app world at number)
-lost_takes_nothing app (Event.Lose at) world number = there_fades (is_link at) _ world number (was_lost_fades world at number)
-lost_takes_nothing app (Event.HostSees at) world number = there_fades (is_link at) _ world number (host_saw_fades world at number)
-lost_takes_nothing app (Event.TermSees terminal) world number = there_fades (is_terminal world terminal) _ world number (term_saw_fades world terminal number (world.place terminal))
-lost_takes_nothing app (Event.Connect terminal wanted) world number = there_fades (is_terminal world terminal) _ world number (connected_fades app world terminal number wanted (world.place terminal))
-lost_takes_nothing app (Event.RestartTerm terminal) world number = there_fades (is_terminal world terminal) _ world number (term_anew_fades app world terminal number (world.place terminal))
-lost_takes_nothing app Event.RestartHost world number = host_anew_fades (world.link number)
+lost_takes_nothing app event world number = by_test (has_place app event world)
+  where
+    by_test : (b : Bool) → Fades (world.link number) (World.link (if b then done app event world else world) number)
+    by_test true = done_fades app event world number
+    by_test false = as_it_is (world.link number)

@@ -5,7 +5,6 @@ use Rattle.std.specs.List.{All}
 use Rattle.std.proofs.lemmas.Bool.{ltb-true}
 use Rattle.std.proofs.lemmas.List.Elements.{All-nil, All-cons, All-head, All-tail, All-append, All-map}
 use Rattle.datastream.specs.Screen.{Screen}
-use Rattle.keyboard.specs.Keys.{pressed}
 use Rattle.keyboard.specs.declared.key.Pressed.{Pressed}
 use Rattle.keyboard.specs.declared.key.Pressed.TheVariants.{Done, Refused, Send}
 use Rattle.tn3270e_msg.specs.Header.{next_number}
@@ -14,13 +13,14 @@ use Rattle.host_core.specs.Acts.{Act, Sent, act_on, done, may_act, acted}
 use Rattle.host_core.specs.Answering.{number_of, number_in}
 use Rattle.host_core.specs.Application.{Application}
 use Rattle.host_core.specs.Messages.{ToTerminal, ToHost, Verdict}
+use Rattle.host_core.specs.Notes.{noted_as, may_note, noted}
 use Rattle.host_core.specs.Session.{Conn, Pending, is_agreed}
 use Rattle.host_core.specs.Takes.{Answers, Step, took as host_took}
+use Rattle.world3270.specs.Always.{Always}
 use Rattle.world3270.specs.Given.{Given}
-use Rattle.world3270.specs.Headline.{Always}
 use Rattle.world3270.specs.Link.{Link, sent, host_left_if, host_sent}
 use Rattle.world3270.specs.Numbers.{IsNumber, number_answered, AreNumbered, NumbersFit}
-use Rattle.world3270.specs.Terminal.{TermEnd, is_bound, data_of, once_bound, took as term_took}
+use Rattle.world3270.specs.Terminal.{TermEnd, is_bound, data_of, once_bound, outcome_of, took as term_took}
 use Rattle.world3270.proofs.HostSteps.{just_talks}
 use Rattle.world3270.proofs.Everywhere.{Steps, everywhere}
 
@@ -55,10 +55,10 @@ still_pending : (old new : Pending) → (new ≡ old) ⊎ (new ≡ Pending.Nothi
 still_pending old new (inl same) fits = subst (λ p. IfSome (number_of p) IsNumber) (sym same) fits
 still_pending old new (inr none) fits = subst (λ p. IfSome (number_of p) IsNumber) (sym none) tt
 
-host_fits : (app : Application) (pool : Answers) (conn : Conn) (message : ToHost) → Numbered conn → StepFits (host_took app pool conn message)
-host_fits app pool conn message n =
-    let step : Step = host_took app pool conn message in
-    let just = just_talks app pool conn message in
+host_fits : (pool : Answers) (conn : Conn) (message : ToHost) → Numbered conn → StepFits (host_took pool conn message)
+host_fits pool conn message n =
+    let step : Step = host_took pool conn message in
+    let just = just_talks pool conn message in
     record {
       conn = record { next = subst IsNumber (sym just.number) n.next; pending = still_pending conn.pending step.conn.pending just.pending n.pending };
       sends = subst (All FitsDown) (sym just.says) (All-map FitsDown ToTerminal.TalksDown just.talk (λ k d below. tt));
@@ -74,6 +74,9 @@ done_fits : (app : Application) (conn : Conn) (act : Act) → Numbered conn → 
 done_fits app conn Act.Read n = record { conn = record { next = next_fits conn.number; pending = n.next }; message = n.next }
 done_fits app conn (Act.Show panel message keep values) n = record { conn = record { next = next_fits conn.number; pending = n.next }; message = n.next }
 
+note_fits : (text : List ℕ) (conn : Conn) → Numbered conn → SendingFits (noted_as text conn)
+note_fits text conn n = record { conn = record { next = next_fits conn.number; pending = n.next }; message = n.next }
+
 -- ---- what a terminal makes of a message, and of a key
 
 once_bound_fits : (bound : Bool) (end new : TermEnd) (message : ToHost) → FitsUp message
@@ -85,6 +88,7 @@ term_fits : (end : TermEnd) (message : ToTerminal) → FitsDown message → All 
 term_fits end (ToTerminal.TalksDown saying) fits = All-map FitsUp ToHost.TalksUp _ (λ k d below. tt)
 term_fits end (ToTerminal.Paint number wanted over) fits = once_bound_fits (is_bound end) end _ (ToHost.Response number Verdict.Positive) fits
 term_fits end (ToTerminal.ReadBuffer number) fits = once_bound_fits (is_bound end) end _ _ tt
+term_fits end (ToTerminal.Note number command) fits = once_bound_fits (is_bound end) end _ (ToHost.Response number Verdict.Positive) fits
 
 data_fits_up : (bound : Bool) (answer : Pressed) (screen : Screen) → All FitsUp (data_of bound answer screen)
 data_fits_up true (Send aid) screen = All-cons FitsUp _ [] tt (All-nil FitsUp)
@@ -113,13 +117,17 @@ acts_if : (app : Application) (link : Link) (b : Bool) → AreNumbered link → 
 acts_if app link true n = done_fits app link.host (act_on app link.host link.host.occasion) (record { next = n.next; pending = n.pending })
 acts_if app link false n = tt
 
+notes_if : (text : List ℕ) (link : Link) (b : Bool) → AreNumbered link → IfSome (if b then Some (noted_as text link.host) else None) SendingFits
+notes_if text link true n = note_fits text link.host (record { next = n.next; pending = n.pending })
+notes_if text link false n = tt
+
 steps : (app : Application) → Steps app (λ event. ⊤) AreNumbered (λ display. ⊤)
 steps app = record {
   never = record { next = omega arith; pending = tt; down = All-nil FitsDown; up = All-nil FitsUp };
   begins = λ terminal wanted. record { next = omega arith; pending = tt; down = All-cons FitsDown _ [] tt (All-nil FitsDown); up = All-nil FitsUp };
   up = λ pool link message rest e k n.
-      let step : Step = host_took app pool link.host message in
-      let fits = host_fits app pool link.host message (record { next = n.next; pending = n.pending }) in
+      let step : Step = host_took pool link.host message in
+      let fits = host_fits pool link.host message (record { next = n.next; pending = n.pending }) in
       left_if step.closes _ (record {
         next = fits.conn.next;
         pending = fits.conn.pending;
@@ -127,6 +135,7 @@ steps app = record {
         up = All-tail FitsUp message rest (subst (All FitsUp) e n.up);
       });
   acts = λ link k n. sends link (acted app link.host) n (acts_if app link (may_act link.host.turn link.host.pending (is_agreed link.host.talk.state)) n);
+  notes = λ number text link such k n. sends link (noted text link.host) n (notes_if text link (may_note link.host.turn link.host.pending (is_agreed link.host.talk.state)) n);
   down = λ link message rest e k n.
       let down : All FitsDown (message ∷ rest) = subst (All FitsDown) e n.down in
       record {
@@ -136,7 +145,7 @@ steps app = record {
         up = sent_all FitsUp link.lost link.up (term_took link.term message).sends n.up (term_fits link.term message (All-head FitsDown message rest down));
       };
   key = λ terminal key link such k n.
-      let outcome = pressed app.columns key link.term.display.keyboard link.term.display.screen in
+      let outcome = outcome_of key link.term.display in
       record {
         next = n.next;
         pending = n.pending;

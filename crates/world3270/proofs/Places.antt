@@ -1,22 +1,25 @@
 -- Both ends agree, after every event.
-use Rattle.std.proofs.Common.{◌≡◌, ◌↔◌, ◌==◌, ◌||◌, ◌&&◌, not, find, ℕ, Bool, true, false, Option, None, Some, List, [], ◌∷◌, refl, sym, subst, ◌∙◌, if◌then◌else◌}
-use Rattle.std.proofs.lemmas.Bool.{eqb-true}
+use Rattle.std.proofs.Common.{◌≡◌, ◌↔◌, ◌==◌, ◌||◌, not, find, ℕ, Bool, true, false, Option, None, Some, List, [], ◌∷◌, refl, sym, subst, ◌∙◌, if◌then◌else◌}
+use Rattle.std.proofs.lemmas.Bool.{eqb-true, and_parts}
 use Rattle.std.specs.List.{range_with_len}
 use Rattle.keyboard.specs.declared.key.Key.{Key}
 use Rattle.lu_pool.specs.Asking.{answer_to}
+use Rattle.lu_pool.specs.Holders.{granted_if}
 use Rattle.tn3270e_msg.specs.declared.cause.Cause.{Cause}
 use Rattle.host_core.specs.Acts.{Sent, acted}
 use Rattle.host_core.specs.Application.{Application}
 use Rattle.host_core.specs.Messages.{ToTerminal, ToHost}
-use Rattle.host_core.specs.Pool.{granted_if}
+use Rattle.host_core.specs.Notes.{noted}
 use Rattle.host_core.specs.Takes.{Step, took as host_took}
-use Rattle.world3270.specs.Headline.{Always}
-use Rattle.world3270.specs.Link.{Link, is_free, is_up, begun, cut, host_left, host_left_if, host_stepped, host_sent, term_left, term_left_if, term_stepped}
+use Rattle.world3270.specs.Always.{Always}
+use Rattle.world3270.specs.Happens.{closed_if, said, freed_if, came_up, left_alone, place_after, came_down, went_down, key_went, parted, term_saw, joined, term_anew, host_left_from, host_anew, done, happens, run}
+use Rattle.world3270.specs.Link.{Link, is_free, begun, cut, host_left, host_left_if, host_stepped, host_sent, term_left, term_left_if, term_stepped}
+use Rattle.world3270.specs.Placed.{has_place, free_number, may_connect, is_terminal}
 use Rattle.world3270.specs.Places.{EndsAgree}
 use Rattle.world3270.specs.Terminal.{Display, TermStep, new_display, after_key, key_came, took as term_took}
 use Rattle.std.specs.Prelude.{is_some}
-use Rattle.world3270.specs.World.{Place, World, Event, new_world, link_count, with_at, with_link, noted, freed_if, came_up, went_up, host_acted, left_alone, place_after, came_down, went_down, key_went, was_lost, host_parted, host_saw, parted, term_saw, free_number, joined, connected, term_anew, host_left_from, host_anew, there, is_link, is_terminal, happens, run}
-use Rattle.world3270.proofs.Worlds.{differs}
+use Rattle.world3270.specs.World.{Place, World, Event, new_world, link_count, with_at, with_link}
+use Rattle.world3270.proofs.OneOfMany.{differs}
 
 abbrev Agree : (ℕ → Link) → (ℕ → Place) → Type 0
 Agree link place = (terminal number : ℕ) → (place terminal ≡ Place.At number) ↔ ((link number).term_here ≡ Some terminal)
@@ -88,46 +91,28 @@ joins link place terminal number new display is free holds a = record {
 
 -- ---- the host
 
-noted_agrees : (cause : Option Cause) (world : World) → EndsAgree world → EndsAgree (noted cause world)
-noted_agrees None world a = a
-noted_agrees (Some cause) world a = a
+closed_agrees : (cause : Option Cause) (world : World) → EndsAgree world → EndsAgree (closed_if cause world)
+closed_agrees None world a = a
+closed_agrees (Some cause) world a = a
 
 host_leaves_it : (cause : Option Cause) (link : Link) → (host_left_if cause link).term_here ≡ link.term_here
 host_leaves_it None link = refl
 host_leaves_it (Some cause) link = refl
 
-came_up_agrees : (app : Application) (world : World) (number : ℕ) (up : List ToHost) → EndsAgree world → EndsAgree (came_up app number up world)
-came_up_agrees app world number [] a = a
-came_up_agrees app world number (message ∷ rest) a =
-    let step : Step = host_took app (answer_to world.pool) (world.link number).host message in
+came_up_agrees : (world : World) (number : ℕ) (up : List ToHost) → EndsAgree world → EndsAgree (came_up number up world)
+came_up_agrees world number [] a = a
+came_up_agrees world number (message ∷ rest) a =
+    let step : Step = host_took (answer_to world.pool) (world.link number).host message in
     let new : Link = host_stepped step rest (world.link number) in
-    noted_agrees step.closes (record world { pool = freed_if number step.closes (granted_if number step.grants world.pool); link = with_at number new world.link })
+    closed_agrees step.closes (record world { pool = freed_if number step.closes (granted_if number step.grants world.pool); link = with_at number new world.link })
     (link_changed world.link world.place number new (host_leaves_it step.closes _) a)
-
-went_up_agrees : (app : Application) (world : World) (number : ℕ) → EndsAgree world → EndsAgree (went_up app number world)
-went_up_agrees app world number a = by_here (world.link number).host_here
-  where
-    by_here : (b : Bool) → EndsAgree (if b then came_up app number (world.link number).up world else world)
-    by_here true = came_up_agrees app world number (world.link number).up a
-    by_here false = a
 
 sends_from : (sending : Option Sent) (link : Link) → (host_sent sending link).term_here ≡ link.term_here
 sends_from None link = refl
 sends_from (Some sending) link = refl
 
-host_acted_agrees : (app : Application) (world : World) (number : ℕ) → EndsAgree world → EndsAgree (host_acted app number world)
-host_acted_agrees app world number a = by_here (world.link number).host_here
-  where
-    by_here : (b : Bool) → EndsAgree (if b then with_link number (host_sent (acted app (world.link number).host) (world.link number)) world else world)
-    by_here true = link_changed world.link world.place number (host_sent (acted app (world.link number).host) (world.link number)) (sends_from (acted app (world.link number).host) (world.link number)) a
-    by_here false = a
-
-host_saw_agrees : (world : World) (number : ℕ) → EndsAgree world → EndsAgree (host_saw number world)
-host_saw_agrees world number a = by_test ((world.link number).lost && (world.link number).host_here)
-  where
-    by_test : (b : Bool) → EndsAgree (if b then host_parted number world else world)
-    by_test true = link_changed world.link world.place number (host_left (world.link number)) refl a
-    by_test false = a
+sends_agrees : (world : World) (number : ℕ) (sending : Option Sent) → EndsAgree world → EndsAgree (with_link number (host_sent sending (world.link number)) world)
+sends_agrees world number sending a = link_changed world.link world.place number (host_sent sending (world.link number)) (sends_from sending (world.link number)) a
 
 host_left_from_it : (link : Link) → (host_left_from link).term_here ≡ link.term_here
 host_left_from_it link = by_here link.host_here
@@ -154,16 +139,16 @@ came_down_agrees : (world : World) (number terminal : ℕ) (down : List ToTermin
 came_down_agrees world number terminal [] held a = a
 came_down_agrees world number terminal (message ∷ rest) held a =
     let step : TermStep = term_took (world.link number).term message in
-    noted_agrees step.closes (record world { link = with_at number (term_stepped step rest (world.link number)) world.link; place = with_at terminal (place_after step.closes number step.end.display) world.place })
+    closed_agrees step.closes (said step.sends (record world { link = with_at number (term_stepped step rest (world.link number)) world.link; place = with_at terminal (place_after step.closes number step.end.display) world.place }))
     (took_it world number terminal _ step.end.display step.closes held refl a)
 
 went_down_agrees : (world : World) (number : ℕ) (here : Option ℕ) → (world.link number).term_here ≡ here → EndsAgree world → EndsAgree (went_down number here world)
 went_down_agrees world number None e a = a
 went_down_agrees world number (Some terminal) e a = came_down_agrees world number terminal (world.link number).down e a
 
-key_went_agrees : (app : Application) (world : World) (terminal : ℕ) (key : Key) (place : Place) → world.place terminal ≡ place → EndsAgree world → EndsAgree (key_went app terminal key place world)
-key_went_agrees app world terminal key (Place.At number) e a = link_changed world.link world.place number (term_stepped (key_came app.columns key (world.link number).term) (world.link number).down (world.link number)) refl a
-key_went_agrees app world terminal key (Place.Alone display) e a = alone_changed world.link world.place terminal display (after_key app.columns key display) e a
+key_went_agrees : (world : World) (terminal : ℕ) (key : Key) (place : Place) → world.place terminal ≡ place → EndsAgree world → EndsAgree (key_went terminal key place world)
+key_went_agrees world terminal key (Place.At number) e a = link_changed world.link world.place number (term_stepped (key_came key (world.link number).term) (world.link number).down (world.link number)) refl a
+key_went_agrees world terminal key (Place.Alone display) e a = alone_changed world.link world.place terminal display (after_key key display) e a
 
 parted_agrees : (world : World) (terminal number : ℕ) (display : Display) → world.place terminal ≡ Place.At number → EndsAgree world → EndsAgree (parted terminal number display world)
 parted_agrees world terminal number display e a =
@@ -171,25 +156,14 @@ parted_agrees world terminal number display e a =
     (leaves world.link world.place terminal number (term_left (world.link number)) display e ((a terminal number).0 e) refl a)
 
 term_saw_agrees : (world : World) (terminal : ℕ) (place : Place) → world.place terminal ≡ place → EndsAgree world → EndsAgree (term_saw terminal place world)
-term_saw_agrees world terminal (Place.At number) e a = by_test (world.link number).lost
-  where
-    by_test : (b : Bool) → EndsAgree (if b then parted terminal number (left_alone (world.link number).term.display) world else world)
-    by_test true = parted_agrees world terminal number (left_alone (world.link number).term.display) e a
-    by_test false = a
+term_saw_agrees world terminal (Place.At number) e a = parted_agrees world terminal number (left_alone (world.link number).term.display) e a
 term_saw_agrees world terminal (Place.Alone display) e a = a
 
 term_anew_agrees : (app : Application) (world : World) (terminal : ℕ) (place : Place) → world.place terminal ≡ place → EndsAgree world → EndsAgree (term_anew app terminal place world)
-term_anew_agrees app world terminal (Place.At number) e a = parted_agrees world terminal number (new_display app.size) e a
-term_anew_agrees app world terminal (Place.Alone display) e a = alone_changed world.link world.place terminal display (new_display app.size) e a
+term_anew_agrees app world terminal (Place.At number) e a = parted_agrees world terminal number (new_display app.begins) e a
+term_anew_agrees app world terminal (Place.Alone display) e a = alone_changed world.link world.place terminal display (new_display app.begins) e a
 
 -- ---- connections
-
-was_lost_agrees : (world : World) (number : ℕ) → EndsAgree world → EndsAgree (was_lost number world)
-was_lost_agrees world number a = by_test (is_up (world.link number))
-  where
-    by_test : (b : Bool) → EndsAgree (if b then with_link number (cut (world.link number)) world else world)
-    by_test true = link_changed world.link world.place number (cut (world.link number)) refl a
-    by_test false = a
 
 -- what is found passes
 found_passes : {X : Type 0} (p : X → Bool) (xs : List X) (x : X) → find p xs ≡ Some x → p x ≡ true
@@ -210,30 +184,36 @@ joined_agrees : (app : Application) (world : World) (terminal : ℕ) (wanted : O
 joined_agrees app world terminal wanted None display e is a = a
 joined_agrees app world terminal wanted (Some number) display e is a =
     let free = found_passes (λ n. is_free (world.link n)) (range_with_len 0 link_count) number e in
-    moved world.link world.place terminal number (begun app.size terminal wanted) (Place.At number) a
-    (joins world.link world.place terminal number (begun app.size terminal wanted) display is (nobody_there (world.link number).host_here (world.link number).term_here free) refl a)
+    moved world.link world.place terminal number (begun app.begins terminal wanted) (Place.At number) a
+    (joins world.link world.place terminal number (begun app.begins terminal wanted) display is (nobody_there (world.link number).host_here (world.link number).term_here free) refl a)
 
-connected_agrees : (app : Application) (world : World) (terminal : ℕ) (wanted : Option (List ℕ)) (place : Place) → world.place terminal ≡ place → EndsAgree world → EndsAgree (connected app terminal wanted place world)
-connected_agrees app world terminal wanted (Place.At number) e a = a
-connected_agrees app world terminal wanted (Place.Alone display) e a = joined_agrees app world terminal wanted (free_number world.link) display refl e a
+joins_agrees : (app : Application) (world : World) (terminal : ℕ) (wanted : Option (List ℕ)) (place : Place) → may_connect world place ≡ true → world.place terminal ≡ place → EndsAgree world
+    → EndsAgree (joined app terminal wanted (free_number world.link) world)
+joins_agrees app world terminal wanted (Place.At number) may e a = absurd (cc)
+joins_agrees app world terminal wanted (Place.Alone display) may e a = joined_agrees app world terminal wanted (free_number world.link) display refl e a
 
 -- ---- any event
 
-there_agrees : (b : Bool) (new old : World) → EndsAgree new → EndsAgree old → EndsAgree (there b new old)
-there_agrees true new old n o = n
-there_agrees false new old n o = o
+done_agrees : (app : Application) (event : Event) (world : World) → has_place app event world ≡ true → EndsAgree world → EndsAgree (done app event world)
+done_agrees app (Event.Press terminal key) world here a = key_went_agrees world terminal key (world.place terminal) refl a
+done_agrees app (Event.Up number) world here a = came_up_agrees world number (world.link number).up a
+done_agrees app (Event.Down number) world here a = went_down_agrees world number (world.link number).term_here refl a
+done_agrees app (Event.Act number) world here a = sends_agrees world number (acted app (world.link number).host) a
+done_agrees app (Event.Note number text) world here a = sends_agrees world number (noted text (world.link number).host) a
+done_agrees app (Event.Lose number) world here a = link_changed world.link world.place number (cut (world.link number)) refl a
+done_agrees app (Event.HostSees number) world here a = link_changed world.link world.place number (host_left (world.link number)) refl a
+done_agrees app (Event.TermSees terminal) world here a = term_saw_agrees world terminal (world.place terminal) refl a
+done_agrees app (Event.Connect terminal wanted) world here a =
+    joins_agrees app world terminal wanted (world.place terminal) (and_parts (is_terminal world terminal) (may_connect world (world.place terminal)) here).1 refl a
+done_agrees app (Event.RestartTerm terminal) world here a = term_anew_agrees app world terminal (world.place terminal) refl a
+done_agrees app Event.RestartHost world here a = host_anew_agrees world a
 
 happens_agrees : (app : Application) (event : Event) (world : World) → EndsAgree world → EndsAgree (happens app event world)
-happens_agrees app (Event.Press terminal key) world a = there_agrees (is_terminal world terminal) _ world (key_went_agrees app world terminal key (world.place terminal) refl a) a
-happens_agrees app (Event.Up number) world a = there_agrees (is_link number) _ world (went_up_agrees app world number a) a
-happens_agrees app (Event.Down number) world a = there_agrees (is_link number) _ world (went_down_agrees world number (world.link number).term_here refl a) a
-happens_agrees app (Event.Act number) world a = there_agrees (is_link number) _ world (host_acted_agrees app world number a) a
-happens_agrees app (Event.Lose number) world a = there_agrees (is_link number) _ world (was_lost_agrees world number a) a
-happens_agrees app (Event.HostSees number) world a = there_agrees (is_link number) _ world (host_saw_agrees world number a) a
-happens_agrees app (Event.TermSees terminal) world a = there_agrees (is_terminal world terminal) _ world (term_saw_agrees world terminal (world.place terminal) refl a) a
-happens_agrees app (Event.Connect terminal wanted) world a = there_agrees (is_terminal world terminal) _ world (connected_agrees app world terminal wanted (world.place terminal) refl a) a
-happens_agrees app (Event.RestartTerm terminal) world a = there_agrees (is_terminal world terminal) _ world (term_anew_agrees app world terminal (world.place terminal) refl a) a
-happens_agrees app Event.RestartHost world a = host_anew_agrees world a
+happens_agrees app event world a = by_test (has_place app event world) refl
+  where
+    by_test : (b : Bool) → has_place app event world ≡ b → EndsAgree (if b then done app event world else world)
+    by_test true here = done_agrees app event world here a
+    by_test false here = a
 
 run_agrees : (app : Application) (events : List Event) (world : World) → EndsAgree world → EndsAgree (run app events world)
 run_agrees app [] world a = a

@@ -1,32 +1,33 @@
--- Screens keep their size and can be sent, what is painted is a screen, and values are characters, after every event.
-use Rattle.std.proofs.Common.{◌≡◌, ◌<◌, ◌==◌, ◌&&◌, ◌++◌, ◌-◌, ◌+◌, not, ℕ, arith, Bool, true, false, Option, None, Some, List, [], ◌∷◌, refl, ap, sym, subst, ◌∙◌, IfSome, IsTrue, if◌then◌else◌}
+-- Screens keep their shape and can be sent, what is painted is a screen, and values are characters, after every event.
+use Rattle.std.proofs.Common.{◌≡◌, ◌<◌, ◌≤◌, ◌==◌, ◌&&◌, ◌++◌, ◌-◌, ◌+◌, not, ℕ, zero, suc, arith, Bool, true, false, Option, None, Some, List, [], ◌∷◌, length, replicate, refl, ap, sym, subst, ◌∙◌, IfSome, IsTrue, if◌then◌else◌}
 use Rattle.std.specs.Prelude.{⊤, option_and_then}
-use Rattle.std.specs.List.{All}
+use Rattle.std.specs.List.{All, list_all}
 use Rattle.std.specs.Ordering.{nat_cmp}
 use Rattle.std.proofs.lemmas.Bool.{and_from}
 use Rattle.std.proofs.lemmas.List.{length-replicate}
 use Rattle.std.proofs.lemmas.List.Elements.{All-nil, All-cons, All-head, All-tail, All-append, All-map, All-replicate}
 use Rattle.std.proofs.lemmas.Map.Views.{All-values-insert_entry}
-use Rattle.codes3270.specs.Size.{cell_count}
+use Rattle.codes3270.specs.Size.{Shape, cells_in, cell_count}
 use Rattle.codes3270.specs.Storable.{is_storable}
 use Rattle.codes3270.specs.declared.attention.Aid.{Aid}
 use Rattle.codes3270.specs.declared.attention.Aid.TheVariants.{NoAid, Enter, Clear, Pf, Pa}
 use Rattle.codes3270.specs.declared.attribute.Cell.{Cell}
 use Rattle.codes3270.specs.declared.attribute.Cell.TheVariants.{Char as CharCell, Attr as AttrCell}
 use Rattle.datastream.specs.Fields.{Field, fields, fields_from}
+use Rattle.datastream.specs.Grammar.{IsSpelt as IsSpeltCommand}
 use Rattle.datastream.specs.Inbound.{without_nulls, read_modified, read_buffer}
 use Rattle.datastream.specs.InboundFields.{IsStorableCell, IsSendable, SentIsRead}
-use Rattle.datastream.specs.Screen.{Screen, blank_screen}
+use Rattle.datastream.specs.Screen.{Screen, blank_screen, is_char}
 use Rattle.datastream.specs.Wanted.{WantedScreen, IsProper, IsScreen}
 use Rattle.datastream.specs.declared.wanted.Want.{Want}
 use Rattle.datastream.specs.declared.wanted.Want.TheVariants.{Char as WantChar, Attr as WantAttr, Keep}
 use Rattle.keyboard.proofs.Sendable.{AreStored, CellsAreStored, text_stored}
-use Rattle.keyboard.specs.Keys.{pressed}
-use Rattle.keyboard.specs.Sendable.{KeysKeepSendable}
+use Rattle.keyboard.specs.declared.key.Key.{Key}
 use Rattle.keyboard.specs.declared.key.Pressed.{Pressed}
 use Rattle.keyboard.specs.declared.key.Pressed.TheVariants.{Done, Refused, Send}
 use Rattle.panels.specs.Characters.{is_character, AreCharacters}
 use Rattle.panels.specs.Screen.{Values}
+use Rattle.panels.specs.Values.{set_if}
 use Rattle.panels.specs.declared.message.Message.{Message}
 use Rattle.panels.specs.declared.message.Message.TheVariants.{Fresh}
 use Rattle.panels.specs.declared.next.Next.{Next}
@@ -41,18 +42,21 @@ use Rattle.shadow.specs.Meets.{Holds, FieldMeets, Meets, told}
 use Rattle.shadow.specs.Painted.{keeps_ahead, attr_or_kept, painted_from, plainly_painted}
 use Rattle.shadow.specs.Pairs.{Pairwise}
 use Rattle.tn3270e_msg.specs.declared.cause.Cause.{Cause}
-use Rattle.host_core.specs.Acts.{Act, Sent, text_known, set_if, learned, first_missing, is_to_be_read, unless_missing, gone_to, led, after_key, act_on, wanted_by, done, may_act, acted}
-use Rattle.host_core.specs.Application.{Application, IsApplication, AsksForScreens, AreTexts}
+use Rattle.host_core.specs.Acts.{Act, Sent, text_known, learned, first_missing, is_to_be_read, unless_missing, gone_to, led, after_key as after_the_key, act_on, wanted_by, done, may_act, acted}
+use Rattle.host_core.specs.Application.{Application, IsShape, IsApplication, AsksForScreens, AreTexts}
 use Rattle.host_core.specs.Messages.{ToTerminal, ToHost, Verdict}
+use Rattle.host_core.specs.NoteLaws.{TakesNotes, IsProperNote}
+use Rattle.host_core.specs.Notes.{IsNoteText, note_command, noted_as, may_note, noted}
 use Rattle.host_core.specs.Session.{Conn, Turn, Pending, Occasion, is_agreed}
 use Rattle.host_core.specs.Takes.{Step, took as host_took}
 use Rattle.world3270.specs.Given.{Given}
+use Rattle.world3270.specs.Happens.{run}
 use Rattle.world3270.specs.Link.{Link, host_left_if, host_sent}
-use Rattle.world3270.specs.Sendable.{display_at, HasSize, ScreensKeepTheirSize, IsTyped, AlwaysTyped, ScreensAreSendable, CanBeSpelt, DataCanBeSpelt, PaintsAScreen, PaintsAreScreens, IsSpelt, PaintsAreSpelt, ValuesAreTexts}
+use Rattle.world3270.specs.Sendable.{display_at, HasShape, ScreensKeepTheirShape, IsTyped, AlwaysTyped, ScreensAreSendable, CanBeSpelt, DataCanBeSpelt, PaintsAScreen, PaintsAreScreens, IsSpelt, PaintsAreSpelt, ValuesAreTexts}
 use Rattle.world3270.specs.Stages.{Kept}
-use Rattle.world3270.specs.Terminal.{TermEnd, TermStep, is_bound, data_of, paint_came, read_came, once_bound, took as term_took}
-use Rattle.world3270.specs.View.{view_of}
-use Rattle.world3270.specs.World.{Place, World, run, new_world}
+use Rattle.world3270.specs.Terminal.{Display, new_display, TermEnd, TermStep, is_bound, data_of, paint_came, note_came, read_came, once_bound, took as term_took, outcome_of, after_key}
+use Rattle.world3270.specs.View.{View, view_of}
+use Rattle.world3270.specs.World.{Place, World, Event, IsEvent, AreEvents, new_world}
 use Rattle.world3270.proofs.Down.{painted-length}
 use Rattle.world3270.proofs.Everywhere.{Steps, InPlace, Everywhere, everywhere}
 use Rattle.world3270.proofs.Headline.{knows_at}
@@ -60,36 +64,63 @@ use Rattle.world3270.proofs.HostSteps.{just_talks}
 use Rattle.world3270.proofs.Numbers.{sent_all}
 use Rattle.world3270.proofs.Worlds.{run_good, new_good}
 
--- ---- the size alone
+-- ---- the shape alone
 
-size_steps : Given → (app : Application) → IsApplication app → Steps app (λ event. ⊤) (λ link. ⊤) (λ display. HasSize app.size display.screen)
-size_steps given app is = record {
+blank_length : (shape : Shape) → length (new_display shape).screen.cells ≡ cells_in shape
+blank_length shape = length-replicate (cells_in shape) (CharCell 0)
+
+-- a screen of one row at least has a first cell
+first_cell : (shape : Shape) → IsShape shape → 0 < cells_in shape
+first_cell shape is = some (cells_in shape) shape.columns is.columns is.row
+  where
+    some : (cells columns : ℕ) → 1 < columns → columns ≤ cells → 0 < cells
+    some cells columns many row = omega arith
+
+-- the connection's terminal has the shape that connections begin with
+begins_with : (app : Application) (v : View) → Kept app v → cells_in v.host.shape ≡ cells_in app.begins
+begins_with app v k = ap cells_in k.shape.begins
+
+link_shape : (app : Application) (link : Link) → Kept app (view_of link) → HasShape app.begins link.term.display
+link_shape app link k = record {
+  shape_is = k.shape.same ∙ k.shape.begins;
+  whole = k.whole ∙ begins_with app (view_of link) k;
+  cursor = subst (λ cells. link.term.display.screen.cursor < cells) (begins_with app (view_of link) k) k.cursor;
+}
+
+key_shape : Given → (shape : Shape) (key : Key) (display : Display) → HasShape shape display → HasShape shape (after_key key display)
+key_shape given shape key display h =
+    let screen : Screen = display.screen in
+    let on = given.keys.on_screen display.shape.columns key display.keyboard screen (subst (λ cells. screen.cursor < cells) (sym h.whole) h.cursor) in
+    record { shape_is = h.shape_is; whole = on.0 ∙ h.whole; cursor = subst (λ cells. (outcome_of key display).screen.cursor < cells) h.whole on.1 }
+
+shape_steps : Given → (app : Application) → IsApplication app → Steps app (λ event. ⊤) (λ link. ⊤) (λ display. HasShape app.begins display)
+shape_steps given app is = record {
   never = tt;
   begins = λ terminal wanted. tt;
   up = λ pool link message rest e k h. tt;
   acts = λ link k h. tt;
+  notes = λ number text link such k h. tt;
   down = λ link message rest e k h. tt;
   key = λ terminal key link such k h. tt;
   loses = λ link h. tt;
   host_leaves = λ link h. tt;
   term_leaves = λ link h. tt;
-  fresh = record { whole = length-replicate app.size (CharCell 0); cursor = is.some };
-  alone = λ link k h. record { whole = k.whole; cursor = k.cursor };
-  key_alone = λ terminal key display such h.
-      let on = given.on_screen app.columns key display.keyboard display.screen (subst (λ size. display.screen.cursor < size) (sym h.whole) h.cursor) in
-      record { whole = on.0 ∙ h.whole; cursor = subst (λ size. (pressed app.columns key display.keyboard display.screen).screen.cursor < size) h.whole on.1 };
+  fresh = record { shape_is = refl; whole = blank_length app.begins; cursor = first_cell app.begins is.shape };
+  alone = λ link k h. let its = link_shape app link k in record { shape_is = its.shape_is; whole = its.whole; cursor = its.cursor };
+  key_alone = λ terminal key display such h. key_shape given app.begins key display h;
 }
 
-size_in_place : (app : Application) (world : World) (place : Place) → ((number : ℕ) → Kept app (view_of (world.link number))) → InPlace (λ display. HasSize app.size display.screen) place → HasSize app.size (display_at world place).screen
-size_in_place app world (Place.At number) kept is = record { whole = (kept number).whole; cursor = (kept number).cursor }
-size_in_place app world (Place.Alone display) kept is = is
+shape_in_place : (app : Application) (world : World) (place : Place) → ((number : ℕ) → Kept app (view_of (world.link number))) → InPlace (λ display. HasShape app.begins display) place
+    → HasShape app.begins (display_at world place)
+shape_in_place app world (Place.At number) kept is = link_shape app (world.link number) (kept number)
+shape_in_place app world (Place.Alone display) kept is = is
 
-pub screens_keep_their_size : Given → ScreensKeepTheirSize
-screens_keep_their_size given app pool terminals events is lists few are terminal =
+pub screens_keep_their_shape : Given → ScreensKeepTheirShape
+screens_keep_their_shape given app pool terminals events is lists few are terminal =
     let world : World = run app events (new_world app pool terminals) in
     let g = run_good given app is events (new_world app pool terminals) are (new_good given app is pool terminals lists) in
-    let all = everywhere given app is (λ event. ⊤) (λ link. ⊤) (λ display. HasSize app.size display.screen) (size_steps given app is) pool terminals events lists are (λ k d below. tt) in
-    size_in_place app world (world.place terminal) g.links (all.places terminal)
+    let all = everywhere given app is (λ event. ⊤) (λ link. ⊤) (λ display. HasShape app.begins display) (shape_steps given app is) pool terminals events lists are (λ k d below. tt) in
+    shape_in_place app world (world.place terminal) g.links (all.places terminal)
 
 -- ---- what is told
 
@@ -175,7 +206,7 @@ read_or_led : (app : Application) (conn : Conn) (aid : Aid) (b : Bool) → AreTe
 read_or_led app conn aid true texts = tt
 read_or_led app conn aid false texts = led_texts app conn (learned conn.shadow (app.fields conn.panel) conn.values) aid (app.next conn.panel aid) texts
 
-key_texts : (app : Application) (conn : Conn) (aid : Aid) (buffered : Bool) → AreTexts conn.values → AreTexts (learned conn.shadow (app.fields conn.panel) conn.values) → ActsOnTexts (after_key app conn aid buffered)
+key_texts : (app : Application) (conn : Conn) (aid : Aid) (buffered : Bool) → AreTexts conn.values → AreTexts (learned conn.shadow (app.fields conn.panel) conn.values) → ActsOnTexts (after_the_key app conn aid buffered)
 key_texts app conn Clear buffered texts known = texts
 key_texts app conn NoAid buffered texts known = read_or_led app conn NoAid (is_to_be_read app conn NoAid && not buffered) known
 key_texts app conn Enter buffered texts known = read_or_led app conn Enter (is_to_be_read app conn Enter && not buffered) known
@@ -195,13 +226,37 @@ wanted_is app conn panel message true values asks texts = by_fit (fits conn.shad
     by_fit true = asks panel values message true texts
     by_fit false = asks panel values message false texts
 
+-- a paint of a screen of the profile, or a note that some bytes spell
+abbrev IsWritten : ToTerminal → Type 0
+IsWritten (ToTerminal.TalksDown saying) = ⊤
+IsWritten (ToTerminal.Paint number wanted over) = IsScreen wanted
+IsWritten (ToTerminal.ReadBuffer number) = ⊤
+IsWritten (ToTerminal.Note number command) = IsProperNote command × IsSpeltCommand command
+
 record SendsTexts (sending : Sent) : Type 0 where
-  message : PaintsAScreen sending.message
+  message : IsWritten sending.message
   values : AreTexts sending.conn.values
 
 done_texts : (app : Application) (conn : Conn) (act : Act) → AsksForScreens app → AreTexts conn.values → ActsOnTexts act → SendsTexts (done app conn act)
 done_texts app conn Act.Read asks texts is = record { message = tt; values = texts }
 done_texts app conn (Act.Show panel message keep values) asks texts is = record { message = wanted_is app conn panel message keep values asks is; values = is }
+
+-- a blank screen takes any note
+blank_chars : (cells : ℕ) → list_all is_char (replicate cells (CharCell 0)) ≡ true
+blank_chars zero = refl
+blank_chars (suc cells) = blank_chars cells
+
+note_spelt : Given → (shape : Shape) (text : List ℕ) → IsShape shape → IsNoteText text → IsSpeltCommand (note_command shape text)
+note_spelt given shape text is note =
+    let blank : Screen = blank_screen (cells_in shape) in
+    let over = given.notes.overwrites shape (note_command shape text) blank is (record { text = text; is_text = note; is = refl }) (blank_length shape) (TakesNotes.unformatted (blank_chars (cells_in shape))) in
+    over.spelt
+
+note_texts : Given → (text : List ℕ) (conn : Conn) → IsShape conn.shape → IsNoteText text → AreTexts conn.values → SendsTexts (noted_as text conn)
+note_texts given text conn is note texts = record {
+  message = (given.notes.are_notes conn.shape (note_command conn.shape text) is (record { text = text; is_text = note; is = refl }), note_spelt given conn.shape text is note);
+  values = texts;
+}
 
 -- ---- what the terminal does
 
@@ -240,14 +295,20 @@ once_bound_sends : (bound : Bool) (end : TermEnd) (step : TermStep) → IsSendab
 once_bound_sends true end step is sends = sends
 once_bound_sends false end step is sends = record { screen = is; spelt = All-nil CanBeSpelt }
 
-term_sends : SentIsRead → (end : TermEnd) (message : ToTerminal) → PaintsAScreen message → IsSendable end.display.screen → StepSends (term_took end message)
-term_sends read end (ToTerminal.TalksDown saying) paints is = record { screen = is; spelt = All-map CanBeSpelt ToHost.TalksUp _ (λ k d below. tt) }
-term_sends read end (ToTerminal.Paint number wanted over) paints is =
+term_sends : SentIsRead → Given → (end : TermEnd) (message : ToTerminal) → IsWritten message → IsSendable end.display.screen → StepSends (term_took end message)
+term_sends read given end (ToTerminal.TalksDown saying) written is = record { screen = is; spelt = All-map CanBeSpelt ToHost.TalksUp _ (λ k d below. tt) }
+term_sends read given end (ToTerminal.Paint number wanted over) written is =
     once_bound_sends (is_bound end) end (paint_came number wanted end) is
-    (record { screen = painted_sendable wanted end.display.screen paints is; spelt = All-cons CanBeSpelt (ToHost.Response number Verdict.Positive) [] tt (All-nil CanBeSpelt) })
-term_sends read end (ToTerminal.ReadBuffer number) paints is =
+    (record { screen = painted_sendable wanted end.display.screen written is; spelt = All-cons CanBeSpelt (ToHost.Response number Verdict.Positive) [] tt (All-nil CanBeSpelt) })
+term_sends read given end (ToTerminal.ReadBuffer number) written is =
     once_bound_sends (is_bound end) end (read_came end) is
     (record { screen = is; spelt = All-cons CanBeSpelt _ [] (read_buffer end.display.screen, read.buffer end.display.screen is) (All-nil CanBeSpelt) })
+term_sends read given end (ToTerminal.Note number command) written is =
+    once_bound_sends (is_bound end) end (note_came number command end) is
+    (record {
+      screen = given.notes.note_sendable command end.display.screen written.0.note written.0.proper is;
+      spelt = All-cons CanBeSpelt (ToHost.Response number Verdict.Positive) [] tt (All-nil CanBeSpelt);
+    })
 
 key_sends : SentIsRead → (bound : Bool) (answer : Pressed) (screen : Screen) → IsSendable screen → All CanBeSpelt (data_of bound answer screen)
 key_sends read true (Send aid) screen is = All-cons CanBeSpelt _ [] (read_modified false screen, read.modified screen is) (All-nil CanBeSpelt)
@@ -262,19 +323,19 @@ key_sends read false (Refused why) screen is = All-nil CanBeSpelt
 pub record CanSend (link : Link) : Type 0 where
   pub screen : IsSendable link.term.display.screen
   pub spelt : All CanBeSpelt link.up
-  pub paints : All PaintsAScreen link.down
+  pub writes : All IsWritten link.down
   pub values : AreTexts link.host.values
 
 left_if : (cause : Option Cause) (link : Link) → CanSend link → CanSend (host_left_if cause link)
 left_if None link c = c
-left_if (Some cause) link c = record { screen = c.screen; spelt = c.spelt; paints = c.paints; values = c.values }
+left_if (Some cause) link c = record { screen = c.screen; spelt = c.spelt; writes = c.writes; values = c.values }
 
 sends : (link : Link) (sending : Option Sent) → CanSend link → IfSome sending SendsTexts → CanSend (host_sent sending link)
 sends link None c is = c
 sends link (Some sending) c is = record {
   screen = c.screen;
   spelt = c.spelt;
-  paints = sent_all PaintsAScreen link.lost link.down (sending.message ∷ []) c.paints (All-cons PaintsAScreen sending.message [] is.message (All-nil PaintsAScreen));
+  writes = sent_all IsWritten link.lost link.down (sending.message ∷ []) c.writes (All-cons IsWritten sending.message [] is.message (All-nil IsWritten));
   values = is.values;
 }
 
@@ -282,62 +343,82 @@ sends link (Some sending) c is = record {
 acts_by : (app : Application) → AsksForScreens app → (link : Link) (turn : Turn) (pending : Pending) (agreed : Bool) → Kept app (view_of link) → CanSend link
     → link.host.turn ≡ turn → link.host.pending ≡ pending → IfSome (if may_act turn pending agreed then Some (done app link.host (act_on app link.host link.host.occasion)) else None) SendsTexts
 acts_by app asks link Turn.Host Pending.Nothing true k c turns pends =
-    let known = knows_at app (view_of link) k.stage turns pends in
+    let known = knows_at app (view_of link) k turns pends in
     let texts = learned_texts link.host.shadow link.term.display.screen (app.fields link.host.panel) link.host.values known.meets c.screen.storable c.values in
     done_texts app link.host (act_on app link.host link.host.occasion) asks c.values (act_texts app link.host link.host.occasion c.values texts)
 acts_by app asks link Turn.Host Pending.Nothing false k c turns pends = tt
-acts_by app asks link Turn.Host (Pending.Writing number wanted) agreed k c turns pends = tt
+acts_by app asks link Turn.Host (Pending.Writing number command) agreed k c turns pends = tt
 acts_by app asks link Turn.Host (Pending.Reading number) agreed k c turns pends = tt
+acts_by app asks link Turn.Host (Pending.Noting number command) agreed k c turns pends = tt
 acts_by app asks link Turn.Terminal pending agreed k c turns pends = tt
 
-blank_sendable : (size : ℕ) → size ≡ cell_count → IsSendable (blank_screen size)
-blank_sendable size same =
-    record { size = length-replicate size (CharCell 0) ∙ same; cursor = omega arith; aid = tt; storable = All-replicate IsStorableCell size (CharCell 0) refl }
+notes_if : Given → (text : List ℕ) (link : Link) (b : Bool) → IsShape link.host.shape → IsNoteText text → CanSend link → IfSome (if b then Some (noted_as text link.host) else None) SendsTexts
+notes_if given text link true is note c = note_texts given text link.host is note c.values
+notes_if given text link false is note c = tt
 
-steps : SentIsRead → KeysKeepSendable → (app : Application) → AsksForScreens app → app.size ≡ cell_count → Steps app IsTyped CanSend (λ display. IsSendable display.screen)
-steps read keep app asks same = record {
-  never = record { screen = blank_sendable app.size same; spelt = All-nil CanBeSpelt; paints = All-nil PaintsAScreen; values = All-nil AreCharacters };
-  begins = λ terminal wanted. record { screen = blank_sendable app.size same; spelt = All-nil CanBeSpelt; paints = All-cons PaintsAScreen _ [] tt (All-nil PaintsAScreen); values = All-nil AreCharacters };
+blank_sendable : (shape : Shape) → cells_in shape ≡ cell_count → IsSendable (new_display shape).screen
+blank_sendable shape same =
+    record { size = blank_length shape ∙ same; cursor = omega arith; aid = tt; storable = All-replicate IsStorableCell (cells_in shape) (CharCell 0) refl }
+
+-- a key is one that a terminal has, and a note has a text
+abbrev IsTypedEvent : Event → Type 0
+IsTypedEvent event = IsEvent event × IsTyped event
+
+all_typed : (events : List Event) → AreEvents events → All IsTyped events → All IsTypedEvent events
+all_typed [] are typed = All-nil IsTypedEvent
+all_typed (event ∷ events) are typed =
+    All-cons IsTypedEvent event events (are.0, All-head IsTyped event events typed) (all_typed events are.1 (All-tail IsTyped event events typed))
+
+host_shape : (app : Application) (link : Link) → IsApplication app → Kept app (view_of link) → IsShape link.host.shape
+host_shape app link is k = subst IsShape (sym k.shape.begins) is.shape
+
+steps : SentIsRead → Given → (app : Application) → IsApplication app → AsksForScreens app → cells_in app.begins ≡ cell_count → Steps app IsTypedEvent CanSend (λ display. IsSendable display.screen)
+steps read given app is asks same = record {
+  never = record { screen = blank_sendable app.begins same; spelt = All-nil CanBeSpelt; writes = All-nil IsWritten; values = All-nil AreCharacters };
+  begins = λ terminal wanted. record { screen = blank_sendable app.begins same; spelt = All-nil CanBeSpelt; writes = All-cons IsWritten _ [] tt (All-nil IsWritten); values = All-nil AreCharacters };
   up = λ pool link message rest e k c.
-      let step : Step = host_took app pool link.host message in
-      let just = just_talks app pool link.host message in
+      let step : Step = host_took pool link.host message in
+      let just = just_talks pool link.host message in
       left_if step.closes _ (record {
         screen = c.screen;
         spelt = All-tail CanBeSpelt message rest (subst (All CanBeSpelt) e c.spelt);
-        paints = sent_all PaintsAScreen link.lost link.down step.sends c.paints (subst (All PaintsAScreen) (sym just.says) (All-map PaintsAScreen ToTerminal.TalksDown just.talk (λ k d below. tt)));
+        writes = sent_all IsWritten link.lost link.down step.sends c.writes (subst (All IsWritten) (sym just.says) (All-map IsWritten ToTerminal.TalksDown just.talk (λ k d below. tt)));
         values = subst AreTexts (sym just.values) c.values;
       });
   acts = λ link k c. sends link (acted app link.host) c (acts_by app asks link link.host.turn link.host.pending (is_agreed link.host.talk.state) k c refl refl);
+  notes = λ number text link such k c.
+      sends link (noted text link.host) c (notes_if given text link (may_note link.host.turn link.host.pending (is_agreed link.host.talk.state)) (host_shape app link is k) such.0 c);
   down = λ link message rest e k c.
-      let down : All PaintsAScreen (message ∷ rest) = subst (All PaintsAScreen) e c.paints in
-      let says = term_sends read link.term message (All-head PaintsAScreen message rest down) c.screen in
+      let down : All IsWritten (message ∷ rest) = subst (All IsWritten) e c.writes in
+      let says = term_sends read given link.term message (All-head IsWritten message rest down) c.screen in
       record {
         screen = says.screen;
         spelt = sent_all CanBeSpelt link.lost link.up (term_took link.term message).sends c.spelt says.spelt;
-        paints = All-tail PaintsAScreen message rest down;
+        writes = All-tail IsWritten message rest down;
         values = c.values;
       };
   key = λ terminal key link such k c.
-      let outcome = pressed app.columns key link.term.display.keyboard link.term.display.screen in
-      let is = keep app.columns key link.term.display.keyboard link.term.display.screen such c.screen in
+      let display : Display = link.term.display in
+      let outcome = outcome_of key display in
+      let still = given.keys.sendable display.shape.columns key display.keyboard display.screen such.1 c.screen in
       record {
-        screen = is;
-        spelt = sent_all CanBeSpelt link.lost link.up (data_of (is_bound link.term) outcome.answer outcome.screen) c.spelt (key_sends read (is_bound link.term) outcome.answer outcome.screen is);
-        paints = c.paints;
+        screen = still;
+        spelt = sent_all CanBeSpelt link.lost link.up (data_of (is_bound link.term) outcome.answer outcome.screen) c.spelt (key_sends read (is_bound link.term) outcome.answer outcome.screen still);
+        writes = c.writes;
         values = c.values;
       };
-  loses = λ link c. record { screen = c.screen; spelt = c.spelt; paints = c.paints; values = c.values };
-  host_leaves = λ link c. record { screen = c.screen; spelt = c.spelt; paints = c.paints; values = c.values };
-  term_leaves = λ link c. record { screen = c.screen; spelt = c.spelt; paints = c.paints; values = c.values };
-  fresh = blank_sendable app.size same;
+  loses = λ link c. record { screen = c.screen; spelt = c.spelt; writes = c.writes; values = c.values };
+  host_leaves = λ link c. record { screen = c.screen; spelt = c.spelt; writes = c.writes; values = c.values };
+  term_leaves = λ link c. record { screen = c.screen; spelt = c.spelt; writes = c.writes; values = c.values };
+  fresh = blank_sendable app.begins same;
   alone = λ link k c. c.screen;
-  key_alone = λ terminal key display such is. keep app.columns key display.keyboard display.screen such is;
+  key_alone = λ terminal key display such still. given.keys.sendable display.shape.columns key display.keyboard display.screen such.1 still;
 }
 
 -- ---- the theorems
 
 -- an application that asks for such screens has the profile's size
-size_is : (app : Application) → IsApplication app → AsksForScreens app → app.size ≡ cell_count
+size_is : (app : Application) → IsApplication app → AsksForScreens app → cells_in app.begins ≡ cell_count
 size_is app is asks = sym (is.showable 0 [] Fresh false).cells ∙ (asks 0 [] Fresh false (All-nil AreCharacters)).size
 
 in_place : (world : World) (place : Place) → ((number : ℕ) → CanSend (world.link number)) → InPlace (λ display. IsSendable display.screen) place → IsSendable (display_at world place).screen
@@ -347,7 +428,7 @@ in_place world (Place.Alone display) can is = is
 -- of each connection and each display
 all_can : SentIsRead → Given → AlwaysTyped (λ world. Everywhere CanSend (λ display. IsSendable display.screen) world.link world.place)
 all_can read given app pool terminals events is asks lists few are typed =
-    everywhere given app is IsTyped CanSend (λ display. IsSendable display.screen) (steps read given.sendable app asks (size_is app is asks)) pool terminals events lists are typed
+    everywhere given app is IsTypedEvent CanSend (λ display. IsSendable display.screen) (steps read given app is asks (size_is app is asks)) pool terminals events lists are (all_typed events are typed)
 
 pub screens_are_sendable : SentIsRead → Given → AlwaysTyped ScreensAreSendable
 screens_are_sendable read given app pool terminals events is asks lists few are typed terminal =
@@ -359,24 +440,33 @@ pub data_can_be_spelt : SentIsRead → Given → AlwaysTyped DataCanBeSpelt
 data_can_be_spelt read given app pool terminals events is asks lists few are typed number =
     ((all_can read given app pool terminals events is asks lists few are typed).links number).spelt
 
+-- what holds of each message that is written holds of all of them
+each_written : (P : ToTerminal → Type 0) → ((message : ToTerminal) → IsWritten message → P message) → (messages : List ToTerminal) → All IsWritten messages → All P messages
+each_written P has [] each = All-nil P
+each_written P has (message ∷ messages) each =
+    All-cons P message messages (has message (All-head IsWritten message messages each)) (each_written P has messages (All-tail IsWritten message messages each))
+
+paints_a_screen : (message : ToTerminal) → IsWritten message → PaintsAScreen message
+paints_a_screen (ToTerminal.TalksDown saying) written = tt
+paints_a_screen (ToTerminal.Paint number wanted over) written = written
+paints_a_screen (ToTerminal.ReadBuffer number) written = tt
+paints_a_screen (ToTerminal.Note number command) written = tt
+
 pub paints_are_screens : SentIsRead → Given → AlwaysTyped PaintsAreScreens
 paints_are_screens read given app pool terminals events is asks lists few are typed number =
-    ((all_can read given app pool terminals events is asks lists few are typed).links number).paints
+    let all = all_can read given app pool terminals events is asks lists few are typed in
+    each_written PaintsAScreen paints_a_screen ((run app events (new_world app pool terminals)).link number).down (all.links number).writes
 
-message_spelt : PaintIsSpelt → (message : ToTerminal) → PaintsAScreen message → IsSpelt message
-message_spelt law (ToTerminal.TalksDown saying) is = tt
-message_spelt law (ToTerminal.Paint number wanted over) is = law over wanted is
-message_spelt law (ToTerminal.ReadBuffer number) is = tt
-
-messages_spelt : PaintIsSpelt → (messages : List ToTerminal) → All PaintsAScreen messages → All IsSpelt messages
-messages_spelt law [] each = All-nil IsSpelt
-messages_spelt law (message ∷ messages) each =
-    All-cons IsSpelt message messages (message_spelt law message (All-head PaintsAScreen message messages each)) (messages_spelt law messages (All-tail PaintsAScreen message messages each))
+message_spelt : PaintIsSpelt → (message : ToTerminal) → IsWritten message → IsSpelt message
+message_spelt law (ToTerminal.TalksDown saying) written = tt
+message_spelt law (ToTerminal.Paint number wanted over) written = law over wanted written
+message_spelt law (ToTerminal.ReadBuffer number) written = tt
+message_spelt law (ToTerminal.Note number command) written = written.1
 
 pub paints_are_spelt : SentIsRead → Given → AlwaysTyped PaintsAreSpelt
 paints_are_spelt read given app pool terminals events is asks lists few are typed number =
-    messages_spelt given.spelt ((run app events (new_world app pool terminals)).link number).down
-    (paints_are_screens read given app pool terminals events is asks lists few are typed number)
+    let all = all_can read given app pool terminals events is asks lists few are typed in
+    each_written IsSpelt (message_spelt given.belief.spelt) ((run app events (new_world app pool terminals)).link number).down (all.links number).writes
 
 pub values_are_texts : SentIsRead → Given → AlwaysTyped ValuesAreTexts
 values_are_texts read given app pool terminals events is asks lists few are typed number =

@@ -1,15 +1,17 @@
 -- Bytes that stand for messages: each end makes of them what it makes of the messages.
-use Rattle.std.proofs.Common.{◌≡◌, ℕ, Bool, true, false, Option, None, List, [], ◌∷◌, ◌++◌, length, map, refl, ap, sym, subst, ◌∙◌, arith}
+use Rattle.std.proofs.Common.{◌≡◌, ◌&&◌, ◌||◌, if◌then◌else◌, ℕ, Bool, true, false, Option, None, List, [], ◌∷◌, ◌++◌, length, map, refl, ap, sym, subst, ◌∙◌, arith}
 use Rattle.std.proofs.lemmas.Grind.{flat_map-append}
 use Rattle.std.proofs.lemmas.Bool.{and_parts}
 use Rattle.std.specs.List.{flat_map, AllByRecursion}
-use Rattle.codes3270.specs.Size.{columns}
+use Rattle.codes3270.specs.Size.{Shape, model_2}
 use Rattle.datastream.specs.Grammar.{CommandParts, IsCommand, IsNoCommand, is_write}
 use Rattle.datastream.specs.Inbound.{read_buffer, read_modified}
+use Rattle.codes3270.specs.declared.write_control.Wcc.{Wcc}
 use Rattle.datastream.specs.FieldLaws.{FieldsAscend, FieldsAreListed, FieldsTakeAll}
 use Rattle.datastream.specs.InboundFields.{SentIsRead, IsSendable, buffer_data}
 use Rattle.datastream.specs.InboundText.{IsInbound}
 use Rattle.datastream.specs.Meaning.{after_command}
+use Rattle.datastream.specs.Note.{IsNote}
 use Rattle.datastream.specs.Screen.{Screen}
 use Rattle.datastream.specs.Wanted.{WantedScreen}
 use Rattle.datastream.specs.declared.command_code.CommandCode.{CommandCode}
@@ -19,7 +21,7 @@ use Rattle.keyboard.specs.Keys.{Outcome, pressed}
 use Rattle.keyboard.specs.State.{Keyboard, freed}
 use Rattle.keyboard.specs.declared.key.Pressed.{Pressed}
 use Rattle.keyboard.specs.declared.key.Pressed.TheVariants.{Done, Refused, Send}
-use Rattle.presentation.specs.Applied.{asked_by}
+use Rattle.presentation.specs.Applied.{asked_by, asked_by_code}
 use Rattle.shadow.specs.Belief.{Shadow}
 use Rattle.shadow.specs.Laws.{WantedIsPainted}
 use Rattle.shadow.specs.Paint.{paint}
@@ -43,6 +45,7 @@ use Rattle.tn3270e_msg.specs.declared.reply.Reply.TheVariants as reply
 use Rattle.tn3270e_msg.specs.declared.term_talk.TermState.{TermState}
 use Rattle.tn3270e_msg.specs.declared.term_talk.TermState.TheVariants as at
 use Rattle.tn3270e_msg.proofs.Hearings.{sent_is_heard}
+use Rattle.term_core.specs.Bytes.{before_byte}
 use Rattle.term_core.specs.Items.{TakesItem, TakesItemIn, TalksOn}
 use Rattle.term_core.specs.Presses.{key_outcome, data_pressed, says_of_key}
 use Rattle.term_core.specs.Records.{TakesRecord, is_restoring_write, data_read, data_sent, done_response, freed_if, answer_of, obeyed}
@@ -52,9 +55,11 @@ use Rattle.term_core.specs.declared.outcome.Outcome.TheVariants.{DeviceEnd}
 use Rattle.host_core.specs.Messages.{ToTerminal, ToHost, Verdict}
 use Rattle.term_core.proofs.Lengths.{read_buffer_fits, read_modified_fits}
 use Rattle.world3270.proofs.StandsFits.{talk_comes}
-use Rattle.world3270.specs.Stands.{command_header, always, when_refused, IsPaint, IsRead, read_buffer_command, StandsUp, IsEnd}
-use Rattle.world3270.specs.StandsLaws.{PaintStands, IsSaid, NamesWanted, IsOpen, IsBelieved, SameStep, TermTakes, TermPresses, NothingStands, StandsCompose, StandsGoOn, BeginStands}
-use Rattle.world3270.specs.Terminal.{TermEnd, TermStep, bound_to, is_bound, quiet, replied, paint_came, read_came, once_bound, took, data_of}
+use Rattle.world3270.specs.Stands.{command_header, always, when_refused, IsPaint, IsRead, IsNoted, read_buffer_command, StandsUp, IsEnd}
+use Rattle.world3270.specs.Seats.{History, ByteEnd, ByteStep, left_by}
+use Rattle.world3270.specs.StandsEnds.{PaintStands, IsSaid, NamesWanted, IsOpen, IsBelieved, ItemComes, TermTakes, is_painted, WritesAreMarked, TermPresses}
+use Rattle.world3270.specs.StandsLinks.{NothingStands, StandsCompose, StandsGoOn, BeginStands}
+use Rattle.world3270.specs.Terminal.{Display, TermEnd, TermStep, bound_to, is_bound, quiet, replied, paint_came, note_came, read_came, once_bound, took, erases_if, outcome_of, data_of}
 use Rattle.std.specs.Prelude.{is_some}
 
 -- ---- what is painted
@@ -78,6 +83,24 @@ paint_stands painted number wanted believed bytes body begins spelt fit = record
   };
 }
 
+-- ---- an end, but for its history
+
+record IsSide (talk : Term) (station : Station) (end : TermEnd) : Type 0 where
+  shape_is : end.display.shape ≡ model_2
+  talk_is : talk ≡ end.talk
+  screen_is : station.screen ≡ end.display.screen
+  keyboard_is : station.keyboard ≡ end.display.keyboard
+
+record SameItem (after : Term) (new : Station) (says : List WireItem) (closes : Option Cause) (marks : Bool) (step : TermStep) : Type 0 where
+  is_end : IsSide after new step.end
+  said : Pairwise StandsUp says step.sends
+  fit : AllByRecursion (CanCome record_limit) says
+  closed : closes ≡ step.closes
+  wrote : new.took_write ≡ marks
+
+side_of : (bytes : ByteEnd) (end : TermEnd) → IsEnd bytes end → IsSide bytes.talk (before_byte bytes.station) end
+side_of bytes end is = record { shape_is = is.shape_is; talk_is = is.talk_is; screen_is = is.screen_is; keyboard_is = is.keyboard_is }
+
 -- ---- the talk
 
 said_is_heard : (saying : Saying) → IsSaid saying → (comes : Comes) → Hears (item_of saying) comes → comes ≡ says saying
@@ -99,11 +122,12 @@ term_same one other wanted talk =
     ∙ ap (λ (t : Talk TermState). record { wanted = other.wanted; talk = t }) talk
 
 replied_same : (end : TermEnd) (talk next : Term) (old new : Station) (answer : Reply) (p : Talk TermState × Reply) (sent : List WireItem) (closes : Option Cause)
-    → IsEnd talk old end → next.wanted ≡ talk.wanted → (next.talk, answer) ≡ p → sent ≡ items_sent answer → closes ≡ closing answer → new ≡ old
+    → IsSide talk old end → old.took_write ≡ false → next.wanted ≡ talk.wanted → (next.talk, answer) ≡ p → sent ≡ items_sent answer → closes ≡ closing answer → new ≡ old
     → AllByRecursion (CanCome record_limit) (items_sent p.1)
-    → SameStep next new sent closes (replied end p)
-replied_same end talk next old new answer p sent closes is wanted gives said ends same fit = record {
+    → SameItem next new sent closes false (replied end p)
+replied_same end talk next old new answer p sent closes is unmarked wanted gives said ends same fit = record {
   is_end = record {
+    shape_is = is.shape_is;
     talk_is = term_same next (record end.talk { talk = p.0 }) (wanted ∙ ap (λ (t : Term). t.wanted) is.talk_is) (ap (λ (q : Talk TermState × Reply). q.0) gives);
     screen_is = ap (λ (s : Station). s.screen) same ∙ is.screen_is;
     keyboard_is = ap (λ (s : Station). s.keyboard) same ∙ is.keyboard_is;
@@ -113,6 +137,7 @@ replied_same end talk next old new answer p sent closes is wanted gives said end
   fit = subst (λ (items : List WireItem). AllByRecursion (CanCome record_limit) items)
       (sym (said ∙ ap (λ (q : Talk TermState × Reply). items_sent q.1) gives)) fit;
   closed = ends ∙ ap (λ (q : Talk TermState × Reply). closing q.1) gives;
+  wrote = ap (λ (s : Station). s.took_write) same ∙ unmarked;
 }
 
 -- a negotiation or a subnegotiation is for the talk, however far it is
@@ -128,25 +153,25 @@ saying_talks (at.Refused reason) saying talk next old new sent closes taken = ta
 saying_talks (at.Closed cause) saying talk next old new sent closes taken = taken
 
 takes_talk : (saying : Saying) (talk next : Term) (old new : Station) (end : TermEnd) (sent : List WireItem) (closes : Option Cause)
-    → IsSaid saying → NamesWanted end.talk.talk.state end.talk.wanted → IsEnd talk old end → TakesItem talk old (item_of saying) sent closes next new
-    → SameStep next new sent closes (took end (ToTerminal.TalksDown saying))
-takes_talk saying talk next old new end sent closes h wish is taken =
+    → IsSaid saying → NamesWanted end.talk.talk.state end.talk.wanted → IsSide talk old end → old.took_write ≡ false → TakesItem talk old (item_of saying) sent closes next new
+    → SameItem next new sent closes false (took end (ToTerminal.TalksDown saying))
+takes_talk saying talk next old new end sent closes h wish is unmarked taken =
     let talks = saying_talks talk.talk.state saying talk next old new sent closes taken in
     let heard = said_is_heard saying h talks.0.takes.comes talks.0.takes.hears in
     let gives : (next.talk, talks.0.reply) ≡ follow at.Closed end.talk.talk (term_line end.talk.wanted end.talk.talk.state (says saying)) =
     talks.0.takes.gives
     ∙ ap (λ comes. follow at.Closed talk.talk (term_line talk.wanted talk.talk.state comes)) heard
     ∙ ap (λ (t : Term). follow at.Closed t.talk (term_line t.wanted t.talk.state (says saying))) is.talk_is in
-    replied_same end talk next old new talks.0.reply _ sent closes is talks.0.takes.wanted gives talks.0.sends talks.0.ends talks.1
+    replied_same end talk next old new talks.0.reply _ sent closes is unmarked talks.0.takes.wanted gives talks.0.sends talks.0.ends talks.1
     (talk_comes end.talk.talk end.talk.wanted wish (says saying))
 
 -- ---- records
 
 -- before it is bound a terminal drops a record
 dropped : (talk next : Term) (old new : Station) (bytes : List ℕ) (end : TermEnd) (sent : List WireItem) (closes : Option Cause)
-    → IsEnd talk old end → term_line talk.wanted talk.talk.state NoTalk ≡ Stays reply.Nothing → TalksOn talk old (Record bytes) sent closes next new
-    → SameStep next new sent closes (quiet end)
-dropped talk next old new bytes end sent closes is stays talks =
+    → IsSide talk old end → old.took_write ≡ false → term_line talk.wanted talk.talk.state NoTalk ≡ Stays reply.Nothing → TalksOn talk old (Record bytes) sent closes next new
+    → SameItem next new sent closes false (quiet end)
+dropped talk next old new bytes end sent closes is unmarked stays talks =
     let gives : (next.talk, talks.0.reply) ≡ (talk.talk, reply.Nothing) =
     talks.0.takes.gives
     ∙ ap (λ comes. follow at.Closed talk.talk (term_line talk.wanted talk.talk.state comes)) talks.0.takes.hears
@@ -154,6 +179,7 @@ dropped talk next old new bytes end sent closes is stays talks =
     let answer : talks.0.reply ≡ reply.Nothing = ap (λ (q : Talk TermState × Reply). q.1) gives in
     record {
       is_end = record {
+        shape_is = is.shape_is;
         talk_is = term_same next talk talks.0.takes.wanted (ap (λ (q : Talk TermState × Reply). q.0) gives) ∙ is.talk_is;
         screen_is = ap (λ (s : Station). s.screen) talks.1 ∙ is.screen_is;
         keyboard_is = ap (λ (s : Station). s.keyboard) talks.1 ∙ is.keyboard_is;
@@ -161,41 +187,91 @@ dropped talk next old new bytes end sent closes is stays talks =
       said = subst (λ (items : List WireItem). Pairwise StandsUp items []) (sym (talks.0.sends ∙ ap items_sent answer)) tt;
       fit = subst (λ (items : List WireItem). AllByRecursion (CanCome record_limit) items) (sym (talks.0.sends ∙ ap items_sent answer)) tt;
       closed = talks.0.ends ∙ ap closing answer;
+      wrote = ap (λ (s : Station). s.took_write) talks.1 ∙ unmarked;
     }
 
-record_came : (state : TermState) (talk next : Term) (old new : Station) (bytes : List ℕ) (end : TermEnd) (sent : List WireItem) (closes : Option Cause) (step : TermStep)
-    → talk.talk.state ≡ state → IsOpen state → IsEnd talk old end
-    → (TakesRecord old bytes sent closes new → next ≡ talk → SameStep next new sent closes step)
+-- `marks`: whether the record marks a write where the terminal is bound
+record_came : (state : TermState) (talk next : Term) (old new : Station) (bytes : List ℕ) (end : TermEnd) (sent : List WireItem) (closes : Option Cause) (step : TermStep) (marks : Bool)
+    → talk.talk.state ≡ state → IsOpen state → IsSide talk old end → old.took_write ≡ false
+    → (TakesRecord old bytes sent closes new → next ≡ talk → SameItem next new sent closes marks step)
     → TakesItemIn state talk old (Record bytes) sent closes next new
-    → SameStep next new sent closes (once_bound (is_some (bound_to state)) step end)
-record_came at.Waiting talk next old new bytes end sent closes step e o is bound taken =
-    dropped talk next old new bytes end sent closes is (ap (λ (s : TermState). term_line talk.wanted s NoTalk) e) taken
-record_came at.Willing talk next old new bytes end sent closes step e o is bound taken =
-    dropped talk next old new bytes end sent closes is (ap (λ (s : TermState). term_line talk.wanted s NoTalk) e) taken
-record_came at.TypeAsked talk next old new bytes end sent closes step e o is bound taken =
-    dropped talk next old new bytes end sent closes is (ap (λ (s : TermState). term_line talk.wanted s NoTalk) e) taken
-record_came (at.FunctionsAsked lu) talk next old new bytes end sent closes step e o is bound taken =
-    dropped talk next old new bytes end sent closes is (ap (λ (s : TermState). term_line talk.wanted s NoTalk) e) taken
-record_came (at.Refused reason) talk next old new bytes end sent closes step e o is bound taken =
-    dropped talk next old new bytes end sent closes is (ap (λ (s : TermState). term_line talk.wanted s NoTalk) e) taken
-record_came (at.Agreed lu) talk next old new bytes end sent closes step e o is bound taken = bound taken.0 taken.1
-record_came (at.Closed cause) talk next old new bytes end sent closes step e o is bound taken = absurd o
+    → SameItem next new sent closes (is_some (bound_to state) && marks) (once_bound (is_some (bound_to state)) step end)
+record_came at.Waiting talk next old new bytes end sent closes step marks e o is unmarked bound taken =
+    dropped talk next old new bytes end sent closes is unmarked (ap (λ (s : TermState). term_line talk.wanted s NoTalk) e) taken
+record_came at.Willing talk next old new bytes end sent closes step marks e o is unmarked bound taken =
+    dropped talk next old new bytes end sent closes is unmarked (ap (λ (s : TermState). term_line talk.wanted s NoTalk) e) taken
+record_came at.TypeAsked talk next old new bytes end sent closes step marks e o is unmarked bound taken =
+    dropped talk next old new bytes end sent closes is unmarked (ap (λ (s : TermState). term_line talk.wanted s NoTalk) e) taken
+record_came (at.FunctionsAsked lu) talk next old new bytes end sent closes step marks e o is unmarked bound taken =
+    dropped talk next old new bytes end sent closes is unmarked (ap (λ (s : TermState). term_line talk.wanted s NoTalk) e) taken
+record_came (at.Refused reason) talk next old new bytes end sent closes step marks e o is unmarked bound taken =
+    dropped talk next old new bytes end sent closes is unmarked (ap (λ (s : TermState). term_line talk.wanted s NoTalk) e) taken
+record_came (at.Agreed lu) talk next old new bytes end sent closes step marks e o is unmarked bound taken = bound taken.0 taken.1
+record_came (at.Closed cause) talk next old new bytes end sent closes step marks e o is unmarked bound taken = absurd o
 
-record_comes : (talk next : Term) (old new : Station) (bytes : List ℕ) (end : TermEnd) (sent : List WireItem) (closes : Option Cause) (step : TermStep)
-    → IsOpen end.talk.talk.state → IsEnd talk old end
-    → (TakesRecord old bytes sent closes new → next ≡ talk → SameStep next new sent closes step)
+record_comes : (talk next : Term) (old new : Station) (bytes : List ℕ) (end : TermEnd) (sent : List WireItem) (closes : Option Cause) (step : TermStep) (marks : Bool)
+    → IsOpen end.talk.talk.state → IsSide talk old end → old.took_write ≡ false
+    → (TakesRecord old bytes sent closes new → next ≡ talk → SameItem next new sent closes marks step)
     → TakesItem talk old (Record bytes) sent closes next new
-    → SameStep next new sent closes (once_bound (is_bound end) step end)
-record_comes talk next old new bytes end sent closes step o is bound taken =
+    → SameItem next new sent closes (is_bound end && marks) (once_bound (is_bound end) step end)
+record_comes talk next old new bytes end sent closes step marks o is unmarked bound taken =
     let state : talk.talk.state ≡ end.talk.talk.state = ap (λ (t : Term). t.talk.state) is.talk_is in
-    subst (λ (s : TermState). SameStep next new sent closes (once_bound (is_some (bound_to s)) step end)) state
-    (record_came talk.talk.state talk next old new bytes end sent closes step refl (subst IsOpen (sym state) o) is bound taken)
+    subst (λ (s : TermState). SameItem next new sent closes (is_some (bound_to s) && marks) (once_bound (is_some (bound_to s)) step end)) state
+    (record_came talk.talk.state talk next old new bytes end sent closes step marks refl (subst IsOpen (sym state) o) is unmarked bound taken)
 
 -- the command of a record is obeyed
 record Obeys (old new : Station) (sent : List WireItem) (closes : Option Cause) (header : Header) (command : CommandParts) : Type 0 where
   said : sent ≡ answer_of header command old
   closed : closes ≡ None
   left : new ≡ obeyed command old
+
+-- a note frees no keyboard
+note_restores : (command : CommandParts) → IsNote command → (asked_by command).restore ≡ false
+note_restores command note =
+    ap (λ (c : CommandCode). (asked_by_code c command.wcc).restore) note.code
+    ∙ ap (λ (w : Option Wcc). (asked_by_code Write w).restore) note.wcc
+
+note_marks_nothing : (command : CommandParts) → IsNote command → is_restoring_write command ≡ false
+note_marks_nothing command note =
+    ap (λ (c : CommandCode). is_write c && (asked_by command).restore) note.code ∙ note_restores command note
+
+-- ---- history
+
+-- what a write leaves is the screen behind it; else the history stays
+record Leaves (marks : Bool) (before after : Display) : Type 0 where
+  left : after.left ≡ (if marks then after.screen else before.left)
+  erased : after.erased ≡ (if marks then false else before.erased)
+
+leaves_painted : (bound : Bool) (number : ℕ) (wanted : WantedScreen) (end : TermEnd) → Leaves bound end.display (once_bound bound (paint_came number wanted end) end).end.display
+leaves_painted true number wanted end = record { left = refl; erased = refl }
+leaves_painted false number wanted end = record { left = refl; erased = refl }
+
+leaves_read : (bound : Bool) (end : TermEnd) → Leaves false end.display (once_bound bound (read_came end) end).end.display
+leaves_read true end = record { left = refl; erased = refl }
+leaves_read false end = record { left = refl; erased = refl }
+
+leaves_noted : (bound : Bool) (number : ℕ) (command : CommandParts) (end : TermEnd) → Leaves false end.display (once_bound bound (note_came number command end) end).end.display
+leaves_noted true number command end = record { left = refl; erased = refl }
+leaves_noted false number command end = record { left = refl; erased = refl }
+
+leaves : (message : ToTerminal) (end : TermEnd) → Leaves (is_painted end message) end.display (took end message).end.display
+leaves (ToTerminal.TalksDown saying) end = record { left = refl; erased = refl }
+leaves (ToTerminal.Paint number wanted believed) end = leaves_painted (is_bound end) number wanted end
+leaves (ToTerminal.ReadBuffer number) end = leaves_read (is_bound end) end
+leaves (ToTerminal.Note number command) end = leaves_noted (is_bound end) number command end
+
+same_left : (marks : Bool) (station : Station) (old : History) (before after : Display) → old.left ≡ before.left → old.erased ≡ before.erased → station.screen ≡ after.screen
+    → Leaves marks before after → ((left_by marks station.screen old).left ≡ after.left) × ((left_by marks station.screen old).erased ≡ after.erased)
+same_left true station old before after left erased screen now = (screen ∙ sym now.left, sym now.erased)
+same_left false station old before after left erased screen now = (left ∙ sym now.left, erased ∙ sym now.erased)
+
+and_true : (b : Bool) → (b && true) ≡ b
+and_true true = refl
+and_true false = refl
+
+and_false : (b : Bool) → (b && false) ≡ false
+and_false true = refl
+and_false false = refl
 
 module _ (one_header : OneHeader) (fault_or_header : FaultIsNoHeader) where
   obeys : (old new : Station) (bytes body : List ℕ) (sent : List WireItem) (closes : Option Cause) (header : Header) (command : CommandParts)
@@ -229,14 +305,15 @@ module _ (one_header : OneHeader) (fault_or_header : FaultIsNoHeader) where
   no_data EraseAllUnprotected screen h = absurd (cc)
 
   painted_same : (number : ℕ) (wanted : WantedScreen) (believed : Shadow) (talk next : Term) (old new : Station) (end : TermEnd) (sent : List WireItem) (closes : Option Cause)
-      (item : WireItem) (p : IsPaint item number wanted believed) → IsBelieved wanted believed end → IsEnd talk old end
-      → TakesRecord old p.bytes sent closes new → next ≡ talk → SameStep next new sent closes (paint_came number wanted end)
+      (item : WireItem) (p : IsPaint item number wanted believed) → IsBelieved wanted believed end → IsSide talk old end
+      → TakesRecord old p.bytes sent closes new → next ≡ talk → SameItem next new sent closes true (paint_came number wanted end)
   painted_same number wanted believed talk next old new end sent closes item p b is taken same =
       let done = obeys old new p.bytes p.body sent closes (command_header always number) p.command refl p.begins p.spelt taken in
       let parts = and_parts (is_write p.command.code) (asked_by p.command).restore p.paints.writes in
       let silent = no_data p.command.code (after_command p.command old.screen) parts.0 in
       record {
         is_end = record {
+          shape_is = is.shape_is;
           talk_is = same ∙ is.talk_is;
           screen_is = ap (λ (s : Station). s.screen) done.left ∙ ap (after_command p.command) is.screen_is ∙ p.paints.paints end.display.screen b.size b.meets;
           keyboard_is = ap (λ (s : Station). s.keyboard) done.left ∙ ap (λ (r : Bool). freed_if r old.keyboard) parts.1 ∙ ap freed is.keyboard_is;
@@ -248,19 +325,21 @@ module _ (one_header : OneHeader) (fault_or_header : FaultIsNoHeader) where
             (sym (done.said ∙ ap (λ (d : Option (List ℕ)). data_sent old.number d ++ done_response always number) silent))
             (omega arith, tt);
         closed = done.closed;
+        wrote = ap (λ (s : Station). s.took_write) done.left ∙ p.paints.writes;
       }
 
   -- ---- a read
 
   read_same : SentIsRead → (number : ℕ) (talk next : Term) (old new : Station) (end : TermEnd) (sent : List WireItem) (closes : Option Cause)
-      (item : WireItem) (p : IsRead item number) → IsSendable end.display.screen → IsEnd talk old end
-      → TakesRecord old p.bytes sent closes new → next ≡ talk → SameStep next new sent closes (read_came end)
+      (item : WireItem) (p : IsRead item number) → IsSendable end.display.screen → IsSide talk old end
+      → TakesRecord old p.bytes sent closes new → next ≡ talk → SameItem next new sent closes false (read_came end)
   read_same reads number talk next old new end sent closes item p r is taken same =
       let done = obeys old new p.bytes p.body sent closes (command_header when_refused number) read_buffer_command refl p.begins p.spelt taken in
       let inbound : IsInbound (buffer_data end.display.screen) (read_buffer old.screen) =
       subst (λ (s : Screen). IsInbound (buffer_data end.display.screen) (read_buffer s)) (sym is.screen_is) (reads.buffer end.display.screen r) in
       record {
         is_end = record {
+          shape_is = is.shape_is;
           talk_is = same ∙ is.talk_is;
           screen_is = ap (λ (s : Station). s.screen) done.left ∙ is.screen_is;
           keyboard_is = ap (λ (s : Station). s.keyboard) done.left ∙ is.keyboard_is;
@@ -270,21 +349,85 @@ module _ (one_header : OneHeader) (fault_or_header : FaultIsNoHeader) where
         fit = subst (λ (items : List WireItem). AllByRecursion (CanCome record_limit) items)
             (sym done.said) (omega (arith, read_buffer_fits old.screen (ap (λ (s : Screen). length s.cells) is.screen_is ∙ r.size)), tt);
         closed = done.closed;
+        wrote = ap (λ (s : Station). s.took_write) done.left;
+      }
+
+  -- ---- a note
+
+  noted_same : (number : ℕ) (command : CommandParts) (talk next : Term) (old new : Station) (end : TermEnd) (sent : List WireItem) (closes : Option Cause)
+      (item : WireItem) (p : IsNoted item number command) → IsNote command → IsSide talk old end
+      → TakesRecord old p.bytes sent closes new → next ≡ talk → SameItem next new sent closes false (note_came number command end)
+  noted_same number command talk next old new end sent closes item p note is taken same =
+      let done = obeys old new p.bytes p.body sent closes (command_header always number) command refl p.begins p.spelt taken in
+      let restores : (asked_by command).restore ≡ false = note_restores command note in
+      let silent : data_read command.code (after_command command old.screen) ≡ None = ap (λ (c : CommandCode). data_read c (after_command command old.screen)) note.code in
+      record {
+        is_end = record {
+          shape_is = is.shape_is;
+          talk_is = same ∙ is.talk_is;
+          screen_is = ap (λ (s : Station). s.screen) done.left ∙ ap (after_command command) is.screen_is;
+          keyboard_is = ap (λ (s : Station). s.keyboard) done.left ∙ ap (λ (r : Bool). freed_if r old.keyboard) restores ∙ is.keyboard_is;
+        };
+        said = subst (λ (items : List WireItem). Pairwise StandsUp items (ToHost.Response number Verdict.Positive ∷ []))
+            (sym (done.said ∙ ap (λ (d : Option (List ℕ)). data_sent old.number d ++ done_response always number) silent))
+            ((DeviceEnd, refl, p.begins.number, refl), tt);
+        fit = subst (λ (items : List WireItem). AllByRecursion (CanCome record_limit) items)
+            (sym (done.said ∙ ap (λ (d : Option (List ℕ)). data_sent old.number d ++ done_response always number) silent))
+            (omega arith, tt);
+        closed = done.closed;
+        wrote = ap (λ (s : Station). s.took_write) done.left ∙ note_marks_nothing command note;
       }
 
   -- ---- any message
 
+  -- what comes of an item, but for the history
+  same_item : SentIsRead → (message : ToTerminal) (item : WireItem) (old : ByteEnd) (end : TermEnd) (step : ByteStep) → ItemComes message item old end step
+      → SameItem step.end.talk step.end.station step.says step.closes (is_painted end message) (took end message)
+  same_item reads (ToTerminal.TalksDown saying) item old end step comes =
+      takes_talk saying old.talk step.end.talk (before_byte old.station) step.end.station end step.says step.closes comes.may.0 comes.may.1 (side_of old end comes.is_end) refl
+      (subst (λ (i : WireItem). TakesItem old.talk (before_byte old.station) i step.says step.closes step.end.talk step.end.station) comes.stands comes.takes.takes)
+  same_item reads (ToTerminal.Paint number wanted believed) item old end step comes =
+      subst (λ (b : Bool). SameItem step.end.talk step.end.station step.says step.closes b (once_bound (is_bound end) (paint_came number wanted end) end)) (and_true (is_bound end))
+      (record_comes old.talk step.end.talk (before_byte old.station) step.end.station comes.stands.bytes end step.says step.closes (paint_came number wanted end) true
+      comes.may.is_open (side_of old end comes.is_end) refl
+      (painted_same number wanted believed old.talk step.end.talk (before_byte old.station) step.end.station end step.says step.closes item comes.stands comes.may (side_of old end comes.is_end))
+      (subst (λ (i : WireItem). TakesItem old.talk (before_byte old.station) i step.says step.closes step.end.talk step.end.station) comes.stands.is_record comes.takes.takes))
+  same_item reads (ToTerminal.ReadBuffer number) item old end step comes =
+      subst (λ (b : Bool). SameItem step.end.talk step.end.station step.says step.closes b (once_bound (is_bound end) (read_came end) end)) (and_false (is_bound end))
+      (record_comes old.talk step.end.talk (before_byte old.station) step.end.station comes.stands.bytes end step.says step.closes (read_came end) false
+      comes.may (side_of old end comes.is_end) refl
+      (read_same reads number old.talk step.end.talk (before_byte old.station) step.end.station end step.says step.closes item comes.stands comes.sendable (side_of old end comes.is_end))
+      (subst (λ (i : WireItem). TakesItem old.talk (before_byte old.station) i step.says step.closes step.end.talk step.end.station) comes.stands.is_record comes.takes.takes))
+  same_item reads (ToTerminal.Note number command) item old end step comes =
+      subst (λ (b : Bool). SameItem step.end.talk step.end.station step.says step.closes b (once_bound (is_bound end) (note_came number command end) end)) (and_false (is_bound end))
+      (record_comes old.talk step.end.talk (before_byte old.station) step.end.station comes.stands.bytes end step.says step.closes (note_came number command end) false
+      comes.may.0 (side_of old end comes.is_end) refl
+      (noted_same number command old.talk step.end.talk (before_byte old.station) step.end.station end step.says step.closes item comes.stands comes.may.1 (side_of old end comes.is_end))
+      (subst (λ (i : WireItem). TakesItem old.talk (before_byte old.station) i step.says step.closes step.end.talk step.end.station) comes.stands.is_record comes.takes.takes))
+
+  pub writes_are_marked : SentIsRead → WritesAreMarked
+  writes_are_marked reads message item old end step comes = (same_item reads message item old end step comes).wrote
+
   pub term_takes : SentIsRead → TermTakes
-  term_takes reads (ToTerminal.TalksDown saying) item talk next old new end sent closes stands may can is taken =
-      takes_talk saying talk next old new end sent closes may.0 may.1 is (subst (λ (i : WireItem). TakesItem talk old i sent closes next new) stands taken)
-  term_takes reads (ToTerminal.Paint number wanted believed) item talk next old new end sent closes stands may can is taken =
-      record_comes talk next old new stands.bytes end sent closes (paint_came number wanted end) may.is_open is
-      (painted_same number wanted believed talk next old new end sent closes item stands may is)
-      (subst (λ (i : WireItem). TakesItem talk old i sent closes next new) stands.is_record taken)
-  term_takes reads (ToTerminal.ReadBuffer number) item talk next old new end sent closes stands may can is taken =
-      record_comes talk next old new stands.bytes end sent closes (read_came end) may is
-      (read_same reads number talk next old new end sent closes item stands can is)
-      (subst (λ (i : WireItem). TakesItem talk old i sent closes next new) stands.is_record taken)
+  term_takes reads message item old end step comes =
+      let same = same_item reads message item old end step comes in
+      let history : step.end.history ≡ left_by (is_painted end message) step.end.station.screen old.history =
+      comes.takes.history ∙ ap (λ (w : Bool). left_by w step.end.station.screen old.history) same.wrote in
+      let left = same_left (is_painted end message) step.end.station old.history end.display (took end message).end.display comes.is_end.left_is comes.is_end.erased_is
+      same.is_end.screen_is (leaves message end) in
+      record {
+        is_end = record {
+          shape_is = same.is_end.shape_is;
+          talk_is = same.is_end.talk_is;
+          screen_is = same.is_end.screen_is;
+          keyboard_is = same.is_end.keyboard_is;
+          left_is = ap (λ (h : History). h.left) history ∙ left.0;
+          erased_is = ap (λ (h : History). h.erased) history ∙ left.1;
+        };
+        said = same.said;
+        fit = same.fit;
+        closed = same.closed;
+      }
 
 -- ---- keys
 
@@ -316,24 +459,35 @@ key_comes ascend listed whole true (Refused why) screen number is = tt
 key_comes ascend listed whole false (Refused why) screen number is = tt
 
 pub term_presses : FieldsAscend → FieldsAreListed → FieldsTakeAll → SentIsRead → TermPresses
-term_presses ascend listed whole reads key old rest talk end attached is sendable =
-    let bound : core_is_bound (phase_of old.link) ≡ is_bound end =
-    ap (λ l. core_is_bound (phase_of l)) attached ∙ same_bound talk.talk.state ∙ ap (λ (t : Term). is_some (bound_to t.talk.state)) is.talk_is in
-    let outcome : key_outcome key old.station ≡ pressed columns key end.display.keyboard end.display.screen =
-    ap (λ (k : Keyboard). pressed columns key k old.station.screen) is.keyboard_is ∙ ap (pressed columns key end.display.keyboard) is.screen_is in
+term_presses ascend listed whole reads key old rest end holds sendable =
+    let is = holds.is_end in
+    let station : Station = old.terminal.station in
+    let knows : Bool = core_is_bound (phase_of old.terminal.link) in
+    let bound : knows ≡ is_bound end =
+    ap (λ l. core_is_bound (phase_of l)) holds.attached ∙ same_bound holds.talk.talk.state ∙ ap (λ (t : Term). is_some (bound_to t.talk.state)) is.talk_is in
+    let outcome : key_outcome key station ≡ outcome_of key end.display =
+    ap (λ (k : Keyboard). pressed model_2.columns key k station.screen) is.keyboard_is ∙ ap (pressed model_2.columns key end.display.keyboard) is.screen_is
+    ∙ ap (λ (s : Shape). pressed s.columns key end.display.keyboard end.display.screen) (sym is.shape_is) in
     record {
-      attached = attached;
-      is_end = record {
-        talk_is = is.talk_is;
-        screen_is = ap (λ (o : Outcome). o.screen) outcome;
-        keyboard_is = ap (λ (o : Outcome). o.keyboard) outcome;
+      holds = record {
+        talk = holds.talk;
+        attached = holds.attached;
+        is_end = record {
+          shape_is = is.shape_is;
+          talk_is = is.talk_is;
+          screen_is = ap (λ (o : Outcome). o.screen) outcome;
+          keyboard_is = ap (λ (o : Outcome). o.keyboard) outcome;
+          left_is = is.left_is;
+          erased_is = ap (λ (b : Bool). b || erases_if (key_outcome key station).answer key) is.erased_is
+              ∙ ap (λ (o : Outcome). end.display.erased || erases_if o.answer key) outcome;
+        };
       };
-      items = says_of_key key (core_is_bound (phase_of old.link)) old.station;
+      items = says_of_key key knows station;
       sent = refl;
-      said = subst (λ (b : Bool). Pairwise StandsUp (says_of_key key (core_is_bound (phase_of old.link)) old.station) (data_of b (pressed columns key end.display.keyboard end.display.screen).answer (pressed columns key end.display.keyboard end.display.screen).screen)) bound
-          (subst (λ (o : Outcome). Pairwise StandsUp (says_of_key key (core_is_bound (phase_of old.link)) old.station) (data_of (core_is_bound (phase_of old.link)) o.answer o.screen)) outcome
-          (key_says reads (core_is_bound (phase_of old.link)) (key_outcome key old.station).answer (key_outcome key old.station).screen old.station.number sendable));
-      fit = key_comes ascend listed whole (core_is_bound (phase_of old.link)) (key_outcome key old.station).answer (key_outcome key old.station).screen old.station.number sendable;
+      said = subst (λ (b : Bool). Pairwise StandsUp (says_of_key key knows station) (data_of b (outcome_of key end.display).answer (outcome_of key end.display).screen)) bound
+          (subst (λ (o : Outcome). Pairwise StandsUp (says_of_key key knows station) (data_of knows o.answer o.screen)) outcome
+          (key_says reads knows (key_outcome key station).answer (key_outcome key station).screen station.number sendable));
+      fit = key_comes ascend listed whole knows (key_outcome key station).answer (key_outcome key station).screen station.number sendable;
       closed = refl;
     }
 
@@ -404,9 +558,11 @@ begin_stands written is_rest empty terminal wanted = record {
   host = λ here. record { host = refl; up = empty };
   term = λ which here. record {
     rest = nothing;
-    talk = term_start wanted;
-    attached = refl;
-    is_end = record { talk_is = refl; screen_is = refl; keyboard_is = refl };
+    holds = record {
+      talk = term_start wanted;
+      attached = refl;
+      is_end = record { shape_is = refl; talk_is = refl; screen_is = refl; keyboard_is = refl; left_is = refl; erased_is = refl };
+    };
     silent = refl;
     down = record { is_rest = is_rest record_limit; items = OptItem Do 40 ∷ []; delivers = written record_limit (OptItem Do 40) tt; each = (refl, tt) };
   };

@@ -1,75 +1,96 @@
--- What comes down to a terminal may come, at each stage of its connection.
-use Rattle.std.proofs.Common.{◌≡◌, ℕ, Option, List, [], ◌∷◌, refl, sym, subst, ◌∙◌}
+-- What comes down to a terminal may come, at each moment of its connection.
+use Rattle.std.proofs.Common.{◌≡◌, ℕ, List, [], ◌∷◌, sym, subst, refl, ◌∙◌}
+use Rattle.datastream.specs.Grammar.{CommandParts}
 use Rattle.telnet_wire.specs.declared.wire.Verb.TheVariants.{Do}
-use Rattle.tn3270e_msg.specs.Talk.{Talk, Saying}
+use Rattle.tn3270e_msg.specs.Talk.{Saying}
 use Rattle.tn3270e_msg.specs.TermTable.{Term}
 use Rattle.tn3270e_msg.specs.declared.device.Device.TheVariants.{Model2}
-use Rattle.tn3270e_msg.specs.declared.host_talk.HostState.{HostState}
 use Rattle.tn3270e_msg.specs.declared.reply.Sending.TheVariants.{SendType, TypeIs, TypeReject, FunIs}
-use Rattle.tn3270e_msg.specs.declared.term_talk.TermState.{TermState}
-use Rattle.host_core.specs.Application.{Application, IsApplication}
-use Rattle.host_core.specs.Messages.{ToTerminal, ToHost}
+use Rattle.host_core.specs.Application.{Application, IsApplication, IsShape}
+use Rattle.host_core.specs.Messages.{ToTerminal}
+use Rattle.host_core.specs.NoteLaws.{IsNoteOf}
+use Rattle.world3270.specs.Always.{Always}
 use Rattle.world3270.specs.Given.{Given}
-use Rattle.world3270.specs.Headline.{Always}
+use Rattle.world3270.specs.Happens.{run}
 use Rattle.world3270.specs.Link.{Link}
-use Rattle.world3270.specs.Stages.{UnderWay, At, Moment, Stage, Kept}
-use Rattle.world3270.specs.Stages.Moment.{offered, willing, type_wanted, type_asked, named, functions_asked, agreeing, rejected, refused}
-use Rattle.world3270.specs.Stages.Stage.{talking, first_paint, at_host, painting, answering, operating, sent_behind, sent_alone, asking, reporting}
-use Rattle.world3270.specs.StandsLaws.{IsSaid, IsOpen, NamesWanted, MayCome, MayComeAll, NoneCloses, WhatComesMayCome}
+use Rattle.world3270.specs.Moments.{UnderWay, Talking, Serving, Moment, IsAt, term_state_at, down_at}
+use Rattle.world3270.specs.Stages.{scene_of, Fact, Kept}
+use Rattle.world3270.specs.StandsEnds.{IsSaid, IsOpen, NamesWanted, MayCome}
+use Rattle.world3270.specs.StandsLinks.{MayComeAll, NoneCloses, WhatComesMayCome}
 use Rattle.world3270.specs.Terminal.{took}
 use Rattle.world3270.specs.View.{view_of}
-use Rattle.world3270.specs.World.{World, run, new_world}
+use Rattle.world3270.specs.World.{World, new_world}
 use Rattle.world3270.proofs.Down.{term_view, obeys}
 use Rattle.world3270.proofs.Queues.{front, nothing}
 use Rattle.world3270.proofs.Worlds.{run_good, new_good}
 
--- a saying, in a state of the talk
-saying_may : (link : Link) (host : Talk HostState) (wanted : Option (List ℕ)) (state : TermState) (down rest : List ToTerminal) (up : List ToHost) (saying : Saying) (message : ToTerminal)
-    → At (view_of link) host wanted state (ToTerminal.TalksDown saying ∷ down) up → link.down ≡ message ∷ rest → IsSaid saying → NamesWanted state wanted
-    → MayCome link.term message
-saying_may link host wanted state down rest up saying message at e said wish =
-    subst (λ m. MayCome link.term m) (sym (front link.lost link.down message rest (ToTerminal.TalksDown saying) down e at.goes_down).0)
-    (said, subst (λ (t : Term). NamesWanted t.talk.state t.wanted) (sym at.term_talk) wish)
+module _ (given : Given) (app : Application) (is : IsApplication app) (link : Link) (message : ToTerminal) (rest : List ToTerminal) (e : link.down ≡ message ∷ rest)
+    (k : Kept app (view_of link)) where
+  -- what comes is the first message that is under way
+  is_first : (moment : Moment) (first : ToTerminal) (behind : List ToTerminal) → IsAt (view_of link) k.wanted moment → down_at moment ≡ first ∷ behind → message ≡ first
+  is_first moment first behind at down =
+      (front link.lost link.down message rest first behind e (subst (UnderWay link.lost link.down) down at.goes_down)).0
 
--- a record, in a state of the talk
-record_may : (link : Link) (host : Talk HostState) (wanted : Option (List ℕ)) (state : TermState) (down rest : List ToTerminal) (up : List ToHost) (first message : ToTerminal)
-    → At (view_of link) host wanted state (first ∷ down) up → link.down ≡ message ∷ rest → IsOpen state
-    → (IsOpen link.term.talk.talk.state → MayCome link.term first) → MayCome link.term message
-record_may link host wanted state down rest up first message at e is_open may =
-    subst (λ m. MayCome link.term m) (sym (front link.lost link.down message rest first down e at.goes_down).0)
-    (may (subst (λ (t : Term). IsOpen t.talk.state) (sym at.term_talk) is_open))
+  -- a saying, in the state that the talk is in
+  saying_may : (moment : Moment) (saying : Saying) (behind : List ToTerminal) → IsAt (view_of link) k.wanted moment → down_at moment ≡ ToTerminal.TalksDown saying ∷ behind
+      → IsSaid saying → NamesWanted (term_state_at moment) k.wanted → MayCome link.term message
+  saying_may moment saying behind at down said wish =
+      subst (λ m. MayCome link.term m) (sym (is_first moment (ToTerminal.TalksDown saying) behind at down))
+      (said, subst (λ (t : Term). NamesWanted t.talk.state t.wanted) (sym at.term_talk) wish)
 
-may_come : (app : Application) (link : Link) (message : ToTerminal) (rest : List ToTerminal) → link.down ≡ message ∷ rest → Kept app (view_of link) → MayCome link.term message
-may_come app link message rest e k = cases k.stage
-  where
-    none : UnderWay link.lost link.down [] → MayCome link.term message
-    none way = absurd (nothing link.lost link.down message rest e way)
+  -- a record, while the talk goes on
+  record_may : (lu : List ℕ) (serving : Serving) (first : ToTerminal) → IsAt (view_of link) k.wanted (Moment.Serves lu serving) → down_at (Moment.Serves lu serving) ≡ first ∷ []
+      → (IsOpen link.term.talk.talk.state → MayCome link.term first) → MayCome link.term message
+  record_may lu serving first at down may =
+      subst (λ m. MayCome link.term m) (sym (is_first (Moment.Serves lu serving) first [] at down))
+      (may (subst (λ (t : Term). IsOpen t.talk.state) (sym at.term_talk) tt))
 
-    at_moment : Moment (view_of link) → MayCome link.term message
-    at_moment (offered wanted lu at) = saying_may link _ wanted _ [] rest [] (Saying.Opt Do 40) message at e tt tt
-    at_moment (type_wanted wanted lu at) = saying_may link _ wanted _ [] rest [] (Saying.Sub SendType) message at e tt lu
-    at_moment (named wanted lu suits at) = saying_may link _ wanted _ [] rest [] (Saying.Sub (TypeIs Model2 lu)) message at e suits.is_lu tt
-    at_moment (agreeing wanted lu at) = saying_may link _ wanted _ [] rest [] (Saying.Sub FunIs) message at e tt tt
-    at_moment (rejected wanted reason at) = saying_may link _ wanted _ [] rest [] (Saying.Sub (TypeReject reason)) message at e tt tt
-    at_moment (willing wanted lu at) = none at.goes_down
-    at_moment (type_asked wanted lu at) = none at.goes_down
-    at_moment (functions_asked wanted lu at) = none at.goes_down
-    at_moment (refused wanted reason at) = none at.goes_down
+  none : (moment : Moment) → IsAt (view_of link) k.wanted moment → down_at moment ≡ [] → MayCome link.term message
+  none moment at down = absurd (nothing link.lost link.down message rest e (subst (UnderWay link.lost link.down) down at.goes_down))
 
-    cases : Stage app (view_of link) → MayCome link.term message
-    cases (talking n moment) = at_moment moment
-    cases (first_paint lu number paints s) = saying_may link _ s.wanted _ _ rest [] (Saying.Sub FunIs) message s.at e tt tt
-    cases (at_host lu s) = none s.session.at.goes_down
-    cases (painting lu number paints s) =
-        record_may link _ s.session.wanted _ [] rest [] (ToTerminal.Paint number paints link.host.shadow) message s.session.at e tt
-        (λ is_open. record { is_open = is_open; size = s.paintable.showable.cells ∙ sym k.whole; meets = s.meets })
-    cases (answering lu number paints session s) = none session.at.goes_down
-    cases (operating lu session s) = none session.at.goes_down
-    cases (sent_behind lu number paints session s) = none session.at.goes_down
-    cases (sent_alone lu session s) = none session.at.goes_down
-    cases (asking lu number session s) =
-        record_may link _ session.wanted _ [] rest [] (ToTerminal.ReadBuffer number) message session.at e tt (λ is_open. is_open)
-    cases (reporting lu number session s) = none session.at.goes_down
+  note_may : (lu : List ℕ) (serving : Serving) (number : ℕ) (command : CommandParts) → IsAt (view_of link) k.wanted (Moment.Serves lu serving)
+      → down_at (Moment.Serves lu serving) ≡ ToTerminal.Note number command ∷ [] → IsNoteOf link.host.shape command → MayCome link.term message
+  note_may lu serving number command at down note =
+      record_may lu serving (ToTerminal.Note number command) at down
+      (λ is_open. (is_open, (given.notes.are_notes link.host.shape command (subst IsShape (sym k.shape.begins) is.shape) note).note))
+
+  talk_may : (talking : Talking) → IsAt (view_of link) k.wanted (Moment.Talks talking) → Fact k.wanted (scene_of (view_of link)) (Moment.Talks talking) → MayCome link.term message
+  talk_may Talking.Offering at f = saying_may (Moment.Talks Talking.Offering) (Saying.Opt Do 40) [] at refl tt tt
+  talk_may Talking.AskingType at f = saying_may (Moment.Talks Talking.AskingType) (Saying.Sub SendType) [] at refl tt f.1
+  talk_may (Talking.Granting lu) at f = saying_may (Moment.Talks (Talking.Granting lu)) (Saying.Sub (TypeIs Model2 lu)) [] at refl f.1.is_lu tt
+  talk_may (Talking.Agreeing lu) at f = saying_may (Moment.Talks (Talking.Agreeing lu)) (Saying.Sub FunIs) [] at refl tt tt
+  talk_may (Talking.Rejecting reason) at f = saying_may (Moment.Talks (Talking.Rejecting reason)) (Saying.Sub (TypeReject reason)) [] at refl tt tt
+  talk_may Talking.Accepting at f = none (Moment.Talks Talking.Accepting) at refl
+  talk_may Talking.NamingType at f = none (Moment.Talks Talking.NamingType) at refl
+  talk_may (Talking.AskingFunctions lu) at f = none (Moment.Talks (Talking.AskingFunctions lu)) at refl
+  talk_may (Talking.Rejected reason) at f = none (Moment.Talks (Talking.Rejected reason)) at refl
+
+  serving_may : (lu : List ℕ) (serving : Serving) → IsAt (view_of link) k.wanted (Moment.Serves lu serving) → Fact k.wanted (scene_of (view_of link)) (Moment.Serves lu serving)
+      → MayCome link.term message
+  serving_may lu (Serving.Reading number) at f = record_may lu (Serving.Reading number) (ToTerminal.ReadBuffer number) at refl (λ is_open. is_open)
+  serving_may lu (Serving.Painting number command wanted over) at f =
+      record_may lu (Serving.Painting number command wanted over) (ToTerminal.Paint number wanted over) at refl
+      (λ is_open. record { is_open = is_open; size = f.paintable.showable.cells ∙ sym k.whole; meets = f.meets })
+  serving_may lu (Serving.NotedLate number command) at f = note_may lu (Serving.NotedLate number command) number command at refl f.1.note
+  serving_may lu (Serving.Noting number command) at f = note_may lu (Serving.Noting number command) number command at refl f.1
+  serving_may lu (Serving.KeyNoted number command parts) at f = note_may lu (Serving.KeyNoted number command parts) number command at refl f.2.note
+  serving_may lu Serving.Deciding at f = none (Moment.Serves lu Serving.Deciding) at refl
+  serving_may lu (Serving.Reported number parts) at f = none (Moment.Serves lu (Serving.Reported number parts)) at refl
+  serving_may lu (Serving.AnsweredLate number command) at f = none (Moment.Serves lu (Serving.AnsweredLate number command)) at refl
+  serving_may lu (Serving.Answering kind number command) at f = none (Moment.Serves lu (Serving.Answering kind number command)) at refl
+  serving_may lu Serving.Operating at f = none (Moment.Serves lu Serving.Operating) at refl
+  serving_may lu (Serving.KeyAlone parts) at f = none (Moment.Serves lu (Serving.KeyAlone parts)) at refl
+  serving_may lu (Serving.KeyBehind kind number command parts) at f = none (Moment.Serves lu (Serving.KeyBehind kind number command parts)) at refl
+  serving_may lu (Serving.KeyBefore number command parts) at f = none (Moment.Serves lu (Serving.KeyBefore number command parts)) at refl
+
+  moment_may : (moment : Moment) → IsAt (view_of link) k.wanted moment → Fact k.wanted (scene_of (view_of link)) moment → MayCome link.term message
+  moment_may (Moment.Talks talking) at f = talk_may talking at f
+  moment_may (Moment.Begins lu number command wanted over) at f =
+      saying_may (Moment.Begins lu number command wanted over) (Saying.Sub FunIs) (ToTerminal.Paint number wanted over ∷ []) at refl tt tt
+  moment_may (Moment.Serves lu serving) at f = serving_may lu serving at f
+
+  may_come : MayCome link.term message
+  may_come = moment_may k.moment k.at k.fact
 
 all_may : Given → (app : Application) → IsApplication app → (messages : List ToTerminal) (link : Link) → link.down ≡ messages → Kept app (view_of link)
     → MayComeAll link.term messages × NoneCloses link.term messages
@@ -77,7 +98,7 @@ all_may given app is [] link e k = (tt, tt)
 all_may given app is (message ∷ messages) link e k =
     let first = obeys given app is link message messages e k in
     let others = all_may given app is messages (term_view (took link.term message) messages link) refl first.kept in
-    ((may_come app link message messages e k, others.0), (first.open_end, others.1))
+    ((may_come given app is link message messages e k, others.0), (first.open_end, others.1))
 
 pub what_comes_may_come : Given → Always WhatComesMayCome
 what_comes_may_come given app pool terminals events is lists few are number =

@@ -1,28 +1,39 @@
--- A connection over bytes stands for one over messages as its terminal goes on.
-use Rattle.std.proofs.Common.{◌≡◌, ℕ, Bool, true, false, Option, None, Some, List, [], ◌∷◌, ◌++◌, refl, ap, sym, subst, ◌∙◌, append_assoc}
+-- A connection over bytes stands for one over messages, whatever happens on it.
+use Rattle.std.proofs.Common.{◌≡◌, ◌||◌, ℕ, Bool, true, false, Option, None, Some, List, [], ◌∷◌, ◌++◌, refl, ap, sym, subst, ◌∙◌, append_assoc}
+use Rattle.std.proofs.lemmas.Grind.{flat_map-append}
 use Rattle.std.proofs.lemmas.List.{append-nil}
 use Rattle.std.specs.List.{AllByRecursion}
-use Rattle.codes3270.specs.Size.{columns}
 use Rattle.datastream.specs.InboundFields.{IsSendable}
 use Rattle.shadow.specs.Pairs.{Pairwise}
-use Rattle.telnet_wire.specs.Items.{WireItem, CanCome}
+use Rattle.telnet_wire.specs.Items.{WireItem, CanCome, item_tokens}
 use Rattle.telnet_wire.specs.Laws.{WrongIsFinal}
 use Rattle.telnet_wire.specs.Reading.{Rest, nothing, Delivers, GoesWrong}
+use Rattle.telnet_wire.specs.Token.{text}
 use Rattle.telnet_wire.specs.declared.wire.WireFault.{WireFault}
 use Rattle.tn3270e_msg.specs.TermTable.{Term}
 use Rattle.tn3270e_msg.specs.declared.cause.Cause.{Cause}
-use Rattle.term_core.specs.Bytes.{TakesByte, TakesBytes, before_byte, link_after}
+use Rattle.term_core.specs.Bytes.{TakesByte, before_byte, link_after}
 use Rattle.term_core.specs.Items.{TakesItem}
-use Rattle.term_core.specs.Laws.{BytesAreItems, IsByItems, TakesItems}
-use Rattle.term_core.specs.Presses.{after_key}
 use Rattle.term_core.specs.Says.{sent_bytes}
 use Rattle.term_core.specs.State.{Station, Terminal, Attached, record_limit}
 use Rattle.host_core.specs.Messages.{ToTerminal, ToHost}
 use Rattle.world3270.specs.Link.{Link, sent, term_left_if, term_stepped}
-use Rattle.world3270.specs.Stands.{StandsDown, StandsUp, BytesUp, BytesDown, ByteLink, IsEnd, HostStands, TermStands, LinkStands}
-use Rattle.world3270.specs.StandsLaws.{TakesKeepSendable, TermTakes, TermPresses, StandsCompose, StandsGoOn, TakesSome, PressStands, MayComeAll, NoneCloses, took_down, fed, CameDown, DownStands, HostSends, UpStands, LossStands, HostLeaves, TermLeaves}
+use Rattle.world3270.specs.Seats.{History, Seat, marked, SeatTakes, HistoryFollows, seat_after_key, ByteStep, end_at, EndTakes}
+use Rattle.world3270.specs.Stands.{StandsDown, StandsUp, BytesUp, BytesDown, ByteLink, IsEnd, Holds, HostStands, TermStands, LinkStands}
+use Rattle.world3270.specs.StandsEnds.{TakesKeepSendable, TermTakes, is_painted, WritesAreMarked, TermPresses}
+use Rattle.world3270.specs.StandsLinks.{StandsCompose, StandsGoOn, PressStands, MayComeAll, NoneCloses, took_down, fed, DownStands, any_painted, BytesAreMarked, HostSends, UpStands, LossStands, HostLeaves, TermLeaves}
 use Rattle.world3270.specs.Terminal.{TermEnd, TermStep, took, key_came}
 use Rattle.world3270.proofs.Stands.{pairs_more}
+
+-- ---- history
+
+pub history_follows : HistoryFollows
+history_follows old [] new taken =
+    (old.history, ap (λ (t : Terminal). record { terminal = t; history = old.history }) taken)
+history_follows old (byte ∷ bytes) new taken =
+    let mid : Seat = record { terminal = taken.0; history = marked taken.0.station old.history } in
+    let more = history_follows mid bytes new taken.2 in
+    (more.0, (mid, record { takes = taken.1; history = refl }, more.1))
 
 -- ---- what is said goes up
 
@@ -43,28 +54,29 @@ sent_twice false queue some others = append_assoc queue some others
 
 -- ---- keys
 
+-- what it said is handed on
+silenced : (rest : Rest) (seat : Seat) (end : TermEnd) → Holds rest seat end → Holds rest (record seat { terminal = record seat.terminal { out = [] } }) end
+silenced rest seat end holds = record { talk = holds.talk; attached = holds.attached; is_end = holds.is_end }
+
 pub press_stands : TermPresses → StandsCompose StandsUp → PressStands
 press_stands presses compose key bytes link terminal stands here sendable =
     let term = stands.term terminal here in
-    let at_key = presses key bytes.term term.rest link.term.talk link.term
-    (term.attached ∙ ap (λ (t : Term). Attached term.rest t) term.is_end.talk_is)
-    (record { talk_is = refl; screen_is = term.is_end.screen_is; keyboard_is = term.is_end.keyboard_is }) sendable in
-    let out : (after_key key bytes.term).out ≡ sent_bytes at_key.items = at_key.sent ∙ ap (λ (b : List ℕ). b ++ sent_bytes at_key.items) term.silent in
+    let at_key = presses key bytes.seat term.rest link.term term.holds sendable in
+    let new : Seat = seat_after_key key bytes.seat in
+    let out : new.terminal.out ≡ sent_bytes at_key.items = at_key.sent ∙ ap (λ (b : List ℕ). b ++ sent_bytes at_key.items) term.silent in
     record {
       lost = stands.lost;
       host_here = stands.host_here;
       term_here = stands.term_here;
       host = λ there. record {
         host = (stands.host there).host;
-        up = subst (λ (l : Bool). BytesUp bytes.host_rest (sent l bytes.up (after_key key bytes.term).out) (sent link.lost link.up (key_came columns key link.term).sends)) (sym stands.lost)
-            (said_goes_up compose link.lost bytes.host_rest bytes.up (after_key key bytes.term).out link.up (key_came columns key link.term).sends at_key.items
+        up = subst (λ (l : Bool). BytesUp bytes.host_rest (sent l bytes.up new.terminal.out) (sent link.lost link.up (key_came key link.term).sends)) (sym stands.lost)
+            (said_goes_up compose link.lost bytes.host_rest bytes.up new.terminal.out link.up (key_came key link.term).sends at_key.items
             (stands.host there).up out at_key.fit at_key.said);
       };
       term = λ which is. record {
         rest = term.rest;
-        talk = link.term.talk;
-        attached = at_key.attached;
-        is_end = at_key.is_end;
+        holds = silenced term.rest new (key_came key link.term).end at_key.holds;
         silent = refl;
         down = term.down;
       };
@@ -72,18 +84,28 @@ press_stands presses compose key bytes link terminal stands here sendable =
 
 -- ---- what comes down
 
--- the connection once messages came down, and what was said to them
-record Ran (link now : Link) (says : List WireItem) (after : Term) (new : Station) (others : List ToTerminal) : Type 0 where
+-- the connection once messages came down, and what the terminal said to them
+record Ran (link now : Link) (old new : Seat) (behind : List ℕ) : Type 0 where
   lost : now.lost ≡ link.lost
   host_here : now.host_here ≡ link.host_here
   host : now.host ≡ link.host
   term_here : now.term_here ≡ link.term_here
-  down : now.down ≡ others
-  is_end : IsEnd after new now.term
+  rest : Rest
+  holds : Holds rest new now.term
+  down : BytesDown rest behind now.down
+  says : List WireItem
+  out : new.terminal.out ≡ old.terminal.out ++ sent_bytes says
   sends : List ToHost
   up : now.up ≡ sent link.lost link.up sends
   said : Pairwise StandsUp says sends
   fit : AllByRecursion (CanCome record_limit) says
+
+-- the first of the messages came down
+record CameSome (link : Link) (old new : Seat) (behind : List ℕ) : Type 0 where
+  taken : List ToTerminal
+  others : List ToTerminal
+  whole : link.down ≡ taken ++ others
+  ran : Ran link (took_down taken others link) old new behind
 
 all_more : {X : Type 0} (P : X → Type 0) (xs ys : List X) → AllByRecursion P xs → AllByRecursion P ys → AllByRecursion P (xs ++ ys)
 all_more P [] ys h k = k
@@ -93,62 +115,61 @@ all_more P (x ∷ xs) ys h k = (h.0, all_more P xs ys h.1 k)
 abbrev stayed : TermStep → List ToTerminal → Link → Link
 stayed step rest link = record link { down = rest; term = step.end; up = sent link.lost link.up step.sends }
 
-one_more : (link now : Link) (step : TermStep) (rest others : List ToTerminal) (some more says : List WireItem) (after : Term) (new : Station)
-    → Pairwise StandsUp some step.sends → AllByRecursion (CanCome record_limit) some → says ≡ some ++ more
-    → Ran (stayed step rest link) now more after new others → Ran link now says after new others
-one_more link now step rest others some more says after new said fit whole ran = record {
-  lost = ran.lost;
-  host_here = ran.host_here;
-  host = ran.host;
-  term_here = ran.term_here;
-  down = ran.down;
-  is_end = ran.is_end;
-  sends = step.sends ++ ran.sends;
-  up = ran.up ∙ sent_twice link.lost link.up step.sends ran.sends;
-  said = subst (λ (items : List WireItem). Pairwise StandsUp items (step.sends ++ ran.sends)) (sym whole) (pairs_more StandsUp some more step.sends ran.sends said ran.said);
-  fit = subst (λ (items : List WireItem). AllByRecursion (CanCome record_limit) items) (sym whole) (all_more (CanCome record_limit) some more fit ran.fit);
-}
-
-runs_down : TermTakes → TakesKeepSendable → (items says : List WireItem) (messages others : List ToTerminal) (talk after : Term) (old new : Station) (link : Link)
-    → Pairwise StandsDown items messages → MayComeAll link.term messages → IsSendable link.term.display.screen → IsEnd talk old link.term → link.down ≡ messages ++ others
-    → TakesItems talk old items says after new → Ran link (took_down messages others link) says after new others
-runs_down takes keeps [] says [] others talk after old new link stand may can is queue taken = record {
+ran_nothing : (link : Link) (old new : Seat) (behind : List ℕ) (rest : Rest) → Holds rest old link.term → BytesDown rest behind link.down → new ≡ old → Ran link link old new behind
+ran_nothing link old new behind rest holds down same = record {
   lost = refl;
   host_here = refl;
   host = refl;
   term_here = refl;
-  down = queue;
-  is_end = record {
-    talk_is = taken.1 ∙ is.talk_is;
-    screen_is = ap (λ (s : Station). s.screen) taken.2 ∙ is.screen_is;
-    keyboard_is = ap (λ (s : Station). s.keyboard) taken.2 ∙ is.keyboard_is;
-  };
+  rest = rest;
+  holds = subst (λ (s : Seat). Holds rest s link.term) (sym same) holds;
+  down = down;
+  says = [];
+  out = ap (λ (s : Seat). s.terminal.out) same ∙ sym (append-nil old.terminal.out);
   sends = [];
   up = sent_nothing link.lost link.up;
-  said = subst (λ (items : List WireItem). Pairwise StandsUp items []) (sym taken.0) tt;
-  fit = subst (λ (items : List WireItem). AllByRecursion (CanCome record_limit) items) (sym taken.0) tt;
+  said = tt;
+  fit = tt;
 }
-runs_down takes keeps [] says (message ∷ messages) others talk after old new link stand may can is queue taken = absurd stand
-runs_down takes keeps (item ∷ items) says [] others talk after old new link stand may can is queue taken = absurd stand
-runs_down takes keeps (item ∷ items) says (message ∷ messages) others talk after old new link stand may can is queue (next, mid, some, more, one, behind, whole) =
-    let step = takes message item talk next (before_byte old) mid link.term some None stand.0 may.0 can
-    (record { talk_is = is.talk_is; screen_is = is.screen_is; keyboard_is = is.keyboard_is }) one in
-    let now : term_stepped (took link.term message) (messages ++ others) link ≡ stayed (took link.term message) (messages ++ others) link =
-    ap (λ (c : Option Cause). term_left_if c (stayed (took link.term message) (messages ++ others) link)) (sym step.closed) in
-    let ran = runs_down takes keeps items more messages others next after mid new (stayed (took link.term message) (messages ++ others) link) stand.1 may.1 (keeps message item link.term stand.0 may.0 can) step.is_end refl behind in
-    subst (λ (l : Link). Ran link (took_down messages others l) says after new others) (sym now)
-    (one_more link (took_down messages others (stayed (took link.term message) (messages ++ others) link)) (took link.term message) (messages ++ others) others some more says after new
-    step.said step.fit whole ran)
 
-may_come_first : (end : TermEnd) (messages others : List ToTerminal) → MayComeAll end (messages ++ others) → MayComeAll end messages
-may_come_first end [] others may = tt
-may_come_first end (message ∷ messages) others may = (may.0, may_come_first (took end message).end messages others may.1)
+-- a byte before that completes nothing
+ran_since : (link now : Link) (old mid new : Seat) (behind : List ℕ) → mid.terminal.out ≡ old.terminal.out → Ran link now mid new behind → Ran link now old new behind
+ran_since link now old mid new behind out ran = record {
+  lost = ran.lost;
+  host_here = ran.host_here;
+  host = ran.host;
+  term_here = ran.term_here;
+  rest = ran.rest;
+  holds = ran.holds;
+  down = ran.down;
+  says = ran.says;
+  out = ran.out ∙ ap (λ (b : List ℕ). b ++ sent_bytes ran.says) out;
+  sends = ran.sends;
+  up = ran.up;
+  said = ran.said;
+  fit = ran.fit;
+}
 
--- the terminal is still attached
-record StaysAttached (new : Terminal) : Type 0 where
-  to : Rest
-  after : Term
-  attached : new.link ≡ Attached to after
+-- an item before, to which it says some
+one_more : (link now : Link) (step : TermStep) (rest : List ToTerminal) (old mid new : Seat) (behind : List ℕ) (some : List WireItem)
+    → Pairwise StandsUp some step.sends → AllByRecursion (CanCome record_limit) some → mid.terminal.out ≡ old.terminal.out ++ sent_bytes some
+    → Ran (stayed step rest link) now mid new behind → Ran link now old new behind
+one_more link now step rest old mid new behind some said fit out ran = record {
+  lost = ran.lost;
+  host_here = ran.host_here;
+  host = ran.host;
+  term_here = ran.term_here;
+  rest = ran.rest;
+  holds = ran.holds;
+  down = ran.down;
+  says = some ++ ran.says;
+  out = ran.out ∙ ap (λ (b : List ℕ). b ++ sent_bytes ran.says) out ∙ append_assoc old.terminal.out (sent_bytes some) (sent_bytes ran.says)
+      ∙ ap (λ (b : List ℕ). old.terminal.out ++ b) (sym (flat_map-append (λ (item : WireItem). text (item_tokens item)) some ran.says));
+  sends = step.sends ++ ran.sends;
+  up = ran.up ∙ sent_twice link.lost link.up step.sends ran.sends;
+  said = pairs_more StandsUp some ran.says step.sends ran.sends said ran.said;
+  fit = all_more (CanCome record_limit) some ran.says fit ran.fit;
+}
 
 link_parts : (rest to : Rest) (talk after : Term) → Attached rest talk ≡ Attached to after → (rest ≡ to) × (talk ≡ after)
 link_parts rest to talk after e = (cc, cc)
@@ -163,111 +184,180 @@ none_for_none : (taken : List ToTerminal) → Pairwise StandsDown [] taken → t
 none_for_none [] stand = refl
 none_for_none (message ∷ messages) stand = absurd stand
 
+-- what is to be shown of some bytes, wherever they are taken
+abbrev Comes : List ℕ → List ℕ → Seat → Type 0
+Comes front behind new = (old : Seat) (rest : Rest) (link : Link)
+    → Holds rest old link.term → BytesDown rest (front ++ behind) link.down → MayComeAll link.term link.down → NoneCloses link.term link.down
+    → IsSendable link.term.display.screen → SeatTakes old front new → CameSome link old new behind
+
 module _ (takes : TermTakes) (keeps : TakesKeepSendable) (goes_on : StandsGoOn StandsDown) (final : WrongIsFinal) where
-  -- what the terminal has after an item is what it has after its message, which closes nothing
-  after_item : (item : WireItem) (taken others messages : List ToTerminal) (talk after : Term) (old station : Station) (end : TermEnd) (says : List WireItem) (closes : Option Cause)
-      → messages ≡ taken ++ others → Pairwise StandsDown (item ∷ []) taken → MayComeAll end messages → NoneCloses end messages → IsSendable end.display.screen → IsEnd talk old end
-      → TakesItem talk old item says closes after station
-      → (closes ≡ None) × (next : TermEnd) × IsEnd after station next × MayComeAll next others × NoneCloses next others × IsSendable next.display.screen
-  after_item item [] others messages talk after old station end says closes whole stand may none can is taken = absurd stand
-  after_item item (message ∷ []) others messages talk after old station end says closes whole stand may none can is taken =
-      let all = subst (λ (m : List ToTerminal). MayComeAll end m) whole may in
-      let open_ = subst (λ (m : List ToTerminal). NoneCloses end m) whole none in
-      let step = takes message item talk after old station end says closes stand.0 all.0 can is taken in
-      (step.closed ∙ open_.0, (took end message).end, step.is_end, all.1, open_.1, keeps message item end stand.0 all.0 can)
-  after_item item (message ∷ other ∷ more) others messages talk after old station end says closes whole stand may none can is taken = absurd stand.1
+  -- an item that stands for the first message
+  item_comes : (item : WireItem) (taken others : List ToTerminal) (link : Link) (talk after : Term) (old mid new : Seat) (to : Rest) (front behind : List ℕ) (says : List WireItem) (closes : Option Cause)
+      → Comes front behind new → link.down ≡ taken ++ others → Pairwise StandsDown (item ∷ []) taken → BytesDown to (front ++ behind) others
+      → MayComeAll link.term link.down → NoneCloses link.term link.down → IsSendable link.term.display.screen → IsEnd (end_at talk old) link.term
+      → EndTakes (end_at talk old) item (record { end = end_at after mid; says = says; closes = closes })
+      → mid.terminal.link ≡ link_after to after closes → mid.terminal.out ≡ old.terminal.out ++ sent_bytes says → SeatTakes mid front new → CameSome link old new behind
+  item_comes item [] others link talk after old mid new to front behind says closes comes whole each down may none can is taken at out more = absurd each
+  item_comes item (message ∷ []) others link talk after old mid new to front behind says closes comes whole each down may none can is taken at out more =
+      let all = subst (λ (m : List ToTerminal). MayComeAll link.term m) whole may in
+      let opened = subst (λ (m : List ToTerminal). NoneCloses link.term m) whole none in
+      let step : ByteStep = record { end = end_at after mid; says = says; closes = closes } in
+      let same = takes message item (end_at talk old) link.term step (record { stands = each.0; may = all.0; sendable = can; is_end = is; takes = taken }) in
+      let next : Link = stayed (took link.term message) others link in
+      let came = comes mid to next
+      (record { talk = after; attached = at ∙ ap (link_after to after) (same.closed ∙ opened.0); is_end = same.is_end })
+      down all.1 opened.1 (keeps message item link.term each.0 all.0 can) more in
+      let now : term_stepped (took link.term message) (came.taken ++ came.others) link ≡ next =
+      ap (λ (c : Option Cause). term_left_if c (stayed (took link.term message) (came.taken ++ came.others) link)) opened.0
+      ∙ ap (λ (m : List ToTerminal). stayed (took link.term message) m link) (sym came.whole) in
+      record {
+        taken = message ∷ came.taken;
+        others = came.others;
+        whole = whole ∙ ap (λ (m : List ToTerminal). message ∷ m) came.whole;
+        ran = subst (λ (l : Link). Ran link (took_down came.taken came.others l) old new behind) (sym now)
+            (one_more link (took_down came.taken came.others next) (took link.term message) others old mid new behind says same.said same.fit out came.ran);
+      }
+  item_comes item (message ∷ other ∷ more) others link talk after old mid new to front behind says closes comes whole each down may none can is taken at out rest = absurd each.1
 
-  -- what is to be shown of some bytes, on any terminal that stands
-  abbrev Stays : List ℕ → List ℕ → Terminal → Type 0
-  Stays front behind new = (old : Terminal) (rest : Rest) (talk : Term) (end : TermEnd) (messages : List ToTerminal)
-      → old.link ≡ Attached rest talk → IsEnd talk old.station end → BytesDown rest (front ++ behind) messages → MayComeAll end messages → NoneCloses end messages
-      → IsSendable end.display.screen → TakesBytes old front new → StaysAttached new
+  -- what the terminal takes with a byte, as the end takes it
+  end_takes : (item : WireItem) (talk same after : Term) (old mid : Seat) (says : List WireItem) (closes : Option Cause) (station : Station) → same ≡ talk → station ≡ mid.terminal.station
+      → TakesItem same (before_byte old.terminal.station) item says closes after station → mid.history ≡ marked mid.terminal.station old.history
+      → EndTakes (end_at talk old) item (record { end = end_at after mid; says = says; closes = closes })
+  end_takes item talk same after old mid says closes station is is_mid taken history = record {
+    takes = subst (λ (s : Station). TakesItem talk (before_byte old.terminal.station) item says closes after s) is_mid
+        (subst (λ (t : Term). TakesItem t (before_byte old.terminal.station) item says closes after station) is taken);
+    history = history;
+  }
 
-  after_byte : (byte : ℕ) (front behind : List ℕ) (old mid new : Terminal) (rest : Rest) (talk : Term) (end : TermEnd) (messages : List ToTerminal)
-      → Stays front behind new → old.link ≡ Attached rest talk → IsEnd talk old.station end → BytesDown rest (byte ∷ (front ++ behind)) messages
-      → MayComeAll end messages → NoneCloses end messages → IsSendable end.display.screen → TakesByte old byte mid → TakesBytes mid front new → StaysAttached new
-  after_byte byte front behind old mid new rest talk end messages stays at is stands may none can (TakesByte.goes_on rest' to talk' at' delivers is_mid) more =
-      let parts = link_parts rest rest' talk talk' (sym at ∙ at') in
-      let some = goes_on rest to (byte ∷ []) (front ++ behind) [] messages stands (subst (λ (r : Rest). Delivers record_limit r (byte ∷ []) [] to) (sym parts.0) delivers) in
-      let same : messages ≡ some.others = some.whole ∙ ap (λ (m : List ToTerminal). m ++ some.others) (none_for_none some.taken some.each) in
-      stays mid to talk end messages (ap (λ (t : Terminal). t.link) is_mid ∙ ap (λ (t : Term). Attached to t) (sym parts.1))
+  byte_comes : (byte : ℕ) (front behind : List ℕ) (old mid new : Seat) (rest : Rest) (link : Link)
+      → Comes front behind new → Holds rest old link.term → BytesDown rest (byte ∷ (front ++ behind)) link.down → MayComeAll link.term link.down → NoneCloses link.term link.down
+      → IsSendable link.term.display.screen → mid.history ≡ marked mid.terminal.station old.history → TakesByte old.terminal byte mid.terminal → SeatTakes mid front new
+      → CameSome link old new behind
+  byte_comes byte front behind old mid new rest link comes holds down may none can history (TakesByte.goes_on rest' to talk' at' delivers is_mid) more =
+      let is = holds.is_end in
+      let parts = link_parts rest rest' holds.talk talk' (sym holds.attached ∙ at') in
+      let some = goes_on rest to (byte ∷ []) (front ++ behind) [] link.down down (subst (λ (r : Rest). Delivers record_limit r (byte ∷ []) [] to) (sym parts.0) delivers) in
+      let same : link.down ≡ some.others = some.whole ∙ ap (λ (m : List ToTerminal). m ++ some.others) (none_for_none some.taken some.each) in
+      let stays : mid.history ≡ old.history = history ∙ ap (λ (t : Terminal). marked t.station old.history) is_mid in
+      let came = comes mid to link
       (record {
-        talk_is = is.talk_is;
-        screen_is = ap (λ (t : Terminal). t.station.screen) is_mid ∙ is.screen_is;
-        keyboard_is = ap (λ (t : Terminal). t.station.keyboard) is_mid ∙ is.keyboard_is;
+        talk = holds.talk;
+        attached = ap (λ (t : Terminal). t.link) is_mid ∙ ap (λ (t : Term). Attached to t) (sym parts.1);
+        is_end = record {
+          shape_is = is.shape_is;
+          talk_is = is.talk_is;
+          screen_is = ap (λ (t : Terminal). t.station.screen) is_mid ∙ is.screen_is;
+          keyboard_is = ap (λ (t : Terminal). t.station.keyboard) is_mid ∙ is.keyboard_is;
+          left_is = ap (λ (h : History). h.left) stays ∙ is.left_is;
+          erased_is = ap (λ (h : History). h.erased) stays ∙ is.erased_is;
+        };
       })
-      (subst (λ (m : List ToTerminal). BytesDown to (front ++ behind) m) (sym same) some.stands) may none can more
-  after_byte byte front behind old mid new rest talk end messages stays at is stands may none can (TakesByte.completes rest' to talk' after item says closes station at' delivers item_taken is_mid) more =
-      let parts = link_parts rest rest' talk talk' (sym at ∙ at') in
-      let some = goes_on rest to (byte ∷ []) (front ++ behind) (item ∷ []) messages stands (subst (λ (r : Rest). Delivers record_limit r (byte ∷ []) (item ∷ []) to) (sym parts.0) delivers) in
-      let then = after_item item some.taken some.others messages talk after (before_byte old.station) station end says closes some.whole some.each may none can
-      (record { talk_is = is.talk_is; screen_is = is.screen_is; keyboard_is = is.keyboard_is })
-      (subst (λ (t : Term). TakesItem t (before_byte old.station) item says closes after station) (sym parts.1) item_taken) in
-      stays mid to after then.1 some.others (ap (λ (t : Terminal). t.link) is_mid ∙ ap (link_after to after) then.0)
-      (record {
-        talk_is = then.2.talk_is;
-        screen_is = ap (λ (t : Terminal). t.station.screen) is_mid ∙ then.2.screen_is;
-        keyboard_is = ap (λ (t : Terminal). t.station.keyboard) is_mid ∙ then.2.keyboard_is;
-      })
-      some.stands then.3 then.4 then.5 more
-  after_byte byte front behind old mid new rest talk end messages stays at is stands may none can (TakesByte.breaks rest' talk' fault at' wrong is_mid) more =
-      let parts = link_parts rest rest' talk talk' (sym at ∙ at') in
-      absurd (not_wrong final rest byte (front ++ behind) fault messages stands (subst (λ (r : Rest). GoesWrong record_limit r (byte ∷ []) fault) (sym parts.0) wrong))
+      (subst (λ (m : List ToTerminal). BytesDown to (front ++ behind) m) (sym same) some.stands) may none can more in
+      record {
+        taken = came.taken;
+        others = came.others;
+        whole = came.whole;
+        ran = ran_since link (took_down came.taken came.others link) old mid new behind (ap (λ (t : Terminal). t.out) is_mid) came.ran;
+      }
+  byte_comes byte front behind old mid new rest link comes holds down may none can history (TakesByte.completes rest' to talk' after item says closes station at' delivers item_taken is_mid) more =
+      let parts = link_parts rest rest' holds.talk talk' (sym holds.attached ∙ at') in
+      let some = goes_on rest to (byte ∷ []) (front ++ behind) (item ∷ []) link.down down (subst (λ (r : Rest). Delivers record_limit r (byte ∷ []) (item ∷ []) to) (sym parts.0) delivers) in
+      item_comes item some.taken some.others link holds.talk after old mid new to front behind says closes comes some.whole some.each some.stands may none can holds.is_end
+      (end_takes item holds.talk talk' after old mid says closes station (sym parts.1) (ap (λ (t : Terminal). t.station) (sym is_mid)) item_taken history)
+      (ap (λ (t : Terminal). t.link) is_mid) (ap (λ (t : Terminal). t.out) is_mid) more
+  byte_comes byte front behind old mid new rest link comes holds down may none can history (TakesByte.breaks rest' talk' fault at' wrong is_mid) more =
+      let parts = link_parts rest rest' holds.talk talk' (sym holds.attached ∙ at') in
+      absurd (not_wrong final rest byte (front ++ behind) fault link.down down (subst (λ (r : Rest). GoesWrong record_limit r (byte ∷ []) fault) (sym parts.0) wrong))
 
-  stays_attached : (front behind : List ℕ) (new : Terminal) → Stays front behind new
-  stays_attached [] behind new old rest talk end messages at is stands may none can taken =
-      record { to = rest; after = talk; attached = ap (λ (t : Terminal). t.link) taken ∙ at }
-  stays_attached (byte ∷ front) behind new old rest talk end messages at is stands may none can taken =
-      after_byte byte front behind old taken.0 new rest talk end messages (stays_attached front behind new) at is stands may none can taken.1 taken.2
+  bytes_come : (front behind : List ℕ) (new : Seat) → Comes front behind new
+  bytes_come [] behind new old rest link holds down may none can taken =
+      record { taken = []; others = link.down; whole = refl; ran = ran_nothing link old new behind rest holds down taken }
+  bytes_come (byte ∷ front) behind new old rest link holds down may none can taken =
+      byte_comes byte front behind old taken.0 new rest link (bytes_come front behind new) holds down may none can taken.1.history taken.1.takes taken.2
+
+  -- ---- the mark of one byte
+
+  or_false : (b : Bool) → b ≡ (b || false)
+  or_false true = refl
+  or_false false = refl
+
+  item_marks : WritesAreMarked → (item : WireItem) (taken others : List ToTerminal) (link : Link) (talk after : Term) (old mid : Seat) (to : Rest) (behind : List ℕ) (says : List WireItem) (closes : Option Cause)
+      (whole : link.down ≡ taken ++ others) (each : Pairwise StandsDown (item ∷ []) taken) (down : BytesDown to behind others)
+      (may : MayComeAll link.term link.down) (none : NoneCloses link.term link.down) (can : IsSendable link.term.display.screen) (is : IsEnd (end_at talk old) link.term)
+      (takes_it : EndTakes (end_at talk old) item (record { end = end_at after mid; says = says; closes = closes }))
+      (at : mid.terminal.link ≡ link_after to after closes) (out : mid.terminal.out ≡ old.terminal.out ++ sent_bytes says)
+      → mid.terminal.station.took_write
+      ≡ any_painted link.term (item_comes item taken others link talk after old mid mid to [] behind says closes (bytes_come [] behind mid) whole each down may none can is takes_it at out refl).taken
+  unfolding item_comes bytes_come
+  item_marks marks item [] others link talk after old mid to behind says closes whole each down may none can is takes_it at out = absurd each
+  item_marks marks item (message ∷ []) others link talk after old mid to behind says closes whole each down may none can is takes_it at out =
+      let all = subst (λ (m : List ToTerminal). MayComeAll link.term m) whole may in
+      marks message item (end_at talk old) link.term (record { end = end_at after mid; says = says; closes = closes })
+      (record { stands = each.0; may = all.0; sendable = can; is_end = is; takes = takes_it }) ∙ or_false (is_painted link.term message)
+  item_marks marks item (message ∷ other ∷ more) others link talk after old mid to behind says closes whole each down may none can is takes_it at out = absurd each.1
+
+  byte_marks : WritesAreMarked → (byte : ℕ) (behind : List ℕ) (old new : Seat) (rest : Rest) (link : Link)
+      (holds : Holds rest old link.term) (down : BytesDown rest (byte ∷ behind) link.down) (may : MayComeAll link.term link.down) (none : NoneCloses link.term link.down)
+      (can : IsSendable link.term.display.screen) (history : new.history ≡ marked new.terminal.station old.history) (taken : TakesByte old.terminal byte new.terminal)
+      → new.terminal.station.took_write ≡ any_painted link.term (byte_comes byte [] behind old new new rest link (bytes_come [] behind new) holds down may none can history taken refl).taken
+  unfolding byte_comes bytes_come
+  byte_marks marks byte behind old new rest link holds down may none can history (TakesByte.goes_on rest' to talk' at' delivers is_mid) =
+      ap (λ (t : Terminal). t.station.took_write) is_mid
+  byte_marks marks byte behind old new rest link holds down may none can history (TakesByte.completes rest' to talk' after item says closes station at' delivers item_taken is_mid) =
+      let parts = link_parts rest rest' holds.talk talk' (sym holds.attached ∙ at') in
+      let some = goes_on rest to (byte ∷ []) behind (item ∷ []) link.down down (subst (λ (r : Rest). Delivers record_limit r (byte ∷ []) (item ∷ []) to) (sym parts.0) delivers) in
+      item_marks marks item some.taken some.others link holds.talk after old new to behind says closes some.whole some.each some.stands may none can holds.is_end
+      (end_takes item holds.talk talk' after old new says closes station (sym parts.1) (ap (λ (t : Terminal). t.station) (sym is_mid)) item_taken history)
+      (ap (λ (t : Terminal). t.link) is_mid) (ap (λ (t : Terminal). t.out) is_mid)
+  byte_marks marks byte behind old new rest link holds down may none can history (TakesByte.breaks rest' talk' fault at' wrong is_mid) =
+      let parts = link_parts rest rest' holds.talk talk' (sym holds.attached ∙ at') in
+      absurd (not_wrong final rest byte behind fault link.down down (subst (λ (r : Rest). GoesWrong record_limit r (byte ∷ []) fault) (sym parts.0) wrong))
 
 -- what both ends have once the terminal took what came
-ran_stands : StandsCompose StandsUp → (bytes : ByteLink) (link now : Link) (behind : List ℕ) (new : Terminal) (to : Rest) (after : Term)
-    (says : List WireItem) (others : List ToTerminal)
-    → LinkStands bytes link → new.link ≡ Attached to after → new.out ≡ sent_bytes says → BytesDown to behind others
-    → Ran link now says after new.station others → LinkStands (fed new behind bytes) now
-ran_stands compose bytes link now behind new to after says others stands attached out down ran = record {
-  lost = stands.lost ∙ sym ran.lost;
-  host_here = stands.host_here ∙ sym ran.host_here;
-  term_here = stands.term_here ∙ sym ran.term_here;
-  host = λ there. let host = stands.host (sym ran.host_here ∙ there) in record {
-    host = host.host ∙ sym ran.host;
-    up = subst (λ (m : List ToHost). BytesUp bytes.host_rest (sent bytes.lost bytes.up new.out) m) (sym ran.up)
-        (subst (λ (l : Bool). BytesUp bytes.host_rest (sent l bytes.up new.out) (sent link.lost link.up ran.sends)) (sym stands.lost)
-        (said_goes_up compose link.lost bytes.host_rest bytes.up new.out link.up ran.sends says host.up out ran.fit ran.said));
-  };
-  term = λ which is. record {
-    rest = to;
-    talk = after;
-    attached = attached;
-    is_end = ran.is_end;
-    silent = refl;
-    down = subst (λ (m : List ToTerminal). BytesDown to behind m) (sym ran.down) down;
-  };
-}
+ran_stands : StandsCompose StandsUp → (bytes : ByteLink) (link now : Link) (behind : List ℕ) (new : Seat)
+    → LinkStands bytes link → bytes.seat.terminal.out ≡ [] → Ran link now bytes.seat new behind → LinkStands (fed new behind bytes) now
+ran_stands compose bytes link now behind new stands silent ran =
+    let out : new.terminal.out ≡ sent_bytes ran.says = ran.out ∙ ap (λ (b : List ℕ). b ++ sent_bytes ran.says) silent in
+    record {
+      lost = stands.lost ∙ sym ran.lost;
+      host_here = stands.host_here ∙ sym ran.host_here;
+      term_here = stands.term_here ∙ sym ran.term_here;
+      host = λ there. let host = stands.host (sym ran.host_here ∙ there) in record {
+        host = host.host ∙ sym ran.host;
+        up = subst (λ (m : List ToHost). BytesUp bytes.host_rest (sent bytes.lost bytes.up new.terminal.out) m) (sym ran.up)
+            (subst (λ (l : Bool). BytesUp bytes.host_rest (sent l bytes.up new.terminal.out) (sent link.lost link.up ran.sends)) (sym stands.lost)
+            (said_goes_up compose link.lost bytes.host_rest bytes.up new.terminal.out link.up ran.sends ran.says host.up out ran.fit ran.said));
+      };
+      term = λ which is. record { rest = ran.rest; holds = silenced ran.rest new now.term ran.holds; silent = refl; down = ran.down };
+    }
 
--- the items that came, and the messages that they stand for
-came_down : TermTakes → TakesKeepSendable → StandsCompose StandsUp → (bytes : ByteLink) (link : Link) (behind : List ℕ) (new : Terminal) (rest to : Rest) (talk after : Term) (front : List ℕ)
-    → LinkStands bytes link → IsEnd talk bytes.term.station link.term → bytes.term.out ≡ [] → MayComeAll link.term link.down → IsSendable link.term.display.screen → new.link ≡ Attached to after
-    → (items : IsByItems bytes.term rest talk front new to after) → TakesSome StandsDown to behind items.items link.down
-    → CameDown (fed new behind bytes) link
-came_down takes keeps compose bytes link behind new rest to talk after front stands is silent may can attached items some = record {
-  taken = some.taken;
-  others = some.others;
-  whole = some.whole;
-  stands = ran_stands compose bytes link (took_down some.taken some.others link) behind new to after items.says some.others stands attached
-      (items.sends ∙ ap (λ (b : List ℕ). b ++ sent_bytes items.says) silent) some.stands
-      (runs_down takes keeps items.items items.says some.taken some.others talk after bytes.term.station new.station link some.each
-      (may_come_first link.term some.taken some.others (subst (λ (m : List ToTerminal). MayComeAll link.term m) some.whole may)) can is some.whole items.takes);
-}
-
-pub down_stands : TermTakes → TakesKeepSendable → StandsCompose StandsUp → StandsGoOn StandsDown → BytesAreItems → WrongIsFinal → DownStands
-down_stands takes keeps compose goes_on by_items final bytes link terminal front behind new stands here may none can queue taken =
-    let term = stands.term terminal here in
+pub down_stands : TermTakes → TakesKeepSendable → StandsCompose StandsUp → StandsGoOn StandsDown → WrongIsFinal → DownStands
+down_stands takes keeps compose goes_on final bytes link front behind new ready queue taken =
+    let term = ready.stands.term ready.terminal ready.here in
     let down : BytesDown term.rest (front ++ behind) link.down = subst (λ (b : List ℕ). BytesDown term.rest b link.down) queue term.down in
-    let stays = stays_attached takes keeps goes_on final front behind new bytes.term term.rest term.talk link.term link.down term.attached term.is_end down may none can taken in
-    let items = by_items bytes.term new term.rest stays.to term.talk stays.after front term.attached term.down.is_rest stays.attached taken in
-    came_down takes keeps compose bytes link behind new term.rest stays.to term.talk stays.after front stands term.is_end term.silent may can stays.attached items
-    (goes_on term.rest stays.to front behind items.items link.down down items.delivers)
+    let came = bytes_come takes keeps goes_on final front behind new bytes.seat term.rest link term.holds down ready.may ready.none ready.sendable taken in
+    record {
+      taken = came.taken;
+      others = came.others;
+      whole = came.whole;
+      stands = ran_stands compose bytes link (took_down came.taken came.others link) behind new ready.stands term.silent came.ran;
+    }
+
+pub bytes_are_marked : TermTakes → TakesKeepSendable → StandsCompose StandsUp → StandsGoOn StandsDown → WrongIsFinal → WritesAreMarked → BytesAreMarked
+bytes_are_marked takes keeps compose goes_on final marks bytes link byte behind new ready queue taken =
+    let term = ready.stands.term ready.terminal ready.here in
+    let down : BytesDown term.rest (byte ∷ behind) link.down = subst (λ (b : List ℕ). BytesDown term.rest b link.down) queue term.down in
+    let came = byte_comes takes keeps goes_on final byte [] behind bytes.seat new new term.rest link (bytes_come takes keeps goes_on final [] behind new) term.holds down
+    ready.may ready.none ready.sendable taken.history taken.takes refl in
+    record {
+      came = record {
+        taken = came.taken;
+        others = came.others;
+        whole = came.whole;
+        stands = ran_stands compose bytes link (took_down came.taken came.others link) behind new ready.stands term.silent came.ran;
+      };
+      marked = byte_marks takes keeps goes_on final marks byte behind bytes.seat new term.rest link term.holds down ready.may ready.none ready.sendable taken.history taken.takes;
+    }
 
 -- ---- the host, and losses
 
@@ -285,26 +375,19 @@ host_sends compose bytes link conn items messages stands fit said = record {
   host = λ here. record { host = refl; up = (stands.host here).up };
   term = λ terminal here. let term = stands.term terminal here in record {
     rest = term.rest;
-    talk = term.talk;
-    attached = term.attached;
-    is_end = term.is_end;
+    holds = record { talk = term.holds.talk; attached = term.holds.attached; is_end = term.holds.is_end };
     silent = term.silent;
     down = subst (λ (l : Bool). BytesDown term.rest (sent l bytes.down (sent_bytes items)) (sent link.lost link.down messages)) (sym stands.lost)
         (goes_down compose link.lost term.rest bytes.down link.down messages items term.down fit said);
   };
 }
 
-same_term : (bytes with_bytes : ByteLink) (link with_link : Link) → TermStands bytes link → with_bytes.term ≡ bytes.term → with_bytes.down ≡ bytes.down → with_link.term ≡ link.term → with_link.down ≡ link.down → TermStands with_bytes with_link
+same_term : (bytes with_bytes : ByteLink) (link with_link : Link) → TermStands bytes link
+    → with_bytes.seat ≡ bytes.seat → with_bytes.down ≡ bytes.down → with_link.term ≡ link.term → with_link.down ≡ link.down → TermStands with_bytes with_link
 same_term bytes with_bytes link with_link term a b c d = record {
   rest = term.rest;
-  talk = term.talk;
-  attached = ap (λ (t : Terminal). t.link) a ∙ term.attached;
-  is_end = record {
-    talk_is = term.is_end.talk_is ∙ ap (λ (e : TermEnd). e.talk) (sym c);
-    screen_is = ap (λ (t : Terminal). t.station.screen) a ∙ term.is_end.screen_is ∙ ap (λ (e : TermEnd). e.display.screen) (sym c);
-    keyboard_is = ap (λ (t : Terminal). t.station.keyboard) a ∙ term.is_end.keyboard_is ∙ ap (λ (e : TermEnd). e.display.keyboard) (sym c);
-  };
-  silent = ap (λ (t : Terminal). t.out) a ∙ term.silent;
+  holds = subst (λ (s : Seat). Holds term.rest s with_link.term) (sym a) (subst (λ (e : TermEnd). Holds term.rest bytes.seat e) (sym c) term.holds);
+  silent = ap (λ (s : Seat). s.terminal.out) a ∙ term.silent;
   down = subst (λ (q : List ℕ). BytesDown term.rest q with_link.down) (sym b) (subst (λ (m : List ToTerminal). BytesDown term.rest bytes.down m) (sym d) term.down);
 }
 

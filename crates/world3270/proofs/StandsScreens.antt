@@ -1,5 +1,5 @@
 -- A screen that can be sent stays one, whatever a command does to it.
-use Rattle.std.proofs.Common.{◌≡◌, ◌<◌, ◌+◌, ◌%◌, ℕ, Bool, true, false, Option, None, Some, List, [], ◌∷◌, length, arith, refl, sym, subst, ◌∙◌, if◌then◌else◌, drop, map, position}
+use Rattle.std.proofs.Common.{◌≡◌, ◌<◌, ◌+◌, ◌%◌, ℕ, Bool, true, false, Option, None, Some, List, [], ◌∷◌, length, arith, refl, ap, sym, subst, ◌∙◌, if◌then◌else◌, drop, map, position}
 use Rattle.std.specs.List.{All, prefix_len}
 use Rattle.std.proofs.lemmas.List.Elements.{All-head, All-tail, All-replicate}
 use Rattle.std.proofs.lemmas.List.{length-replicate}
@@ -28,8 +28,8 @@ use Rattle.shadow.specs.Belief.{Shadow}
 use Rattle.shadow.specs.Painted.{plainly_painted}
 use Rattle.telnet_wire.specs.Items.{WireItem}
 use Rattle.world3270.specs.Stands.{IsPaint}
-use Rattle.world3270.specs.StandsLaws.{IsBelieved, TakesKeepSendable}
-use Rattle.world3270.specs.Terminal.{TermEnd, TermStep, is_bound, paint_came, read_came, once_bound}
+use Rattle.world3270.specs.StandsEnds.{IsBelieved, TakesKeepSendable}
+use Rattle.world3270.specs.Terminal.{TermEnd, TermStep, is_bound, paint_came, note_came, read_came, once_bound}
 
 -- ---- orders
 
@@ -134,3 +134,6 @@ takes_keep_sendable (ToTerminal.TalksDown saying) item end stands may is = is
 takes_keep_sendable (ToTerminal.Paint number wanted believed) item end stands may is =
     bound_keeps (is_bound end) (paint_came number wanted end) end (paint_keeps number wanted believed item end stands may is) is
 takes_keep_sendable (ToTerminal.ReadBuffer number) item end stands may is = bound_keeps (is_bound end) (read_came end) end is is
+takes_keep_sendable (ToTerminal.Note number command) item end stands may is =
+    bound_keeps (is_bound end) (note_came number command end) end
+    (code_keeps command.code command.wcc command.orders end.display.screen (ap is_write may.1.code) (command_proper command (stands.body, stands.spelt)) is) is

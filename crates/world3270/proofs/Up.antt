@@ -1,16 +1,16 @@
--- What a host makes of the next message, at each stage.
-use Rattle.std.proofs.Common.{◌≡◌, ◌==◌, ℕ, Bool, true, false, Option, None, Some, Result, Ok, Err, List, [], ◌∷◌, ◌++◌, refl, ap, sym, subst, ◌∙◌, IsOkAnd, IfOk, if◌then◌else◌}
+-- What a host makes of the next message, at each moment.
+use Rattle.std.proofs.Common.{◌≡◌, ◌⊎◌, inl, inr, ◌==◌, ◌<◌, ℕ, Bool, true, false, Option, None, Some, Result, Ok, Err, List, [], ◌∷◌, ◌++◌, length, refl, ap, sym, subst, ◌∙◌, IsOkAnd, IfOk, if◌then◌else◌}
 use Rattle.std.proofs.lemmas.Bool.Decides.{Decides-eqb}
-use Rattle.codes3270.specs.Aid.{is_short_aid}
+use Rattle.codes3270.specs.Size.{Shape, cells_in}
 use Rattle.codes3270.specs.declared.attention.Aid.{Aid}
 use Rattle.codes3270.specs.declared.attention.Aid.TheVariants.{NoAid, Enter, Clear, Pf, Pa}
-use Rattle.datastream.specs.InboundFields.{modified_data, buffer_data, parts_of_fields, lead_of, returned_of}
+use Rattle.datastream.specs.Grammar.{CommandParts}
+use Rattle.datastream.specs.InboundFields.{buffer_data}
 use Rattle.datastream.specs.InboundText.{InboundParts}
 use Rattle.datastream.specs.Screen.{Screen}
-use Rattle.datastream.specs.Wanted.{WantedScreen}
-use Rattle.datastream.specs.declared.inbound_part.Form.TheVariants.{Modified}
-use Rattle.keyboard.specs.declared.key.Lock.TheVariants.{Wait}
+use Rattle.datastream.specs.declared.inbound_part.Form.TheVariants.{Modified, Buffer}
 use Rattle.lu_pool.specs.Asking.{answer_to}
+use Rattle.lu_pool.specs.HolderLaws.{IsSound}
 use Rattle.lu_pool.specs.declared.entry.Entry.{Entry}
 use Rattle.shadow.specs.Belief.{Shadow}
 use Rattle.shadow.specs.Exactness.{KnownIsExact, ProtectedIsExact}
@@ -28,22 +28,20 @@ use Rattle.tn3270e_msg.specs.declared.reply.Reason.{Reason}
 use Rattle.tn3270e_msg.specs.declared.reply.Reply.{Reply}
 use Rattle.tn3270e_msg.specs.declared.reply.Reply.TheVariants as reply
 use Rattle.tn3270e_msg.specs.declared.reply.Sending.TheVariants.{SendType, TypeRequest, TypeIs, TypeReject, FunRequest, FunIs}
-use Rattle.tn3270e_msg.specs.declared.term_talk.TermState.{TermState}
-use Rattle.tn3270e_msg.specs.declared.term_talk.TermState.TheVariants.{Willing, TypeAsked, FunctionsAsked}
+use Rattle.tn3270e_msg.proofs.Agreement.{responses_alone, model_2}
 use Rattle.host_core.specs.Application.{Application}
 use Rattle.host_core.specs.Messages.{ToTerminal, ToHost, Verdict}
-use Rattle.host_core.specs.PoolLaws.{IsSound}
 use Rattle.host_core.specs.Session.{Conn, Turn, Pending, Occasion, is_agreed}
-use Rattle.host_core.specs.Takes.{Step, Answers, quiet, with_talk, replied, granted_by, talked_on, talked, believed, once_read, key_came, key_data_came, data_came, answered, if_answers, response_came, once_agreed, took}
+use Rattle.host_core.specs.Takes.{Step, Answers, quiet, with_talk, replied, granted_by, talked_on, talked, hears, believed, once_read, buffer_came, key_came, key_data_came, data_came, answered, if_answers, verdict_came, response_came, once_agreed, took}
+use Rattle.world3270.specs.Given.{Given}
 use Rattle.world3270.specs.Headline.{SentFields}
 use Rattle.world3270.specs.Link.{Link, sent}
-use Rattle.world3270.specs.Stages.{UnderWay, At, Suits, IsNew, rejected_once, Moment, In, FactsAreExact, Sent, Reading, Stage, Kept, once_taken}
-use Rattle.world3270.specs.Stages.Moment.{offered, willing, type_wanted, type_asked, named, functions_asked, agreeing, rejected, refused}
-use Rattle.world3270.specs.Stages.Stage.{talking, first_paint, at_host, painting, answering, operating, sent_behind, sent_alone, asking, reporting}
-use Rattle.world3270.specs.View.{view_of}
-use Rattle.world3270.specs.Given.{Given}
+use Rattle.world3270.specs.Moments.{Kind, awaiting, Talking, Serving, Moment, UnderWay, IsAt, rejected_once, agreed, host_talk_at, term_state_at, turn_at, pending_at, down_at, up_at}
+use Rattle.world3270.specs.Occasions.{IsOccasion}
+use Rattle.world3270.specs.Stages.{Scene, scene_of, once_taken, FactsAreExact, Suits, IsNew, Operates, Sees, IsPressed, WillBeHeard, Decides, IsRead, MayBeNoted, Fact, Kept}
+use Rattle.world3270.specs.View.{View, view_of}
+use Rattle.world3270.proofs.Down.{ok_map}
 use Rattle.world3270.proofs.Queues.{more, front, nothing}
-use Rattle.tn3270e_msg.proofs.Agreement.{responses_alone, model_2}
 
 -- the connection once the host took the message before the rest
 abbrev pub host_view : Step → List ToHost → Link → Link
@@ -63,33 +61,53 @@ pub record Answered (app : Application) (pool : List Entry) (link : Link) (rest 
   pub open_end : step.closes ≡ None
   pub grants : Grants pool link.host step
 
+-- ---- from moment to moment
+
+-- the host's step leaves the terminal's end as it is
+record Leads (wanted : Option (List ℕ)) (from to : Moment) (sends : List ToTerminal) : Type 0 where
+  term : term_state_at to ≡ term_state_at from
+  down : down_at from ++ sends ≡ down_at to
+
+leads : (link : Link) (step : Step) (rest : List ToHost) (wanted : Option (List ℕ)) (from to : Moment) → IsAt (view_of link) wanted from → Leads wanted from to step.sends
+    → step.conn.talk ≡ host_talk_at to → step.conn.turn ≡ turn_at to → step.conn.pending ≡ pending_at to → UnderWay link.lost rest (up_at wanted to) → IsAt (view_of (host_view step rest link)) wanted to
+leads link step rest wanted from to at l talk turn pending left = record {
+  host_talk = talk;
+  term_talk = at.term_talk ∙ ap (λ state. record { wanted = wanted; talk = start_at state }) (sym l.term);
+  turn = turn;
+  pending = pending;
+  goes_down = subst (UnderWay link.lost (sent link.lost link.down step.sends)) l.down (more link.lost link.down (down_at from) step.sends at.goes_down);
+  goes_up = left;
+}
+
 -- ---- the talk
 
 abbrev talk_step : Link → Talk HostState → List ToTerminal → Option (List ℕ) → Step
 talk_step link next sends grants = record { conn = with_talk link.host next; sends = sends; grants = grants; closes = None }
 
-talk_at : (link : Link) (host next : Talk HostState) (wanted : Option (List ℕ)) (state : TermState) (m : ToHost) (up rest : List ToHost) (down sends : List ToTerminal) (grants : Option (List ℕ))
-    → At (view_of link) host wanted state down (m ∷ up) → UnderWay link.lost rest up
-    → At (view_of (host_view (talk_step link next sends grants) rest link)) next wanted state (down ++ sends) up
-talk_at link host next wanted state m up rest down sends grants at left = record {
-  host_talk = refl;
-  term_talk = at.term_talk;
-  goes_down = more link.lost link.down down sends at.goes_down;
-  goes_up = left;
-}
-
 -- the talk moves on, by a step that is known
-talks : (app : Application) (pool : List Entry) (link : Link) (rest : List ToHost) (host next : Talk HostState) (saying : Saying) (sends : List ToTerminal) (grants : Option (List ℕ)) (message : ToHost)
-    → Kept app (view_of link) → link.host.talk ≡ host → message ≡ ToHost.TalksUp saying → talked (answer_to pool) link.host host saying ≡ talk_step link next sends grants
-    → Grants pool link.host (talk_step link next sends grants)
-    → Stage app (view_of (host_view (talk_step link next sends grants) rest link)) → Answered app pool link rest (took app (answer_to pool) link.host message)
-talks app pool link rest host next saying sends grants message k e is step g stage =
-    subst (λ m. Answered app pool link rest (took app (answer_to pool) link.host m)) (sym is)
-    (subst (Answered app pool link rest) (sym (ap (λ (t : Talk HostState). talked (answer_to pool) link.host t saying) e ∙ step))
-    (record { kept = record { whole = k.whole; cursor = k.cursor; unreturned = k.unreturned; exact = k.exact; stage = stage }; open_end = refl; grants = g }))
-
-still_new : (link : Link) (rest : List ToHost) (next : Talk HostState) (sends : List ToTerminal) (grants : Option (List ℕ)) → IsNew (view_of link) → IsNew (view_of (host_view (talk_step link next sends grants) rest link))
-still_new link rest next sends grants n = record { turn = n.turn; pending = n.pending; shadow = n.shadow; occasion = n.occasion; lock = n.lock; aid = n.aid; no_fields = n.no_fields }
+talks : (app : Application) (pool : List Entry) (link : Link) (rest : List ToHost) (k : Kept app (view_of link)) (from to : Talking) (saying : Saying) (sends : List ToTerminal) (grants : Option (List ℕ)) (message : ToHost)
+    → IsAt (view_of link) k.wanted (Moment.Talks from) → message ≡ ToHost.TalksUp saying
+    → talked (answer_to pool) link.host (host_talk_at (Moment.Talks from)) saying ≡ talk_step link (host_talk_at (Moment.Talks to)) sends grants
+    → Grants pool link.host (talk_step link (host_talk_at (Moment.Talks to)) sends grants) → Leads k.wanted (Moment.Talks from) (Moment.Talks to) sends → UnderWay link.lost rest (up_at k.wanted (Moment.Talks to))
+    → Fact k.wanted (scene_of (view_of link)) (Moment.Talks to) → Answered app pool link rest (took (answer_to pool) link.host message)
+talks app pool link rest k from to saying sends grants message at is step g l left fact =
+    subst (λ m. Answered app pool link rest (took (answer_to pool) link.host m)) (sym is)
+    (subst (Answered app pool link rest) (sym (ap (λ (t : Talk HostState). talked (answer_to pool) link.host t saying) at.host_talk ∙ step))
+    (record {
+      kept = record {
+        shape = record { begins = k.shape.begins; same = k.shape.same };
+        whole = k.whole;
+        cursor = k.cursor;
+        unreturned = k.unreturned;
+        exact = k.exact;
+        wanted = k.wanted;
+        moment = Moment.Talks to;
+        at = leads link (talk_step link (host_talk_at (Moment.Talks to)) sends grants) rest k.wanted (Moment.Talks from) (Moment.Talks to) at l refl at.turn at.pending left;
+        fact = fact;
+      };
+      open_end = refl;
+      grants = g;
+    }))
 
 claim_at : (conn : Conn) (talk : Talk HostState) → conn.talk ≡ talk → granted talk.state ≡ claim conn
 claim_at conn talk e = ap (λ (t : Talk HostState). granted t.state) (sym e)
@@ -105,7 +123,7 @@ asks_pool : Given → (wanted : Option (List ℕ)) → IsLuIfSome wanted → fol
 asks_pool given None is = ap (λ d. follow HostClosed (start_at Asked) (request_line d None)) model_2
 asks_pool given (Some name) is =
     ap (λ d. follow HostClosed (start_at Asked) (request_line d (Some (Connect name)))) model_2
-    ∙ ap (λ l. follow HostClosed (start_at Asked) (named_line Model2 l)) (given.names name is)
+    ∙ ap (λ l. follow HostClosed (start_at Asked) (named_line Model2 l)) (given.belief.names name is)
 
 pool_asked : Given → (pool : Answers) (conn : Conn) (wanted : Option (List ℕ)) → IsLuIfSome wanted
     → talked pool conn (start_at Asked) (asking_type wanted) ≡ replied conn (granted_by (pool wanted)) (follow HostClosed at_asking (answer_line Model2 (pool wanted)))
@@ -115,255 +133,246 @@ abbrev answered_by : Conn → Result (List ℕ) Reason → Step
 answered_by conn answer = replied conn (granted_by answer) (follow HostClosed at_asking (answer_line Model2 answer))
 
 suits : Given → (pool : List Entry) (wanted : Option (List ℕ)) (lu : List ℕ) → IsSound pool → IsLuIfSome wanted → answer_to pool wanted ≡ Ok lu → Suits wanted lu
-suits given pool None lu sound is e = record { is_lu = given.lus pool None lu sound e; is_wanted = tt }
-suits given pool (Some name) lu sound is e = record { is_lu = given.lus pool (Some name) lu sound e; is_wanted = given.asked pool name lu is e }
+suits given pool None lu sound is e = record { is_lu = given.pool.lus pool None lu sound e; is_wanted = tt }
+suits given pool (Some name) lu sound is e = record { is_lu = given.pool.lus pool (Some name) lu sound e; is_wanted = given.pool.asked pool name lu is e }
 
-grants_type : Given → (app : Application) (pool : List Entry) → IsSound pool → (link : Link) (rest : List ToHost) (wanted : Option (List ℕ)) (message : ToHost) → IsLuIfSome wanted
-    → Kept app (view_of link) → IsNew (view_of link) → (at : At (view_of link) (start_at Asked) wanted TypeAsked [] (ToHost.TalksUp (asking_type wanted) ∷ [])) → UnderWay link.lost rest []
-    → message ≡ ToHost.TalksUp (asking_type wanted) → Answered app pool link rest (took app (answer_to pool) link.host message)
-grants_type given app pool sound link rest wanted message is k n at left e = by_answer (answer_to pool wanted) refl
+grants_type : Given → (app : Application) (pool : List Entry) → IsSound pool → (link : Link) (rest : List ToHost) (k : Kept app (view_of link)) (message : ToHost)
+    → IsAt (view_of link) k.wanted (Moment.Talks Talking.NamingType) → Fact k.wanted (scene_of (view_of link)) (Moment.Talks Talking.NamingType) → UnderWay link.lost rest []
+    → message ≡ ToHost.TalksUp (asking_type k.wanted) → Answered app pool link rest (took (answer_to pool) link.host message)
+grants_type given app pool sound link rest k message at f left e = by_answer (answer_to pool k.wanted) refl
   where
-    by_answer : (answer : Result (List ℕ) Reason) → answer_to pool wanted ≡ answer → Answered app pool link rest (took app (answer_to pool) link.host message)
+    by_answer : (answer : Result (List ℕ) Reason) → answer_to pool k.wanted ≡ answer → Answered app pool link rest (took (answer_to pool) link.host message)
     by_answer (Ok lu) a =
-        let sends : List ToTerminal = ToTerminal.TalksDown (Saying.Sub (TypeIs Model2 lu)) ∷ [] in
-        talks app pool link rest (start_at Asked) (start_at (Named Model2 lu)) (asking_type wanted) sends (Some lu) message k at.host_talk e
-        (pool_asked given (answer_to pool) link.host wanted is ∙ ap (answered_by link.host) a)
-        (Grants.one wanted lu refl refl a)
-        (talking (still_new link rest (start_at (Named Model2 lu)) sends (Some lu) n)
-        (named wanted lu (suits given pool wanted lu sound is a) (talk_at link (start_at Asked) (start_at (Named Model2 lu)) wanted TypeAsked (ToHost.TalksUp (asking_type wanted)) [] rest [] sends (Some lu) at left)))
+        talks app pool link rest k Talking.NamingType (Talking.Granting lu) (asking_type k.wanted) (ToTerminal.TalksDown (Saying.Sub (TypeIs Model2 lu)) ∷ []) (Some lu) message at e
+        (pool_asked given (answer_to pool) link.host k.wanted f.1 ∙ ap (answered_by link.host) a) (Grants.one k.wanted lu refl refl a) (record { term = refl; down = refl }) left
+        (f.0, suits given pool k.wanted lu sound f.1 a)
     by_answer (Err reason) a =
-        let sends : List ToTerminal = ToTerminal.TalksDown (Saying.Sub (TypeReject reason)) ∷ [] in
-        talks app pool link rest (start_at Asked) rejected_once (asking_type wanted) sends None message k at.host_talk e
-        (pool_asked given (answer_to pool) link.host wanted is ∙ ap (answered_by link.host) a)
-        (Grants.none refl (claim_at link.host (start_at Asked) at.host_talk))
-        (talking (still_new link rest rejected_once sends None n)
-        (rejected wanted reason (talk_at link (start_at Asked) rejected_once wanted TypeAsked (ToHost.TalksUp (asking_type wanted)) [] rest [] sends None at left)))
+        talks app pool link rest k Talking.NamingType (Talking.Rejecting reason) (asking_type k.wanted) (ToTerminal.TalksDown (Saying.Sub (TypeReject reason)) ∷ []) None message at e
+        (pool_asked given (answer_to pool) link.host k.wanted f.1 ∙ ap (answered_by link.host) a) (Grants.none refl (claim_at link.host (start_at Asked) at.host_talk)) (record { term = refl; down = refl }) left
+        (f.0, tt)
 
 -- ---- records
 
-agreed_at : (link : Link) (wanted : Option (List ℕ)) (lu : List ℕ) (term : TermState) (down : List ToTerminal) (up : List ToHost) → At (view_of link) (start_at (HostAgreed Model2 lu)) wanted term down up → is_agreed link.host.talk.state ≡ true
-agreed_at link wanted lu term down up at = ap (λ (t : Talk HostState). is_agreed t.state) at.host_talk
+-- a session's step that says nothing, and leaves the talk and the shape
+record Serves (link : Link) (conn : Conn) : Type 0 where
+  talk : conn.talk ≡ link.host.talk
+  shape : conn.shape ≡ link.host.shape
 
--- a step of a session, which leaves the talk as it is and sends nothing
-session_at : (link : Link) (conn : Conn) (lu : List ℕ) (turn turn' : Turn) (pending pending' : Pending) (m : ToHost) (up rest : List ToHost)
-    → In (view_of link) lu turn pending [] (m ∷ up) → UnderWay link.lost rest up → conn.talk ≡ link.host.talk → conn.turn ≡ turn' → conn.pending ≡ pending'
-    → In (view_of (host_view (quiet conn) rest link)) lu turn' pending' [] up
-session_at link conn lu turn turn' pending pending' m up rest s left same turns pends = record {
-  wanted = s.wanted;
-  at = record {
-    host_talk = same ∙ s.at.host_talk;
-    term_talk = s.at.term_talk;
-    goes_down = more link.lost link.down [] [] s.at.goes_down;
-    goes_up = left;
-  };
-  turn_is = turns;
-  pending_is = pends;
-}
+module _ (app : Application) (pool : List Entry) (link : Link) (rest : List ToHost) (k : Kept app (view_of link)) where
+  agreed_at : (lu : List ℕ) (serving : Serving) → IsAt (view_of link) k.wanted (Moment.Serves lu serving) → is_agreed link.host.talk.state ≡ true
+  agreed_at lu serving at = ap (λ (t : Talk HostState). is_agreed t.state) at.host_talk
 
-no_grant : (pool : List Entry) (old conn : Conn) → conn.talk ≡ old.talk → Grants pool old (quiet conn)
-no_grant pool old conn e = Grants.none refl (ap (λ (t : Talk HostState). granted t.state) e)
+  serves : (lu : List ℕ) (from to : Serving) (conn : Conn) → IsAt (view_of link) k.wanted (Moment.Serves lu from) → conn.talk ≡ link.host.talk → conn.shape ≡ link.host.shape → FactsAreExact conn.shadow
+      → conn.turn ≡ turn_at (Moment.Serves lu to) → conn.pending ≡ pending_at (Moment.Serves lu to) → down_at (Moment.Serves lu from) ++ [] ≡ down_at (Moment.Serves lu to) → UnderWay link.lost rest (up_at k.wanted (Moment.Serves lu to))
+      → Fact k.wanted (scene_of (view_of (host_view (quiet conn) rest link))) (Moment.Serves lu to) → Answered app pool link rest (quiet conn)
+  serves lu from to conn at talk shape exact turn pending down left fact = record {
+    kept = record {
+      shape = record { begins = shape ∙ k.shape.begins; same = k.shape.same ∙ sym shape };
+      whole = subst (λ (s : Shape). length link.term.display.screen.cells ≡ cells_in s) (sym shape) k.whole;
+      cursor = subst (λ (s : Shape). link.term.display.screen.cursor < cells_in s) (sym shape) k.cursor;
+      unreturned = k.unreturned;
+      exact = exact;
+      wanted = k.wanted;
+      moment = Moment.Serves lu to;
+      at = leads link (quiet conn) rest k.wanted (Moment.Serves lu from) (Moment.Serves lu to) at (record { term = refl; down = down }) (talk ∙ at.host_talk) turn pending left;
+      fact = fact;
+    };
+    open_end = refl;
+    grants = Grants.none refl (ap (λ (t : Talk HostState). granted t.state) talk);
+  }
 
--- a record at a session comes to this step
-at_session : (app : Application) (pool : List Entry) (link : Link) (rest : List ToHost) (m message : ToHost) (step : Step) → message ≡ m → took app (answer_to pool) link.host m ≡ step
-    → Answered app pool link rest step → Answered app pool link rest (took app (answer_to pool) link.host message)
-at_session app pool link rest m message step e t o =
-    subst (λ x. Answered app pool link rest (took app (answer_to pool) link.host x)) (sym e) (subst (Answered app pool link rest) (sym t) o)
+  as_step : (m message : ToHost) (step : Step) → message ≡ m → took (answer_to pool) link.host m ≡ step → Answered app pool link rest step → Answered app pool link rest (took (answer_to pool) link.host message)
+  as_step m message step e is a = subst (λ x. Answered app pool link rest (took (answer_to pool) link.host x)) (sym e) (subst (Answered app pool link rest) (sym is) a)
+
+-- ---- responses
 
 same_number : (number : ℕ) → (number == number) ≡ true
 same_number number = (Decides-eqb number number).1 refl
 
-response_took : (app : Application) (pool : Answers) (conn : Conn) (number : ℕ) (paints : WantedScreen) → is_agreed conn.talk.state ≡ true → conn.pending ≡ Pending.Writing number paints
-    → took app pool conn (ToHost.Response number Verdict.Positive) ≡ quiet (answered app paints conn)
-response_took app pool conn number paints agreed pends =
-    ap (λ b. once_agreed b (response_came app number Verdict.Positive conn.pending conn) conn) agreed
-    ∙ ap (λ p. response_came app number Verdict.Positive p conn) pends
-    ∙ ap (λ b. if_answers b (quiet (answered app paints conn)) conn) (same_number number)
+answers_it : (kind : Kind) (number : ℕ) (command : CommandParts) (conn : Conn) → response_came number Verdict.Positive (awaiting kind number command) conn ≡ quiet (answered command conn)
+answers_it Kind.APaint number command conn = ap (λ b. if_answers b (quiet (answered command conn)) conn) (same_number number)
+answers_it Kind.ANote number command conn = ap (λ b. if_answers b (quiet (answered command conn)) conn) (same_number number)
 
--- what was sent for a key is data of the modified fields, with the key's identifier
-either : (P : InboundParts → Type 0) (b : Bool) (first second : InboundParts) → P first → P second → P (if b then first else second)
-either P true first second p q = p
-either P false first second p q = q
+response_took : (pool : Answers) (conn : Conn) (kind : Kind) (number : ℕ) (command : CommandParts) → is_agreed conn.talk.state ≡ true → conn.pending ≡ awaiting kind number command
+    → took pool conn (ToHost.Response number Verdict.Positive) ≡ quiet (answered command conn)
+response_took pool conn kind number command agrees pends =
+    ap (λ b. once_agreed b (response_came number Verdict.Positive conn.pending conn) conn) agrees
+    ∙ ap (λ p. response_came number Verdict.Positive p conn) pends
+    ∙ answers_it kind number command conn
 
-pub key_form : (screen : Screen) → (modified_data Modified screen).form ≡ Modified
-key_form screen =
-    either (λ (parts : InboundParts). parts.form ≡ Modified) (is_short_aid screen.aid)
-    (record { form = Modified; aid = screen.aid; cursor = None; parts = [] })
-    (record { form = Modified; aid = screen.aid; cursor = Some screen.cursor; parts = parts_of_fields (lead_of screen.cells) (returned_of screen.cells) })
-    refl refl
+-- ---- data
 
-key_aid : (screen : Screen) → (modified_data Modified screen).aid ≡ screen.aid
-key_aid screen =
-    either (λ (parts : InboundParts). parts.aid ≡ screen.aid) (is_short_aid screen.aid)
-    (record { form = Modified; aid = screen.aid; cursor = None; parts = [] })
-    (record { form = Modified; aid = screen.aid; cursor = Some screen.cursor; parts = parts_of_fields (lead_of screen.cells) (returned_of screen.cells) })
-    refl refl
+-- a key's data is heard while nothing waits for an answer, or a note alone
+data IsKeyTime (pending : Pending) : Type 0 where
+  nothing_waits : pending ≡ Pending.Nothing → IsKeyTime pending
+  note_waits : (number : ℕ) (command : CommandParts) → pending ≡ Pending.Noting number command → IsKeyTime pending
 
--- Enter and PF keys send more than their identifier
-sent_long : (aid : Aid) → SentFields aid → is_short_aid aid ≡ false
-sent_long NoAid s = absurd s
-sent_long Enter s = refl
-sent_long Clear s = absurd s
-sent_long (Pf key) s = refl
-sent_long (Pa key) s = absurd s
+key_data_took : (parts : InboundParts) (conn : Conn) (aid : Aid) → parts.form ≡ Modified → parts.aid ≡ aid → (aid ≡ NoAid → ⊥)
+    → key_data_came parts parts.form conn ≡ believed (Occasion.Key aid false) conn.pending conn (hears parts conn)
+key_data_took parts conn aid form is some = ap (λ f. key_data_came parts f conn) form ∙ ap (λ a. key_came parts a conn) is ∙ by_aid aid some
+  where
+    by_aid : (a : Aid) → (a ≡ NoAid → ⊥) → key_came parts a conn ≡ believed (Occasion.Key a false) conn.pending conn (hears parts conn)
+    by_aid NoAid n = absurd (n refl)
+    by_aid Enter n = refl
+    by_aid Clear n = refl
+    by_aid (Pf key) n = refl
+    by_aid (Pa key) n = refl
 
--- what is heard is believed, and it is the host's turn
-believes : Given → (app : Application) (pool : List Entry) (link : Link) (rest : List ToHost) (lu : List ℕ) (turn : Turn) (pending : Pending) (m : ToHost) (occasion : Occasion) (alone : Bool) (r : Result Shadow HeardFault)
-    → IfOk r KnownIsExact → IfOk r ProtectedIsExact → IsOkAnd r (Believed alone link.term.display.screen) → (SentFields link.term.display.screen.aid → alone ≡ false)
-    → Kept app (view_of link) → In (view_of link) lu turn pending [] (m ∷ []) → UnderWay link.lost rest [] → link.term.display.keyboard.lock ≡ Wait
-    → Answered app pool link rest (believed occasion link.host r)
-believes given app pool link rest lu turn pending m occasion alone (Ok shadow) knows protects ok long k s left w =
-    let conn : Conn = record link.host { shadow = shadow; turn = Turn.Host; pending = Pending.Nothing; occasion = occasion } in
-    record {
-      kept = record {
-        whole = k.whole;
-        cursor = k.cursor;
-        unreturned = k.unreturned;
-        exact = record { known = knows; protected = protects };
-        stage = at_host lu (record {
-          session = session_at link conn lu turn Turn.Host pending Pending.Nothing m [] rest s left refl refl refl;
-          lock = w;
-          meets = ok.0;
-          lists = ok.1;
-          told = λ sent. ok.2 (long sent);
-        });
-      };
-      open_end = refl;
-      grants = no_grant pool link.host conn refl;
-    }
-believes given app pool link rest lu turn pending m occasion alone (Err fault) knows protects ok long k s left w = absurd ok
+data_took : (parts : InboundParts) (conn : Conn) (pending : Pending) → conn.turn ≡ Turn.Terminal → IsKeyTime pending → data_came parts conn.turn pending conn ≡ key_data_came parts parts.form conn
+data_took parts conn pending turns (IsKeyTime.nothing_waits e) = ap (λ p. data_came parts conn.turn p conn) e ∙ ap (λ t. data_came parts t Pending.Nothing conn) turns
+data_took parts conn pending turns (IsKeyTime.note_waits number command e) = ap (λ p. data_came parts conn.turn p conn) e ∙ ap (λ t. data_came parts t (Pending.Noting number command) conn) turns
 
-key_took : (app : Application) (pool : Answers) (conn : Conn) (screen : Screen) (aid : Aid) → is_agreed conn.talk.state ≡ true → conn.turn ≡ Turn.Terminal → conn.pending ≡ Pending.Nothing → screen.aid ≡ aid
-    → took app pool conn (ToHost.Data (modified_data Modified screen)) ≡ key_came app (modified_data Modified screen) aid conn
-key_took app pool conn screen aid agreed turns pends e =
-    let parts : InboundParts = modified_data Modified screen in
-    ap (λ b. once_agreed b (data_came app parts conn.turn conn.pending conn) conn) agreed
-    ∙ ap (λ p. data_came app parts conn.turn p conn) pends
-    ∙ ap (λ t. data_came app parts t Pending.Nothing conn) turns
-    ∙ ap (λ f. key_data_came app parts f conn) (key_form screen)
-    ∙ ap (λ a. key_came app parts a conn) (key_aid screen ∙ e)
+key_took : (pool : Answers) (conn : Conn) (parts : InboundParts) (aid : Aid) → is_agreed conn.talk.state ≡ true → conn.turn ≡ Turn.Terminal → IsKeyTime conn.pending → parts.form ≡ Modified → parts.aid ≡ aid → (aid ≡ NoAid → ⊥)
+    → took pool conn (ToHost.Data parts) ≡ believed (Occasion.Key aid false) conn.pending conn (hears parts conn)
+key_took pool conn parts aid agrees turns time form is some =
+    ap (λ b. once_agreed b (data_came parts conn.turn conn.pending conn) conn) agrees
+    ∙ data_took parts conn conn.pending turns time
+    ∙ key_data_took parts conn aid form is some
 
-takes_key : Given → (app : Application) (pool : List Entry) (link : Link) (rest : List ToHost) (lu : List ℕ) (message : ToHost) → Kept app (view_of link)
-    → In (view_of link) lu Turn.Terminal Pending.Nothing [] (ToHost.Data (modified_data Modified link.term.display.screen) ∷ []) → Sent app link.host.shadow (view_of link)
-    → message ≡ ToHost.Data (modified_data Modified link.term.display.screen) → UnderWay link.lost rest []
-    → Answered app pool link rest (took app (answer_to pool) link.host message)
-takes_key given app pool link rest lu message k session s e left = by_aid screen.aid refl
+buffer_took : (pool : Answers) (conn : Conn) (screen : Screen) (number : ℕ) → is_agreed conn.talk.state ≡ true → conn.pending ≡ Pending.Reading number
+    → took pool conn (ToHost.Data (buffer_data screen)) ≡ believed (once_read conn.occasion) Pending.Nothing conn (hears (buffer_data screen) conn)
+buffer_took pool conn screen number agrees pends =
+    let parts : InboundParts = buffer_data screen in
+    ap (λ b. once_agreed b (data_came parts conn.turn conn.pending conn) conn) agrees
+    ∙ ap (λ p. data_came parts conn.turn p conn) pends
+
+-- the key that was pressed is still the reason, once its screen was read
+read_occasion : (occasion : Occasion) (aid : Aid) → IsOccasion occasion aid → IsOccasion (once_read occasion) aid
+read_occasion Occasion.Agreement aid is = is
+read_occasion (Occasion.Key pressed buffered) aid is = is
+read_occasion Occasion.Refusal aid is = absurd is
+
+module _ (given : Given) (app : Application) (pool : List Entry) (link : Link) (rest : List ToHost) (k : Kept app (view_of link)) where
+  abbrev screen : Screen
+  screen = link.term.display.screen
+
+  abbrev size : ℕ
+  size = cells_in link.host.shape
+
+  -- what is heard is believed, and it is the host's turn
+  believes : (lu : List ℕ) (from to : Serving) (parts : InboundParts) (occasion : Occasion) (pending : Pending) (Then : Shadow → Type 0) (r : Result Shadow HeardFault)
+      → IsAt (view_of link) k.wanted (Moment.Serves lu from) → IfOk r KnownIsExact → IfOk r ProtectedIsExact → IsOkAnd r Then
+      → Turn.Host ≡ turn_at (Moment.Serves lu to) → pending ≡ pending_at (Moment.Serves lu to) → down_at (Moment.Serves lu from) ++ [] ≡ down_at (Moment.Serves lu to) → UnderWay link.lost rest (up_at k.wanted (Moment.Serves lu to))
+      → ((shadow : Shadow) → Then shadow
+      → Fact k.wanted (record { shape = link.host.shape; shadow = shadow; occasion = occasion; lock = link.term.display.keyboard.lock; screen = screen; left = link.term.display.left; erased = link.term.display.erased }) (Moment.Serves lu to))
+      → Answered app pool link rest (believed occasion pending link.host r)
+  believes lu from to parts occasion pending Then (Ok shadow) at knows protects ok turn pends down left fact =
+      serves app pool link rest k lu from to (record link.host { shadow = shadow; turn = Turn.Host; pending = pending; occasion = occasion }) at refl refl (record { known = knows; protected = protects }) turn pends down left (fact shadow ok)
+  believes lu from to parts occasion pending Then (Err fault) at knows protects ok turn pends down left fact = absurd ok
+
+  -- a key's data
+  hears_key : (lu : List ℕ) (from to : Serving) (parts : InboundParts) (message : ToHost) (Then : Shadow → Type 0) → IsAt (view_of link) k.wanted (Moment.Serves lu from) → IsPressed (scene_of (view_of link)) parts
+      → WillBeHeard link.host.shape link.host.shadow parts Then → message ≡ ToHost.Data parts → turn_at (Moment.Serves lu from) ≡ Turn.Terminal → IsKeyTime (pending_at (Moment.Serves lu from))
+      → Turn.Host ≡ turn_at (Moment.Serves lu to) → pending_at (Moment.Serves lu from) ≡ pending_at (Moment.Serves lu to) → down_at (Moment.Serves lu from) ++ [] ≡ down_at (Moment.Serves lu to)
+      → UnderWay link.lost rest (up_at k.wanted (Moment.Serves lu to))
+      → ((shadow : Shadow) → Then shadow
+      → Fact k.wanted (record { shape = link.host.shape; shadow = shadow; occasion = Occasion.Key screen.aid false; lock = link.term.display.keyboard.lock; screen = screen; left = link.term.display.left; erased = link.term.display.erased }) (Moment.Serves lu to))
+      → Answered app pool link rest (took (answer_to pool) link.host message)
+  hears_key lu from to parts message Then at p will e turns time turn pends down left fact =
+      as_step app pool link rest k (ToHost.Data parts) message (believed (Occasion.Key screen.aid false) link.host.pending link.host (hears parts link.host)) e
+      (key_took (answer_to pool) link.host parts screen.aid (agreed_at app pool link rest k lu from at) (at.turn ∙ turns) (subst IsKeyTime (sym at.pending) time) p.form p.pressed p.some)
+      (believes lu from to parts (Occasion.Key screen.aid false) link.host.pending Then (hears parts link.host) at
+      (given.belief.heard_exact size link.host.shadow parts k.exact.known) (given.belief.heard_protected size link.host.shadow parts k.exact.protected) will turn (at.pending ∙ pends) down left fact)
+
+  -- a response to a write
+  hears_response : (lu : List ℕ) (from to : Serving) (kind : Kind) (number : ℕ) (command : CommandParts) (message : ToHost) → IsAt (view_of link) k.wanted (Moment.Serves lu from) → message ≡ ToHost.Response number Verdict.Positive
+      → pending_at (Moment.Serves lu from) ≡ awaiting kind number command → FactsAreExact (once_taken link.host.shape command link.host.shadow)
+      → turn_at (Moment.Serves lu from) ≡ turn_at (Moment.Serves lu to) → Pending.Nothing ≡ pending_at (Moment.Serves lu to) → down_at (Moment.Serves lu from) ++ [] ≡ down_at (Moment.Serves lu to)
+      → UnderWay link.lost rest (up_at k.wanted (Moment.Serves lu to)) → Fact k.wanted (scene_of (view_of (host_view (quiet (answered command link.host)) rest link))) (Moment.Serves lu to)
+      → Answered app pool link rest (took (answer_to pool) link.host message)
+  hears_response lu from to kind number command message at e waits exact turn pends down left fact =
+      as_step app pool link rest k (ToHost.Response number Verdict.Positive) message (quiet (answered command link.host)) e
+      (response_took (answer_to pool) link.host kind number command (agreed_at app pool link rest k lu from at) (at.pending ∙ waits))
+      (serves app pool link rest k lu from to (answered command link.host) at refl refl exact (at.turn ∙ turn) pends down left fact)
+
+  -- the whole screen, as it was asked for
+  hears_buffer : (lu : List ℕ) (number : ℕ) (parts : InboundParts) (message : ToHost) → IsAt (view_of link) k.wanted (Moment.Serves lu (Serving.Reported number parts)) → IsRead (scene_of (view_of link))
+      → parts ≡ buffer_data screen → message ≡ ToHost.Data parts → UnderWay link.lost rest [] → Answered app pool link rest (took (answer_to pool) link.host message)
+  hears_buffer lu number parts message at f is e left =
+      let read : InboundParts = buffer_data screen in
+      as_step app pool link rest k (ToHost.Data read) message (believed (once_read link.host.occasion) Pending.Nothing link.host (hears read link.host)) (e ∙ ap (λ p. ToHost.Data p) is)
+      (buffer_took (answer_to pool) link.host screen number (agreed_at app pool link rest k lu (Serving.Reported number parts) at) at.pending)
+      (believes lu (Serving.Reported number parts) Serving.Deciding read (once_read link.host.occasion) Pending.Nothing (λ s. Sees link.host.shape screen s) (hears read link.host) at
+      (given.belief.heard_exact size link.host.shadow read k.exact.known) (given.belief.heard_protected size link.host.shadow read k.exact.protected)
+      (by_result (heard size link.host.shadow read) (subst (λ n. IsOkAnd (heard n link.host.shadow read) (Believed false screen)) k.whole (given.belief.reads link.host.shadow screen f.decides.sees.meets))
+      (given.belief.heard_exact size link.host.shadow read k.exact.known) (given.belief.heard_protected size link.host.shadow read k.exact.protected))
+      refl refl refl left (λ shadow sees. record { lock = f.decides.lock; occasion = read_occasion link.host.occasion screen.aid f.decides.occasion; sees = sees }))
+    where
+      by_result : (r : Result Shadow HeardFault) → IsOkAnd r (Believed false screen) → IfOk r KnownIsExact → IfOk r ProtectedIsExact → IsOkAnd r (Sees link.host.shape screen)
+      by_result (Ok s) believed known protected =
+          record { exact = record { known = known; protected = protected }; cleared = λ clear. absurd (f.not_cleared clear); meets = believed.0; lists = believed.1; told = λ sent. believed.2 refl }
+      by_result (Err fault) believed known protected = absurd believed
+
+-- ---- any message, at any moment
+
+pub answers : Given → (app : Application) (pool : List Entry) → IsSound pool → (link : Link) (message : ToHost) (rest : List ToHost) → link.up ≡ message ∷ rest → Kept app (view_of link)
+    → Answered app pool link rest (took (answer_to pool) link.host message)
+answers given app pool sound link message rest e k = by_moment k.moment k.at k.fact
   where
     screen : Screen
     screen = link.term.display.screen
 
-    key_sent : ToHost
-    key_sent = ToHost.Data (modified_data Modified screen)
+    no_more : UnderWay link.lost link.up [] → Answered app pool link rest (took (answer_to pool) link.host message)
+    no_more way = absurd (nothing link.lost link.up message rest e way)
 
-    with_key : (aid : Aid) (occasion : Occasion) → screen.aid ≡ aid
-        → key_came app (modified_data Modified screen) aid link.host ≡ believed occasion link.host (heard app.size link.host.shadow (modified_data Modified screen))
-        → Answered app pool link rest (took app (answer_to pool) link.host message)
-    with_key aid occasion is came =
-        at_session app pool link rest key_sent message (believed occasion link.host (heard app.size link.host.shadow (modified_data Modified screen))) e
-        (key_took app (answer_to pool) link.host screen aid (agreed_at link session.wanted lu _ [] _ session.at) session.turn_is session.pending_is is ∙ came)
-        (believes given app pool link rest lu Turn.Terminal Pending.Nothing key_sent occasion (is_short_aid screen.aid) (heard app.size link.host.shadow (modified_data Modified screen))
-        (given.heard_exact app.size link.host.shadow (modified_data Modified screen) k.exact.known) (given.heard_protected app.size link.host.shadow (modified_data Modified screen) k.exact.protected) s.heard (sent_long screen.aid) k session left s.lock)
-
-    by_aid : (aid : Aid) → screen.aid ≡ aid → Answered app pool link rest (took app (answer_to pool) link.host message)
-    by_aid NoAid is = absurd (s.aid is)
-    by_aid Enter is = with_key Enter (Occasion.Key Enter false) is refl
-    by_aid Clear is = with_key Clear (Occasion.Key Clear false) is refl
-    by_aid (Pf key) is = with_key (Pf key) (Occasion.Key (Pf key) false) is refl
-    by_aid (Pa key) is = with_key (Pa key) (Occasion.Key (Pa key) false) is refl
-
-buffer_took : (app : Application) (pool : Answers) (conn : Conn) (screen : Screen) (number : ℕ) → is_agreed conn.talk.state ≡ true → conn.turn ≡ Turn.Host → conn.pending ≡ Pending.Reading number
-    → took app pool conn (ToHost.Data (buffer_data screen)) ≡ believed (once_read conn.occasion) conn (heard app.size conn.shadow (buffer_data screen))
-buffer_took app pool conn screen number agreed turns pends =
-    let parts : InboundParts = buffer_data screen in
-    ap (λ b. once_agreed b (data_came app parts conn.turn conn.pending conn) conn) agreed
-    ∙ ap (λ p. data_came app parts conn.turn p conn) pends
-    ∙ ap (λ t. data_came app parts t (Pending.Reading number) conn) turns
-
-takes_buffer : Given → (app : Application) (pool : List Entry) (link : Link) (rest : List ToHost) (lu : List ℕ) (number : ℕ) (message : ToHost) → Kept app (view_of link)
-    → In (view_of link) lu Turn.Host (Pending.Reading number) [] (ToHost.Data (buffer_data link.term.display.screen) ∷ []) → Reading (view_of link)
-    → message ≡ ToHost.Data (buffer_data link.term.display.screen) → UnderWay link.lost rest []
-    → Answered app pool link rest (took app (answer_to pool) link.host message)
-takes_buffer given app pool link rest lu number message k session s e left =
-    let screen : Screen = link.term.display.screen in
-    at_session app pool link rest (ToHost.Data (buffer_data screen)) message (believed (once_read link.host.occasion) link.host (heard app.size link.host.shadow (buffer_data screen))) e
-    (buffer_took app (answer_to pool) link.host screen number (agreed_at link session.wanted lu _ [] _ session.at) session.turn_is session.pending_is)
-    (believes given app pool link rest lu Turn.Host (Pending.Reading number) (ToHost.Data (buffer_data screen)) (once_read link.host.occasion) false (heard app.size link.host.shadow (buffer_data screen))
-    (given.heard_exact app.size link.host.shadow (buffer_data screen) k.exact.known) (given.heard_protected app.size link.host.shadow (buffer_data screen) k.exact.protected)
-    (subst (λ size. IsOkAnd (heard size link.host.shadow (buffer_data screen)) (Believed false screen)) k.whole (given.reads link.host.shadow screen s.meets)) (λ _. refl) k session left s.lock)
-
--- a response to the write, behind which this is under way
-takes_response : (app : Application) (pool : List Entry) (link : Link) (rest more_up : List ToHost) (lu : List ℕ) (number : ℕ) (paints : WantedScreen) (message : ToHost) → Kept app (view_of link)
-    → (session : In (view_of link) lu Turn.Terminal (Pending.Writing number paints) [] (ToHost.Response number Verdict.Positive ∷ more_up))
-    → message ≡ ToHost.Response number Verdict.Positive → UnderWay link.lost rest more_up → FactsAreExact (once_taken app link.host paints)
-    → (In (view_of (host_view (quiet (answered app paints link.host)) rest link)) lu Turn.Terminal Pending.Nothing [] more_up → Stage app (view_of (host_view (quiet (answered app paints link.host)) rest link)))
-    → Answered app pool link rest (took app (answer_to pool) link.host message)
-takes_response app pool link rest more_up lu number paints message k session e left exact stage =
-    at_session app pool link rest (ToHost.Response number Verdict.Positive) message (quiet (answered app paints link.host)) e
-    (response_took app (answer_to pool) link.host number paints (agreed_at link session.wanted lu _ [] _ session.at) session.pending_is)
-    (record {
-      kept = record {
-        whole = k.whole;
-        cursor = k.cursor;
-        unreturned = k.unreturned;
-        exact = exact;
-        stage = stage (session_at link (answered app paints link.host) lu Turn.Terminal Turn.Terminal (Pending.Writing number paints) Pending.Nothing (ToHost.Response number Verdict.Positive) more_up rest session left refl session.turn_is refl);
-      };
-      open_end = refl;
-      grants = no_grant pool link.host (answered app paints link.host) refl;
-    })
-
--- ---- any message, at any stage
-
-pub answers : Given → (app : Application) (pool : List Entry) → IsSound pool → (link : Link) (message : ToHost) (rest : List ToHost) → link.up ≡ message ∷ rest → Kept app (view_of link)
-    → Answered app pool link rest (took app (answer_to pool) link.host message)
-answers given app pool sound link message rest e k = cases k.stage
-  where
-    none : UnderWay link.lost link.up [] → Answered app pool link rest (took app (answer_to pool) link.host message)
-    none way = absurd (nothing link.lost link.up message rest e way)
-
-    at_moment : IsNew (view_of link) → Moment (view_of link) → Answered app pool link rest (took app (answer_to pool) link.host message)
-    at_moment n (willing wanted lu at) =
-        let first = front link.lost link.up message rest (ToHost.TalksUp (Saying.Opt Will 40)) [] e at.goes_up in
-        let sends : List ToTerminal = ToTerminal.TalksDown (Saying.Sub SendType) ∷ [] in
-        talks app pool link rest (start_at Offered) (start_at Asked) (Saying.Opt Will 40) sends None message k at.host_talk first.0 refl
-        (Grants.none refl (claim_at link.host (start_at Offered) at.host_talk))
-        (talking (still_new link rest (start_at Asked) sends None n)
-        (type_wanted wanted lu (talk_at link (start_at Offered) (start_at Asked) wanted Willing (ToHost.TalksUp (Saying.Opt Will 40)) [] rest [] sends None at first.1)))
-    at_moment n (type_asked wanted lu at) =
-        let first = front link.lost link.up message rest (ToHost.TalksUp (asking_type wanted)) [] e at.goes_up in
-        grants_type given app pool sound link rest wanted message lu k n at first.1 first.0
-    at_moment n (functions_asked wanted lu at) =
-        let first = front link.lost link.up message rest (ToHost.TalksUp (Saying.Sub FunRequest)) [] e at.goes_up in
-        let sends : List ToTerminal = ToTerminal.TalksDown (Saying.Sub FunIs) ∷ [] in
-        talks app pool link rest (start_at (Named Model2 lu)) (start_at (HostAgreed Model2 lu)) (Saying.Sub FunRequest) sends None message k at.host_talk first.0
+    by_talk : (talking : Talking) → IsAt (view_of link) k.wanted (Moment.Talks talking) → Fact k.wanted (scene_of (view_of link)) (Moment.Talks talking) → Answered app pool link rest (took (answer_to pool) link.host message)
+    by_talk Talking.Accepting at f =
+        let first = front link.lost link.up message rest _ [] e at.goes_up in
+        talks app pool link rest k Talking.Accepting Talking.AskingType (Saying.Opt Will 40) (ToTerminal.TalksDown (Saying.Sub SendType) ∷ []) None message at first.0 refl
+        (Grants.none refl (claim_at link.host (start_at Offered) at.host_talk)) (record { term = refl; down = refl }) first.1 f
+    by_talk Talking.NamingType at f =
+        let first = front link.lost link.up message rest _ [] e at.goes_up in
+        grants_type given app pool sound link rest k message at f first.1 first.0
+    by_talk (Talking.AskingFunctions lu) at f =
+        let first = front link.lost link.up message rest _ [] e at.goes_up in
+        talks app pool link rest k (Talking.AskingFunctions lu) (Talking.Agreeing lu) (Saying.Sub FunRequest) (ToTerminal.TalksDown (Saying.Sub FunIs) ∷ []) None message at first.0
         (ap (λ w. let next = follow HostClosed (start_at (Named Model2 lu)) (host_line (Named Model2 lu) (Comes.RequestsFunctions w)) in talked_on (answer_to pool) link.host next.0 next.1) responses_alone)
-        (Grants.none refl (claim_at link.host (start_at (Named Model2 lu)) at.host_talk))
-        (talking (still_new link rest (start_at (HostAgreed Model2 lu)) sends None n)
-        (agreeing wanted lu (talk_at link (start_at (Named Model2 lu)) (start_at (HostAgreed Model2 lu)) wanted (FunctionsAsked lu) (ToHost.TalksUp (Saying.Sub FunRequest)) [] rest [] sends None at first.1)))
-    at_moment n (offered wanted lu at) = none at.goes_up
-    at_moment n (type_wanted wanted lu at) = none at.goes_up
-    at_moment n (named wanted lu s at) = none at.goes_up
-    at_moment n (agreeing wanted lu at) = none at.goes_up
-    at_moment n (rejected wanted reason at) = none at.goes_up
-    at_moment n (refused wanted reason at) = none at.goes_up
+        (Grants.none refl (claim_at link.host (start_at (Named Model2 lu)) at.host_talk)) (record { term = refl; down = refl }) first.1 f
+    by_talk Talking.Offering at f = no_more at.goes_up
+    by_talk Talking.AskingType at f = no_more at.goes_up
+    by_talk (Talking.Granting lu) at f = no_more at.goes_up
+    by_talk (Talking.Agreeing lu) at f = no_more at.goes_up
+    by_talk (Talking.Rejecting reason) at f = no_more at.goes_up
+    by_talk (Talking.Rejected reason) at f = no_more at.goes_up
 
-    cases : Stage app (view_of link) → Answered app pool link rest (took app (answer_to pool) link.host message)
-    cases (talking n moment) = at_moment n moment
-    cases (first_paint lu number paints s) = none s.at.goes_up
-    cases (at_host lu s) = none s.session.at.goes_up
-    cases (painting lu number paints s) = none s.session.at.goes_up
-    cases (answering lu number paints session s) =
-        let first = front link.lost link.up message rest (ToHost.Response number Verdict.Positive) [] e session.at.goes_up in
-        takes_response app pool link rest [] lu number paints message k session first.0 first.1 s.exact
-        (λ session. operating lu session (record { exact = s.exact; lock = s.lock; meets = s.meets; knows = s.knows; held = s.held }))
-    cases (operating lu session s) = none session.at.goes_up
-    cases (sent_behind lu number paints session s) =
-        let first = front link.lost link.up message rest (ToHost.Response number Verdict.Positive) _ e session.at.goes_up in
-        takes_response app pool link rest _ lu number paints message k session first.0 first.1 s.exact
-        (λ session. sent_alone lu session (record { exact = s.exact; lock = s.lock; heard = s.heard; aid = s.aid }))
-    cases (sent_alone lu session s) =
-        let first = front link.lost link.up message rest _ [] e session.at.goes_up in
-        takes_key given app pool link rest lu message k session s first.0 first.1
-    cases (asking lu number session s) = none session.at.goes_up
-    cases (reporting lu number session s) =
-        let first = front link.lost link.up message rest _ [] e session.at.goes_up in
-        takes_buffer given app pool link rest lu number message k session s first.0 first.1
+    by_serving : (lu : List ℕ) (serving : Serving) → IsAt (view_of link) k.wanted (Moment.Serves lu serving) → Fact k.wanted (scene_of (view_of link)) (Moment.Serves lu serving) → Answered app pool link rest (took (answer_to pool) link.host message)
+    by_serving lu (Serving.Reported number parts) at f =
+        let first = front link.lost link.up message rest _ [] e at.goes_up in
+        hears_buffer given app pool link rest k lu number parts message at f.0 f.1 first.0 first.1
+    by_serving lu (Serving.AnsweredLate number command) at f =
+        let first = front link.lost link.up message rest _ [] e at.goes_up in
+        hears_response given app pool link rest k lu (Serving.AnsweredLate number command) Serving.Deciding Kind.ANote number command message at first.0 refl f.sees.exact refl refl refl first.1
+        (record { lock = f.lock; occasion = f.occasion; sees = f.sees })
+    by_serving lu (Serving.Answering kind number command) at f =
+        let first = front link.lost link.up message rest _ [] e at.goes_up in
+        hears_response given app pool link rest k lu (Serving.Answering kind number command) Serving.Operating kind number command message at first.0 refl f.exact refl refl refl first.1
+        (record { shown = f.shown; lock = f.lock; exact = f.exact; meets = f.meets; knows = f.knows; held = f.held; messages = f.messages; noted = f.noted })
+    by_serving lu (Serving.KeyBehind kind number command parts) at f =
+        let first = front link.lost link.up message rest _ _ e at.goes_up in
+        hears_response given app pool link rest k lu (Serving.KeyBehind kind number command parts) (Serving.KeyAlone parts) kind number command message at first.0 refl
+        f.3 refl refl refl first.1
+        (record { lock = f.0.lock; form = f.0.form; pressed = f.0.pressed; some = f.0.some }, f.1, f.2)
+    by_serving lu (Serving.KeyAlone parts) at f =
+        let first = front link.lost link.up message rest _ [] e at.goes_up in
+        hears_key given app pool link rest k lu (Serving.KeyAlone parts) Serving.Deciding parts message (Sees link.host.shape screen) at f.0 f.1 first.0 refl (IsKeyTime.nothing_waits refl) refl refl refl first.1
+        (λ shadow sees. record { lock = f.0.lock; occasion = (refl, f.0.some); sees = sees })
+    by_serving lu (Serving.KeyNoted number command parts) at f =
+        let first = front link.lost link.up message rest _ [] e at.goes_up in
+        hears_key given app pool link rest k lu (Serving.KeyNoted number command parts) (Serving.NotedLate number command) parts message (Sees link.host.shape screen) at f.0 f.1 first.0 refl (IsKeyTime.note_waits number command refl) refl refl refl first.1
+        (λ shadow sees. (record { lock = f.0.lock; occasion = (refl, f.0.some); sees = sees }, record { note = f.2.note; takes = f.2.takes }))
+    by_serving lu (Serving.KeyBefore number command parts) at f =
+        let first = front link.lost link.up message rest _ _ e at.goes_up in
+        hears_key given app pool link rest k lu (Serving.KeyBefore number command parts) (Serving.AnsweredLate number command) parts message (λ shadow. Sees link.host.shape screen (once_taken link.host.shape command shadow)) at f.0 f.1 first.0 refl
+        (IsKeyTime.note_waits number command refl) refl refl refl first.1
+        (λ shadow sees. record { lock = f.0.lock; occasion = (refl, f.0.some); sees = sees })
+    by_serving lu Serving.Deciding at f = no_more at.goes_up
+    by_serving lu (Serving.Reading number) at f = no_more at.goes_up
+    by_serving lu (Serving.NotedLate number command) at f = no_more at.goes_up
+    by_serving lu (Serving.Painting number command wants over) at f = no_more at.goes_up
+    by_serving lu Serving.Operating at f = no_more at.goes_up
+    by_serving lu (Serving.Noting number command) at f = no_more at.goes_up
+
+    by_moment : (moment : Moment) → IsAt (view_of link) k.wanted moment → Fact k.wanted (scene_of (view_of link)) moment → Answered app pool link rest (took (answer_to pool) link.host message)
+    by_moment (Moment.Talks talking) at f = by_talk talking at f
+    by_moment (Moment.Begins lu number command wants over) at f = no_more at.goes_up
+    by_moment (Moment.Serves lu serving) at f = by_serving lu serving at f

@@ -10,7 +10,8 @@ use Rattle.world3270.specs.World.{World}
 -- the whole screen while a read is pending, else modified fields
 abbrev pub form_awaited : Pending → Form
 form_awaited (Pending.Reading number) = Buffer
-form_awaited (Pending.Writing number wanted) = Modified
+form_awaited (Pending.Writing number command) = Modified
+form_awaited (Pending.Noting number command) = Modified
 form_awaited Pending.Nothing = Modified
 
 -- The data that comes up next has the form that the host awaits.

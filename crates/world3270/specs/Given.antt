@@ -1,20 +1,27 @@
--- The laws of the crates below.
+-- The laws of the crates below, as one record for proofs.
 
 use Rattle.datastream.specs.HeldLaws.{HeldAtFirst}
+use Rattle.datastream.specs.NoteLaws.{NoteKeepsBounds, NoteKeepsForm, NoteKeepsHeld, HeldStaysProtected, NoteKeepsSendable, NotesCompose}
 use Rattle.keyboard.specs.Laws.{KeysKeep, KeysStayOnTheScreen}
 use Rattle.keyboard.specs.Sendable.{KeysKeepSendable}
+use Rattle.keyboard.specs.Sending.{ClearEmptiesTheScreen}
 use Rattle.shadow.specs.Exactness.{NothingIsExact, HeardStaysExact, HeardStaysProtected, TakenStaysExact, PaintedIsExact, ProtectedIsSeen, ReturnedIsTold}
-use Rattle.shadow.specs.Laws.{HearsModified, HearsBuffer, PaintIsSpelt, PaintIsTaken, PaintedIsKnown}
+use Rattle.shadow.specs.Laws.{HearsModified, HearsBuffer, PaintIsSpelt, PaintIsTaken, PaintedIsKnown, WrittenIsTaken}
+use Rattle.shadow.specs.Notes.{PlacedStaysKnown, NoteStaysListed, NoteStaysTold, NoteStaysExact}
+use Rattle.shadow.specs.Openness.{ClearIsHeard}
 use Rattle.tn3270e_msg.specs.Laws.{NameIsReadAsItself}
+use Rattle.lu_pool.specs.HolderLaws.{PoolsAreSound, StaysSoundFree, StaysSoundGranted, StaysSoundBack, NobodyHolds, AnswersWhatIsFree, AnswersNames, AnswersTheName, GrantIsHeld, OthersStay, OthersKeep, BackIsFree}
 use Rattle.host_core.specs.Laws.{ActsFit}
-use Rattle.host_core.specs.PoolLaws.{PoolsAreSound, StaysSoundFree, StaysSoundGranted, StaysSoundBack, NobodyHolds, AnswersWhatIsFree, AnswersNames, AnswersTheName, GrantIsHeld, OthersStay, OthersKeep, BackIsFree}
+use Rattle.host_core.specs.NoteLaws.{NotesAreNotes, NotesOverwrite, NotesAreOverCharacters, NotesWriteProtected, PaintsTakeNotes, HeldTakesNotes, SameAttributesTakeNotes}
 
-pub record Given : Type 0 where
+-- what is said, written and heard
+pub record GivenBelief : Type 0 where
   pub hears : HearsModified
   pub reads : HearsBuffer
   pub spelt : PaintIsSpelt
   pub taken : PaintIsTaken
   pub known : PaintedIsKnown
+  pub written : WrittenIsTaken
   pub nothing_exact : NothingIsExact
   pub heard_exact : HeardStaysExact
   pub heard_protected : HeardStaysProtected
@@ -22,12 +29,40 @@ pub record Given : Type 0 where
   pub painted_exact : PaintedIsExact
   pub seen : ProtectedIsSeen
   pub told : ReturnedIsTold
+  pub cleared : ClearIsHeard
+  pub fit : ActsFit
+  pub names : NameIsReadAsItself
+
+-- keys
+pub record GivenKeys : Type 0 where
   pub keep : KeysKeep
   pub on_screen : KeysStayOnTheScreen
   pub sendable : KeysKeepSendable
+  pub clears : ClearEmptiesTheScreen
   pub at_first : HeldAtFirst
-  pub names : NameIsReadAsItself
-  pub fit : ActsFit
+
+-- notes
+pub record GivenNotes : Type 0 where
+  pub bounds : NoteKeepsBounds
+  pub form : NoteKeepsForm
+  pub held : NoteKeepsHeld
+  pub still_protected : HeldStaysProtected
+  pub note_sendable : NoteKeepsSendable
+  pub composes : NotesCompose
+  pub placed : PlacedStaysKnown
+  pub listed : NoteStaysListed
+  pub stays_told : NoteStaysTold
+  pub exact : NoteStaysExact
+  pub are_notes : NotesAreNotes
+  pub overwrites : NotesOverwrite
+  pub over_characters : NotesAreOverCharacters
+  pub writes_protected : NotesWriteProtected
+  pub painted_takes : PaintsTakeNotes
+  pub held_takes : HeldTakesNotes
+  pub same_takes : SameAttributesTakeNotes
+
+-- the pool of LUs
+pub record GivenPool : Type 0 where
   pub sound : PoolsAreSound
   pub sound_free : StaysSoundFree
   pub sound_granted : StaysSoundGranted
@@ -40,3 +75,9 @@ pub record Given : Type 0 where
   pub others_stay : OthersStay
   pub others_keep : OthersKeep
   pub back : BackIsFree
+
+pub record Given : Type 0 where
+  pub belief : GivenBelief
+  pub keys : GivenKeys
+  pub notes : GivenNotes
+  pub pool : GivenPool

@@ -1,5 +1,6 @@
 -- One connection with its two ends, and what may happen on it (our profile).
 use Rattle.std.specs.Prelude.{◌||◌, not, ℕ, Bool, true, false, List, [], ◌∷◌, ◌++◌, Option, Some, None, if◌then◌else◌, is_some}
+use Rattle.codes3270.specs.Size.{Shape}
 use Rattle.telnet_wire.specs.declared.wire.Verb.TheVariants.{Do}
 use Rattle.tn3270e_msg.specs.declared.cause.Cause.{Cause}
 use Rattle.host_core.specs.Messages.{ToTerminal, ToHost}
@@ -28,28 +29,28 @@ is_free link = not (link.host_here || is_some link.term_here)
 abbrev pub is_up : Link → Bool
 is_up link = not (link.lost || is_free link)
 
--- at the begin: the host has offered TN3270E; the terminal with that number wants an LU, if one
-abbrev pub begun : ℕ → ℕ → Option (List ℕ) → Link
-begun size terminal wanted = record {
+-- at the begin: the host has offered TN3270E; the terminal with that number, whose screen has that shape, wants an LU, if one
+abbrev pub begun : Shape → ℕ → Option (List ℕ) → Link
+begun shape terminal wanted = record {
   lost = false;
   down = ToTerminal.TalksDown (Saying.Opt Do 40) ∷ [];
   up = [];
   host_here = true;
-  host = new_conn;
+  host = new_conn shape;
   term_here = Some terminal;
-  term = new_end size wanted;
+  term = new_end shape wanted;
 }
 
 -- a number that was never used: as if its connection was lost before anything was said
-abbrev pub unused : ℕ → Link
-unused size = record {
+abbrev pub unused : Shape → Link
+unused shape = record {
   lost = true;
   down = [];
   up = [];
   host_here = false;
-  host = new_conn;
+  host = new_conn shape;
   term_here = None;
-  term = new_end size None;
+  term = new_end shape None;
 }
 
 -- the connection is lost

@@ -2,7 +2,8 @@
 use Rattle.std.specs.Prelude.{◌≡◌, ◌++◌, ℕ, true, List}
 use Rattle.host_core.specs.Application.{Application}
 use Rattle.world3270.specs.Link.{Link}
-use Rattle.world3270.specs.World.{World, Event, happens}
+use Rattle.world3270.specs.Happens.{happens}
+use Rattle.world3270.specs.World.{World, Event}
 
 -- what is left of a queue, once its first messages were taken
 abbrev pub IsRest : {X : Type 0} → List X → List X → Type 0

@@ -1,10 +1,12 @@
 -- Where terminals are, and which connections an event concerns (our profile).
 use Rattle.std.specs.Prelude.{◌≡◌, ◌↔◌, ◌==◌, ℕ, Bool, true, false, List, Option, Some, None, is_some}
 use Rattle.host_core.specs.Application.{Application}
-use Rattle.host_core.specs.Pool.{holder}
-use Rattle.host_core.specs.PoolLaws.{IsSound}
+use Rattle.lu_pool.specs.Holders.{holder}
+use Rattle.lu_pool.specs.HolderLaws.{IsSound}
 use Rattle.world3270.specs.Link.{Link}
-use Rattle.world3270.specs.World.{Place, World, Event, free_number, happens}
+use Rattle.world3270.specs.Happens.{happens}
+use Rattle.world3270.specs.Placed.{free_number}
+use Rattle.world3270.specs.World.{Place, World, Event}
 
 -- ---- both ends agree
 
@@ -47,6 +49,7 @@ concerns (Event.Press terminal key) world number = is_at number (world.place ter
 concerns (Event.Up at) world number = number == at
 concerns (Event.Down at) world number = number == at
 concerns (Event.Act at) world number = number == at
+concerns (Event.Note at text) world number = number == at
 concerns (Event.Lose at) world number = number == at
 concerns (Event.HostSees at) world number = number == at
 concerns (Event.TermSees terminal) world number = is_at number (world.place terminal)

@@ -1,8 +1,8 @@
 -- What is sent can be spelt: the screen before each operator is always one that can be sent, and each paint is a command of the
 -- data stream (our profile).
 use Rattle.std.specs.Prelude.{◌≡◌, ◌≤◌, ◌<◌, ⊤, ℕ, List, length, All}
-use Rattle.codes3270.specs.Size.{cell_count}
-use Rattle.datastream.specs.Grammar.{IsCommand}
+use Rattle.codes3270.specs.Size.{Shape, cells_in, cell_count}
+use Rattle.datastream.specs.Grammar.{IsCommand, IsSpelt as IsSpeltCommand}
 use Rattle.datastream.specs.InboundFields.{IsSendable}
 use Rattle.datastream.specs.InboundText.{IsInbound}
 use Rattle.datastream.specs.Wanted.{IsScreen}
@@ -14,23 +14,25 @@ use Rattle.host_core.specs.Application.{Application, IsApplication, AsksForScree
 use Rattle.host_core.specs.Messages.{ToTerminal, ToHost}
 use Rattle.shadow.specs.Paint.{paint, paint_bytes}
 use Rattle.world3270.specs.Terminal.{Display}
-use Rattle.world3270.specs.World.{Place, World, Event, AreEvents, new_world, run}
+use Rattle.world3270.specs.Happens.{run}
+use Rattle.world3270.specs.World.{Place, World, Event, AreEvents, new_world}
 
 -- what the operator of a terminal has before him
 abbrev pub display_at : World → Place → Display
 display_at world (Place.At number) = (world.link number).term.display
 display_at world (Place.Alone display) = display
 
--- the screen has the size of the application's, with the cursor on it
-pub record HasSize (size : ℕ) (screen : Screen) : Type 0 where
-  pub whole : length screen.cells ≡ size
-  pub cursor : screen.cursor < size
+-- the screen has the shape that the terminal began with, and the cursor is on it
+pub record HasShape (shape : Shape) (display : Display) : Type 0 where
+  pub shape_is : display.shape ≡ shape
+  pub whole : length display.screen.cells ≡ cells_in shape
+  pub cursor : display.screen.cursor < cells_in shape
 
--- Over every list of events each terminal's screen keeps the application's size.
-abbrev pub ScreensKeepTheirSize : Type 0
-ScreensKeepTheirSize = (app : Application) (pool : List Entry) (terminals : ℕ) (events : List Event)
+-- Over every list of events each terminal's screen keeps the shape that it began with.
+abbrev pub ScreensKeepTheirShape : Type 0
+ScreensKeepTheirShape = (app : Application) (pool : List Entry) (terminals : ℕ) (events : List Event)
     → IsApplication app → IsPool pool → terminals ≤ 16 → AreEvents events
-    → let world = run app events (new_world app pool terminals) in (terminal : ℕ) → HasSize app.size (display_at world (world.place terminal)).screen
+    → let world = run app events (new_world app pool terminals) in (terminal : ℕ) → HasShape app.begins (display_at world (world.place terminal))
 
 -- an event's key is one that a terminal has
 abbrev pub IsTyped : Event → Type 0
@@ -61,6 +63,7 @@ abbrev pub PaintsAScreen : ToTerminal → Type 0
 PaintsAScreen (ToTerminal.TalksDown saying) = ⊤
 PaintsAScreen (ToTerminal.Paint number wanted over) = IsScreen wanted
 PaintsAScreen (ToTerminal.ReadBuffer number) = ⊤
+PaintsAScreen (ToTerminal.Note number command) = ⊤
 
 -- All paints under way are of such screens.
 abbrev pub PaintsAreScreens : World → Type 0
@@ -71,8 +74,9 @@ abbrev pub IsSpelt : ToTerminal → Type 0
 IsSpelt (ToTerminal.TalksDown saying) = ⊤
 IsSpelt (ToTerminal.Paint number wanted over) = IsCommand (paint cell_count over wanted) (paint_bytes cell_count over wanted)
 IsSpelt (ToTerminal.ReadBuffer number) = ⊤
+IsSpelt (ToTerminal.Note number command) = IsSpeltCommand command
 
--- All paints under way are commands of the data stream.
+-- All paints and notes under way are commands of the data stream.
 abbrev pub PaintsAreSpelt : World → Type 0
 PaintsAreSpelt world = (number : ℕ) → All IsSpelt (world.link number).down
 

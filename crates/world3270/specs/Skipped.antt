@@ -1,63 +1,9 @@
--- Which events are skipped (our profile).
-use Rattle.std.specs.Prelude.{◌≡◌, ◌&&◌, not, ℕ, Bool, true, false, List, [], ◌∷◌, is_some}
-use Rattle.host_core.specs.Acts.{acted}
+-- An event that is skipped changes nothing (our profile).
+use Rattle.std.specs.Prelude.{◌≡◌, true}
 use Rattle.host_core.specs.Application.{Application}
-use Rattle.world3270.specs.Link.{Link, is_up}
-use Rattle.world3270.specs.World.{Place, World, Event, free_number, is_link, is_terminal, happens}
+use Rattle.world3270.specs.Happens.{happens}
+use Rattle.world3270.specs.Placed.{is_skipped}
+use Rattle.world3270.specs.World.{World, Event}
 
-abbrev pub is_queued : {X : Type 0} → List X → Bool
-is_queued [] = false
-is_queued (message ∷ more) = true
-
--- a message comes up to the end that the host holds, or down to the one that a terminal holds
-abbrev pub comes_up : Link → Bool
-comes_up link = link.host_here && is_queued link.up
-
-abbrev pub comes_down : Link → Bool
-comes_down link = is_some link.term_here && is_queued link.down
-
--- the host holds an end, and acts
-abbrev pub host_acts : Application → Link → Bool
-host_acts app link = link.host_here && is_some (acted app link.host)
-
--- an end is held on a lost connection
-abbrev pub host_sees : Link → Bool
-host_sees link = link.lost && link.host_here
-
-abbrev pub terminal_sees : World → Place → Bool
-terminal_sees world (Place.At number) = (world.link number).lost
-terminal_sees world (Place.Alone display) = false
-
--- a terminal that is alone connects while a number is free
-abbrev pub may_connect : World → Place → Bool
-may_connect world (Place.At number) = false
-may_connect world (Place.Alone display) = is_some (free_number world.link)
-
--- whether an event has something to happen to
-abbrev pub has_place : Application → Event → World → Bool
-has_place app (Event.Press terminal key) world = is_terminal world terminal
-has_place app (Event.Up number) world = is_link number && comes_up (world.link number)
-has_place app (Event.Down number) world = is_link number && comes_down (world.link number)
-has_place app (Event.Act number) world = is_link number && host_acts app (world.link number)
-has_place app (Event.Lose number) world = is_link number && is_up (world.link number)
-has_place app (Event.HostSees number) world = is_link number && host_sees (world.link number)
-has_place app (Event.TermSees terminal) world = is_terminal world terminal && terminal_sees world (world.place terminal)
-has_place app (Event.Connect terminal wanted) world = is_terminal world terminal && may_connect world (world.place terminal)
-has_place app (Event.RestartTerm terminal) world = is_terminal world terminal
-has_place app Event.RestartHost world = true
-
--- an event that has no place is skipped
-abbrev pub is_skipped : Application → Event → World → Bool
-is_skipped app event world = not (has_place app event world)
-
--- each part of the world is as before
-pub record IsUnchanged (old new : World) : Type 0 where
-  pub pool : new.pool ≡ old.pool
-  pub links : (number : ℕ) → new.link number ≡ old.link number
-  pub places : (terminal : ℕ) → new.place terminal ≡ old.place terminal
-  pub terminals : new.terminals ≡ old.terminals
-  pub causes : new.causes ≡ old.causes
-
--- an event that is skipped changes nothing
 abbrev pub SkippedChangesNothing : Type 0
-SkippedChangesNothing = (app : Application) (event : Event) (world : World) → is_skipped app event world ≡ true → IsUnchanged world (happens app event world)
+SkippedChangesNothing = (app : Application) (event : Event) (world : World) → is_skipped app event world ≡ true → happens app event world ≡ world

@@ -1,6 +1,7 @@
 -- When bytes stand for messages: what is under way in each direction spells them, one item each, and nothing besides (RFC 1647,
 -- sections 8.1 and 10.4; what is sent when is our profile).
 use Rattle.std.specs.Prelude.{◌≡◌, ◌≢◌, ◌<◌, ◌^◌, ℕ, Bool, true, List, [], length, Option, Some, None}
+use Rattle.codes3270.specs.Size.{model_2}
 use Rattle.datastream.specs.Grammar.{CommandParts, IsCommand}
 use Rattle.datastream.specs.InboundText.{IsInbound}
 use Rattle.datastream.specs.Meaning.{after_command}
@@ -19,13 +20,14 @@ use Rattle.tn3270e_msg.specs.declared.header.Header.{Header}
 use Rattle.tn3270e_msg.specs.declared.header.DataType.TheVariants.{Data3270}
 use Rattle.term_core.specs.Records.{is_restoring_write}
 use Rattle.term_core.specs.Says.{response, data_record}
-use Rattle.term_core.specs.State.{Station, Terminal, Attached, record_limit}
+use Rattle.term_core.specs.State.{Attached, record_limit}
 use Rattle.term_core.specs.declared.outcome.Outcome.{Outcome}
 use Rattle.term_core.specs.declared.outcome.Outcome.TheVariants.{DeviceEnd}
 use Rattle.host_core.specs.Messages.{ToTerminal, ToHost, Verdict}
 use Rattle.tn3270e_msg.specs.Talk.{item_of}
 use Rattle.host_core.specs.Session.{Conn}
 use Rattle.world3270.specs.Link.{Link}
+use Rattle.world3270.specs.Seats.{Seat, ByteEnd, end_at}
 use Rattle.world3270.specs.Terminal.{TermEnd}
 
 -- ---- one item down
@@ -68,10 +70,19 @@ pub record IsRead (item : WireItem) (number : ℕ) : Type 0 where
   pub begins : Begins bytes (command_header when_refused number) body
   pub spelt : IsCommand read_buffer_command body
 
+-- a record that asks for a response in any case, with this very write
+pub record IsNoted (item : WireItem) (number : ℕ) (command : CommandParts) : Type 0 where
+  pub bytes : List ℕ
+  pub body : List ℕ
+  pub is_record : item ≡ Record bytes
+  pub begins : Begins bytes (command_header always number) body
+  pub spelt : IsCommand command body
+
 abbrev pub StandsDown : WireItem → ToTerminal → Type 0
 StandsDown item (ToTerminal.TalksDown saying) = item ≡ item_of saying
 StandsDown item (ToTerminal.Paint number wanted believed) = IsPaint item number wanted believed
 StandsDown item (ToTerminal.ReadBuffer number) = IsRead item number
+StandsDown item (ToTerminal.Note number command) = IsNoted item number command
 
 -- ---- one item up
 
@@ -105,7 +116,7 @@ BytesUp rest bytes messages = BytesStand StandsUp rest bytes messages
 -- ---- a connection
 
 -- One connection over bytes: what is under way in each direction; the host's end with what its decoder holds, and whether the host
--- holds it; the terminal, and which one it is.
+-- holds it; which terminal holds the other end, and that terminal with its history.
 pub record ByteLink : Type 0 where
   pub lost : Bool
   pub down : List ℕ
@@ -114,13 +125,22 @@ pub record ByteLink : Type 0 where
   pub host : Conn
   pub host_rest : Rest
   pub term_here : Option ℕ
-  pub term : Terminal
+  pub seat : Seat
 
--- the terminal's talk, screen and keyboard are those of the end; `left` and `erased` are history, which bytes don't have
-pub record IsEnd (talk : Term) (station : Station) (end : TermEnd) : Type 0 where
-  pub talk_is : talk ≡ end.talk
-  pub screen_is : station.screen ≡ end.display.screen
-  pub keyboard_is : station.keyboard ≡ end.display.keyboard
+-- the terminal is a model 2; talk, screen and keyboard are those of the end, and so is their history
+pub record IsEnd (bytes : ByteEnd) (end : TermEnd) : Type 0 where
+  pub shape_is : end.display.shape ≡ model_2
+  pub talk_is : bytes.talk ≡ end.talk
+  pub screen_is : bytes.station.screen ≡ end.display.screen
+  pub keyboard_is : bytes.station.keyboard ≡ end.display.keyboard
+  pub left_is : bytes.history.left ≡ end.display.left
+  pub erased_is : bytes.history.erased ≡ end.display.erased
+
+-- a terminal whose decoder holds this rest is attached, and holds the end
+pub record Holds (rest : Rest) (seat : Seat) (end : TermEnd) : Type 0 where
+  pub talk : Term
+  pub attached : seat.terminal.link ≡ Attached rest talk
+  pub is_end : IsEnd (end_at talk seat) end
 
 -- the host's end, and what comes up to it
 pub record HostStands (bytes : ByteLink) (link : Link) : Type 0 where
@@ -130,10 +150,8 @@ pub record HostStands (bytes : ByteLink) (link : Link) : Type 0 where
 -- the terminal's end, and what comes down to it; all that the terminal said is under way
 pub record TermStands (bytes : ByteLink) (link : Link) : Type 0 where
   pub rest : Rest
-  pub talk : Term
-  pub attached : bytes.term.link ≡ Attached rest talk
-  pub is_end : IsEnd talk bytes.term.station link.term
-  pub silent : bytes.term.out ≡ []
+  pub holds : Holds rest bytes.seat link.term
+  pub silent : bytes.seat.terminal.out ≡ []
   pub down : BytesDown rest bytes.down link.down
 
 -- Of an end that was left nothing is said: no step reads it, or what is under way to it.

@@ -1,10 +1,13 @@
 -- A terminal, over messages: what it makes of what a host sends, and of keys (RFC 1647, sections 7, 8.1 and 10.4; locks are our profile).
 use Rattle.std.specs.Prelude.{◌||◌, ℕ, Bool, true, false, List, [], ◌∷◌, map, Option, Some, None, is_some}
+use Rattle.codes3270.specs.Size.{Shape, cells_in}
+use Rattle.datastream.specs.Grammar.{CommandParts}
 use Rattle.datastream.specs.InboundFields.{modified_data, buffer_data}
+use Rattle.datastream.specs.Meaning.{after_command}
 use Rattle.datastream.specs.Screen.{Screen, blank_screen}
 use Rattle.datastream.specs.Wanted.{WantedScreen}
 use Rattle.datastream.specs.declared.inbound_part.Form.TheVariants.{Modified}
-use Rattle.keyboard.specs.Keys.{pressed}
+use Rattle.keyboard.specs.Keys.{Outcome, pressed}
 use Rattle.keyboard.specs.Leaves.{erases}
 use Rattle.keyboard.specs.State.{Keyboard, fresh, freed}
 use Rattle.keyboard.specs.declared.key.Key.{Key}
@@ -19,25 +22,27 @@ use Rattle.tn3270e_msg.specs.declared.term_talk.TermState.{TermState}
 use Rattle.tn3270e_msg.specs.declared.term_talk.TermState.TheVariants.{Waiting, Willing, TypeAsked, FunctionsAsked, Agreed, Refused as RefusedState, Closed}
 use Rattle.host_core.specs.Messages.{ToTerminal, ToHost, Verdict}
 
--- What the operator has before him. `left` and `erased` are history, which no step reads: the screen just after the terminal last
--- took a write on its latest connection, and whether Erase Input was done since.
+-- What the operator has before him, on a screen of some shape. `left` and `erased` are history, which no step reads: the screen just
+-- after the terminal last took a write with restore on its latest connection, and whether Erase Input was done since.
 pub record Display : Type 0 where
+  pub shape : Shape
   pub screen : Screen
   pub keyboard : Keyboard
   pub left : Screen
   pub erased : Bool
 
 -- the screen is blank, and the keyboard waits
-abbrev pub new_display : ℕ → Display
-new_display size = record { screen = blank_screen size; keyboard = fresh; left = blank_screen size; erased = false }
+abbrev pub new_display : Shape → Display
+new_display shape =
+    record { shape = shape; screen = blank_screen (cells_in shape); keyboard = fresh; left = blank_screen (cells_in shape); erased = false }
 
 -- the end of a connection that a terminal holds
 pub record TermEnd : Type 0 where
   pub talk : Term
   pub display : Display
 
-abbrev pub new_end : ℕ → Option (List ℕ) → TermEnd
-new_end size wanted = record { talk = term_start wanted; display = new_display size }
+abbrev pub new_end : Shape → Option (List ℕ) → TermEnd
+new_end shape wanted = record { talk = term_start wanted; display = new_display shape }
 
 -- the LU that it is bound to
 abbrev pub bound_to : TermState → Option (List ℕ)
@@ -74,7 +79,7 @@ talked end talk saying = replied end (follow Closed talk.talk (term_line talk.wa
 
 -- the wanted screen is painted, and the keyboard freed
 abbrev pub painted : WantedScreen → Display → Display
-painted wanted display = record {
+painted wanted display = record display {
   screen = plainly_painted wanted display.screen;
   keyboard = freed display.keyboard;
   left = plainly_painted wanted display.screen;
@@ -85,6 +90,16 @@ painted wanted display = record {
 abbrev pub paint_came : ℕ → WantedScreen → TermEnd → TermStep
 paint_came number wanted end =
     record { end = record end { display = painted wanted end.display }; sends = ToHost.Response number Verdict.Positive ∷ []; closes = None }
+
+-- A note is written on whatever screen is there, and answered: what was left stays, and the keyboard.
+abbrev pub note_came : ℕ → CommandParts → TermEnd → TermStep
+note_came number command end =
+    let screen = after_command command end.display.screen in
+    record {
+      end = record end { display = record end.display { screen = screen } };
+      sends = ToHost.Response number Verdict.Positive ∷ [];
+      closes = None;
+    }
 
 -- the whole screen is the answer
 abbrev pub read_came : TermEnd → TermStep
@@ -99,6 +114,7 @@ abbrev pub took : TermEnd → ToTerminal → TermStep
 took end (ToTerminal.TalksDown saying) = talked end end.talk saying
 took end (ToTerminal.Paint number wanted over) = once_bound (is_bound end) (paint_came number wanted end) end
 took end (ToTerminal.ReadBuffer number) = once_bound (is_bound end) (read_came end) end
+took end (ToTerminal.Note number command) = once_bound (is_bound end) (note_came number command end) end
 
 -- ---- keys
 
@@ -107,9 +123,12 @@ erases_if Done key = erases key
 erases_if (Refused why) key = false
 erases_if (Send aid) key = false
 
-abbrev pub after_key : ℕ → Key → Display → Display
-after_key columns key display =
-    let outcome = pressed columns key display.keyboard display.screen in
+abbrev pub outcome_of : Key → Display → Outcome
+outcome_of key display = pressed display.shape.columns key display.keyboard display.screen
+
+abbrev pub after_key : Key → Display → Display
+after_key key display =
+    let outcome = outcome_of key display in
     record display { screen = outcome.screen; keyboard = outcome.keyboard; erased = display.erased || erases_if outcome.answer key }
 
 -- a terminal that is bound sends its modified fields
@@ -119,11 +138,11 @@ data_of false (Send aid) screen = []
 data_of bound Done screen = []
 data_of bound (Refused why) screen = []
 
-abbrev pub key_came : ℕ → Key → TermEnd → TermStep
-key_came columns key end =
-    let outcome = pressed columns key end.display.keyboard end.display.screen in
+abbrev pub key_came : Key → TermEnd → TermStep
+key_came key end =
+    let outcome = outcome_of key end.display in
     record {
-      end = record end { display = after_key columns key end.display };
+      end = record end { display = after_key key end.display };
       sends = data_of (is_bound end) outcome.answer outcome.screen;
       closes = None;
     }

@@ -1,5 +1,7 @@
--- What a connection is to the headline: what is under way, what the host has of it, and what stands before the operator.
+-- What a connection is to the stages of its session, for proofs: what is under way, what the host has of it, and what stands before the
+-- operator.
 use Rattle.std.specs.Prelude.{Bool, List}
+use Rattle.codes3270.specs.Size.{Shape}
 use Rattle.datastream.specs.Screen.{Screen}
 use Rattle.keyboard.specs.declared.key.Lock.{Lock}
 use Rattle.tn3270e_msg.specs.TermTable.{Term}
@@ -13,6 +15,7 @@ pub record View : Type 0 where
   pub up : List ToHost
   pub host : Conn
   pub talk : Term
+  pub shape : Shape
   pub screen : Screen
   pub lock : Lock
   pub left : Screen
@@ -25,6 +28,7 @@ view_of link = record {
   up = link.up;
   host = link.host;
   talk = link.term.talk;
+  shape = link.term.display.shape;
   screen = link.term.display.screen;
   lock = link.term.display.keyboard.lock;
   left = link.term.display.left;

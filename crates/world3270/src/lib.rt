@@ -4,41 +4,42 @@
 ghost use Rattle.world3270.specs.Example.{TheRunsEndSo};
 ghost use Rattle.world3270.specs.Forms.{FormsAreAwaited};
 ghost use Rattle.world3270.specs.Given.{Given};
-ghost use Rattle.world3270.specs.Headline.{Headline, NobodyRefuses, Always};
+ghost use Rattle.world3270.specs.Always.{Always, HeadlineHolds, NobodyRefuses};
 ghost use Rattle.world3270.specs.Losses.{LostTakesNothing};
 ghost use Rattle.world3270.specs.Numbers.{NumbersFit};
 ghost use Rattle.world3270.specs.Places.{EndsAgree, UpIsHeld, HoldersAreHere, LinksStay, HoldersStay, PoolIsSound};
-ghost use Rattle.world3270.specs.Sendable.{AlwaysTyped, DataCanBeSpelt, PaintsAreScreens, PaintsAreSpelt, ScreensAreSendable, ScreensKeepTheirSize, ValuesAreTexts};
+ghost use Rattle.world3270.specs.Sendable.{AlwaysTyped, DataCanBeSpelt, PaintsAreScreens, PaintsAreSpelt, ScreensAreSendable, ScreensKeepTheirShape, ValuesAreTexts};
 ghost use Rattle.world3270.specs.Skipped.{SkippedChangesNothing};
+ghost use Rattle.world3270.specs.Seats.{HistoryFollows};
 ghost use Rattle.world3270.specs.Stands.{StandsDown, StandsUp};
-ghost use Rattle.world3270.specs.StandsLaws.{
+ghost use Rattle.world3270.specs.StandsEnds.{PaintStands, TakesKeepSendable, TermPresses, TermTakes, WritesAreMarked};
+ghost use Rattle.world3270.specs.StandsLinks.{
   BeginStands,
+  BytesAreMarked,
   DownStands,
   HostLeaves,
   HostSends,
   LossStands,
   NothingStands,
-  PaintStands,
   PressStands,
   StandsCompose,
   StandsGoOn,
-  TakesKeepSendable,
   TermLeaves,
-  TermPresses,
-  TermTakes,
   UpStands,
   WhatComesMayCome,
 };
-ghost use Rattle.world3270.specs.World.{RunsCompose};
+ghost use Rattle.world3270.specs.Happens.{RunsCompose};
+ghost use Rattle.world3270.specs.Occasions.{ActsOnTheKey, KnowsTheCleared};
 
-use datastream::{fields_both_ways, kept_since_the_write, sent_is_read};
-use host_core::{the_pool_is_a_map, what_is_shown_fits};
-use keyboard::{keys_keep_what_was_left, what_keys_leave_can_be_sent};
+use datastream::{fields_both_ways, kept_since_the_write, sent_is_read, what_a_note_keeps};
+use host_core::{notes_are_written, what_is_shown_fits};
+use keyboard::{keys_keep_what_was_left, sent_keys_wait, what_keys_leave_can_be_sent};
+use lu_pool::the_pool_is_a_map;
 use shadow::{
-    what_is_exact_is_so, what_is_known_is_exact, what_is_protected_is_exact, what_is_read_is_heard,
-    what_is_sent_is_heard, what_is_wanted_is_painted,
+    what_a_note_leaves, what_is_exact_is_so, what_is_known_is_exact, what_is_protected_is_exact,
+    what_is_read_is_heard, what_is_sent_is_heard, what_is_wanted_is_painted, what_is_written_is_taken,
+    what_leaves_nothing_open,
 };
-use term_core::one_machine;
 use tn3270e_msg::one_reading;
 
 /// Does nothing: its contract is what the crates below promise, by their own laws.
@@ -57,6 +58,12 @@ fn what_is_given()
     one_reading();
     what_is_shown_fits();
     the_pool_is_a_map();
+    what_is_written_is_taken();
+    what_leaves_nothing_open();
+    what_a_note_keeps();
+    what_a_note_leaves();
+    notes_are_written();
+    sent_keys_wait();
 }
 
 /// Does nothing: its contract is the headline. After any list of events on a new world, with any application, any pool of LUs
@@ -65,7 +72,7 @@ fn what_is_given()
 /// answered, the screen is as it believes, it has the text of each field that was returned, and each field that wasn't has
 /// what the host left there, or nulls since Erase Input. And a run in pieces is one run.
 pub fn the_headline_holds()
-    ensures headline { Always Headline }
+    ensures headline { Always HeadlineHolds }
     ensures pieces { RunsCompose }
 {
     what_is_given();
@@ -75,6 +82,15 @@ pub fn the_headline_holds()
 /// closes a connection by a cause.
 pub fn nobody_refuses()
     ensures { Always NobodyRefuses }
+{
+    what_is_given();
+}
+
+/// Does nothing: its contract says that over the same lists the host, when it decides, acts on the key that was pressed last, and
+/// after Clear believes in no field and knows each character.
+pub fn what_was_pressed_is_acted_on()
+    ensures key { Always ActsOnTheKey }
+    ensures cleared { Always KnowsTheCleared }
 {
     what_is_given();
 }
@@ -111,7 +127,7 @@ pub fn numbers_have_15_bits()
 /// data under way can be spelt, what is painted is such a screen, each paint under way is spelt by its bytes, and the values that
 /// the host has are characters.
 pub fn screens_can_be_sent()
-    ensures size { ScreensKeepTheirSize }
+    ensures shape { ScreensKeepTheirShape }
     ensures screens { AlwaysTyped ScreensAreSendable }
     ensures data { AlwaysTyped DataCanBeSpelt }
     ensures paints { AlwaysTyped PaintsAreScreens }
@@ -155,8 +171,11 @@ pub fn the_runs_end_so()
 pub fn bytes_stand_for_messages()
     // A paint that fits what is believed stands for what is wanted.
     ensures paint { PaintStands }
-    // A terminal makes of an item, and of a key, what it makes of them over messages.
+    // A terminal makes of an item, and of a key, what it makes of them over messages; an item is marked as a write exactly where it
+    // stands for a paint that finds the terminal bound. Whatever bytes come, there is a history of them.
     ensures takes { TermTakes }
+    ensures marks { WritesAreMarked }
+    ensures history { HistoryFollows }
     ensures sendable { TakesKeepSendable }
     ensures presses { TermPresses }
     // Bytes stand for messages however they are cut, and as they come and go.
@@ -167,10 +186,11 @@ pub fn bytes_stand_for_messages()
     ensures down_taken { StandsGoOn StandsDown }
     ensures up_taken { StandsGoOn StandsUp }
     // A connection that begins stands for one over messages that begins, and goes on so: with keys, with what comes down and up,
-    // with what the host says, as it is lost, and as an end leaves it.
+    // each of whose bytes is marked as such items are, with what the host says, as it is lost, and as an end leaves it.
     ensures begin { BeginStands }
     ensures press { PressStands }
     ensures down { DownStands }
+    ensures down_marked { BytesAreMarked }
     ensures host_sends { HostSends }
     ensures up { UpStands }
     ensures loss { LossStands }
@@ -185,5 +205,4 @@ pub fn bytes_stand_for_messages()
     fields_both_ways();
     one_reading();
     telnet_wire::one_reading();
-    one_machine();
 }

@@ -1,8 +1,8 @@
 use Rattle.world3270.specs.Stands.{StandsDown, StandsUp}
-use Rattle.world3270.proofs.Stands.{paint_stands, term_takes, term_presses, nothing_stands, stands_compose, stands_go_on, begin_stands}
+use Rattle.world3270.proofs.Stands.{paint_stands, term_takes, writes_are_marked, term_presses, nothing_stands, stands_compose, stands_go_on, begin_stands}
 use Rattle.world3270.proofs.StandsComing.{what_comes_may_come}
 use Rattle.world3270.proofs.StandsScreens.{takes_keep_sendable}
-use Rattle.world3270.proofs.StandsLinks.{press_stands, down_stands, host_sends, up_stands, loss_stands, host_leaves, term_leaves}
+use Rattle.world3270.proofs.StandsLinks.{history_follows, press_stands, down_stands, bytes_are_marked, host_sends, up_stands, loss_stands, host_leaves, term_leaves}
 use Rattle.world3270.proofs.bytes_stand_for_messages.Goals as goal
 
 pub returns-clause-paint : goal.returns-clause-paint
@@ -12,6 +12,14 @@ pub returns-clause-takes : goal.returns-clause-takes
 returns-clause-takes c =
     let messages = c.one_reading.ensures in
     term_takes messages.header messages.header_or_fault c.sent_is_read.ensures
+
+pub returns-clause-marks : goal.returns-clause-marks
+returns-clause-marks c =
+    let messages = c.one_reading.ensures in
+    writes_are_marked messages.header messages.header_or_fault c.sent_is_read.ensures
+
+pub returns-clause-history : goal.returns-clause-history
+returns-clause-history c = history_follows
 
 pub returns-clause-sendable : goal.returns-clause-sendable
 returns-clause-sendable c = takes_keep_sendable
@@ -63,7 +71,14 @@ returns-clause-down c =
     let messages = c.one_reading.ensures in
     let wire = c.one_reading-2.ensures in
     down_stands (term_takes messages.header messages.header_or_fault c.sent_is_read.ensures) takes_keep_sendable (stands_compose StandsUp wire.deliveries wire.written)
-    (stands_go_on StandsDown wire.delivery_goes_on) c.one_machine.ensures.items wire.wrong_is_final
+    (stands_go_on StandsDown wire.delivery_goes_on) wire.wrong_is_final
+
+pub returns-clause-down_marked : goal.returns-clause-down_marked
+returns-clause-down_marked c =
+    let messages = c.one_reading.ensures in
+    let wire = c.one_reading-2.ensures in
+    bytes_are_marked (term_takes messages.header messages.header_or_fault c.sent_is_read.ensures) takes_keep_sendable (stands_compose StandsUp wire.deliveries wire.written)
+    (stands_go_on StandsDown wire.delivery_goes_on) wire.wrong_is_final (writes_are_marked messages.header messages.header_or_fault c.sent_is_read.ensures)
 
 pub returns-clause-host_sends : goal.returns-clause-host_sends
 returns-clause-host_sends c =

@@ -1,0 +1,101 @@
+-- The example is an application and a pool, and what happens in its runs may happen.
+use Rattle.std.proofs.Common.{◌≡◌, ℕ, suc, zero, Bool, true, false, List, [], ◌∷◌, length, Option, Some, None, refl, ap, sym, ◌∙◌, if◌then◌else◌, ◌&&◌, ◌<◌, lit≤, lit<}
+use Rattle.std.specs.Prelude.{slice_get, bytes_eq, IsTrue, nat_lt}
+use Rattle.std.specs.List.{list_all}
+use Rattle.std.specs.Option.{option_map_or}
+use Rattle.std.proofs.lemmas.Bool.{and_parts, ltb-true}
+use Rattle.std.proofs.lemmas.List.Sums.{AllPass-from_list_all}
+use Rattle.std.proofs.lemmas.Option.{none-some}
+use native.Mathlib.Omega.{arith}
+use Rattle.lu_pool.specs.Pool.{IsPool}
+use Rattle.lu_pool.specs.declared.entry.Entry.{Entry}
+use Rattle.panels.specs.Screen.{Values}
+use Rattle.panels.specs.declared.message.Message.{Message}
+use Rattle.tn3270e_msg.specs.Lu.{is_lu}
+use Rattle.host_core.specs.Application.{IsApplication, IsShape, IsShowable, KeepsNothing}
+use Rattle.host_core.specs.Notes.{IsNoteText, is_graphic}
+use Rattle.world3270.specs.ExampleApplication.{example, screen_of, l2, example_pool}
+use Rattle.world3270.specs.World.{Event, IsEvent, AreEvents}
+
+-- ---- the application
+
+showable : (panel : ℕ) (values : Values) (message : Message) (keep : Bool) → IsShowable example.begins (screen_of panel values message keep)
+showable zero values message keep = record { cells = refl; cursor = lit< tt; messages = (refl, refl) }
+showable (suc panel) values message keep = record { cells = refl; cursor = lit< tt; messages = (refl, refl) }
+
+whole : (panel : ℕ) (values : Values) (message : Message) → KeepsNothing (screen_of panel values message false)
+whole zero values message = refl
+whole (suc panel) values message = refl
+
+is_shape : IsShape example.begins
+is_shape = record { columns = lit< tt; row = lit≤ tt; addresses = lit≤ tt }
+
+pub is_application : IsApplication example
+is_application = record { shape = is_shape; showable = showable; whole = whole }
+
+-- ---- the pool
+
+-- the place of an LU's name
+place_of_lu : List ℕ → ℕ
+place_of_lu lu = if bytes_eq lu l2 then 1 else 0
+
+listed_at : (place : ℕ) (at : Entry) → slice_get example_pool place ≡ Some at → place ≡ place_of_lu at.lu
+unfolding place_of_lu
+listed_at zero at e = ap (λ (o : Option Entry). option_map_or (λ (it : Entry). place_of_lu it.lu) o 0) e
+listed_at (suc zero) at e = ap (λ (o : Option Entry). option_map_or (λ (it : Entry). place_of_lu it.lu) o 0) e
+listed_at (suc (suc place)) at e = absurd (none-some at e)
+
+are_lus : (place : ℕ) (at : Entry) → slice_get example_pool place ≡ Some at → IsTrue (is_lu at.lu)
+are_lus zero at e = sym (ap (λ (o : Option Entry). option_map_or (λ (it : Entry). is_lu it.lu) o true) e)
+are_lus (suc zero) at e = sym (ap (λ (o : Option Entry). option_map_or (λ (it : Entry). is_lu it.lu) o true) e)
+are_lus (suc (suc place)) at e = absurd (none-some at e)
+
+nobody_holds : (place : ℕ) (at : Entry) → slice_get example_pool place ≡ Some at → None ≡ at.holder
+nobody_holds zero at e = ap (λ (o : Option Entry). option_map_or (λ (it : Entry). it.holder) o None) e
+nobody_holds (suc zero) at e = ap (λ (o : Option Entry). option_map_or (λ (it : Entry). it.holder) o None) e
+nobody_holds (suc (suc place)) at e = absurd (none-some at e)
+
+pub is_pool : IsPool example_pool
+is_pool = record {
+  count = record { some = lit≤ tt; few = lit≤ tt };
+  are_lus = are_lus;
+  listed_once = λ place other at there is is_other same. listed_at place at is ∙ ap place_of_lu same ∙ sym (listed_at other there is_other);
+  held_once = λ place other conn at there is is_other held held_too. absurd (none-some conn (nobody_holds place at is ∙ held));
+}
+
+-- ---- what happens
+
+unfoldable pub is_well_noted : List ℕ → Bool
+is_well_noted text = nat_lt (length text) 132 && list_all is_graphic text
+
+-- a name that is wanted is an LU's, and a note has a text
+unfoldable pub is_well_formed : Event → Bool
+is_well_formed (Event.Connect terminal wanted) = option_map_or is_lu wanted true
+is_well_formed (Event.Note number text) = is_well_noted text
+is_well_formed _ = true
+
+is_note : (text : List ℕ) → is_well_noted text ≡ true → IsNoteText text
+unfolding is_well_noted
+is_note text well =
+    let both = and_parts (nat_lt (length text) 132) (list_all is_graphic text) well in
+    let short : length text < 132 = ltb-true (length text) 132 both.0 in
+    record { short = omega arith; graphic = AllPass-from_list_all is_graphic text both.1 }
+
+is_event : (event : Event) → is_well_formed event ≡ true → IsEvent event
+unfolding is_well_formed
+is_event (Event.Connect terminal None) well = tt
+is_event (Event.Connect terminal (Some lu)) well = well
+is_event (Event.Press terminal key) well = tt
+is_event (Event.Up number) well = tt
+is_event (Event.Down number) well = tt
+is_event (Event.Act number) well = tt
+is_event (Event.Note number text) well = is_note text well
+is_event (Event.Lose number) well = tt
+is_event (Event.HostSees number) well = tt
+is_event (Event.TermSees terminal) well = tt
+is_event (Event.RestartTerm terminal) well = tt
+is_event Event.RestartHost well = tt
+
+pub are_events : (events : List Event) → list_all is_well_formed events ≡ true → AreEvents events
+are_events [] well = tt
+are_events (event ∷ events) well = let both = and_parts (is_well_formed event) (list_all is_well_formed events) well in (is_event event both.0, are_events events both.1)

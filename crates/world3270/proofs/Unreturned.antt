@@ -1,0 +1,168 @@
+-- Fields that weren't returned, while keys and notes go over them.
+use Rattle.std.proofs.Common.{◌≡◌, ◌⊎◌, inl, inr, ◌<◌, ◌+◌, ◌==◌, ℕ, zero, suc, arith, Bool, true, false, ◌&&◌, Option, None, Some, List, [], ◌∷◌, ◌++◌, length, take, drop, refl, ap, sym, subst, ◌∙◌, if◌then◌else◌}
+use Rattle.std.specs.Prelude.{⊤, slice_index_or, is_none, map}
+use Rattle.std.specs.List.{All, Contains, list_all}
+use Rattle.std.specs.Option.{option_or}
+use Rattle.std.proofs.lemmas.Bool.{and_parts, eqb-true}
+use Rattle.std.proofs.lemmas.Bool.Decides.{Decides-eqb}
+use Rattle.std.proofs.lemmas.List.Elements.{All-nil, All-cons, All-head, All-tail}
+use Rattle.std.proofs.lemmas.Map.Made.{Contains-tail}
+use Rattle.codes3270.specs.declared.attribute.Attr.{Attr as Attribute}
+use Rattle.codes3270.specs.declared.attribute.Cell.{Cell}
+use Rattle.codes3270.specs.declared.attribute.Cell.TheVariants.{Char, Attr}
+use Rattle.datastream.specs.Grammar.{CommandParts}
+use Rattle.datastream.specs.Held.{Hold, Held, CharHeld, CellHeld}
+use Rattle.datastream.specs.Meaning.{after_command}
+use Rattle.datastream.specs.Note.{IsNote, IsNoteOrder, IsProtectedChar, OverCharacters, WritesProtected, places_noted, quiet}
+use Rattle.datastream.specs.NoteLaws.{HeldStaysProtected, NoteKeepsForm, NotesCompose, SameForm}
+use Rattle.datastream.specs.Screen.{Screen, attribute_in, attribute_over, is_char, last_attribute, protects, ring}
+use Rattle.datastream.specs.declared.command_code.CommandCode.TheVariants.{Write}
+use Rattle.datastream.specs.declared.order.Order.TheVariants.{Sba, Char as Data}
+use Rattle.world3270.specs.Headline.{IsUnmodified, IsKept, UnmodifiedIsKept}
+use Rattle.world3270.specs.Stages.{NotedSince}
+
+-- ---- one place
+
+-- a note of one character
+abbrev single : ℕ → CommandParts
+single place = record { code = Write; wcc = Some quiet; orders = Sba place ∷ Data 0 ∷ [] }
+
+single_is : (place : ℕ) → IsNote (single place)
+single_is place = record { first = place; others = Data 0 ∷ []; code = refl; wcc = refl; orders = refl; each = All-cons IsNoteOrder (Data 0) [] tt (All-nil IsNoteOrder) }
+
+writes_single : (cells : List Cell) (place : ℕ) → IsProtectedChar cells place → WritesProtected (single place) cells
+writes_single cells place is = record { note = single_is place; each = All-cons (IsProtectedChar cells) place [] is (All-nil (IsProtectedChar cells)) }
+
+-- a protected character stays one under keys
+protected_held : HeldStaysProtected → (erased : Bool) (shown now : List Cell) (place : ℕ) → Held erased shown now → IsProtectedChar shown place → IsProtectedChar now place
+protected_held stays erased shown now place held is =
+    All-head (IsProtectedChar now) place [] (stays erased (single place) shown now (writes_single shown place is) held).each
+
+-- a field with MDT off isn't protected
+not_protected : (cells : List Cell) (place : ℕ) (over : Option Attribute) → attribute_over cells place ≡ over → IsUnmodified over → IsProtectedChar cells place → ⊥
+not_protected cells place None e unmodified is = absurd unmodified
+not_protected cells place (Some attribute) e unmodified is =
+    let guarded : attribute.protected ≡ true = sym (ap protects e) ∙ is.protected in
+    let open_field = unmodified.0 in
+    absurd (cc)
+
+-- ---- keys
+
+char_by : (erased protected mdt : Bool) (left now : ℕ) → protected ≡ false → mdt ≡ false
+    → CharHeld (if protected then Hold.Same else if mdt then Hold.Free else if erased then Hold.Null else Hold.Same) left now → now ≡ (if erased then 0 else left)
+char_by erased true mdt left now p m h = absurd (cc)
+char_by erased false true left now p m h = absurd (cc)
+char_by true false false left now p m h = h
+char_by false false false left now p m h = h
+
+cell_kept : (erased : Bool) (over : Option Attribute) (shown now : Cell) → IsUnmodified over → CellHeld erased over shown now → IsKept erased shown now
+cell_kept erased over shown (Attr now) unmodified h = tt
+cell_kept erased over (Attr shown) (Char now) unmodified h = absurd h
+cell_kept erased None (Char shown) (Char now) unmodified h = absurd unmodified
+cell_kept erased (Some attribute) (Char shown) (Char now) unmodified h = char_by erased attribute.protected attribute.mdt shown now unmodified.0 unmodified.1 h
+
+-- what keys kept of the screen that was shown they kept of what was left
+pub kept_of : HeldStaysProtected → (erased : Bool) (left shown now : List Cell) → Held erased shown now → NotedSince left shown → UnmodifiedIsKept erased left now
+kept_of stays erased left shown now held noted place within unmodified = by_note (noted place)
+  where
+    by_note : IsProtectedChar shown place ⊎ (slice_index_or shown place (Char 0) ≡ slice_index_or left place (Char 0))
+        → IsKept erased (slice_index_or left place (Char 0)) (slice_index_or now place (Char 0))
+    by_note (inl is) = absurd (not_protected now place (attribute_over now place) refl unmodified (protected_held stays erased shown now place held is))
+    by_note (inr same) =
+        subst (λ cell. IsKept erased cell (slice_index_or now place (Char 0))) same
+        (cell_kept erased (attribute_over now place) (slice_index_or shown place (Char 0)) (slice_index_or now place (Char 0)) unmodified (held.each place within))
+
+-- ---- notes
+
+-- a place is among those of a list, or isn't
+is_among : (P : ℕ → Type 0) (places : List ℕ) (place : ℕ) → All P places → P place ⊎ (Contains places place → ⊥)
+is_among P [] place each = inr (λ there. absurd (omega (arith, there.1)))
+is_among P (first ∷ places) place each = by_test (first == place) refl (is_among P places place (All-tail P first places each))
+  where
+    by_test : (b : Bool) → (first == place) ≡ b → P place ⊎ (Contains places place → ⊥) → P place ⊎ (Contains (first ∷ places) place → ⊥)
+    by_test true e more = inl (subst P (eqb-true first place e) (All-head P first places each))
+    by_test false e more = by_rest more
+      where
+        other : first ≡ place → ⊥
+        other same = let yes = (Decides-eqb first place).1 same in absurd (cc)
+
+        by_rest : P place ⊎ (Contains places place → ⊥) → P place ⊎ (Contains (first ∷ places) place → ⊥)
+        by_rest (inl is) = inl is
+        by_rest (inr isnt) = inr (λ there. isnt (Contains-tail first places place other there))
+
+-- where a note is written over protected characters, the others stay
+pub noted_on : NoteKeepsForm → (command : CommandParts) (left : List Cell) (shown : Screen) → OverCharacters command shown.cells → WritesProtected command shown.cells
+    → ((place : ℕ) → IsProtectedChar shown.cells place → IsProtectedChar (after_command command shown).cells place)
+    → NotedSince left shown.cells → NotedSince left (after_command command shown).cells
+noted_on form command left shown over writes stays noted place = by_place (is_among (IsProtectedChar shown.cells) (places_noted (length shown.cells) command) place writes.each)
+  where
+    new : Screen
+    new = after_command command shown
+
+    by_note : (Contains (places_noted (length shown.cells) command) place → ⊥) → IsProtectedChar shown.cells place ⊎ (slice_index_or shown.cells place (Char 0) ≡ slice_index_or left place (Char 0))
+        → IsProtectedChar new.cells place ⊎ (slice_index_or new.cells place (Char 0) ≡ slice_index_or left place (Char 0))
+    by_note isnt (inl is) = inl (stays place is)
+    by_note isnt (inr same) = inr ((form command shown over).elsewhere place isnt ∙ same)
+
+    by_place : IsProtectedChar shown.cells place ⊎ (Contains (places_noted (length shown.cells) command) place → ⊥)
+        → IsProtectedChar new.cells place ⊎ (slice_index_or new.cells place (Char 0) ≡ slice_index_or left place (Char 0))
+    by_place (inl is) = inl (stays place is)
+    by_place (inr isnt) = by_note isnt (noted place)
+
+-- a note over protected characters keeps what wasn't returned
+pub kept_noted : NoteKeepsForm → (erased : Bool) (command : CommandParts) (left : List Cell) (now : Screen) → length (after_command command now).cells ≡ length now.cells → OverCharacters command now.cells
+    → WritesProtected command now.cells → UnmodifiedIsKept erased left now.cells → UnmodifiedIsKept erased left (after_command command now).cells
+kept_noted form erased command left now size over writes kept place within unmodified = by_place (is_among (IsProtectedChar now.cells) (places_noted (length now.cells) command) place writes.each)
+  where
+    same : SameForm command now (after_command command now)
+    same = form command now over
+
+    was : IsUnmodified (attribute_over now.cells place)
+    was = subst IsUnmodified (same.over place) unmodified
+
+    by_place : IsProtectedChar now.cells place ⊎ (Contains (places_noted (length now.cells) command) place → ⊥)
+        → IsKept erased (slice_index_or left place (Char 0)) (slice_index_or (after_command command now).cells place (Char 0))
+    by_place (inl is) = absurd (not_protected now.cells place (attribute_over now.cells place) refl was is)
+    by_place (inr isnt) =
+        subst (λ cell. IsKept erased (slice_index_or left place (Char 0)) cell) (sym (same.elsewhere place isnt)) (kept place (subst (λ n. place < n) size within) was)
+
+-- ---- a screen without fields
+
+all_append : {X : Type 0} (p : X → Bool) (xs ys : List X) → list_all p xs ≡ true → list_all p ys ≡ true → list_all p (xs ++ ys) ≡ true
+all_append p [] ys h k = k
+all_append p (x ∷ xs) ys h k = let both = and_parts (p x) (list_all p xs) h in rw both.0 (all_append p xs ys both.1 k)
+
+all_take : {X : Type 0} (p : X → Bool) (count : ℕ) (xs : List X) → list_all p xs ≡ true → list_all p (take count xs) ≡ true
+all_take p zero xs h = refl
+all_take p (suc count) [] h = refl
+all_take p (suc count) (x ∷ xs) h = let both = and_parts (p x) (list_all p xs) h in rw both.0 (all_take p count xs both.1)
+
+all_drop : {X : Type 0} (p : X → Bool) (count : ℕ) (xs : List X) → list_all p xs ≡ true → list_all p (drop count xs) ≡ true
+all_drop p zero xs h = h
+all_drop p (suc count) [] h = refl
+all_drop p (suc count) (x ∷ xs) h = let both = and_parts (p x) (list_all p xs) h in all_drop p count xs both.1
+
+no_attribute : (cells : List Cell) → list_all is_char cells ≡ true → last_attribute cells ≡ None
+no_attribute [] h = refl
+no_attribute (Char byte ∷ cells) h = rw (no_attribute cells h) refl
+no_attribute (Attr attribute ∷ cells) h = absurd (cc)
+
+-- no field is there that could be kept
+pub kept_bare : (erased : Bool) (left cells : List Cell) → list_all is_char cells ≡ true → UnmodifiedIsKept erased left cells
+kept_bare erased left cells bare place within unmodified =
+    absurd (subst IsUnmodified (no_attribute (ring (place + 1) cells) (all_append is_char (drop (place + 1) cells) (take (place + 1) cells) (all_drop is_char (place + 1) cells bare) (all_take is_char (place + 1) cells bare))) unmodified)
+
+-- no attribute is among the cells
+bare_by : (cells : List Cell) → list_all is_char cells ≡ list_all is_none (map attribute_in cells)
+bare_by [] = refl
+bare_by (Char byte ∷ cells) = bare_by cells
+bare_by (Attr attribute ∷ cells) = refl
+
+-- a screen without fields still has none, where its attributes are the same
+pub still_bare : (before after : List Cell) → map attribute_in after ≡ map attribute_in before → list_all is_char before ≡ true → list_all is_char after ≡ true
+still_bare before after same bare = bare_by after ∙ ap (list_all is_none) same ∙ sym (bare_by before) ∙ bare
+
+-- a protected character stays one under a note
+pub still_one : NotesCompose → (command : CommandParts) (shown : Screen) → OverCharacters command shown.cells → (place : ℕ) → IsProtectedChar shown.cells place → IsProtectedChar (after_command command shown).cells place
+still_one composes command shown over place is =
+    All-head (IsProtectedChar (after_command command shown).cells) place [] ((composes command (single place) shown over).0 (writes_single shown.cells place is)).each

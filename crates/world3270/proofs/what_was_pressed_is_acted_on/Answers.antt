@@ -1,0 +1,8 @@
+use Rattle.world3270.proofs.Headline.{acts_on_the_key, knows_the_cleared}
+use Rattle.world3270.proofs.what_was_pressed_is_acted_on.Goals as goal
+
+pub returns-clause-key : goal.returns-clause-key
+returns-clause-key c = acts_on_the_key c.what_is_given.ensures
+
+pub returns-clause-cleared : goal.returns-clause-cleared
+returns-clause-cleared c = knows_the_cleared c.what_is_given.ensures

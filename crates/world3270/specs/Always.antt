@@ -1,0 +1,38 @@
+-- What always holds of a world: the headline, and that nobody is turned away (our profile).
+use Rattle.std.specs.Prelude.{◌≡◌, ◌≤◌, ℕ, Bool, true, false, List, []}
+use Rattle.std.specs.List.{list_any}
+use Rattle.lu_pool.specs.Pool.{IsPool}
+use Rattle.lu_pool.specs.declared.entry.Entry.{Entry}
+use Rattle.host_core.specs.Application.{Application, IsApplication}
+use Rattle.host_core.specs.Messages.{ToHost, Verdict}
+use Rattle.world3270.specs.Happens.{run}
+use Rattle.world3270.specs.Headline.{Headline}
+use Rattle.world3270.specs.Seen.{seen}
+use Rattle.world3270.specs.World.{World, Event, AreEvents, new_world}
+
+-- a host with some application and some pool of LUs, up to 16 terminals, and any list of events
+abbrev pub Always : (World → Type 0) → Type 0
+Always Holds = (app : Application) (pool : List Entry) (terminals : ℕ) (events : List Event)
+    → IsApplication app → IsPool pool → terminals ≤ 16 → AreEvents events → Holds (run app events (new_world app pool terminals))
+
+-- the headline of a world over messages
+abbrev pub HeadlineHolds : World → Type 0
+HeadlineHolds world = Headline (seen world)
+
+-- ---- and nobody is turned away
+
+abbrev pub is_negative : Verdict → Bool
+is_negative Verdict.Negative = true
+is_negative Verdict.Positive = false
+
+-- a response that refuses a command
+abbrev pub is_refusal : ToHost → Bool
+is_refusal (ToHost.Response number verdict) = is_negative verdict
+is_refusal (ToHost.Data parts) = false
+is_refusal (ToHost.TalksUp saying) = false
+
+-- no terminal has ever refused a command, no refusal is under way, and neither end has closed a connection by a cause
+pub record NobodyRefuses (world : World) : Type 0 where
+  pub none_said : list_any is_negative world.verdicts ≡ false
+  pub none_refused : (number : ℕ) → list_any is_refusal (world.link number).up ≡ false
+  pub none_closed : world.causes ≡ []

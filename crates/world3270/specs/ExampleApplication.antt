@@ -1,0 +1,140 @@
+-- A small host for the example's runs: readers and proofs need it, and nothing rests on it (our profile). Its screens have two rows
+-- of 16 cells, the second one for messages; and its pool has two LUs.
+use Rattle.std.specs.Prelude.{codes, ℕ, suc, zero, ◌+◌, Bool, true, false, ◌<◌, ◌^◌, List, [], ◌∷◌, ◌++◌, length, map, replicate, None, String, if◌then◌else◌}
+use Rattle.std.specs.List.{range_with_len}
+use Rattle.std.specs.declared.alloc.Global.{Global}
+use Rattle.std.specs.Str.{IsUtf8}
+use Rattle.std.proofs.Common.{refl, lit≤, lit<}
+use native.Mathlib.Nat.{le_refl}
+use lib.Utf8.{encode}
+use denote.RawPtr.{null_ptr}
+use Rattle.codes3270.specs.declared.attention.Aid.{Aid}
+use Rattle.codes3270.specs.declared.attention.Aid.TheVariants.{Enter}
+use Rattle.codes3270.specs.declared.attribute.Attr.{Attr as Attribute}
+use Rattle.datastream.specs.Wanted.{WantedScreen}
+use Rattle.datastream.specs.declared.wanted.Want.{Want}
+use Rattle.datastream.specs.declared.wanted.Want.TheVariants as want
+use Rattle.lu_pool.specs.Pool.{entry}
+use Rattle.lu_pool.specs.declared.entry.Entry.{Entry}
+use Rattle.panels.specs.Screen.{Values, autoskip_attr, coded, field_attr, field_content, is_fresh, item_cell, kept_cell, message_text, shown}
+use Rattle.panels.specs.declared.message.Message.{Message}
+use Rattle.panels.specs.declared.next.Next.{Next}
+use Rattle.panels.specs.declared.next.Next.TheVariants.{Go, Again}
+use Rattle.panels.specs.declared.panel.Content.TheVariants.{Show}
+use Rattle.panels.specs.declared.panel.Field.{Field}
+use Rattle.host_core.specs.Application.{Application}
+
+-- ---- the fields of the sign-on panel
+
+-- a text as a `String`, wherever it lies
+abbrev pub spelt : (bytes : List ℕ) → IsUtf8 bytes → length bytes < 2 ^ 63 → String Global
+spelt bytes is_text small = record {
+  bytes = record {
+    ptr = null_ptr;
+    len = length bytes;
+    cap = length bytes;
+    alloc = record { memory = record { seal = tt } };
+    items = bytes;
+    ok = (refl, le_refl (length bytes));
+    small = small;
+  };
+  ok = ∣ is_text ∣₁;
+}
+
+pub name_is_text : IsUtf8 (codes "name")
+unfolding encode
+name_is_text = (codes "name", (refl, refl))
+
+pub letter_is_text : IsUtf8 (codes "letter")
+unfolding encode
+letter_is_text = (codes "letter", (refl, refl))
+
+-- a name of three characters, which has to be filled in
+abbrev pub name_field : Field
+name_field = record {
+  number = 0;
+  name = spelt (codes "name") name_is_text (lit< tt);
+  extent = record { first = 6; length = 3; after_attribute = lit≤ tt; has_cells = lit≤ tt; above_message = lit≤ tt };
+  numeric = false;
+  hidden = false;
+  required = true;
+  marked = false;
+  fill = [];
+}
+
+-- one letter more, `Y` at first
+abbrev pub letter_field : Field
+letter_field = record {
+  number = 1;
+  name = spelt (codes "letter") letter_is_text (lit< tt);
+  extent = record { first = 11; length = 1; after_attribute = lit≤ tt; has_cells = lit≤ tt; above_message = lit≤ tt };
+  numeric = false;
+  hidden = false;
+  required = false;
+  marked = false;
+  fill = coded (codes "Y");
+}
+
+abbrev pub fields_of : ℕ → List Field
+fields_of zero = name_field ∷ letter_field ∷ []
+fields_of (suc panel) = []
+
+-- ---- the screens that are asked for
+
+-- so many cells of an item, the first of which is its attribute
+abbrev pub item : ℕ → Attribute → List ℕ → List Want
+item count attr content = map (item_cell attr content) (range_with_len 0 count)
+
+-- a field, and the stopper behind it
+abbrev pub field_and_stopper : Values → Message → Bool → Field → List Want
+field_and_stopper values message keep field =
+    let attr = field_attr values message keep field in
+    map (if keep then kept_cell attr else item_cell attr (field_content values message field)) (range_with_len 0 (1 + field.extent.length))
+    ++ want.Attr (autoskip_attr false) ∷ []
+
+abbrev pub message_row : List Field → Message → List Want
+message_row fields message = item 16 (autoskip_attr true) (message_text fields message)
+
+-- the sign-on: a literal, the two fields, the message
+abbrev pub sign_on : Values → Message → Bool → WantedScreen
+sign_on values message keep = record {
+  cells =
+      item 5 (autoskip_attr false) (coded (codes "NAME"))
+      ++ field_and_stopper values message keep name_field
+      ++ field_and_stopper values message keep letter_field
+      ++ replicate 3 (want.Char 0)
+      ++ message_row (fields_of 0) message;
+  cursor = name_field.extent.first;
+  reset = is_fresh message;
+}
+
+-- the second panel: the name, the message
+abbrev pub greeting : Values → Message → WantedScreen
+greeting values message = record {
+  cells = item 16 (autoskip_attr false) (shown values (Show name_field.number)) ++ message_row (fields_of 1) message;
+  cursor = 0;
+  reset = is_fresh message;
+}
+
+abbrev pub screen_of : ℕ → Values → Message → Bool → WantedScreen
+screen_of zero values message keep = sign_on values message keep
+screen_of (suc panel) values message keep = greeting values message
+
+-- ---- the application, and the pool
+
+-- Enter leads from the sign-on to the second panel, and no other key leads anywhere
+abbrev pub led_to : ℕ → Aid → Next
+led_to zero Enter = Go 1
+led_to _ _ = Again
+
+abbrev pub example : Application
+example = record { begins = record { rows = 2; columns = 16 }; start = 0; fields = fields_of; next = led_to; screen = screen_of }
+
+abbrev pub l1 : List ℕ
+l1 = codes "L1"
+
+abbrev pub l2 : List ℕ
+l2 = codes "L2"
+
+abbrev pub example_pool : List Entry
+example_pool = entry l1 None ∷ entry l2 None ∷ []

@@ -1,0 +1,137 @@
+-- What happens in the example's runs, and what is said of where they are: readers and proofs need it, and nothing rests on it (our
+-- profile).
+use Rattle.std.specs.Prelude.{◌≡◌, ◌∷◌, ◌++◌, ℕ, suc, zero, Bool, List, [], map, replicate, None, Some, option_map}
+use Rattle.codes3270.specs.declared.attention.Aid.{Aid}
+use Rattle.codes3270.specs.declared.attention.Aid.TheVariants.{NoAid}
+use Rattle.codes3270.specs.declared.attribute.Cell.TheVariants.{Char}
+use Rattle.datastream.specs.Screen.{Screen}
+use Rattle.keyboard.specs.declared.key.Key.{Key}
+use Rattle.keyboard.specs.declared.key.Lock.{Lock}
+use Rattle.keyboard.specs.declared.key.Lock.TheVariants.{Free, Wait}
+use Rattle.lu_pool.specs.Asking.{device_in_use}
+use Rattle.lu_pool.specs.Pool.{entry}
+use Rattle.lu_pool.specs.declared.entry.Entry.{Entry}
+use Rattle.shadow.specs.Asked.{field_at}
+use Rattle.shadow.specs.Belief.{Fact, Belief}
+use Rattle.tn3270e_msg.specs.declared.term_talk.TermState.{TermState}
+use Rattle.tn3270e_msg.specs.declared.term_talk.TermState.TheVariants.{Agreed, Refused}
+use Rattle.host_core.specs.Messages.{ToTerminal, ToHost}
+use Rattle.world3270.specs.ExampleApplication.{example, example_pool, l1, l2}
+use Rattle.world3270.specs.Happens.{run}
+use Rattle.world3270.specs.Headline.{IsLive, IsHostsTurn}
+use Rattle.world3270.specs.Seen.{seen_link}
+use Rattle.world3270.specs.World.{Place, World, Event, new_world}
+
+-- ---- what happens, with one terminal
+
+-- on a connection: a message comes up, the host acts, a message comes down; and so on, so many times
+abbrev pub rounds : ℕ → ℕ → List Event
+rounds number zero = []
+rounds number (suc more) = Event.Up number ∷ Event.Act number ∷ Event.Down number ∷ rounds number more
+
+-- until nothing is under way
+abbrev pub settle : ℕ → List Event
+settle number = rounds number 6
+
+-- the terminal wants L1
+abbrev pub connects : List Event
+connects = Event.Connect 0 (Some l1) ∷ []
+
+abbrev pub presses : List Key → List Event
+presses keys = map (Event.Press 0) keys
+
+-- the terminal connects, and is shown the first panel
+abbrev pub connected : List Event
+connected = connects ++ settle 0
+
+abbrev pub after : List Event → World
+after events = run example events (new_world example example_pool 1)
+
+-- ---- where it ends
+
+-- The terminal's place; what it shows and whether it takes keys; how far its talk is, with the LU that it is bound to or why it was
+-- refused one; what is under way on its connection; and the pool.
+pub record End : Type 0 where
+  pub place : Place
+  pub screen : Screen
+  pub lock : Lock
+  pub talk : TermState
+  pub down : List ToTerminal
+  pub up : List ToHost
+  pub pool : List Entry
+
+-- with this connection as the terminal's
+abbrev pub end_on : ℕ → World → End
+end_on number world =
+    let link = world.link number in
+    record {
+      place = world.place 0;
+      screen = link.term.display.screen;
+      lock = link.term.display.keyboard.lock;
+      talk = link.term.talk.talk.state;
+      down = link.down;
+      up = link.up;
+      pool = world.pool;
+    }
+
+-- connection 0 holds L1
+abbrev pub l1_held : List Entry
+l1_held = entry l1 (Some 0) ∷ entry l2 None ∷ []
+
+-- the terminal is at connection 0, bound to L1, shows this, and takes keys; and nothing is under way
+abbrev pub bound_and_shows : Screen → End
+bound_and_shows screen = record {
+  place = Place.At 0;
+  screen = screen;
+  lock = Free;
+  talk = Agreed l1;
+  down = [];
+  up = [];
+  pool = l1_held;
+}
+
+-- the terminal is at connection 1, and was refused L1, which connection 0 holds: nothing is shown, and the keyboard waits
+abbrev pub refused_l1 : End
+refused_l1 = record {
+  place = Place.At 1;
+  screen = record { cells = replicate 32 (Char 0); cursor = 0; aid = NoAid };
+  lock = Wait;
+  talk = Refused device_in_use;
+  down = [];
+  up = [];
+  pool = l1_held;
+}
+
+-- ---- on the way
+
+-- what the terminal at connection 0 shows
+abbrev pub shown_by : World → Screen
+shown_by world = (world.link 0).term.display.screen
+
+-- where the terminal is, whether the host holds connection 0, and the pool
+pub record Apart : Type 0 where
+  pub place : Place
+  pub host_here : Bool
+  pub pool : List Entry
+
+abbrev pub apart : World → Apart
+apart world = record { place = world.place 0; host_here = (world.link 0).host_here; pool = world.pool }
+
+-- the host reads the screen at connection 0: its second command there goes down
+abbrev pub Reads : World → Type 0
+Reads world = (world.link 0).down ≡ ToTerminal.ReadBuffer 1 ∷ []
+
+-- where the fields' attributes are
+abbrev pub name_place : ℕ
+name_place = 5
+
+abbrev pub letter_place : ℕ
+letter_place = 10
+
+-- On connection 0, over which a session with L1 is live, the host holds the turn with its last command answered, after this key; and of
+-- the field whose attribute is at this address it knows this. So, where the key is Enter, what the headline supposes comes about.
+pub record Decides (world : World) (key : Aid) (place : ℕ) (fact : Fact) : Type 0 where
+  pub live : IsLive (seen_link (world.link 0)) l1
+  pub turn : IsHostsTurn (seen_link (world.link 0))
+  pub pressed : (world.link 0).term.display.screen.aid ≡ key
+  pub knows : option_map (λ (belief : Belief). belief.fact) (field_at place (world.link 0).host.shadow) ≡ Some fact

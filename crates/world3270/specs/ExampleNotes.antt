@@ -1,0 +1,68 @@
+-- A run of the example with notes: one comes while the operator types, one crosses Enter, one crosses Clear. Readers and proofs need it,
+-- and nothing rests on it (our profile).
+use Rattle.std.specs.Prelude.{◌≡◌, ℕ, List, [], ◌∷◌, ◌++◌, replicate}
+use Rattle.codes3270.specs.declared.attention.Aid.TheVariants.{Enter, Clear}
+use Rattle.datastream.specs.Screen.{Screen}
+use Rattle.keyboard.specs.declared.key.Key.TheVariants as key
+use Rattle.shadow.specs.Belief.{Fact}
+use Rattle.world3270.specs.ExampleEnds.{settle, presses, connected, after, end_on, bound_and_shows, shown_by, name_place, Decides}
+use Rattle.world3270.specs.ExampleScreens.{typing_sign_on, greeting_seen, unformatted}
+use Rattle.world3270.specs.World.{Event, AreEvents}
+
+-- ---- what happens
+
+-- `HELLO` and `BYE` in the host's code
+abbrev pub hello : List ℕ
+hello = 0xC8 ∷ 0xC5 ∷ 0xD3 ∷ 0xD3 ∷ 0xD6 ∷ []
+
+abbrev pub bye : List ℕ
+bye = 0xC2 ∷ 0xE8 ∷ 0xC5 ∷ []
+
+-- `A` in the first field, a note
+abbrev pub noted_entry : List Event
+noted_entry = connected ++ presses (key.Char 0x41 ∷ []) ++ Event.Note 0 hello ∷ settle 0
+
+-- another note, Enter before that comes down
+abbrev pub crossed_entry : List Event
+crossed_entry = noted_entry ++ Event.Note 0 bye ∷ presses (key.Enter ∷ []) ++ Event.Down 0 ∷ []
+
+-- what was entered comes up, and that the note was taken
+abbrev pub crossed_heard : List Event
+crossed_heard = crossed_entry ++ Event.Up 0 ∷ Event.Up 0 ∷ []
+
+abbrev pub answered_entry : List Event
+answered_entry = crossed_heard ++ settle 0
+
+-- one more note, Clear before that comes down
+abbrev pub crossed_clear : List Event
+crossed_clear = answered_entry ++ Event.Note 0 hello ∷ presses (key.Clear ∷ []) ++ Event.Down 0 ∷ []
+
+abbrev pub answered_clear : List Event
+answered_clear = crossed_clear ++ settle 0
+
+-- ---- where it leads
+
+-- the last row behind its attribute
+abbrev pub hello_seen : List ℕ
+hello_seen = hello ++ replicate 10 0
+
+abbrev pub bye_seen : List ℕ
+bye_seen = bye ++ replicate 12 0
+
+-- `A` and Enter under the other note
+abbrev pub entered_under_bye : Screen
+entered_under_bye = record (typing_sign_on bye_seen) { aid = Enter }
+
+-- the second panel, with the name `A`
+abbrev pub greeted : Screen
+greeted = greeting_seen (0xC1 ∷ 0 ∷ 0 ∷ [])
+
+-- A note changes the last row alone, also once a key was pressed; the host answers that key as it would have without the note.
+pub record NotesRun : Type 0 where
+  pub are_events : AreEvents answered_clear
+  pub noted : end_on 0 (after noted_entry) ≡ bound_and_shows (typing_sign_on hello_seen)
+  pub crossed : shown_by (after crossed_entry) ≡ entered_under_bye
+  pub decides : Decides (after crossed_heard) Enter name_place (Fact.Text (0xC1 ∷ []))
+  pub answered : end_on 0 (after answered_entry) ≡ bound_and_shows greeted
+  pub cleared : shown_by (after crossed_clear) ≡ unformatted Clear hello_seen
+  pub shown_anew : end_on 0 (after answered_clear) ≡ bound_and_shows greeted

@@ -1,0 +1,157 @@
+-- What each event makes of the world (our profile).
+use Rattle.std.specs.Prelude.{◌≡◌, nat_lt, ℕ, Bool, true, false, List, [], ◌∷◌, ◌++◌, find, filter_map, Option, Some, None, if◌then◌else◌}
+use Rattle.std.specs.List.{range_with_len}
+use Rattle.keyboard.specs.declared.key.Key.{Key}
+use Rattle.keyboard.specs.State.{fresh}
+use Rattle.lu_pool.specs.Asking.{answer_to}
+use Rattle.lu_pool.specs.declared.entry.Entry.{Entry}
+use Rattle.tn3270e_msg.specs.declared.cause.Cause.{Cause}
+use Rattle.host_core.specs.Application.{Application}
+use Rattle.host_core.specs.Messages.{ToTerminal, ToHost, Verdict}
+use Rattle.host_core.specs.Acts.{acted}
+use Rattle.host_core.specs.Notes.{noted}
+use Rattle.lu_pool.specs.Holders.{granted_if, given_back, all_free}
+use Rattle.host_core.specs.Takes.{Step, took as host_took}
+use Rattle.world3270.specs.Terminal.{Display, TermStep, new_display, after_key, key_came, took as term_took}
+use Rattle.world3270.specs.Link.{Link, is_free, begun, cut, host_left, host_stepped, host_sent, term_left, term_stepped}
+use Rattle.world3270.specs.Placed.{has_place, free_number}
+use Rattle.world3270.specs.World.{Place, World, Event, with_at, with_link, with_place}
+
+-- ---- history
+
+abbrev pub closed_if : Option Cause → World → World
+closed_if None world = world
+closed_if (Some cause) world = record world { causes = world.causes ++ cause ∷ [] }
+
+abbrev pub verdict_in : ToHost → Option Verdict
+verdict_in (ToHost.Response number verdict) = Some verdict
+verdict_in (ToHost.Data parts) = None
+verdict_in (ToHost.TalksUp saying) = None
+
+abbrev pub said : List ToHost → World → World
+said messages world = record world { verdicts = world.verdicts ++ filter_map verdict_in messages }
+
+-- ---- the host
+
+abbrev pub freed_if : ℕ → Option Cause → List Entry → List Entry
+freed_if number None pool = pool
+freed_if number (Some cause) pool = given_back number pool
+
+-- the host takes a message
+abbrev pub host_took_it : ℕ → Step → List ToHost → World → World
+host_took_it number step rest world =
+    closed_if step.closes (record world {
+      pool = freed_if number step.closes (granted_if number step.grants world.pool);
+      link = with_at number (host_stepped step rest (world.link number)) world.link;
+    })
+
+abbrev pub came_up : ℕ → List ToHost → World → World
+came_up number [] world = world
+came_up number (message ∷ rest) world =
+    host_took_it number (host_took (answer_to world.pool) (world.link number).host message) rest world
+
+-- the host acts, and sends a note
+abbrev pub host_acted : Application → ℕ → World → World
+host_acted app number world = with_link number (host_sent (acted app (world.link number).host) (world.link number)) world
+
+abbrev pub host_noted : ℕ → List ℕ → World → World
+host_noted number text world = with_link number (host_sent (noted text (world.link number).host) (world.link number)) world
+
+-- ---- terminals
+
+-- a terminal that leaves keeps its screen, with a keyboard that waits
+abbrev pub left_alone : Display → Display
+left_alone display = record display { keyboard = fresh }
+
+abbrev pub place_after : Option Cause → ℕ → Display → Place
+place_after None number display = Place.At number
+place_after (Some cause) number display = Place.Alone (left_alone display)
+
+-- the terminal takes a message
+abbrev pub term_took_it : ℕ → ℕ → TermStep → List ToTerminal → World → World
+term_took_it number terminal step rest world =
+    closed_if step.closes (said step.sends (record world {
+      link = with_at number (term_stepped step rest (world.link number)) world.link;
+      place = with_at terminal (place_after step.closes number step.end.display) world.place;
+    }))
+
+abbrev pub came_down : ℕ → ℕ → List ToTerminal → World → World
+came_down number terminal [] world = world
+came_down number terminal (message ∷ rest) world =
+    term_took_it number terminal (term_took (world.link number).term message) rest world
+
+abbrev pub went_down : ℕ → Option ℕ → World → World
+went_down number None world = world
+went_down number (Some terminal) world = came_down number terminal (world.link number).down world
+
+-- a key goes to the end that the terminal holds, or to the terminal alone
+abbrev pub key_went : ℕ → Key → Place → World → World
+key_went terminal key (Place.At number) world =
+    let link = world.link number in
+    with_link number (term_stepped (key_came key link.term) link.down link) world
+key_went terminal key (Place.Alone display) world = with_place terminal (Place.Alone (after_key key display)) world
+
+-- ---- connections
+
+-- the host leaves its connection, and what that holds is free
+abbrev pub host_parted : ℕ → World → World
+host_parted number world = record world { pool = given_back number world.pool; link = with_at number (host_left (world.link number)) world.link }
+
+-- the terminal leaves its connection, and is alone with this display
+abbrev pub parted : ℕ → ℕ → Display → World → World
+parted terminal number display world = record world {
+  link = with_at number (term_left (world.link number)) world.link;
+  place = with_at terminal (Place.Alone display) world.place;
+}
+
+abbrev pub term_saw : ℕ → Place → World → World
+term_saw terminal (Place.At number) world = parted terminal number (left_alone (world.link number).term.display) world
+term_saw terminal (Place.Alone display) world = world
+
+abbrev pub joined : Application → ℕ → Option (List ℕ) → Option ℕ → World → World
+joined app terminal wanted None world = world
+joined app terminal wanted (Some number) world = record world {
+  link = with_at number (begun app.begins terminal wanted) world.link;
+  place = with_at terminal (Place.At number) world.place;
+}
+
+-- ---- beginning anew
+
+abbrev pub term_anew : Application → ℕ → Place → World → World
+term_anew app terminal (Place.At number) world = parted terminal number (new_display app.begins) world
+term_anew app terminal (Place.Alone display) world = with_place terminal (Place.Alone (new_display app.begins)) world
+
+abbrev pub host_left_from : Link → Link
+host_left_from link = if link.host_here then host_left link else link
+
+abbrev pub host_anew : World → World
+host_anew world = record world { pool = all_free world.pool; link = λ number. host_left_from (world.link number) }
+
+-- ---- events
+
+-- what an event makes of the world, where it has something to happen to
+abbrev pub done : Application → Event → World → World
+done app (Event.Press terminal key) world = key_went terminal key (world.place terminal) world
+done app (Event.Up number) world = came_up number (world.link number).up world
+done app (Event.Down number) world = went_down number (world.link number).term_here world
+done app (Event.Act number) world = host_acted app number world
+done app (Event.Note number text) world = host_noted number text world
+done app (Event.Lose number) world = with_link number (cut (world.link number)) world
+done app (Event.HostSees number) world = host_parted number world
+done app (Event.TermSees terminal) world = term_saw terminal (world.place terminal) world
+done app (Event.Connect terminal wanted) world = joined app terminal wanted (free_number world.link) world
+done app (Event.RestartTerm terminal) world = term_anew app terminal (world.place terminal) world
+done app Event.RestartHost world = host_anew world
+
+-- else it is skipped, and changes nothing
+abbrev pub happens : Application → Event → World → World
+happens app event world = if has_place app event world then done app event world else world
+
+-- one event after another
+abbrev pub run : Application → List Event → World → World
+run app [] world = world
+run app (event ∷ events) world = run app events (happens app event world)
+
+-- a run in pieces is one run
+abbrev pub RunsCompose : Type 0
+RunsCompose = (app : Application) (first second : List Event) (world : World) → run app (first ++ second) world ≡ run app second (run app first world)

@@ -1,0 +1,208 @@
+-- The moments of a connection, for proofs: what is under way, and how far both ends are, one line a moment (RFC 1647, sections 7 and
+-- 8.1; turns are our profile). At most one command is under way; what vanished on a lost connection counts as under way for good.
+use Rattle.std.specs.Prelude.{◌≡◌, ℕ, Bool, true, false, List, [], ◌∷◌, ◌++◌, Option}
+use Rattle.datastream.specs.Grammar.{CommandParts}
+use Rattle.datastream.specs.InboundText.{InboundParts}
+use Rattle.datastream.specs.Wanted.{WantedScreen}
+use Rattle.shadow.specs.Belief.{Shadow}
+use Rattle.telnet_wire.specs.declared.wire.Verb.TheVariants.{Will, Do}
+use Rattle.tn3270e_msg.specs.Talk.{Talk, start_at, Saying}
+use Rattle.tn3270e_msg.specs.declared.device.Device.TheVariants.{Model2}
+use Rattle.tn3270e_msg.specs.declared.host_talk.HostState.{HostState}
+use Rattle.tn3270e_msg.specs.declared.host_talk.HostState.TheVariants.{Offered, Asked, Named, Agreed as HostAgreed}
+use Rattle.tn3270e_msg.specs.declared.reply.Reason.{Reason}
+use Rattle.tn3270e_msg.specs.declared.reply.Sending.TheVariants.{SendType, TypeRequest, TypeIs, TypeReject, FunRequest, FunIs}
+use Rattle.tn3270e_msg.specs.declared.term_talk.TermState.{TermState}
+use Rattle.tn3270e_msg.specs.declared.term_talk.TermState.TheVariants.{Waiting, Willing, TypeAsked, FunctionsAsked, Agreed, Refused}
+use Rattle.host_core.specs.Messages.{ToTerminal, ToHost, Verdict}
+use Rattle.host_core.specs.Session.{Turn, Pending}
+use Rattle.world3270.specs.View.{View}
+
+-- a write that isn't answered yet: a paint, or a note
+pub data Kind : Type 0 where
+  APaint : Kind
+  ANote : Kind
+
+abbrev pub awaiting : Kind → ℕ → CommandParts → Pending
+awaiting Kind.APaint number command = Pending.Writing number command
+awaiting Kind.ANote number command = Pending.Noting number command
+
+-- the moments of the talk, until both ends agree on an LU or the terminal is refused one
+pub data Talking : Type 0 where
+  Offering : Talking
+  Accepting : Talking
+  AskingType : Talking
+  NamingType : Talking
+  Granting : List ℕ → Talking
+  AskingFunctions : List ℕ → Talking
+  Agreeing : List ℕ → Talking
+  Rejecting : Reason → Talking
+  Rejected : Reason → Talking
+
+-- The moments of a session. In the host's turn: it decides; a Read Buffer goes down, its answer comes up; a note goes down still, its
+-- response comes up. In the terminal's: a paint goes down; the operator types, with the response to a write coming up, with nothing
+-- under way, or with a note going down; a key was pressed, and its data comes up alone, behind the response to a write, with a note
+-- going down, or before the note's response.
+pub data Serving : Type 0 where
+  Deciding : Serving
+  Reading : ℕ → Serving
+  Reported : ℕ → InboundParts → Serving
+  NotedLate : ℕ → CommandParts → Serving
+  AnsweredLate : ℕ → CommandParts → Serving
+  Painting : ℕ → CommandParts → WantedScreen → Shadow → Serving
+  Answering : Kind → ℕ → CommandParts → Serving
+  Operating : Serving
+  Noting : ℕ → CommandParts → Serving
+  KeyAlone : InboundParts → Serving
+  KeyBehind : Kind → ℕ → CommandParts → InboundParts → Serving
+  KeyNoted : ℕ → CommandParts → InboundParts → Serving
+  KeyBefore : ℕ → CommandParts → InboundParts → Serving
+
+-- a connection talks; or the host begins to paint before the terminal knows that both agreed; or it serves a session with an LU
+pub data Moment : Type 0 where
+  Talks : Talking → Moment
+  Begins : List ℕ → ℕ → CommandParts → WantedScreen → Shadow → Moment
+  Serves : List ℕ → Serving → Moment
+
+-- ---- how far both ends are
+
+-- one rejection or counter-request less is left
+abbrev pub rejected_once : Talk HostState
+rejected_once = record { state = Asked; refusals_left = 7 }
+
+abbrev pub agreed : List ℕ → Talk HostState
+agreed lu = start_at (HostAgreed Model2 lu)
+
+abbrev pub host_in_talk : Talking → Talk HostState
+host_in_talk Talking.Offering = start_at Offered
+host_in_talk Talking.Accepting = start_at Offered
+host_in_talk Talking.AskingType = start_at Asked
+host_in_talk Talking.NamingType = start_at Asked
+host_in_talk (Talking.Granting lu) = start_at (Named Model2 lu)
+host_in_talk (Talking.AskingFunctions lu) = start_at (Named Model2 lu)
+host_in_talk (Talking.Agreeing lu) = agreed lu
+host_in_talk (Talking.Rejecting reason) = rejected_once
+host_in_talk (Talking.Rejected reason) = rejected_once
+
+abbrev pub term_in_talk : Talking → TermState
+term_in_talk Talking.Offering = Waiting
+term_in_talk Talking.Accepting = Willing
+term_in_talk Talking.AskingType = Willing
+term_in_talk Talking.NamingType = TypeAsked
+term_in_talk (Talking.Granting lu) = TypeAsked
+term_in_talk (Talking.AskingFunctions lu) = FunctionsAsked lu
+term_in_talk (Talking.Agreeing lu) = FunctionsAsked lu
+term_in_talk (Talking.Rejecting reason) = TypeAsked
+term_in_talk (Talking.Rejected reason) = Refused reason
+
+abbrev pub host_talk_at : Moment → Talk HostState
+host_talk_at (Moment.Talks talking) = host_in_talk talking
+host_talk_at (Moment.Begins lu number command wanted over) = agreed lu
+host_talk_at (Moment.Serves lu serving) = agreed lu
+
+abbrev pub term_state_at : Moment → TermState
+term_state_at (Moment.Talks talking) = term_in_talk talking
+term_state_at (Moment.Begins lu number command wanted over) = FunctionsAsked lu
+term_state_at (Moment.Serves lu serving) = Agreed lu
+
+abbrev pub turn_in : Serving → Turn
+turn_in Serving.Deciding = Turn.Host
+turn_in (Serving.Reading number) = Turn.Host
+turn_in (Serving.Reported number parts) = Turn.Host
+turn_in (Serving.NotedLate number command) = Turn.Host
+turn_in (Serving.AnsweredLate number command) = Turn.Host
+turn_in _ = Turn.Terminal
+
+abbrev pub turn_at : Moment → Turn
+turn_at (Moment.Talks talking) = Turn.Host
+turn_at (Moment.Begins lu number command wanted over) = Turn.Terminal
+turn_at (Moment.Serves lu serving) = turn_in serving
+
+abbrev pub pending_in : Serving → Pending
+pending_in Serving.Deciding = Pending.Nothing
+pending_in (Serving.Reading number) = Pending.Reading number
+pending_in (Serving.Reported number parts) = Pending.Reading number
+pending_in (Serving.NotedLate number command) = Pending.Noting number command
+pending_in (Serving.AnsweredLate number command) = Pending.Noting number command
+pending_in (Serving.Painting number command wanted over) = Pending.Writing number command
+pending_in (Serving.Answering kind number command) = awaiting kind number command
+pending_in Serving.Operating = Pending.Nothing
+pending_in (Serving.Noting number command) = Pending.Noting number command
+pending_in (Serving.KeyAlone parts) = Pending.Nothing
+pending_in (Serving.KeyBehind kind number command parts) = awaiting kind number command
+pending_in (Serving.KeyNoted number command parts) = Pending.Noting number command
+pending_in (Serving.KeyBefore number command parts) = Pending.Noting number command
+
+abbrev pub pending_at : Moment → Pending
+pending_at (Moment.Talks talking) = Pending.Nothing
+pending_at (Moment.Begins lu number command wanted over) = Pending.Writing number command
+pending_at (Moment.Serves lu serving) = pending_in serving
+
+-- ---- what is under way, oldest first
+
+abbrev pub says_down : Saying → List ToTerminal
+says_down saying = ToTerminal.TalksDown saying ∷ []
+
+abbrev pub says_up : Saying → List ToHost
+says_up saying = ToHost.TalksUp saying ∷ []
+
+abbrev pub done_with : ℕ → ToHost
+done_with number = ToHost.Response number Verdict.Positive
+
+abbrev pub talk_down : Talking → List ToTerminal
+talk_down Talking.Offering = says_down (Saying.Opt Do 40)
+talk_down Talking.AskingType = says_down (Saying.Sub SendType)
+talk_down (Talking.Granting lu) = says_down (Saying.Sub (TypeIs Model2 lu))
+talk_down (Talking.Agreeing lu) = says_down (Saying.Sub FunIs)
+talk_down (Talking.Rejecting reason) = says_down (Saying.Sub (TypeReject reason))
+talk_down _ = []
+
+-- `wanted`: the LU that the terminal wants, if one
+abbrev pub talk_up : Option (List ℕ) → Talking → List ToHost
+talk_up wanted Talking.Accepting = says_up (Saying.Opt Will 40)
+talk_up wanted Talking.NamingType = says_up (Saying.Sub (TypeRequest wanted))
+talk_up wanted (Talking.AskingFunctions lu) = says_up (Saying.Sub FunRequest)
+talk_up wanted _ = []
+
+abbrev pub served_down : Serving → List ToTerminal
+served_down (Serving.Reading number) = ToTerminal.ReadBuffer number ∷ []
+served_down (Serving.NotedLate number command) = ToTerminal.Note number command ∷ []
+served_down (Serving.Painting number command wanted over) = ToTerminal.Paint number wanted over ∷ []
+served_down (Serving.Noting number command) = ToTerminal.Note number command ∷ []
+served_down (Serving.KeyNoted number command parts) = ToTerminal.Note number command ∷ []
+served_down _ = []
+
+abbrev pub served_up : Serving → List ToHost
+served_up (Serving.Reported number parts) = ToHost.Data parts ∷ []
+served_up (Serving.AnsweredLate number command) = done_with number ∷ []
+served_up (Serving.Answering kind number command) = done_with number ∷ []
+served_up (Serving.KeyAlone parts) = ToHost.Data parts ∷ []
+served_up (Serving.KeyBehind kind number command parts) = done_with number ∷ ToHost.Data parts ∷ []
+served_up (Serving.KeyNoted number command parts) = ToHost.Data parts ∷ []
+served_up (Serving.KeyBefore number command parts) = ToHost.Data parts ∷ done_with number ∷ []
+served_up _ = []
+
+abbrev pub down_at : Moment → List ToTerminal
+down_at (Moment.Talks talking) = talk_down talking
+down_at (Moment.Begins lu number command wanted over) = ToTerminal.TalksDown (Saying.Sub FunIs) ∷ ToTerminal.Paint number wanted over ∷ []
+down_at (Moment.Serves lu serving) = served_down serving
+
+abbrev pub up_at : Option (List ℕ) → Moment → List ToHost
+up_at wanted (Moment.Talks talking) = talk_up wanted talking
+up_at wanted (Moment.Begins lu number command paints over) = []
+up_at wanted (Moment.Serves lu serving) = served_up serving
+
+-- the queue holds the first of these messages, and all of them unless the connection is lost
+pub record UnderWay {X : Type 0} (lost : Bool) (queue messages : List X) : Type 0 where
+  pub vanished : List X
+  pub whole : queue ++ vanished ≡ messages
+  pub none : lost ≡ false → vanished ≡ []
+
+-- a connection is at a moment
+pub record IsAt (v : View) (wanted : Option (List ℕ)) (moment : Moment) : Type 0 where
+  pub host_talk : v.host.talk ≡ host_talk_at moment
+  pub term_talk : v.talk ≡ record { wanted = wanted; talk = start_at (term_state_at moment) }
+  pub turn : v.host.turn ≡ turn_at moment
+  pub pending : v.host.pending ≡ pending_at moment
+  pub goes_down : UnderWay v.lost v.down (down_at moment)
+  pub goes_up : UnderWay v.lost v.up (up_at wanted moment)

@@ -1,0 +1,177 @@
+-- What holds of queues and connections where bytes stand for messages: a connection over bytes stands for one over messages, whatever
+-- happens on it (our profile).
+use Rattle.std.specs.Prelude.{◌≡◌, ◌||◌, ⊤, ℕ, Bool, true, false, List, [], ◌∷◌, ◌++◌, Option, Some, None}
+use Rattle.std.specs.List.{AllByRecursion}
+use Rattle.codes3270.specs.Size.{model_2}
+use Rattle.datastream.specs.InboundFields.{IsSendable}
+use Rattle.keyboard.specs.declared.key.Key.{Key}
+use Rattle.shadow.specs.Pairs.{Pairwise}
+use Rattle.telnet_wire.specs.Items.{WireItem, CanCome}
+use Rattle.telnet_wire.specs.Reading.{Rest, nothing, Delivers}
+use Rattle.term_core.specs.Presses.{key_outcome}
+use Rattle.term_core.specs.Says.{sent_bytes}
+use Rattle.term_core.specs.State.{record_limit}
+use Rattle.host_core.specs.Messages.{ToTerminal, ToHost}
+use Rattle.host_core.specs.Session.{Conn, new_conn}
+use Rattle.world3270.specs.Link.{Link, begun, sent, host_left, term_left, term_stepped}
+use Rattle.world3270.specs.Seats.{Seat, SeatTakesByte, SeatTakes, seated, seat_after_key}
+use Rattle.world3270.specs.Stands.{StandsDown, StandsUp, BytesStand, ByteLink, LinkStands}
+use Rattle.world3270.specs.StandsEnds.{MayCome, is_painted}
+use Rattle.world3270.specs.Terminal.{TermEnd, took, key_came}
+use Rattle.world3270.specs.World.{World}
+
+-- ---- what is under way
+
+-- No bytes stand for no messages.
+abbrev pub NothingStands : {X : Type 0} → (WireItem → X → Type 0) → Type 0
+NothingStands Stands = BytesStand Stands nothing [] []
+
+-- New items behind a queue stand for new messages behind those that it stands for.
+abbrev pub StandsCompose : {X : Type 0} → (WireItem → X → Type 0) → Type 0
+StandsCompose {X} Stands = (rest : Rest) (bytes : List ℕ) (messages more : List X) (items : List WireItem)
+    → BytesStand Stands rest bytes messages → AllByRecursion (CanCome record_limit) items → Pairwise Stands items more
+    → BytesStand Stands rest (bytes ++ sent_bytes items) (messages ++ more)
+
+-- some of the messages are taken, and the others stay
+pub record TakesSome {X : Type 0} (Stands : WireItem → X → Type 0) (mid : Rest) (behind : List ℕ) (items : List WireItem) (messages : List X) : Type 0 where
+  pub taken : List X
+  pub others : List X
+  pub whole : messages ≡ taken ++ others
+  pub each : Pairwise Stands items taken
+  pub stands : BytesStand Stands mid behind others
+
+-- Bytes that were taken off the front delivered items that stand for the first messages, and the bytes behind stand for the others.
+abbrev pub StandsGoOn : {X : Type 0} → (WireItem → X → Type 0) → Type 0
+StandsGoOn {X} Stands = (rest mid : Rest) (bytes behind : List ℕ) (items : List WireItem) (messages : List X)
+    → BytesStand Stands rest (bytes ++ behind) messages → Delivers record_limit rest bytes items mid
+    → TakesSome Stands mid behind items messages
+
+-- ---- a connection at its begin
+
+-- the host has offered TN3270E: DO TN3270E
+abbrev pub begun_bytes : ℕ → Option (List ℕ) → ByteLink
+begun_bytes terminal wanted = record {
+  lost = false;
+  down = 255 ∷ 253 ∷ 40 ∷ [];
+  up = [];
+  host_here = true;
+  host = new_conn model_2;
+  host_rest = nothing;
+  term_here = Some terminal;
+  seat = seated wanted;
+}
+
+abbrev pub BeginStands : Type 0
+BeginStands = (terminal : ℕ) (wanted : Option (List ℕ)) → LinkStands (begun_bytes terminal wanted) (begun model_2 terminal wanted)
+
+-- ---- a connection, as its terminal goes on
+
+-- what the terminal said is under way; on a lost connection it vanishes
+abbrev pub handed_on : Seat → ByteLink → ByteLink
+handed_on seat bytes =
+    record bytes { up = sent bytes.lost bytes.up seat.terminal.out; seat = record seat { terminal = record seat.terminal { out = [] } } }
+
+-- A connection stands for one over messages after a key, where the screen that it leaves can be sent.
+abbrev pub PressStands : Type 0
+PressStands = (key : Key) (bytes : ByteLink) (link : Link) (terminal : ℕ)
+    → LinkStands bytes link → link.term_here ≡ Some terminal → IsSendable (key_outcome key bytes.seat.terminal.station).screen
+    → LinkStands (handed_on (seat_after_key key bytes.seat) bytes) (term_stepped (key_came key link.term) link.down link)
+
+-- each message may come when it does
+abbrev pub MayComeAll : TermEnd → List ToTerminal → Type 0
+MayComeAll end [] = ⊤
+MayComeAll end (message ∷ messages) = MayCome end message × MayComeAll (took end message).end messages
+
+-- and none of them closes the connection
+abbrev pub NoneCloses : TermEnd → List ToTerminal → Type 0
+NoneCloses end [] = ⊤
+NoneCloses end (message ∷ messages) = ((took end message).closes ≡ None) × NoneCloses (took end message).end messages
+
+-- What comes down may come when it does, and closes nothing, whatever happens in the world.
+abbrev pub WhatComesMayCome : World → Type 0
+WhatComesMayCome world =
+    (number : ℕ) → let link = world.link number in MayComeAll link.term link.down × NoneCloses link.term link.down
+
+-- messages come down one by one; `others` stay behind them
+abbrev pub took_down : List ToTerminal → List ToTerminal → Link → Link
+took_down [] others link = link
+took_down (message ∷ messages) others link = took_down messages others (term_stepped (took link.term message) (messages ++ others) link)
+
+-- the terminal took bytes, and these are behind them
+abbrev pub fed : Seat → List ℕ → ByteLink → ByteLink
+fed seat behind bytes = record (handed_on seat bytes) { down = behind }
+
+-- it stands for one on which the first of the messages came down
+pub record CameDown (bytes : ByteLink) (link : Link) : Type 0 where
+  pub taken : List ToTerminal
+  pub others : List ToTerminal
+  pub whole : link.down ≡ taken ++ others
+  pub stands : LinkStands bytes (took_down taken others link)
+
+-- the terminal is there, with a screen that can be sent, and what comes down may come and closes nothing
+pub record IsReady (bytes : ByteLink) (link : Link) : Type 0 where
+  pub stands : LinkStands bytes link
+  pub terminal : ℕ
+  pub here : link.term_here ≡ Some terminal
+  pub may : MayComeAll link.term link.down
+  pub none : NoneCloses link.term link.down
+  pub sendable : IsSendable link.term.display.screen
+
+-- A connection stands for one over messages after any bytes that the terminal takes off its queue.
+abbrev pub DownStands : Type 0
+DownStands = (bytes : ByteLink) (link : Link) (front behind : List ℕ) (new : Seat)
+    → IsReady bytes link → bytes.down ≡ front ++ behind → SeatTakes bytes.seat front new → CameDown (fed new behind bytes) link
+
+-- whether one of the messages is a paint that finds the terminal bound
+abbrev pub any_painted : TermEnd → List ToTerminal → Bool
+any_painted end [] = false
+any_painted end (message ∷ messages) = is_painted end message || any_painted (took end message).end messages
+
+-- the byte that came marks a write where such a paint came down with it
+pub record CameMarked (bytes : ByteLink) (link : Link) : Type 0 where
+  pub came : CameDown bytes link
+  pub marked : bytes.seat.terminal.station.took_write ≡ any_painted link.term came.taken
+
+-- A byte marks a write exactly where it completes a paint that finds the terminal bound.
+abbrev pub BytesAreMarked : Type 0
+BytesAreMarked = (bytes : ByteLink) (link : Link) (byte : ℕ) (behind : List ℕ) (new : Seat)
+    → IsReady bytes link → bytes.down ≡ byte ∷ behind → SeatTakesByte bytes.seat byte new → CameMarked (fed new behind bytes) link
+
+-- ---- a connection, as its host goes on, and as it is lost
+
+-- what the host said is under way; on a lost connection it vanishes
+abbrev pub said_down : Conn → List WireItem → ByteLink → ByteLink
+said_down conn items bytes = record bytes { host = conn; down = sent bytes.lost bytes.down (sent_bytes items) }
+
+abbrev pub sent_down : Conn → List ToTerminal → Link → Link
+sent_down conn messages link = record link { host = conn; down = sent link.lost link.down messages }
+
+-- A connection stands for one over messages after the host says items that stand for what it sends.
+abbrev pub HostSends : Type 0
+HostSends = (bytes : ByteLink) (link : Link) (conn : Conn) (items : List WireItem) (messages : List ToTerminal)
+    → LinkStands bytes link → AllByRecursion (CanCome record_limit) items → Pairwise StandsDown items messages
+    → LinkStands (said_down conn items bytes) (sent_down conn messages link)
+
+-- the first of the messages came up, and the others stand behind them
+pub record CameUp (bytes : ByteLink) (link : Link) (items : List WireItem) : Type 0 where
+  pub taken : List ToHost
+  pub others : List ToHost
+  pub whole : link.up ≡ taken ++ others
+  pub each : Pairwise StandsUp items taken
+  pub stands : LinkStands bytes (record link { up = others })
+
+-- The items that come up to the host stand for the first messages, and the connection for one with the others.
+abbrev pub UpStands : Type 0
+UpStands = (bytes : ByteLink) (link : Link) (front behind : List ℕ) (items : List WireItem) (to : Rest)
+    → LinkStands bytes link → link.host_here ≡ true → bytes.up ≡ front ++ behind → Delivers record_limit bytes.host_rest front items to
+    → CameUp (record bytes { host_rest = to; up = behind }) link items
+
+-- It stands for one after it is lost, and after an end leaves it.
+abbrev pub LossStands : Type 0
+LossStands = (bytes : ByteLink) (link : Link) → LinkStands bytes link → LinkStands (record bytes { lost = true }) (record link { lost = true })
+
+abbrev pub HostLeaves : Type 0
+HostLeaves = (bytes : ByteLink) (link : Link) → LinkStands bytes link → LinkStands (record bytes { lost = true; host_here = false }) (host_left link)
+
+abbrev pub TermLeaves : Type 0
+TermLeaves = (bytes : ByteLink) (link : Link) → LinkStands bytes link → LinkStands (record bytes { lost = true; term_here = None }) (term_left link)
