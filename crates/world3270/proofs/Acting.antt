@@ -4,20 +4,18 @@ use Rattle.codes3270.specs.Size.{Shape, cells_in}
 use Rattle.codes3270.specs.declared.attention.Aid.{Aid}
 use Rattle.codes3270.specs.declared.attention.Aid.TheVariants.{NoAid, Enter as EnterAid, Clear as ClearAid, Pf as PfAid, Pa as PaAid}
 use Rattle.datastream.specs.Grammar.{CommandParts}
-use Rattle.datastream.specs.InboundText.{InboundParts}
 use Rattle.datastream.specs.Wanted.{WantedScreen}
 use Rattle.panels.specs.declared.message.Message.{Message}
 use Rattle.panels.specs.declared.message.Message.TheVariants.{Fresh}
 use Rattle.panels.specs.Screen.{Values}
-use Rattle.shadow.specs.Belief.{Shadow}
 use Rattle.shadow.specs.Meets.{Meets}
 use Rattle.shadow.specs.Paint.{paint}
 use Rattle.tn3270e_msg.specs.Talk.{Talk, start_at}
 use Rattle.tn3270e_msg.specs.declared.host_talk.HostState.{HostState}
 use Rattle.host_core.specs.Acts.{Act, Sent as Sending, after_key, act_on, wanted_by, done, may_act, acted}
-use Rattle.host_core.specs.Application.{Application, IsShape, IsApplication}
+use Rattle.host_core.specs.Application.{Application, IsApplication}
 use Rattle.host_core.specs.Laws.{IsPaintable}
-use Rattle.host_core.specs.Messages.{ToTerminal, ToHost}
+use Rattle.host_core.specs.Messages.{ToTerminal}
 use Rattle.host_core.specs.NoteLaws.{IsNoteOf}
 use Rattle.host_core.specs.Notes.{IsNoteText, note_command, may_note, noted_as, noted}
 use Rattle.host_core.specs.Session.{Conn, Turn, Pending, Occasion, is_agreed}
@@ -25,7 +23,7 @@ use Rattle.world3270.specs.Given.{Given}
 use Rattle.world3270.specs.Link.{Link, sent, host_sent}
 use Rattle.world3270.specs.Moments.{Kind, UnderWay, Talking, Serving, Moment, IsAt, host_talk_at, term_state_at, turn_at, pending_at, down_at, up_at}
 use Rattle.world3270.specs.Occasions.{IsOccasion}
-use Rattle.world3270.specs.Stages.{scene_of, FactsAreExact, IsNew, IsPainted, Operates, Sees, IsPressed, Decides, MayBeNoted, Fact, SameShape, Kept}
+use Rattle.world3270.specs.Stages.{scene_of, FactsAreExact, IsNew, Decides, Fact, Kept}
 use Rattle.world3270.specs.View.{View, view_of}
 use Rattle.world3270.proofs.Queues.{more, still}
 

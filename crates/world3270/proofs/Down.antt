@@ -1,5 +1,5 @@
 -- What a terminal makes of the next message, at each moment.
-use Rattle.std.proofs.Common.{◌≡◌, ◌⊎◌, inl, inr, ◌<◌, ℕ, Bool, true, false, Option, None, Some, List, [], ◌∷◌, ◌++◌, length, map, suc, arith, refl, ap, sym, subst, ◌∙◌, Result, Ok, Err, IsOkAnd}
+use Rattle.std.proofs.Common.{◌≡◌, inr, ◌<◌, ℕ, Bool, true, false, Option, None, Some, List, [], ◌∷◌, ◌++◌, length, map, suc, arith, refl, ap, sym, subst, ◌∙◌, Result, Ok, Err, IsOkAnd}
 use Rattle.std.specs.Prelude.{is_some, filter_map}
 use Rattle.std.specs.List.{list_any}
 use Rattle.std.specs.Str.{bytes_eq}
@@ -10,7 +10,7 @@ use Rattle.datastream.specs.Grammar.{CommandParts}
 use Rattle.datastream.specs.InboundFields.{buffer_data}
 use Rattle.datastream.specs.InboundText.{InboundParts}
 use Rattle.datastream.specs.Meaning.{after_command}
-use Rattle.datastream.specs.Note.{OverCharacters, WritesProtected, IsProtectedChar}
+use Rattle.datastream.specs.Note.{OverCharacters}
 use Rattle.datastream.specs.Screen.{Screen}
 use Rattle.datastream.specs.Wanted.{WantedScreen}
 use Rattle.datastream.specs.declared.wanted.Want.{Want}
@@ -23,24 +23,21 @@ use Rattle.shadow.specs.Notes.{OverwritesProtected}
 use Rattle.shadow.specs.Paint.{paint}
 use Rattle.shadow.specs.Painted.{painted_from, plainly_painted}
 use Rattle.shadow.specs.Taken.{taken}
-use Rattle.shadow.specs.declared.fault.HeardFault.{HeardFault}
 use Rattle.telnet_wire.specs.declared.wire.Verb.TheVariants.{Will, Do}
 use Rattle.tn3270e_msg.specs.Lu.{lu_of}
 use Rattle.tn3270e_msg.specs.Talk.{Comes, Talk, start_at, follow, Saying, says, sayings, closing}
 use Rattle.tn3270e_msg.specs.TermTable.{Term, term_line, grant_line}
 use Rattle.tn3270e_msg.specs.declared.device.Device.TheVariants.{Model2}
-use Rattle.tn3270e_msg.specs.declared.host_talk.HostState.{HostState}
 use Rattle.tn3270e_msg.specs.declared.reply.Reply.{Reply}
 use Rattle.tn3270e_msg.specs.declared.reply.Reply.TheVariants as reply
 use Rattle.tn3270e_msg.specs.declared.reply.After.TheVariants.{Going}
 use Rattle.tn3270e_msg.specs.declared.reply.Sending.TheVariants.{SendType, TypeRequest, TypeIs, TypeReject, FunRequest, FunIs}
 use Rattle.tn3270e_msg.specs.declared.term_talk.TermState.{TermState}
-use Rattle.tn3270e_msg.specs.declared.term_talk.TermState.TheVariants.{Waiting, Willing, TypeAsked, FunctionsAsked, Agreed, Refused, Closed}
+use Rattle.tn3270e_msg.specs.declared.term_talk.TermState.TheVariants.{TypeAsked, FunctionsAsked, Agreed, Closed}
 use Rattle.tn3270e_msg.proofs.Agreement.{responses_alone, model_2, same_bytes}
 use Rattle.host_core.specs.Application.{Application, IsShape, IsApplication}
 use Rattle.host_core.specs.Messages.{ToTerminal, ToHost}
-use Rattle.host_core.specs.NoteLaws.{HasMessageRow, TakesNotes, IsNoteOf}
-use Rattle.host_core.specs.Session.{Conn}
+use Rattle.host_core.specs.NoteLaws.{TakesNotes, IsNoteOf}
 use Rattle.world3270.specs.Always.{is_negative}
 use Rattle.world3270.specs.Given.{Given}
 use Rattle.world3270.specs.Happens.{verdict_in}
@@ -48,11 +45,11 @@ use Rattle.world3270.specs.Headline.{SentFields, UnmodifiedIsKept}
 use Rattle.world3270.specs.Link.{Link, sent}
 use Rattle.world3270.specs.Moments.{Kind, Talking, Serving, Moment, UnderWay, IsAt, host_talk_at, term_state_at, turn_at, pending_at, down_at, up_at}
 use Rattle.world3270.specs.Occasions.{IsOccasion, IsCleared}
-use Rattle.world3270.specs.Stages.{scene_of, once_taken, FactsAreExact, Suits, IsPainted, Operates, NotedSince, Sees, IsPressed, IsRead, Decides, MayBeNoted, Fact, SameShape, Kept}
-use Rattle.world3270.specs.Terminal.{TermEnd, TermStep, with_talk, is_bound, bound_to, once_bound, paint_came, note_came, read_came, talked, took}
-use Rattle.world3270.specs.View.{View, view_of}
+use Rattle.world3270.specs.Stages.{scene_of, once_taken, FactsAreExact, Suits, IsPainted, Operates, Sees, IsRead, Fact, Kept}
+use Rattle.world3270.specs.Terminal.{TermStep, with_talk, is_bound, bound_to, once_bound, paint_came, note_came, read_came, talked, took}
+use Rattle.world3270.specs.View.{view_of}
 use Rattle.world3270.proofs.Queues.{more, front, nothing}
-use Rattle.world3270.proofs.Unreturned.{kept_of, noted_on, kept_noted, kept_bare, still_bare, still_one}
+use Rattle.world3270.proofs.Unreturned.{noted_on, kept_noted, kept_bare, still_bare, still_one}
 
 -- the connection once the terminal took the message before the rest
 abbrev pub term_view : TermStep → List ToTerminal → Link → Link
@@ -163,7 +160,6 @@ painted-length reset whole (want ∷ rest) [] same = absurd (cc)
 painted-length reset whole (WantChar byte ∷ rest) (x ∷ cells) same = ap suc (painted-length reset whole rest cells (omega arith))
 painted-length reset whole (Keep ∷ rest) (x ∷ cells) same = ap suc (painted-length reset whole rest cells (omega arith))
 painted-length reset whole (WantAttr attribute ∷ rest) (x ∷ cells) same = ap suc (painted-length reset whole rest cells (omega arith))
-
 
 bound : (link : Link) (wanted : Option (List ℕ)) (lu : List ℕ) (serving : Serving) → IsAt (view_of link) wanted (Moment.Serves lu serving) → is_bound link.term ≡ true
 bound link wanted lu serving at = ap (λ (t : Term). is_some (bound_to t.talk.state)) at.term_talk
@@ -429,10 +425,11 @@ obeys given app is link message rest e k = by_moment k.moment k.at k.fact
         let noted = noted_on_it given link.host.shape command screen (is_shape given app is link rest k) f.2.note k.whole f.2.takes in
         as_message app link rest (ToTerminal.Note number command) message first.0
         (takes_note given app is link rest k lu number command (Serving.KeyNoted number command parts) (Serving.KeyBefore number command parts) at f.2.note f.2.takes
-        (record { host_talk = refl; turn = refl; pending = refl; up = refl }) first.1
-        (record { lock = f.0.lock; form = f.0.form; pressed = f.0.pressed ∙ sym noted.aid; some = λ none. f.0.some (sym noted.aid ∙ none) },
-        ok_map (Sees link.host.shape screen) (λ shadow. Sees link.host.shape (after_command command screen) (once_taken link.host.shape command shadow)) (heard (cells_in link.host.shape) link.host.shadow parts)
-        (λ shadow s. sees_noted given link.host.shape command screen shadow f.2.note k.whole noted s) f.1))
+        (record { host_talk = refl; turn = refl; pending = refl; up = refl }) first.1 (
+          record { lock = f.0.lock; form = f.0.form; pressed = f.0.pressed ∙ sym noted.aid; some = λ none. f.0.some (sym noted.aid ∙ none) },
+          ok_map (Sees link.host.shape screen) (λ shadow. Sees link.host.shape (after_command command screen) (once_taken link.host.shape command shadow)) (heard (cells_in link.host.shape) link.host.shadow parts)
+              (λ shadow s. sees_noted given link.host.shape command screen shadow f.2.note k.whole noted s) f.1,
+        ))
     by_serving lu (Serving.NotedLate number command) at f =
         let first = front link.lost link.down message rest _ [] e at.goes_down in
         let noted = noted_on_it given link.host.shape command screen (is_shape given app is link rest k) f.1.note k.whole f.1.takes in

@@ -11,17 +11,17 @@ use Rattle.tn3270e_msg.specs.declared.host_talk.HostState.TheVariants.{Offered, 
 use Rattle.lu_pool.specs.Holders.{holder}
 use Rattle.host_core.specs.Answering.{number_of}
 use Rattle.host_core.specs.Application.{Application}
-use Rattle.host_core.specs.Messages.{ToTerminal, ToHost}
+use Rattle.host_core.specs.Messages.{ToHost}
 use Rattle.host_core.specs.Session.{Turn, Pending, agreed_lu}
 use Rattle.world3270.specs.Always.{Always, HeadlineHolds, is_refusal, NobodyRefuses}
 use Rattle.world3270.specs.Given.{Given}
 use Rattle.world3270.specs.Happens.{run}
 use Rattle.world3270.specs.Headline.{SentFields, OneSessionEach, BoundIsGranted, IsHostsTurn, Agrees}
 use Rattle.world3270.specs.Link.{Link}
-use Rattle.world3270.specs.Moments.{Kind, Talking, Serving, Moment, UnderWay, IsAt, term_state_at, host_talk_at, turn_at, pending_at, up_at}
+use Rattle.world3270.specs.Moments.{Talking, Serving, Moment, UnderWay, term_state_at, host_talk_at, turn_at, pending_at, up_at}
 use Rattle.world3270.specs.Occasions.{IsOccasion, IsCleared, ActsOnTheKey, KnowsTheCleared}
 use Rattle.world3270.specs.Seen.{seen, seen_link}
-use Rattle.world3270.specs.Stages.{Scene, scene_of, Fact, Kept}
+use Rattle.world3270.specs.Stages.{scene_of, Fact, Kept}
 use Rattle.world3270.specs.Terminal.{bound_to}
 use Rattle.world3270.specs.View.{View, view_of}
 use Rattle.world3270.specs.World.{World, new_world}

@@ -1,6 +1,6 @@
 -- What keys do to a connection, at each moment.
-use Rattle.std.proofs.Common.{◌≡◌, ◌<◌, ◌||◌, ℕ, zero, suc, Bool, true, false, Option, Result, Ok, Err, List, [], ◌∷◌, ◌++◌, append-nil, length, map, replicate, refl, ap, sym, subst, ◌∙◌, IsOkAnd, IfOk}
-use Rattle.std.specs.Prelude.{is_some, Some}
+use Rattle.std.proofs.Common.{◌≡◌, ◌<◌, ◌||◌, ℕ, zero, suc, Bool, true, false, Result, Ok, Err, List, [], ◌∷◌, ◌++◌, append-nil, length, replicate, refl, ap, sym, subst, ◌∙◌, IsOkAnd, IfOk}
+use Rattle.std.specs.Prelude.{is_some}
 use Rattle.std.specs.List.{list_all}
 use Rattle.codes3270.specs.Aid.{is_short_aid}
 use Rattle.codes3270.specs.Size.{Shape, cells_in}
@@ -8,7 +8,6 @@ use Rattle.codes3270.specs.declared.attention.Aid.{Aid}
 use Rattle.codes3270.specs.declared.attention.Aid.TheVariants.{NoAid, Enter as EnterAid, Clear as ClearAid, Pf as PfAid, Pa as PaAid}
 use Rattle.codes3270.specs.declared.attribute.Cell.{Cell}
 use Rattle.codes3270.specs.declared.attribute.Cell.TheVariants.{Char as CharCell}
-use Rattle.datastream.specs.Grammar.{CommandParts}
 use Rattle.datastream.specs.Held.{Held}
 use Rattle.datastream.specs.InboundFields.{modified_data}
 use Rattle.datastream.specs.InboundText.{InboundParts}
@@ -35,14 +34,14 @@ use Rattle.shadow.specs.Openness.{IsClearedBelief}
 use Rattle.shadow.specs.declared.fault.HeardFault.{HeardFault}
 use Rattle.tn3270e_msg.specs.TermTable.{Term}
 use Rattle.host_core.specs.Application.{Application}
-use Rattle.host_core.specs.Messages.{ToTerminal, ToHost}
+use Rattle.host_core.specs.Messages.{ToHost}
 use Rattle.host_core.specs.NoteLaws.{HasMessageRow, TakesNotes}
 use Rattle.world3270.specs.Given.{Given}
-use Rattle.world3270.specs.Headline.{SentFields, UnmodifiedIsKept}
+use Rattle.world3270.specs.Headline.{SentFields}
 use Rattle.world3270.specs.Link.{Link, sent, term_stepped}
-use Rattle.world3270.specs.Moments.{Kind, Talking, Serving, Moment, UnderWay, IsAt, turn_at, pending_at, down_at, up_at}
+use Rattle.world3270.specs.Moments.{Serving, Moment, UnderWay, IsAt, turn_at, pending_at, down_at, up_at}
 use Rattle.world3270.specs.Occasions.{IsCleared}
-use Rattle.world3270.specs.Stages.{Scene, scene_of, once_taken, FactsAreExact, Operates, NotedSince, Sees, IsPressed, WillSee, Fact, Kept}
+use Rattle.world3270.specs.Stages.{Scene, scene_of, once_taken, FactsAreExact, Operates, Sees, IsPressed, WillSee, Fact, Kept}
 use Rattle.world3270.specs.Terminal.{Display, is_bound, bound_to, data_of, erases_if, outcome_of, key_came}
 use Rattle.world3270.specs.View.{View, view_of}
 use Rattle.world3270.proofs.Down.{ok_map}

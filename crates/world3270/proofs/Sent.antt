@@ -1,5 +1,5 @@
 -- The data of a key, and what is known after Clear.
-use Rattle.std.proofs.Common.{◌≡◌, ℕ, zero, suc, Bool, true, false, Option, None, Some, Result, Ok, Err, List, [], ◌∷◌, map, replicate, refl, ap, sym, subst, ◌∙◌, IsOkAnd, IfOk, if◌then◌else◌}
+use Rattle.std.proofs.Common.{◌≡◌, Bool, true, false, None, Some, [], refl, if◌then◌else◌}
 use Rattle.std.proofs.lemmas.List.Elements.{All-nil}
 use Rattle.codes3270.specs.Aid.{is_short_aid}
 use Rattle.codes3270.specs.Size.{Shape, cells_in}

@@ -1,5 +1,5 @@
 -- What a host makes of the next message, at each moment.
-use Rattle.std.proofs.Common.{◌≡◌, ◌⊎◌, inl, inr, ◌==◌, ◌<◌, ℕ, Bool, true, false, Option, None, Some, Result, Ok, Err, List, [], ◌∷◌, ◌++◌, length, refl, ap, sym, subst, ◌∙◌, IsOkAnd, IfOk, if◌then◌else◌}
+use Rattle.std.proofs.Common.{◌≡◌, ◌==◌, ◌<◌, ℕ, true, false, Option, None, Some, Result, Ok, Err, List, [], ◌∷◌, ◌++◌, length, refl, ap, sym, subst, ◌∙◌, IsOkAnd, IfOk}
 use Rattle.std.proofs.lemmas.Bool.Decides.{Decides-eqb}
 use Rattle.codes3270.specs.Size.{Shape, cells_in}
 use Rattle.codes3270.specs.declared.attention.Aid.{Aid}
@@ -8,7 +8,7 @@ use Rattle.datastream.specs.Grammar.{CommandParts}
 use Rattle.datastream.specs.InboundFields.{buffer_data}
 use Rattle.datastream.specs.InboundText.{InboundParts}
 use Rattle.datastream.specs.Screen.{Screen}
-use Rattle.datastream.specs.declared.inbound_part.Form.TheVariants.{Modified, Buffer}
+use Rattle.datastream.specs.declared.inbound_part.Form.TheVariants.{Modified}
 use Rattle.lu_pool.specs.Asking.{answer_to}
 use Rattle.lu_pool.specs.HolderLaws.{IsSound}
 use Rattle.lu_pool.specs.declared.entry.Entry.{Entry}
@@ -23,7 +23,7 @@ use Rattle.tn3270e_msg.specs.Message.{Connect}
 use Rattle.tn3270e_msg.specs.Talk.{Comes, Talk, start_at, follow, IsLuIfSome, Saying, says}
 use Rattle.tn3270e_msg.specs.declared.device.Device.TheVariants.{Model2}
 use Rattle.tn3270e_msg.specs.declared.host_talk.HostState.{HostState}
-use Rattle.tn3270e_msg.specs.declared.host_talk.HostState.TheVariants.{Offered, Asked, Asking, Named, Agreed as HostAgreed, Closed as HostClosed}
+use Rattle.tn3270e_msg.specs.declared.host_talk.HostState.TheVariants.{Offered, Asked, Asking, Named, Closed as HostClosed}
 use Rattle.tn3270e_msg.specs.declared.reply.Reason.{Reason}
 use Rattle.tn3270e_msg.specs.declared.reply.Reply.{Reply}
 use Rattle.tn3270e_msg.specs.declared.reply.Reply.TheVariants as reply
@@ -32,15 +32,13 @@ use Rattle.tn3270e_msg.proofs.Agreement.{responses_alone, model_2}
 use Rattle.host_core.specs.Application.{Application}
 use Rattle.host_core.specs.Messages.{ToTerminal, ToHost, Verdict}
 use Rattle.host_core.specs.Session.{Conn, Turn, Pending, Occasion, is_agreed}
-use Rattle.host_core.specs.Takes.{Step, Answers, quiet, with_talk, replied, granted_by, talked_on, talked, hears, believed, once_read, buffer_came, key_came, key_data_came, data_came, answered, if_answers, verdict_came, response_came, once_agreed, took}
+use Rattle.host_core.specs.Takes.{Step, Answers, quiet, with_talk, replied, granted_by, talked_on, talked, hears, believed, once_read, key_came, key_data_came, data_came, answered, if_answers, response_came, once_agreed, took}
 use Rattle.world3270.specs.Given.{Given}
-use Rattle.world3270.specs.Headline.{SentFields}
 use Rattle.world3270.specs.Link.{Link, sent}
-use Rattle.world3270.specs.Moments.{Kind, awaiting, Talking, Serving, Moment, UnderWay, IsAt, rejected_once, agreed, host_talk_at, term_state_at, turn_at, pending_at, down_at, up_at}
+use Rattle.world3270.specs.Moments.{Kind, awaiting, Talking, Serving, Moment, UnderWay, IsAt, host_talk_at, term_state_at, turn_at, pending_at, down_at, up_at}
 use Rattle.world3270.specs.Occasions.{IsOccasion}
-use Rattle.world3270.specs.Stages.{Scene, scene_of, once_taken, FactsAreExact, Suits, IsNew, Operates, Sees, IsPressed, WillBeHeard, Decides, IsRead, MayBeNoted, Fact, Kept}
-use Rattle.world3270.specs.View.{View, view_of}
-use Rattle.world3270.proofs.Down.{ok_map}
+use Rattle.world3270.specs.Stages.{scene_of, once_taken, FactsAreExact, Suits, Sees, IsPressed, WillBeHeard, IsRead, Fact, Kept}
+use Rattle.world3270.specs.View.{view_of}
 use Rattle.world3270.proofs.Queues.{more, front, nothing}
 
 -- the connection once the host took the message before the rest

@@ -1,5 +1,5 @@
 -- Each event leads from a world that keeps what is known of each connection to one that does.
-use Rattle.std.proofs.Common.{◌≡◌, ◌<◌, ◌==◌, ◌&&◌, ◌++◌, ℕ, Bool, true, false, Option, None, Some, List, [], ◌∷◌, length, arith, replicate, refl, ap, sym, subst, ◌∙◌, if◌then◌else◌}
+use Rattle.std.proofs.Common.{◌≡◌, ◌<◌, ◌==◌, ◌&&◌, ◌++◌, ℕ, Bool, true, false, Option, None, Some, List, [], ◌∷◌, arith, replicate, refl, ap, sym, subst, ◌∙◌, if◌then◌else◌}
 use Rattle.std.specs.Prelude.{filter_map}
 use Rattle.std.specs.List.{list_any}
 use Rattle.std.proofs.lemmas.Bool.{and_parts}
@@ -16,7 +16,7 @@ use Rattle.telnet_wire.specs.declared.wire.Verb.TheVariants.{Do}
 use Rattle.shadow.proofs.HeardOthers.{no_field}
 use Rattle.tn3270e_msg.specs.Talk.{IsLuIfSome, Saying}
 use Rattle.tn3270e_msg.specs.declared.cause.Cause.{Cause}
-use Rattle.host_core.specs.Acts.{Act, Sent, act_on, done as done_act, may_act, acted}
+use Rattle.host_core.specs.Acts.{Act, act_on, done as done_act, may_act, acted}
 use Rattle.host_core.specs.Application.{Application, IsShape, IsApplication}
 use Rattle.host_core.specs.Messages.{ToTerminal, ToHost, Verdict}
 use Rattle.host_core.specs.Notes.{IsNoteText, may_note, noted_as, noted}

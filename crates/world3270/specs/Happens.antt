@@ -1,6 +1,5 @@
 -- What each event makes of the world (our profile).
-use Rattle.std.specs.Prelude.{◌≡◌, nat_lt, ℕ, Bool, true, false, List, [], ◌∷◌, ◌++◌, find, filter_map, Option, Some, None, if◌then◌else◌}
-use Rattle.std.specs.List.{range_with_len}
+use Rattle.std.specs.Prelude.{◌≡◌, ℕ, List, [], ◌∷◌, ◌++◌, filter_map, Option, Some, None, if◌then◌else◌}
 use Rattle.keyboard.specs.declared.key.Key.{Key}
 use Rattle.keyboard.specs.State.{fresh}
 use Rattle.lu_pool.specs.Asking.{answer_to}
@@ -13,7 +12,7 @@ use Rattle.host_core.specs.Notes.{noted}
 use Rattle.lu_pool.specs.Holders.{granted_if, given_back, all_free}
 use Rattle.host_core.specs.Takes.{Step, took as host_took}
 use Rattle.world3270.specs.Terminal.{Display, TermStep, new_display, after_key, key_came, took as term_took}
-use Rattle.world3270.specs.Link.{Link, is_free, begun, cut, host_left, host_stepped, host_sent, term_left, term_stepped}
+use Rattle.world3270.specs.Link.{Link, begun, cut, host_left, host_stepped, host_sent, term_left, term_stepped}
 use Rattle.world3270.specs.Placed.{has_place, free_number}
 use Rattle.world3270.specs.World.{Place, World, Event, with_at, with_link, with_place}
 

@@ -1,6 +1,6 @@
 -- The moments of a connection, for proofs: what is under way, and how far both ends are, one line a moment (RFC 1647, sections 7 and
 -- 8.1; turns are our profile). At most one command is under way; what vanished on a lost connection counts as under way for good.
-use Rattle.std.specs.Prelude.{◌≡◌, ℕ, Bool, true, false, List, [], ◌∷◌, ◌++◌, Option}
+use Rattle.std.specs.Prelude.{◌≡◌, ℕ, Bool, false, List, [], ◌∷◌, ◌++◌, Option}
 use Rattle.datastream.specs.Grammar.{CommandParts}
 use Rattle.datastream.specs.InboundText.{InboundParts}
 use Rattle.datastream.specs.Wanted.{WantedScreen}

@@ -1,5 +1,5 @@
 -- What is seen of a world, and the headline speaks of (our profile): over messages here, and over bytes alike.
-use Rattle.std.specs.Prelude.{◌≡◌, ℕ, Bool, true, List, Option, None, Some}
+use Rattle.std.specs.Prelude.{ℕ, Bool, List, Option}
 use Rattle.datastream.specs.Screen.{Screen}
 use Rattle.lu_pool.specs.declared.entry.Entry.{Entry}
 use Rattle.shadow.specs.Belief.{Shadow}

@@ -6,7 +6,6 @@ use Rattle.datastream.specs.Grammar.{IsCommand, IsSpelt as IsSpeltCommand}
 use Rattle.datastream.specs.InboundFields.{IsSendable}
 use Rattle.datastream.specs.InboundText.{IsInbound}
 use Rattle.datastream.specs.Wanted.{IsScreen}
-use Rattle.datastream.specs.Screen.{Screen}
 use Rattle.keyboard.specs.Sendable.{IsKey}
 use Rattle.lu_pool.specs.Pool.{IsPool}
 use Rattle.lu_pool.specs.declared.entry.Entry.{Entry}

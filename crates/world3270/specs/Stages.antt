@@ -1,6 +1,5 @@
 -- What is known of a connection at each of its moments, for proofs (our profile): the headline's invariant.
-use Rattle.std.specs.Prelude.{◌≡◌, ◌⊎◌, ◌<◌, ⊤, ℕ, Bool, List, [], length, slice_index_or, Option, Some, None, Result, IsTrue, IsOkAnd}
-use Rattle.codes3270.specs.Aid.{is_short_aid}
+use Rattle.std.specs.Prelude.{◌≡◌, ◌⊎◌, ◌<◌, ⊤, ℕ, Bool, List, [], length, slice_index_or, Option, Some, None, IsTrue, IsOkAnd}
 use Rattle.codes3270.specs.Size.{Shape, cells_in}
 use Rattle.codes3270.specs.declared.attention.Aid.TheVariants.{NoAid, Clear}
 use Rattle.codes3270.specs.declared.attribute.Cell.{Cell}
@@ -8,7 +7,7 @@ use Rattle.codes3270.specs.declared.attribute.Cell.TheVariants.{Char}
 use Rattle.datastream.specs.Fields.{fields}
 use Rattle.datastream.specs.Grammar.{CommandParts}
 use Rattle.datastream.specs.Held.{Held}
-use Rattle.datastream.specs.InboundFields.{modified_data, buffer_data}
+use Rattle.datastream.specs.InboundFields.{buffer_data}
 use Rattle.datastream.specs.InboundText.{InboundParts}
 use Rattle.datastream.specs.Note.{IsProtectedChar}
 use Rattle.datastream.specs.Screen.{Screen}

@@ -1,5 +1,5 @@
 -- The world: a host, its connections, and terminals; and what may happen to them (our profile).
-use Rattle.std.specs.Prelude.{◌==◌, ⊤, ℕ, Bool, List, [], ◌∷◌, Option, if◌then◌else◌}
+use Rattle.std.specs.Prelude.{◌==◌, ⊤, ℕ, List, [], ◌∷◌, Option, if◌then◌else◌}
 use Rattle.keyboard.specs.declared.key.Key.{Key}
 use Rattle.lu_pool.specs.declared.entry.Entry.{Entry}
 use Rattle.tn3270e_msg.specs.Talk.{IsLuIfSome}

@@ -37,8 +37,8 @@ use keyboard::{keys_keep_what_was_left, sent_keys_wait, what_keys_leave_can_be_s
 use lu_pool::the_pool_is_a_map;
 use shadow::{
     what_a_note_leaves, what_is_exact_is_so, what_is_known_is_exact, what_is_protected_is_exact,
-    what_is_read_is_heard, what_is_sent_is_heard, what_is_wanted_is_painted, what_is_written_is_taken,
-    what_leaves_nothing_open,
+    what_is_read_is_heard, what_is_sent_is_heard, what_is_wanted_is_painted,
+    what_is_written_is_taken, what_leaves_nothing_open,
 };
 use tn3270e_msg::one_reading;
 
