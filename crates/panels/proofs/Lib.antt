@@ -10,6 +10,7 @@ pub mod Sound
 pub mod Linking
 pub mod Leading
 pub mod Putting
+pub mod Apart
 pub mod Soundness
 pub mod Screens
 pub mod MessageRow

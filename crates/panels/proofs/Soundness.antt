@@ -13,7 +13,9 @@ use Rattle.panels.specs.Items.{characters_at}
 use Rattle.panels.specs.Tree.{text_under, fields_before}
 use Rattle.panels.specs.Panel.{PanelParts, Panels, HasCharacters, IsOfCharacters, AreSound}
 use Rattle.panels.specs.Survey.{AreEach}
+use Rattle.panels.specs.Passes.{IsFaultless}
 use Rattle.panels.specs.Defines.{IsContentOf, IsTextOf, IsFieldOf, IsCursorBy, IsPanelOf, Defines}
+use Rattle.panels.proofs.Apart.{items_apart}
 use Rattle.panels.proofs.Codes.{codes_are_characters}
 use Rattle.panels.proofs.Leading.{linked}
 
@@ -49,8 +51,8 @@ characters_in top p table panel is = record {
   fills = each_is _ (λ field. AreCharacters field.fill) panel.fields (λ i field (inner, there, its). fill_is (fields_before p top + i) inner field its) is.fields.are;
 }
 
-pub sound : (top : Members) (set : Panels) → Defines top set → AreSound set
-sound top set defines = record {
+pub sound : (top : Members) (set : Panels) → IsFaultless top → Defines top set → AreSound set
+sound top set clean defines = record {
   linked = linked top set defines;
   cursors = λ p panel at_p.
       let (inner, there, is) = defines.panels.are p panel at_p in
@@ -58,4 +60,7 @@ sound top set defines = record {
   characters = λ p panel at_p.
       let (inner, there, is) = defines.panels.are p panel at_p in
       characters_in top p inner panel is;
+  apart = λ p panel at_p.
+      let (inner, there, is) = defines.panels.are p panel at_p in
+      items_apart top p inner panel clean there is;
 }

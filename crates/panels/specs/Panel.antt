@@ -1,7 +1,8 @@
 -- What panels have (our profile).
-use Rattle.std.specs.Prelude.{◌≡◌, ℕ, ◌<◌, List, length, Option, Some, option_and_then, slice_get, All}
+use Rattle.std.specs.Prelude.{◌≡◌, ℕ, ◌<◌, ◌≤◌, ◌+◌, List, length, Option, Some, option_and_then, slice_get, All}
 use Rattle.codes3270.specs.Size.{cell_count}
 use Rattle.codes3270.specs.declared.attention.Aid.{Aid}
+use Rattle.panels.specs.declared.extent.Extent.{Extent}
 use Rattle.panels.specs.declared.panel.Content.{Content}
 use Rattle.panels.specs.declared.panel.Content.TheVariants.{Literal, Show}
 use Rattle.panels.specs.declared.panel.TextItem.{TextItem}
@@ -51,8 +52,26 @@ pub record IsOfCharacters (panel : PanelParts) : Type 0 where
 abbrev pub AreOfCharacters : Panels → Type 0
 AreOfCharacters set = (number : ℕ) (panel : PanelParts) → slice_get set.panels number ≡ Some panel → IsOfCharacters panel
 
+-- a cell is an item's attribute or one of its characters
+abbrev pub IsCellOf : Extent → ℕ → Type 0
+IsCellOf extent cell = (extent.first ≤ cell + 1) × (cell + 1 ≤ extent.first + extent.length)
+
+abbrev pub ShareNoCell : Extent → Extent → Type 0
+ShareNoCell one other = (cell : ℕ) → IsCellOf one cell → ¬ IsCellOf other cell
+
+-- no two items of a panel share a cell
+pub record HasItemsApart (panel : PanelParts) : Type 0 where
+  pub texts : (i : ℕ) (j : ℕ) (one : TextItem) (other : TextItem) → i < j → slice_get panel.texts i ≡ Some one → slice_get panel.texts j ≡ Some other → ShareNoCell one.extent other.extent
+  pub fields : (i : ℕ) (j : ℕ) (one : Field) (other : Field) → i < j → slice_get panel.fields i ≡ Some one → slice_get panel.fields j ≡ Some other → ShareNoCell one.extent other.extent
+  pub both : (i : ℕ) (j : ℕ) (text : TextItem) (field : Field) → slice_get panel.texts i ≡ Some text → slice_get panel.fields j ≡ Some field → ShareNoCell text.extent field.extent
+
+-- so each panel's items lie apart (and above the row for messages, as each extent does)
+abbrev pub AreApart : Panels → Type 0
+AreApart set = (number : ℕ) (panel : PanelParts) → slice_get set.panels number ≡ Some panel → HasItemsApart panel
+
 -- what holds of the panels of each text
 pub record AreSound (set : Panels) : Type 0 where
   pub linked : AreLinked set
   pub cursors : CursorsAreOnTheScreen set
   pub characters : AreOfCharacters set
+  pub apart : AreApart set
