@@ -14,3 +14,6 @@ pub mod Apart
 pub mod Soundness
 pub mod Screens
 pub mod MessageRow
+pub mod Answering
+pub mod KeptFields
+pub mod NothingElseKept

@@ -4,7 +4,7 @@ use Rattle.std.specs.Prelude.{slice_get}
 use Rattle.std.specs.List.{range_with_len}
 use Rattle.std.proofs.lemmas.List.{ext_get_or}
 use Rattle.std.proofs.lemmas.List.FromFn.{length-map-range_with_len, get_or-map-range_with_len}
-use Rattle.std.proofs.lemmas.Option.{slice_get-get_or, get_or_from_slice_get}
+use Rattle.std.proofs.lemmas.Option.{slice_get-get_or, get_or_from_slice_get, slice_get_within}
 use Rattle.codes3270.specs.Size.{cell_count}
 use Rattle.datastream.specs.Wanted.{WantedScreen}
 use Rattle.datastream.specs.declared.wanted.Want.{Want}
@@ -48,3 +48,8 @@ is_screen_of panel values message keep screen long is =
 pub cell_of_screen : (panel : PanelParts) (values : Values) (message : Message) (keep : Bool) (cell : ℕ) → cell < cell_count
     → slice_get (screen_of panel values message keep).cells cell ≡ Some (wanted_cell panel values message keep cell)
 cell_of_screen panel values message keep cell within = counted_at cell_count (wanted_cell panel values message keep) cell within
+
+pub cell_within : (panel : PanelParts) (values : Values) (message : Message) (keep : Bool) (cell : ℕ) (want : Want)
+    → slice_get (screen_of panel values message keep).cells cell ≡ Some want → cell < cell_count
+cell_within panel values message keep cell want is =
+    subst (λ n. cell < n) (length-map-range_with_len (wanted_cell panel values message keep) 0 cell_count) (slice_get_within (screen_of panel values message keep).cells cell want is)

@@ -17,6 +17,7 @@ pub mod Panel
 pub mod Next
 pub mod Screen
 pub mod MessageRow
+pub mod KeptFields
 pub mod Put
 pub mod Defines
 pub mod Link

@@ -1,4 +1,5 @@
 //! What holds of all panels' screens.
+ghost use Rattle.panels.specs.KeptFields.{FieldsAreKeptWhole, NothingElseIsKept};
 ghost use Rattle.panels.specs.MessageRow.{PanelsLeaveTheRow, TheRowIsTheMessage, TheRoomIsTheRow};
 
 /// Does nothing: its contract says that on each screen that a panel asks for the last row is a protected field with the message:
@@ -8,4 +9,12 @@ pub fn the_last_row_is_for_messages()
     ensures left { PanelsLeaveTheRow }
     ensures message { TheRowIsTheMessage }
     ensures room { TheRoomIsTheRow }
+{}
+
+/// Does nothing: its contract says that each screen that a panel asks for keeps whole fields, or none. With what was typed to be
+/// kept, Keep stands at each character of each field, between the field's attribute and another; elsewhere, and on other screens,
+/// it stands nowhere. For this no two items of the panel may share a cell, as `PanelSet::panels_are_sound` says of all panels.
+pub fn kept_fields_are_whole()
+    ensures whole { FieldsAreKeptWhole }
+    ensures nothing_else { NothingElseIsKept }
 {}

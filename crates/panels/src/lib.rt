@@ -32,7 +32,7 @@ mod values;
 pub use characters::Characters;
 pub use extent::Extent;
 pub use fault::{PanelFault, TreeFault};
-pub use laws::the_last_row_is_for_messages;
+pub use laws::{kept_fields_are_whole, the_last_row_is_for_messages};
 pub use message::Message;
 pub use next::Next;
 pub use panel::{Field, Panel};

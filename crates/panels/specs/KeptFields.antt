@@ -1,0 +1,42 @@
+-- What a screen that a panel asks for keeps: whole fields, or none (our profile).
+use Rattle.std.specs.Prelude.{◌≡◌, ℕ, ◌<◌, ◌≤◌, ◌+◌, ◌-◌, Bool, true, Some, slice_get}
+use Rattle.codes3270.specs.declared.attribute.Attr.{Attr}
+use Rattle.datastream.specs.Wanted.{WantedScreen}
+use Rattle.datastream.specs.declared.wanted.Want.TheVariants as want
+use Rattle.panels.specs.declared.extent.Extent.{Extent}
+use Rattle.panels.specs.declared.panel.Field.{Field}
+use Rattle.panels.specs.declared.message.Message.{Message}
+use Rattle.panels.specs.Panel.{PanelParts, HasItemsApart}
+use Rattle.panels.specs.Screen.{Values, screen_of}
+
+abbrev pub HasAttributeAt : WantedScreen → ℕ → Type 0
+HasAttributeAt screen cell = (attribute : Attr) × (slice_get screen.cells cell ≡ Some (want.Attr attribute))
+
+abbrev pub IsKeptAt : WantedScreen → ℕ → Type 0
+IsKeptAt screen cell = slice_get screen.cells cell ≡ Some want.Keep
+
+-- a cell is one of an item's characters
+abbrev pub IsCharacterOf : Extent → ℕ → Type 0
+IsCharacterOf extent cell = (extent.first ≤ cell) × (cell < extent.first + extent.length)
+
+-- all that stands between a field's attribute and the next is kept
+pub record IsKeptWhole (screen : WantedScreen) (extent : Extent) : Type 0 where
+  pub attribute : HasAttributeAt screen (extent.first - 1)
+  pub characters : (cell : ℕ) → IsCharacterOf extent cell → IsKeptAt screen cell
+  pub next : HasAttributeAt screen (extent.first + extent.length)
+
+-- a screen that is to keep what was typed keeps each field of the panel whole
+abbrev pub FieldsAreKeptWhole : Type 0
+FieldsAreKeptWhole =
+    (panel : PanelParts) (values : Values) (message : Message) (i : ℕ) (field : Field) → HasItemsApart panel → slice_get panel.fields i ≡ Some field
+    → IsKeptWhole (screen_of panel values message true) field.extent
+
+-- a cell is a character of one of the panel's fields
+abbrev pub IsOfField : PanelParts → ℕ → Type 0
+IsOfField panel cell = (i : ℕ) × (field : Field) × (slice_get panel.fields i ≡ Some field) × IsCharacterOf field.extent cell
+
+-- nothing else is kept, and on other screens nothing is
+abbrev pub NothingElseIsKept : Type 0
+NothingElseIsKept =
+    (panel : PanelParts) (values : Values) (message : Message) (keep : Bool) (cell : ℕ) → IsKeptAt (screen_of panel values message keep) cell
+    → (keep ≡ true) × IsOfField panel cell
