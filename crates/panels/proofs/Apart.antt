@@ -1,5 +1,5 @@
 -- No two items of a panel share a cell.
-use Rattle.std.proofs.Common.{◌≡◌, ◌<◌, ◌≤◌, ◌+◌, ℕ, ℤ, pos, ◌+ℤ◌, ◌≤ℤ◌, codes, List, Option, Some, true, refl, subst, arith}
+use Rattle.std.proofs.Common.{◌≡◌, ◌≤◌, ◌+◌, ℕ, pos, ◌+ℤ◌, ◌≤ℤ◌, codes, List, Some, true, refl, subst, arith}
 use Rattle.std.specs.Option.{option_and_then}
 use Rattle.std.proofs.lemmas.Int.{ints}
 use Rattle.toml.specs.Data.{Members}
@@ -7,7 +7,7 @@ use Rattle.panels.specs.declared.extent.Extent.{Extent}
 use Rattle.panels.specs.declared.fault.TreeFault.TheVariants as fault
 use Rattle.panels.specs.declared.part.Part.{Part}
 use Rattle.panels.specs.declared.part.Part.TheVariants.{Text, Field}
-use Rattle.panels.specs.Tree.{table_of, table_under, fields_before}
+use Rattle.panels.specs.Tree.{table_of, table_under}
 use Rattle.panels.specs.Items.{item_length, HasCell}
 use Rattle.panels.specs.Faults.{IsItemBefore, is_item}
 use Rattle.panels.specs.Passes.{IsFaultless}

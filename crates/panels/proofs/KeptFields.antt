@@ -1,6 +1,6 @@
 -- Each screen that a panel asks for, with what was typed to be kept, keeps whole fields.
-use Rattle.std.proofs.Common.{◌≡◌, ◌==◌, ◌<◌, ◌≤◌, ◌+◌, ◌-◌, ◌∙◌, ℕ, Bool, true, false, cond, List, Option, Some, None, refl, ap, sym, subst, inl, inr, arith}
-use Rattle.std.specs.Prelude.{◌⊎◌, slice_get, is_some, nat_lt, option_map, slice_index_or}
+use Rattle.std.proofs.Common.{◌≡◌, ◌==◌, ◌<◌, ◌≤◌, ◌+◌, ◌-◌, ◌∙◌, ℕ, Bool, true, false, cond, List, Some, None, refl, ap, sym, subst, inl, inr, arith}
+use Rattle.std.specs.Prelude.{◌⊎◌, slice_get, is_some, nat_lt, option_map}
 use Rattle.std.specs.Option.{option_or}
 use Rattle.std.specs.Int.{is_in_range}
 use Rattle.std.proofs.lemmas.Bool.Decides.{nat_tests}
@@ -12,13 +12,12 @@ use Rattle.datastream.specs.declared.wanted.Want.TheVariants as want
 use Rattle.panels.specs.declared.extent.Extent.{Extent}
 use Rattle.panels.specs.declared.message.Message.{Message}
 use Rattle.panels.specs.declared.panel.Field.{Field}
-use Rattle.panels.specs.declared.panel.TextItem.{TextItem}
 use Rattle.panels.specs.Size.{message_start}
 use Rattle.panels.specs.Panel.{PanelParts, IsCellOf, HasItemsApart}
-use Rattle.panels.specs.Screen.{Values, distance_in, item_cell, autoskip_attr, shown, text_cell, field_attr, field_content, kept_cell, field_cell, stopper_cell, message_text, message_cell, first_some, wanted_cell}
-use Rattle.panels.specs.KeptFields.{IsCharacterOf, IsOfField, FieldsAreKeptWhole, NothingElseIsKept}
-use Rattle.panels.proofs.Answering.{Answers, or_answers, left_answers, first_answers, left_is_some, right_is_some, first_is_some, mapped_is_some, given_is_some, mapped_answer, none_given, taken_answer, taken_or}
-use Rattle.panels.proofs.Screens.{cell_of_screen, cell_within}
+use Rattle.panels.specs.Screen.{Values, distance_in, item_cell, autoskip_attr, shown, text_cell, field_attr, kept_cell, field_cell, stopper_cell, message_text, message_cell, first_some, wanted_cell}
+use Rattle.panels.specs.KeptFields.{FieldsAreKeptWhole}
+use Rattle.panels.proofs.Answering.{Answers, or_answers, left_answers, first_answers, left_is_some, right_is_some, first_is_some, mapped_is_some, given_is_some, mapped_answer, none_given, taken_answer}
+use Rattle.panels.proofs.Screens.{cell_of_screen}
 
 -- ---- where an item has a cell
 

@@ -1,23 +1,19 @@
 -- A screen that a panel asks for keeps nothing but its fields.
-use Rattle.std.proofs.Common.{◌≡◌, ◌==◌, ◌<◌, ◌≤◌, ◌+◌, ◌-◌, ◌∙◌, ℕ, Bool, true, false, cond, List, Option, Some, None, refl, ap, sym, subst, inl, inr, arith}
-use Rattle.std.specs.Prelude.{◌⊎◌, slice_get, is_some, nat_lt, option_map, slice_index_or}
+use Rattle.std.proofs.Common.{◌≡◌, ◌==◌, ◌<◌, ◌≤◌, ◌+◌, ◌-◌, ◌∙◌, ℕ, Bool, true, false, cond, List, refl, sym, arith}
+use Rattle.std.specs.Prelude.{nat_lt, slice_index_or}
 use Rattle.std.specs.Option.{option_or}
-use Rattle.std.specs.Int.{is_in_range}
 use Rattle.std.proofs.lemmas.Bool.Decides.{nat_tests}
-use Rattle.std.proofs.lemmas.Option.{same_Some, cond_some}
-use Rattle.codes3270.specs.Size.{cell_count}
+use Rattle.std.proofs.lemmas.Option.{same_Some}
 use Rattle.codes3270.specs.declared.attribute.Attr.{Attr}
 use Rattle.datastream.specs.declared.wanted.Want.{Want}
 use Rattle.datastream.specs.declared.wanted.Want.TheVariants as want
-use Rattle.panels.specs.declared.extent.Extent.{Extent}
 use Rattle.panels.specs.declared.message.Message.{Message}
 use Rattle.panels.specs.declared.panel.Field.{Field}
-use Rattle.panels.specs.declared.panel.TextItem.{TextItem}
 use Rattle.panels.specs.Size.{message_start}
-use Rattle.panels.specs.Panel.{PanelParts, IsCellOf, HasItemsApart}
-use Rattle.panels.specs.Screen.{Values, distance_in, item_cell, autoskip_attr, shown, text_cell, field_attr, field_content, kept_cell, field_cell, stopper_cell, message_text, message_cell, first_some, wanted_cell}
-use Rattle.panels.specs.KeptFields.{IsCharacterOf, IsOfField, FieldsAreKeptWhole, NothingElseIsKept}
-use Rattle.panels.proofs.Answering.{Answers, or_answers, left_answers, first_answers, left_is_some, right_is_some, first_is_some, mapped_is_some, given_is_some, mapped_answer, none_given, taken_answer, taken_or}
+use Rattle.panels.specs.Panel.{PanelParts}
+use Rattle.panels.specs.Screen.{Values, item_cell, autoskip_attr, shown, text_cell, field_attr, field_content, kept_cell, field_cell, stopper_cell, message_text, message_cell, first_some, wanted_cell}
+use Rattle.panels.specs.KeptFields.{IsOfField, NothingElseIsKept}
+use Rattle.panels.proofs.Answering.{Answers, or_answers, first_answers, none_given, taken_or}
 use Rattle.panels.proofs.Screens.{cell_of_screen, cell_within}
 use Rattle.panels.proofs.KeptFields.{item_answer, stopper_answers}
 
