@@ -4,3 +4,4 @@ pub mod Answering
 pub mod Writable
 pub mod Notes
 pub mod MessageRows
+pub mod KeptWhole

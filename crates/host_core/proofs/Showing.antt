@@ -1,5 +1,5 @@
 -- Panels are an application: each screen has the size, with its cursor on it, and keeps nothing where it isn't told to.
-use Rattle.std.proofs.Common.{length, drop, ap, subst, ◌∙◌, ◌≡◌, ◌==◌, nat_lt, ◌<◌, ◌-◌, ◌+◌, ℕ, zero, suc, Bool, true, false, Option, None, Some, List, [], ◌∷◌, map, refl, arith, if◌then◌else◌}
+use Rattle.std.proofs.Common.{length, drop, ap, sym, subst, ◌∙◌, ◌≡◌, ◌==◌, nat_lt, ◌<◌, ◌≤◌, ◌-◌, ◌+◌, ℕ, zero, suc, Bool, true, false, Option, None, Some, List, [], ◌∷◌, map, refl, arith, if◌then◌else◌}
 use Rattle.std.specs.Prelude.{slice_get, slice_index_or, option_map, option_and_then, unwrap_or}
 use Rattle.std.specs.List.{list_all, list_any, position, range_with_len}
 use Rattle.std.specs.Option.{option_or, option_map_or}
@@ -10,14 +10,17 @@ use Rattle.codes3270.specs.declared.attribute.Attr.{Attr}
 use Rattle.datastream.specs.declared.wanted.Want.{Want}
 use Rattle.datastream.specs.declared.wanted.Want.TheVariants as want
 use Rattle.shadow.specs.Fits.{is_keep}
+use Rattle.shadow.specs.Openness.{keeps_whole_fields}
 use Rattle.panels.specs.declared.message.Message.{Message}
 use Rattle.panels.specs.declared.message.Message.TheVariants.{Fresh, Plain, KeyNotActive, Required}
 use Rattle.panels.specs.declared.panel.Field.{Field}
 use Rattle.panels.specs.MessageRow.{PanelsLeaveTheRow}
-use Rattle.panels.specs.Panel.{PanelParts, Panels, CursorsAreOnTheScreen}
+use Rattle.panels.specs.KeptFields.{FieldsAreKeptWhole, NothingElseIsKept, IsOfField}
+use Rattle.panels.specs.Panel.{PanelParts, Panels, CursorsAreOnTheScreen, HasItemsApart, AreApart}
 use Rattle.panels.specs.Screen.{Values, distance_in, item_cell, autoskip_attr, shown, text_cell, field_attr, field_content, field_cell, stopper_cell, message_text, message_cell, first_some, wanted_cell, wanted_cursor, screen_of}
 use Rattle.panels.specs.Size.{message_start}
 use Rattle.host_core.specs.Application.{IsMessageRow, IsShowable, is_wanted_char, no_panel, panel_at}
+use Rattle.host_core.proofs.KeptWhole.{IsInRun, KeptInRuns, kept_whole}
 use Rattle.host_core.specs.Laws.{PanelsAreShown, ScreensAreWanted}
 
 -- ---- cells
@@ -126,13 +129,43 @@ message_row leave panel values message keep =
     let long : length (screen_of panel values message keep).cells ≡ cell_count = length-map-range_with_len (wanted_cell panel values message keep) 0 cell_count in
     row_there (autoskip_attr true) message_start (screen_of panel values message keep).cells refl row.attribute (λ cell after within. row.characters cell after (subst (λ (n : ℕ). cell < n) long within))
 
+-- ---- what is kept
+
+-- what is kept is a field's, and so is all between its attribute and the next
+kept_in_runs : FieldsAreKeptWhole → NothingElseIsKept → (panel : PanelParts) (values : Values) (message : Message) (keep : Bool) → HasItemsApart panel → KeptInRuns (screen_of panel values message keep).cells
+kept_in_runs whole nothing panel values message keep apart cell kept = by_field keep (nothing panel values message keep cell kept)
+  where
+    run : (i : ℕ) (field : Field) → slice_get panel.fields i ≡ Some field → field.extent.first ≤ cell → cell < field.extent.first + field.extent.length → IsInRun (screen_of panel values message true).cells cell
+    run i field at from to =
+        let w = whole panel values message i field apart at in
+        let some = field.extent.after_attribute in
+        record {
+          before = field.extent.first - 1;
+          behind = field.extent.first + field.extent.length;
+          is_behind = omega (arith, some, from);
+          is_before = to;
+          first = w.attribute.0;
+          first_there = w.attribute.1;
+          next = w.next.0;
+          next_there = w.next.1;
+          kept = λ other after before. w.characters other (omega (arith, some, after), before);
+        }
+
+    by_field : (k : Bool) → (k ≡ true) × IsOfField panel cell → IsInRun (screen_of panel values message k).cells cell
+    by_field k (same, (i, field, at, (from, to))) = subst (λ b. IsInRun (screen_of panel values message b).cells cell) (sym same) (run i field at from to)
+
+keeps_whole_of : FieldsAreKeptWhole → NothingElseIsKept → (panel : PanelParts) (values : Values) (message : Message) (keep : Bool) → HasItemsApart panel → keeps_whole_fields (screen_of panel values message keep) ≡ true
+keeps_whole_of whole nothing panel values message keep apart =
+    kept_whole (screen_of panel values message keep).cells 0 (screen_of panel values message keep).cells (kept_in_runs whole nothing panel values message keep apart) refl
+
 -- ---- screens
 
-shows : PanelsLeaveTheRow → (panel : PanelParts) (values : Values) (message : Message) (keep : Bool) → panel.cursor < cell_count → IsShowable model_2 (screen_of panel values message keep)
-shows leave panel values message keep on = record {
+shows : PanelsLeaveTheRow → (panel : PanelParts) (values : Values) (message : Message) (keep : Bool) → panel.cursor < cell_count → keeps_whole_fields (screen_of panel values message keep) ≡ true → IsShowable model_2 (screen_of panel values message keep)
+shows leave panel values message keep on kept = record {
   cells = length-map-range_with_len (wanted_cell panel values message keep) 0 cell_count;
   cursor = cursor_on panel message on;
   messages = message_row leave panel values message keep;
+  kept = kept;
 }
 
 -- what holds of each panel, and where there is none
@@ -146,10 +179,17 @@ HasCursorOn panel = panel.cursor < cell_count
 pub cursors_on : (set : Panels) (number : ℕ) → CursorsAreOnTheScreen set → HasCursorOn (panel_at set number)
 cursors_on set number on = at_panel HasCursorOn (slice_get set.panels number) (omega arith) (on number)
 
-pub panels_shown : PanelsLeaveTheRow → PanelsAreShown
-panels_shown leave set on = record {
+no_items : HasItemsApart no_panel
+no_items = record { texts = λ i j one other less is there. absurd (cc); fields = λ i j one other less is there. absurd (cc); both = λ i j text field is there. absurd (cc) }
+
+all_apart : (set : Panels) (number : ℕ) → AreApart set → HasItemsApart (panel_at set number)
+all_apart set number apart = at_panel HasItemsApart (slice_get set.panels number) no_items (apart number)
+
+pub panels_shown : PanelsLeaveTheRow → FieldsAreKeptWhole → NothingElseIsKept → PanelsAreShown
+panels_shown leave whole_fields nothing set on apart = record {
   shape = record { columns = omega arith; row = omega arith; addresses = omega arith };
-  showable = λ number values message keep. shows leave (panel_at set number) values message keep (cursors_on set number on);
+  showable = λ number values message keep. shows leave (panel_at set number) values message keep (cursors_on set number on)
+      (keeps_whole_of whole_fields nothing (panel_at set number) values message keep (all_apart set number apart));
   whole = λ number values message. none_kept (wanted_cell (panel_at set number) values message false) (cell_kept (panel_at set number) values message) (range_with_len 0 cell_count);
 }
 

@@ -8,6 +8,7 @@ use Rattle.datastream.specs.Wanted.{WantedScreen, IsScreen}
 use Rattle.datastream.specs.declared.wanted.Want.{Want}
 use Rattle.datastream.specs.declared.wanted.Want.TheVariants.{Char, Attr, Keep}
 use Rattle.shadow.specs.Fits.{is_keep}
+use Rattle.shadow.specs.Openness.{keeps_whole_fields}
 use Rattle.panels.specs.declared.panel.Field.{Field}
 use Rattle.panels.specs.declared.message.Message.{Message}
 use Rattle.panels.specs.declared.next.Next.{Next}
@@ -51,11 +52,12 @@ pub record IsShape (shape : Shape) : Type 0 where
   pub row : shape.columns ≤ cells_in shape
   pub addresses : cells_in shape ≤ cell_count
 
--- a screen of that shape, with its cursor on it, and its last row for messages
+-- a screen of that shape, with its cursor on it, and its last row for messages; a field is kept whole, or not at all
 pub record IsShowable (shape : Shape) (wanted : WantedScreen) : Type 0 where
   pub cells : length wanted.cells ≡ cells_in shape
   pub cursor : wanted.cursor < cells_in shape
   pub messages : IsMessageRow (drop (message_place shape) wanted.cells)
+  pub kept : keeps_whole_fields wanted ≡ true
 
 -- no cell of it is kept
 abbrev pub KeepsNothing : WantedScreen → Type 0

@@ -4,7 +4,7 @@ use Rattle.codes3270.specs.Size.{Shape}
 use Rattle.datastream.specs.Wanted.{WantedScreen}
 use Rattle.shadow.specs.Belief.{Shadow}
 use Rattle.shadow.specs.Fits.{fits}
-use Rattle.panels.specs.Panel.{PanelParts, Panels, CursorsAreOnTheScreen, AreOfCharacters}
+use Rattle.panels.specs.Panel.{PanelParts, Panels, CursorsAreOnTheScreen, AreApart, AreOfCharacters}
 use Rattle.panels.specs.declared.message.Message.{Message}
 use Rattle.panels.specs.Screen.{Values, IsWantedOf, screen_of}
 use Rattle.host_core.specs.Application.{Application, application_of, AsksForScreens, IsApplication, IsShowable}
@@ -29,9 +29,9 @@ ActsFit = (app : Application) (conn : Conn) (act : Act) → IsApplication app �
 
 -- ---- panels
 
--- What panels ask for is an application.
+-- What panels ask for is an application, where no two items of a panel share a cell.
 abbrev pub PanelsAreShown : Type 0
-PanelsAreShown = (set : Panels) → CursorsAreOnTheScreen set → IsApplication (application_of set)
+PanelsAreShown = (set : Panels) → CursorsAreOnTheScreen set → AreApart set → IsApplication (application_of set)
 
 -- Where what they show by themselves is characters, they ask for screens of the profile, if the values are characters too.
 abbrev pub PanelsAskForScreens : Type 0

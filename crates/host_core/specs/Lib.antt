@@ -5,7 +5,5 @@ pub mod Takes
 pub mod Acts
 pub mod Notes
 pub mod NoteLaws
-pub mod Pool
-pub mod PoolLaws
 pub mod Laws
 pub mod Answering

@@ -6,7 +6,7 @@ ghost use Rattle.host_core.specs.Laws.{ActsFit, PanelsAreShown, PanelsAskForScre
 ghost use Rattle.host_core.specs.NoteLaws.{HeldTakesNotes, NotesAreNotes, NotesAreOverCharacters, NotesOverwrite, NotesWriteProtected, PaintsTakeNotes, SameAttributesTakeNotes};
 
 use datastream::{kept_since_the_write, written_is_read};
-use panels::the_last_row_is_for_messages;
+use panels::{kept_fields_are_whole, the_last_row_is_for_messages};
 use shadow::what_a_note_leaves;
 
 /// Does nothing: its contract says that whatever a host does, it paints what fits its belief.
@@ -14,8 +14,9 @@ pub fn what_is_shown_fits()
     ensures { ActsFit }
 {}
 
-/// Does nothing: its contract says that panels whose cursors are on the screen are an application: each screen that they ask
-/// for has the model 2's shape, with its last row for messages, and is the one of its panel cell by cell. Where panels and values
+/// Does nothing: its contract says that panels whose cursors are on the screen, and no two of whose items share a cell, are an
+/// application: each screen that they ask for has the model 2's shape, with its last row for messages, keeps whole fields or
+/// none, and is the one of its panel cell by cell. Where panels and values
 /// have characters alone that a cell can hold, so have the screens.
 pub fn panels_are_shown()
     ensures application { PanelsAreShown }
@@ -23,6 +24,7 @@ pub fn panels_are_shown()
     ensures screens { PanelsAskForScreens }
 {
     the_last_row_is_for_messages();
+    kept_fields_are_whole();
 }
 
 /// Does nothing: its contract says that what a host shows changes its belief no sooner than it is answered; that a command

@@ -8,7 +8,9 @@ use Rattle.datastream.specs.Wanted.{WantedScreen}
 use Rattle.panels.specs.declared.message.Message.{Message}
 use Rattle.panels.specs.declared.message.Message.TheVariants.{Fresh}
 use Rattle.panels.specs.Screen.{Values}
+use Rattle.shadow.specs.Belief.{Shadow}
 use Rattle.shadow.specs.Meets.{Meets}
+use Rattle.shadow.specs.Openness.{NothingIsOpen}
 use Rattle.shadow.specs.Paint.{paint}
 use Rattle.tn3270e_msg.specs.Talk.{Talk, start_at}
 use Rattle.tn3270e_msg.specs.declared.host_talk.HostState.{HostState}
@@ -22,9 +24,10 @@ use Rattle.host_core.specs.Session.{Conn, Turn, Pending, Occasion, is_agreed}
 use Rattle.world3270.specs.Given.{Given}
 use Rattle.world3270.specs.Link.{Link, sent, host_sent}
 use Rattle.world3270.specs.Moments.{Kind, UnderWay, Talking, Serving, Moment, IsAt, host_talk_at, term_state_at, turn_at, pending_at, down_at, up_at}
-use Rattle.world3270.specs.Occasions.{IsOccasion}
+use Rattle.world3270.specs.Occasions.{IsOccasion, IsOpenBy, IsOpenFor}
 use Rattle.world3270.specs.Stages.{scene_of, FactsAreExact, IsNew, Decides, Fact, Kept}
 use Rattle.world3270.specs.View.{View, view_of}
+use Rattle.world3270.proofs.Down.{none_open}
 use Rattle.world3270.proofs.Queues.{more, still}
 
 -- the connection once the host sent this
@@ -88,6 +91,22 @@ reads_uncleared app conn Occasion.Agreement aid is e clear = absurd (cc)
 reads_uncleared app conn (Occasion.Key pressed buffered) aid is e clear = key_uncleared app conn pressed buffered e (is.0 ∙ clear)
 reads_uncleared app conn Occasion.Refusal aid is e clear = absurd is
 
+-- nothing is open where a panel is shown
+key_closed : (app : Application) (conn : Conn) (pressed : Aid) (buffered : Bool) (shadow : Shadow) (panel : ℕ) (message : Message) (keep : Bool) (values : Values)
+    → after_key app conn pressed buffered ≡ Act.Show panel message keep values → IsOpenBy pressed buffered shadow → NothingIsOpen shadow
+key_closed app conn ClearAid buffered shadow panel message keep values e o = o
+key_closed app conn NoAid buffered shadow panel message keep values e o = o
+key_closed app conn EnterAid buffered shadow panel message keep values e o = o
+key_closed app conn (PfAid key) buffered shadow panel message keep values e o = o
+key_closed app conn (PaAid key) true shadow panel message keep values e o = o
+key_closed app conn (PaAid key) false shadow panel message keep values e o = absurd (cc)
+
+shown_closed : (app : Application) (conn : Conn) (occasion : Occasion) (shadow : Shadow) (panel : ℕ) (message : Message) (keep : Bool) (values : Values)
+    → act_on app conn occasion ≡ Act.Show panel message keep values → IsOpenFor occasion shadow → NothingIsOpen shadow
+shown_closed app conn Occasion.Agreement shadow panel message keep values e o = o
+shown_closed app conn (Occasion.Key pressed buffered) shadow panel message keep values e o = key_closed app conn pressed buffered shadow panel message keep values e o
+shown_closed app conn Occasion.Refusal shadow panel message keep values e o = absurd o
+
 abbrev command_of : Application → Conn → ℕ → Message → Bool → Values → CommandParts
 command_of app conn panel message keep values = paint (cells_in conn.shape) conn.shadow (wanted_by app conn panel message keep values)
 
@@ -107,12 +126,13 @@ module _ (given : Given) (app : Application) (is : IsApplication app) (link : Li
         over_is = refl;
         command_is = refl;
         meets = subst (λ s. Meets s link.term.display.screen) (sym n.shadow) tt;
+        closed = none_open link.host.shadow n.shadow;
         paintable = paintable given app is link k.shape.begins panel message keep values;
       })
 
-  paints : (lu : List ℕ) (panel : ℕ) (message : Message) (keep : Bool) (values : Values) → IsAt (view_of link) k.wanted (Moment.Serves lu Serving.Deciding) → Decides (scene_of (view_of link)) link.host.shadow
+  paints : (lu : List ℕ) (panel : ℕ) (message : Message) (keep : Bool) (values : Values) → NothingIsOpen link.host.shadow → IsAt (view_of link) k.wanted (Moment.Serves lu Serving.Deciding) → Decides (scene_of (view_of link)) link.host.shadow
       → Kept app (view_of (sent_view (shown app link.host panel message keep values) link))
-  paints lu panel message keep values at f =
+  paints lu panel message keep values closed at f =
       let sending : Sending = shown app link.host panel message keep values in
       let wants : WantedScreen = wanted_by app link.host panel message keep values in
       let same : Sends link sending = record { talk = refl; shape = refl; shadow = refl } in
@@ -124,6 +144,7 @@ module _ (given : Given) (app : Application) (is : IsApplication app) (link : Li
         over_is = refl;
         command_is = refl;
         meets = f.sees.meets;
+        closed = closed;
         paintable = paintable given app is link k.shape.begins panel message keep values;
       })
 
@@ -138,7 +159,8 @@ module _ (given : Given) (app : Application) (is : IsApplication app) (link : Li
 
   acts_at : (lu : List ℕ) (act : Act) → act_on app link.host link.host.occasion ≡ act → IsAt (view_of link) k.wanted (Moment.Serves lu Serving.Deciding) → Decides (scene_of (view_of link)) link.host.shadow → Kept app (view_of (sent_view (done app link.host act) link))
   acts_at lu Act.Read e at f = asks lu (reads_uncleared app link.host link.host.occasion link.term.display.screen.aid f.occasion e) at f
-  acts_at lu (Act.Show panel message keep values) e at f = paints lu panel message keep values at f
+  acts_at lu (Act.Show panel message keep values) e at f =
+      paints lu panel message keep values (shown_closed app link.host link.host.occasion link.host.shadow panel message keep values e f.closed) at f
 
   -- at agreement the first panel is shown
   acts_new : (lu : List ℕ) → IsAt (view_of link) k.wanted (Moment.Talks (Talking.Agreeing lu)) → IsNew (scene_of (view_of link))

@@ -3,8 +3,10 @@ use Rattle.std.proofs.Common.{◌≡◌, inr, ◌<◌, ℕ, Bool, true, false, O
 use Rattle.std.specs.Prelude.{is_some, filter_map}
 use Rattle.std.specs.List.{list_any}
 use Rattle.std.specs.Str.{bytes_eq}
-use Rattle.std.proofs.lemmas.List.Elements.{All-cons}
+use Rattle.std.proofs.lemmas.List.Elements.{All-nil, All-cons}
 use Rattle.codes3270.specs.Size.{Shape, cells_in}
+use Rattle.codes3270.specs.declared.attention.Aid.{Aid}
+use Rattle.codes3270.specs.declared.attention.Aid.TheVariants.{NoAid, Enter, Clear, Pf, Pa}
 use Rattle.codes3270.specs.declared.attribute.Cell.{Cell}
 use Rattle.datastream.specs.Grammar.{CommandParts}
 use Rattle.datastream.specs.InboundFields.{buffer_data}
@@ -20,6 +22,7 @@ use Rattle.shadow.specs.Exactness.{KnownIsExact, ProtectedIsExact}
 use Rattle.shadow.specs.Heard.{heard}
 use Rattle.shadow.specs.Meets.{Meets, Knows}
 use Rattle.shadow.specs.Notes.{OverwritesProtected}
+use Rattle.shadow.specs.Openness.{IsNotOpen, NothingIsOpen}
 use Rattle.shadow.specs.Paint.{paint}
 use Rattle.shadow.specs.Painted.{painted_from, plainly_painted}
 use Rattle.shadow.specs.Taken.{taken}
@@ -38,13 +41,14 @@ use Rattle.tn3270e_msg.proofs.Agreement.{responses_alone, model_2, same_bytes}
 use Rattle.host_core.specs.Application.{Application, IsShape, IsApplication}
 use Rattle.host_core.specs.Messages.{ToTerminal, ToHost}
 use Rattle.host_core.specs.NoteLaws.{TakesNotes, IsNoteOf}
+use Rattle.host_core.specs.Session.{Occasion}
 use Rattle.world3270.specs.Always.{is_negative}
 use Rattle.world3270.specs.Given.{Given}
 use Rattle.world3270.specs.Happens.{verdict_in}
 use Rattle.world3270.specs.Headline.{SentFields, UnmodifiedIsKept}
 use Rattle.world3270.specs.Link.{Link, sent}
 use Rattle.world3270.specs.Moments.{Kind, Talking, Serving, Moment, UnderWay, IsAt, host_talk_at, term_state_at, turn_at, pending_at, down_at, up_at}
-use Rattle.world3270.specs.Occasions.{IsOccasion, IsCleared}
+use Rattle.world3270.specs.Occasions.{IsOccasion, IsOpenBy, IsOpenFor, IsCleared}
 use Rattle.world3270.specs.Stages.{scene_of, once_taken, FactsAreExact, Suits, IsPainted, Operates, Sees, IsRead, Fact, Kept}
 use Rattle.world3270.specs.Terminal.{TermStep, with_talk, is_bound, bound_to, once_bound, paint_came, note_came, read_came, talked, took}
 use Rattle.world3270.specs.View.{view_of}
@@ -205,6 +209,7 @@ takes_paint given app is link rest k lu number command wants over at f left =
           lock = λ wrong. absurd (cc);
           exact = exact;
           meets = subst (λ s. Meets s new) is_taken (given.belief.taken over wants screen same fits f.meets);
+          closed = subst NothingIsOpen is_taken (given.belief.paint_opens over wants screen same fits f.paintable.showable.kept f.meets (subst KnownIsExact (sym f.over_is) k.exact.known) f.closed);
           knows = subst Knows knows (given.belief.known size over wants);
           held = given.keys.at_first new.cells;
           messages = given.notes.painted_takes link.host.shape over wants screen f.paintable k.whole;
@@ -272,6 +277,27 @@ kept_by given shape command screen erased left is note whole takes kept = by_for
         kept_noted given.notes.form erased command left screen noted.size noted.characters (given.notes.writes_protected shape command screen.cells is note whole row) kept
     by_form (TakesNotes.unformatted bare) = kept_bare erased left (after_command command screen).cells (still_bare screen.cells (after_command command screen).cells (given.notes.form command screen noted.characters).attributes bare)
 
+-- where nothing is known nothing is open
+pub none_open : (shadow : Shadow) → shadow ≡ Shadow.NothingKnown → NothingIsOpen shadow
+none_open shadow e = subst NothingIsOpen (sym e) (All-nil IsNotOpen)
+
+-- where nothing was open nothing is
+open_by : (aid : Aid) (buffered : Bool) (old new : Shadow) → (NothingIsOpen old → NothingIsOpen new) → IsOpenBy aid buffered old → IsOpenBy aid buffered new
+open_by (Pa key) false old new f o = tt
+open_by (Pa key) true old new f o = f o
+open_by NoAid buffered old new f o = f o
+open_by Enter buffered old new f o = f o
+open_by Clear buffered old new f o = f o
+open_by (Pf key) buffered old new f o = f o
+
+open_noted : (aid after : Aid) (buffered : Bool) (old new : Shadow) → after ≡ aid → (NothingIsOpen old → NothingIsOpen new) → IsOpenBy aid buffered old → IsOpenBy after buffered new
+open_noted aid after buffered old new same f o = subst (λ a. IsOpenBy a buffered new) (sym same) (open_by aid buffered old new f o)
+
+open_for : (occasion : Occasion) (old new : Shadow) → (NothingIsOpen old → NothingIsOpen new) → IsOpenFor occasion old → IsOpenFor occasion new
+open_for Occasion.Agreement old new f o = f o
+open_for (Occasion.Key aid buffered) old new f o = open_by aid buffered old new f o
+open_for Occasion.Refusal old new f o = absurd o
+
 -- the host will see the screen with the note on it
 sees_noted : Given → (shape : Shape) (command : CommandParts) (screen : Screen) (shadow : Shadow) → IsNoteOf shape command → length screen.cells ≡ cells_in shape → Noted command screen → Sees shape screen shadow
     → Sees shape (after_command command screen) (taken (cells_in shape) command shadow)
@@ -280,6 +306,7 @@ sees_noted given shape command screen shadow note whole noted s =
     (record {
       exact = let both = given.notes.exact command shadow screen noted.over s.meets s.exact.known s.exact.protected in record { known = both.0; protected = both.1 };
       cleared = λ e. subst (λ n. IsCleared shape (taken n command shadow)) (sym whole) (by_notes (s.cleared (sym noted.aid ∙ e)));
+      closed = open_noted screen.aid (after_command command screen).aid false shadow (taken (length screen.cells) command shadow) noted.aid (given.notes.opens command shadow screen noted.over s.meets) s.closed;
       meets = given.belief.written command shadow screen noted.over.spelt noted.over.plain s.meets;
       lists = given.notes.listed command shadow screen noted.over s.meets s.lists;
       told = λ sent. given.notes.stays_told command shadow screen noted.over s.meets (s.told (subst SentFields noted.aid sent));
@@ -346,6 +373,7 @@ module _ (given : Given) (app : Application) (is : IsApplication app) (link : Li
           protected = subst (λ n. ProtectedIsExact (taken n command link.host.shadow)) whole both.1;
         };
         meets = subst (λ n. Meets (taken n command link.host.shadow) (after_command command shown)) whole (given.belief.written command link.host.shadow shown noted.over.spelt noted.over.plain f.meets);
+        closed = subst (λ n. NothingIsOpen (taken n command link.host.shadow)) whole (given.notes.opens command link.host.shadow shown noted.over f.meets f.closed);
         knows = given.notes.placed (cells_in link.host.shape) command link.host.shadow noted.over.writes noted.over.placed f.knows;
         held = given.notes.held link.term.display.erased command shown screen writes f.held;
         messages = given.notes.same_takes shape shown.cells (after_command command shown).cells (given.notes.form command shown noted.characters).attributes f.messages;
@@ -389,8 +417,10 @@ obeys given app is link message rest e k = by_moment k.moment k.at k.fact
         (record {
           lock = f.0.lock;
           occasion = subst (λ o. IsOccasion o screen.aid) (sym f.0.occasion) f.0.aid;
+          closed = subst (λ o. IsOpenFor o link.host.shadow) (sym f.0.occasion) (none_open link.host.shadow f.0.shadow);
           sees = record {
             exact = k.exact;
+            closed = subst (λ a. IsOpenBy a false link.host.shadow) (sym f.0.aid) (none_open link.host.shadow f.0.shadow);
             cleared = λ clear. absurd (let x = sym f.0.aid ∙ clear in cc);
             meets = subst (λ s. Meets s screen) (sym f.0.shadow) tt;
             lists = λ some. absurd (some f.0.no_fields);
@@ -439,6 +469,8 @@ obeys given app is link message rest e k = by_moment k.moment k.at k.fact
         (record {
           lock = f.0.lock;
           occasion = subst (IsOccasion link.host.occasion) (sym noted.aid) f.0.occasion;
+          closed = open_for link.host.occasion link.host.shadow (once_taken link.host.shape command link.host.shadow)
+              (λ o. subst (λ n. NothingIsOpen (taken n command link.host.shadow)) k.whole (given.notes.opens command link.host.shadow screen noted.over f.0.sees.meets o)) f.0.closed;
           sees = sees_noted given link.host.shape command screen link.host.shadow f.1.note k.whole noted f.0.sees;
         }))
     by_serving lu Serving.Deciding at f = no_more at.goes_down

@@ -1,5 +1,5 @@
 -- The example is an application and a pool, and what happens in its runs may happen.
-use Rattle.std.proofs.Common.{◌≡◌, ℕ, suc, zero, Bool, true, false, List, [], ◌∷◌, length, Option, Some, None, refl, ap, sym, ◌∙◌, if◌then◌else◌, ◌&&◌, ◌<◌, lit≤, lit<}
+use Rattle.std.proofs.Common.{◌≡◌, ℕ, suc, zero, Bool, true, false, List, [], ◌∷◌, length, Option, Some, None, refl, ap, sym, ◌∙◌, if◌then◌else◌, ◌&&◌, ◌<◌, ◌+◌, lit≤, lit<}
 use Rattle.std.specs.Prelude.{slice_get, bytes_eq, IsTrue, nat_lt}
 use Rattle.std.specs.List.{list_all}
 use Rattle.std.specs.Option.{option_map_or}
@@ -13,15 +13,16 @@ use Rattle.panels.specs.Screen.{Values}
 use Rattle.panels.specs.declared.message.Message.{Message}
 use Rattle.tn3270e_msg.specs.Lu.{is_lu}
 use Rattle.host_core.specs.Application.{IsApplication, IsShape, IsShowable, KeepsNothing}
-use Rattle.host_core.specs.Notes.{IsNoteText, is_graphic}
+use Rattle.host_core.specs.Notes.{IsNoteText, is_graphic, longest_note}
 use Rattle.world3270.specs.ExampleApplication.{example, screen_of, l2, example_pool}
 use Rattle.world3270.specs.World.{Event, IsEvent, AreEvents}
 
 -- ---- the application
 
 showable : (panel : ℕ) (values : Values) (message : Message) (keep : Bool) → IsShowable example.begins (screen_of panel values message keep)
-showable zero values message keep = record { cells = refl; cursor = lit< tt; messages = (refl, refl) }
-showable (suc panel) values message keep = record { cells = refl; cursor = lit< tt; messages = (refl, refl) }
+showable zero values message true = record { cells = refl; cursor = lit< tt; messages = (refl, refl); kept = refl }
+showable zero values message false = record { cells = refl; cursor = lit< tt; messages = (refl, refl); kept = refl }
+showable (suc panel) values message keep = record { cells = refl; cursor = lit< tt; messages = (refl, refl); kept = refl }
 
 whole : (panel : ℕ) (values : Values) (message : Message) → KeepsNothing (screen_of panel values message false)
 whole zero values message = refl
@@ -65,10 +66,11 @@ is_pool = record {
 
 -- ---- what happens
 
+-- a text that a note may have
 unfoldable pub is_well_noted : List ℕ → Bool
-is_well_noted text = nat_lt (length text) 132 && list_all is_graphic text
+is_well_noted text = nat_lt (length text) (longest_note + 1) && list_all is_graphic text
 
--- a name that is wanted is an LU's, and a note has a text
+-- an event that may happen
 unfoldable pub is_well_formed : Event → Bool
 is_well_formed (Event.Connect terminal wanted) = option_map_or is_lu wanted true
 is_well_formed (Event.Note number text) = is_well_noted text
@@ -77,8 +79,8 @@ is_well_formed _ = true
 is_note : (text : List ℕ) → is_well_noted text ≡ true → IsNoteText text
 unfolding is_well_noted
 is_note text well =
-    let both = and_parts (nat_lt (length text) 132) (list_all is_graphic text) well in
-    let short : length text < 132 = ltb-true (length text) 132 both.0 in
+    let both = and_parts (nat_lt (length text) (longest_note + 1)) (list_all is_graphic text) well in
+    let short : length text < longest_note + 1 = ltb-true (length text) (longest_note + 1) both.0 in
     record { short = omega arith; graphic = AllPass-from_list_all is_graphic text both.1 }
 
 is_event : (event : Event) → is_well_formed event ≡ true → IsEvent event

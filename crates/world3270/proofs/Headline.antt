@@ -1,8 +1,11 @@
 -- The headline follows from what is kept of each connection.
 use Rattle.std.proofs.Common.{◌≡◌, ℕ, Bool, true, false, ◌||◌, Option, Some, None, List, [], ◌∷◌, ◌++◌, refl, ap, sym, subst, ◌∙◌}
 use Rattle.std.specs.List.{list_any}
-use Rattle.codes3270.specs.declared.attention.Aid.TheVariants.{Clear as ClearAid}
+use Rattle.codes3270.specs.declared.attention.Aid.{Aid}
+use Rattle.codes3270.specs.declared.attention.Aid.TheVariants.{NoAid, Enter as EnterAid, Clear as ClearAid, Pf as PfAid, Pa as PaAid}
 use Rattle.shadow.specs.Meets.{Meets, ListsFields, IsTold}
+use Rattle.shadow.specs.Belief.{Shadow}
+use Rattle.shadow.specs.Openness.{NothingIsOpen}
 use Rattle.tn3270e_msg.specs.HostTable.{granted}
 use Rattle.tn3270e_msg.specs.Talk.{Talk}
 use Rattle.tn3270e_msg.specs.TermTable.{Term}
@@ -12,19 +15,20 @@ use Rattle.lu_pool.specs.Holders.{holder}
 use Rattle.host_core.specs.Answering.{number_of}
 use Rattle.host_core.specs.Application.{Application}
 use Rattle.host_core.specs.Messages.{ToHost}
-use Rattle.host_core.specs.Session.{Turn, Pending, agreed_lu}
+use Rattle.host_core.specs.Session.{Turn, Pending, Occasion, agreed_lu}
 use Rattle.world3270.specs.Always.{Always, HeadlineHolds, is_refusal, NobodyRefuses}
 use Rattle.world3270.specs.Given.{Given}
 use Rattle.world3270.specs.Happens.{run}
 use Rattle.world3270.specs.Headline.{SentFields, OneSessionEach, BoundIsGranted, IsHostsTurn, Agrees}
 use Rattle.world3270.specs.Link.{Link}
 use Rattle.world3270.specs.Moments.{Talking, Serving, Moment, UnderWay, term_state_at, host_talk_at, turn_at, pending_at, up_at}
-use Rattle.world3270.specs.Occasions.{IsOccasion, IsCleared, ActsOnTheKey, KnowsTheCleared}
+use Rattle.world3270.specs.Occasions.{IsOccasion, IsOpenBy, IsOpenFor, IsCleared, ActsOnTheKey, KnowsTheCleared, LeavesNothingOpen}
 use Rattle.world3270.specs.Seen.{seen, seen_link}
 use Rattle.world3270.specs.Stages.{scene_of, Fact, Kept}
 use Rattle.world3270.specs.Terminal.{bound_to}
 use Rattle.world3270.specs.View.{View, view_of}
 use Rattle.world3270.specs.World.{World, new_world}
+use Rattle.world3270.proofs.Down.{none_open}
 use Rattle.world3270.proofs.Worlds.{GoodWorld, run_good, new_good}
 
 -- ---- who is bound to what
@@ -78,6 +82,7 @@ pub record Knows (v : View) : Type 0 where
   pub lists : ListsFields v.host.shadow v.screen
   pub told : SentFields v.screen.aid → IsTold v.host.shadow v.screen
   pub occasion : IsOccasion v.host.occasion v.screen.aid
+  pub closed : IsOpenFor v.host.occasion v.host.shadow
   pub cleared : v.screen.aid ≡ ClearAid → IsCleared v.host.shape v.host.shadow
 
 -- the moments at which it holds the turn, with nothing that waits for an answer
@@ -87,11 +92,12 @@ knows_by wanted v (Moment.Talks talking) f t p = record {
   lists = λ some. absurd (some f.0.no_fields);
   told = λ sent. absurd (subst SentFields f.0.aid sent);
   occasion = subst (λ o. IsOccasion o v.screen.aid) (sym f.0.occasion) f.0.aid;
+  closed = subst (λ o. IsOpenFor o v.host.shadow) (sym f.0.occasion) (none_open v.host.shadow f.0.shadow);
   cleared = λ clear. absurd (let x = sym f.0.aid ∙ clear in cc);
 }
 knows_by wanted v (Moment.Begins lu number command wants over) f t p = absurd (cc)
 knows_by wanted v (Moment.Serves lu Serving.Deciding) f t p =
-    record { meets = f.sees.meets; lists = f.sees.lists; told = f.sees.told; occasion = f.occasion; cleared = f.sees.cleared }
+    record { meets = f.sees.meets; lists = f.sees.lists; told = f.sees.told; occasion = f.occasion; closed = f.closed; cleared = f.sees.cleared }
 knows_by wanted v (Moment.Serves lu (Serving.Reading number)) f t p = absurd (cc)
 knows_by wanted v (Moment.Serves lu (Serving.Reported number parts)) f t p = absurd (cc)
 knows_by wanted v (Moment.Serves lu (Serving.NotedLate number command)) f t p = absurd (cc)
@@ -189,6 +195,26 @@ acts_on_the_key given app pool terminals events is lists few are =
     let world : World = run app events (new_world app pool terminals) in
     let g = run_good given app is events (new_world app pool terminals) are (new_good given app is pool terminals lists) in
     λ number h. (knows_turn app (world.link number) (g.links number) h).occasion
+
+sent_closed : (aid : Aid) (buffered : Bool) (s : Shadow) → SentFields aid → IsOpenBy aid buffered s → NothingIsOpen s
+sent_closed EnterAid buffered s sent o = o
+sent_closed (PfAid key) buffered s sent o = o
+sent_closed NoAid buffered s sent o = absurd sent
+sent_closed ClearAid buffered s sent o = absurd sent
+sent_closed (PaAid key) buffered s sent o = absurd sent
+
+closed_by_key : (occasion : Occasion) (aid : Aid) (s : Shadow) → IsOccasion occasion aid → SentFields aid → IsOpenFor occasion s → NothingIsOpen s
+closed_by_key Occasion.Agreement aid s is sent o = o
+closed_by_key (Occasion.Key pressed buffered) aid s is sent o = sent_closed pressed buffered s (subst SentFields (sym is.0) sent) o
+closed_by_key Occasion.Refusal aid s is sent o = absurd is
+
+pub leaves_nothing_open : Given → Always LeavesNothingOpen
+leaves_nothing_open given app pool terminals events is lists few are =
+    let world : World = run app events (new_world app pool terminals) in
+    let g = run_good given app is events (new_world app pool terminals) are (new_good given app is pool terminals lists) in
+    λ number h sent.
+    let known = knows_turn app (world.link number) (g.links number) h in
+    closed_by_key (world.link number).host.occasion (world.link number).term.display.screen.aid (world.link number).host.shadow known.occasion sent known.closed
 
 pub knows_the_cleared : Given → Always KnowsTheCleared
 knows_the_cleared given app pool terminals events is lists few are =

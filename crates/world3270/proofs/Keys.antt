@@ -2,6 +2,7 @@
 use Rattle.std.proofs.Common.{◌≡◌, ◌<◌, ◌||◌, ℕ, zero, suc, Bool, true, false, Result, Ok, Err, List, [], ◌∷◌, ◌++◌, append-nil, length, replicate, refl, ap, sym, subst, ◌∙◌, IsOkAnd, IfOk}
 use Rattle.std.specs.Prelude.{is_some}
 use Rattle.std.specs.List.{list_all}
+use Rattle.std.proofs.lemmas.List.Elements.{All-nil}
 use Rattle.codes3270.specs.Aid.{is_short_aid}
 use Rattle.codes3270.specs.Size.{Shape, cells_in}
 use Rattle.codes3270.specs.declared.attention.Aid.{Aid}
@@ -30,7 +31,7 @@ use Rattle.shadow.specs.Exactness.{KnownIsExact, ProtectedIsExact}
 use Rattle.shadow.specs.Heard.{heard}
 use Rattle.shadow.specs.Laws.{Believed, IsSentFrom}
 use Rattle.shadow.specs.Meets.{Meets, Knows}
-use Rattle.shadow.specs.Openness.{IsClearedBelief}
+use Rattle.shadow.specs.Openness.{IsClearedBelief, IsLong, IsNotOpen, NothingIsOpen}
 use Rattle.shadow.specs.declared.fault.HeardFault.{HeardFault}
 use Rattle.tn3270e_msg.specs.TermTable.{Term}
 use Rattle.host_core.specs.Application.{Application}
@@ -40,7 +41,7 @@ use Rattle.world3270.specs.Given.{Given}
 use Rattle.world3270.specs.Headline.{SentFields}
 use Rattle.world3270.specs.Link.{Link, sent, term_stepped}
 use Rattle.world3270.specs.Moments.{Serving, Moment, UnderWay, IsAt, turn_at, pending_at, down_at, up_at}
-use Rattle.world3270.specs.Occasions.{IsCleared}
+use Rattle.world3270.specs.Occasions.{IsCleared, IsOpenBy}
 use Rattle.world3270.specs.Stages.{Scene, scene_of, once_taken, FactsAreExact, Operates, Sees, IsPressed, WillSee, Fact, Kept}
 use Rattle.world3270.specs.Terminal.{Display, is_bound, bound_to, data_of, erases_if, outcome_of, key_came}
 use Rattle.world3270.specs.View.{View, view_of}
@@ -217,17 +218,26 @@ takes_notes given shape erased left now (PfAid key) k row = TakesNotes.formatted
 takes_notes given shape erased left now (PaAid key) k row = TakesNotes.formatted (given.notes.held_takes shape erased left now k row)
 takes_notes given shape erased left now ClearAid k row = TakesNotes.unformatted (ap (list_all is_char) k ∙ all_chars (length left))
 
+-- what is open once it is heard
+opens_by : (aid : Aid) (s : Shadow) (size : ℕ) → (aid ≡ ClearAid → IsClearedBelief size s) → (is_short_aid aid ≡ false → NothingIsOpen s) → IsOpenBy aid false s
+opens_by (PaAid key) s size clear long = tt
+opens_by ClearAid s size clear long = subst NothingIsOpen (sym (clear refl)) (All-nil IsNotOpen)
+opens_by NoAid s size clear long = long refl
+opens_by EnterAid s size clear long = long refl
+opens_by (PfAid key) s size clear long = long refl
+
 -- the host will hear it, and then see the screen
-will_see : Given → (erased : Bool) (shape : Shape) (shadow : Shadow) (left screen : Screen) (aid : Aid) → screen.aid ≡ aid → length screen.cells ≡ cells_in shape → FactsAreExact shadow → Knows shadow → Meets shadow left
+will_see : Given → (erased : Bool) (shape : Shape) (shadow : Shadow) (left screen : Screen) (aid : Aid) → screen.aid ≡ aid → length screen.cells ≡ cells_in shape → FactsAreExact shadow → Knows shadow → NothingIsOpen shadow → Meets shadow left
     → KeepsSent erased aid left.cells screen.cells → IsOkAnd (heard (cells_in shape) shadow (modified_data Modified screen)) (Sees shape screen)
-will_see given erased shape shadow left screen aid is whole exact knows meets keeps =
+will_see given erased shape shadow left screen aid is whole exact knows closed meets keeps =
     subst (λ n. IsOkAnd (heard n shadow parts) (Sees shape screen)) whole
-    (ok_map (λ s. Believed (is_short_aid screen.aid) screen s × FactsAreExact s × (screen.aid ≡ ClearAid → IsCleared shape s)) (Sees shape screen) result
-    (λ s all. record { exact = all.1; cleared = all.2; meets = all.0.0; lists = all.0.1; told = λ sent. all.0.2 (sent_long screen.aid sent) })
+    (ok_map (λ s. Believed (is_short_aid screen.aid) screen s × FactsAreExact s × (screen.aid ≡ ClearAid → IsCleared shape s) × IsOpenBy screen.aid false s) (Sees shape screen) result
+    (λ s all. record { exact = all.1; closed = all.3; cleared = all.2; meets = all.0.0; lists = all.0.1; told = λ sent. all.0.2 (sent_long screen.aid sent) })
     (by_result result
     (given.belief.hears erased shadow left screen knows meets (sent_from erased left.cells screen.cells screen.aid (subst (λ a. KeepsSent erased a left.cells screen.cells) (sym is) keeps)))
     (given.belief.heard_exact (length screen.cells) shadow parts exact.known) (given.belief.heard_protected (length screen.cells) shadow parts exact.protected)
-    (λ clear. given.belief.cleared (length screen.cells) shadow parts (key_form screen) (key_aid screen ∙ clear))))
+    (λ clear. given.belief.cleared (length screen.cells) shadow parts (key_form screen) (key_aid screen ∙ clear))
+    (λ long. given.belief.long_opens (length screen.cells) shadow parts (is_long long) closed)))
   where
     parts : InboundParts
     parts = modified_data Modified screen
@@ -236,9 +246,14 @@ will_see given erased shape shadow left screen aid is whole exact knows meets ke
     result = heard (length screen.cells) shadow parts
 
     by_result : (r : Result Shadow HeardFault) → IsOkAnd r (Believed (is_short_aid screen.aid) screen) → IfOk r KnownIsExact → IfOk r ProtectedIsExact → (screen.aid ≡ ClearAid → IsOkAnd r (IsClearedBelief (length screen.cells)))
-        → IsOkAnd r (λ s. Believed (is_short_aid screen.aid) screen s × FactsAreExact s × (screen.aid ≡ ClearAid → IsCleared shape s))
-    by_result (Ok s) believed known protected clear = (believed, record { known = known; protected = protected }, λ e. nulls_known shape s (subst (λ n. IsClearedBelief n s) whole (clear e)))
-    by_result (Err fault) believed known protected clear = absurd believed
+        → (is_short_aid screen.aid ≡ false → IfOk r NothingIsOpen)
+        → IsOkAnd r (λ s. Believed (is_short_aid screen.aid) screen s × FactsAreExact s × (screen.aid ≡ ClearAid → IsCleared shape s) × IsOpenBy screen.aid false s)
+    by_result (Ok s) believed known protected clear long =
+        (believed, record { known = known; protected = protected }, λ e. nulls_known shape s (subst (λ n. IsClearedBelief n s) whole (clear e)), opens_by screen.aid s (length screen.cells) clear long)
+    by_result (Err fault) believed known protected clear long = absurd believed
+
+    is_long : is_short_aid screen.aid ≡ false → IsLong parts.form parts.aid
+    is_long long = subst (λ f. IsLong f parts.aid) (sym (key_form screen)) (ap is_short_aid (key_aid screen) ∙ long)
 
 -- ---- by what the key is answered
 
@@ -293,7 +308,7 @@ module _ (given : Given) (app : Application) (link : Link) (key : Key) (k : Kept
     wanted = k.wanted;
     moment = Moment.Serves lu from;
     at = stays_at screen lock erased;
-    fact = typing.stay screen lock erased (record { shown = f.shown; lock = free; exact = f.exact; meets = f.meets; knows = f.knows; held = held; messages = f.messages; noted = f.noted });
+    fact = typing.stay screen lock erased (record { shown = f.shown; lock = free; exact = f.exact; meets = f.meets; closed = f.closed; knows = f.knows; held = held; messages = f.messages; noted = f.noted });
   }
 
   -- a key that sends
@@ -312,7 +327,7 @@ module _ (given : Given) (app : Application) (link : Link) (key : Key) (k : Kept
         at = typing.at_to parts screen lock erased;
         fact = typing.press parts screen lock erased
             (record { lock = waits; form = key_form screen; pressed = key_aid screen; some = λ none. some (sym is ∙ none) })
-            (will_see given erased v.host.shape shadow f.shown screen aid is whole f.exact f.knows f.meets keeps)
+            (will_see given erased v.host.shape shadow f.shown screen aid is whole f.exact f.knows f.closed f.meets keeps)
             (takes_notes given v.host.shape erased f.shown.cells screen.cells aid keeps f.messages);
       }
 

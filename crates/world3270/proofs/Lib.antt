@@ -8,6 +8,7 @@ pub mod Acting
 pub mod Keys
 pub mod Worlds
 pub mod Headline
+pub mod RunsInPieces
 pub mod SignedOn
 pub mod ExampleGiven
 pub mod RunsOfEntries

@@ -12,42 +12,34 @@ use Rattle.world3270.specs.ExampleScreens.{fresh_sign_on, lettered_sign_on, gree
 use Rattle.world3270.specs.Happens.{run}
 use Rattle.world3270.specs.World.{World, Event}
 use Rattle.world3270.proofs.ExampleGiven.{is_well_formed, is_well_noted, are_events}
-use Rattle.world3270.proofs.SignedOn.{request_taken, agreement_taken, acted_on, agree, IsRequested, IsAgreed, agreeing, start, asks, signed, is_signed, facts, at_turn, decided}
+use Rattle.world3270.proofs.SignedOn.{request_taken, agreement_taken, acted_on, agree, IsRequested, IsAgreed, agreeing, start, asks, signed, is_signed, once_signed, facts, at_turn, decided}
 
 -- ---- the stored run
 
 shows_the_panel : end_on 0 (after connected) ≡ bound_and_shows fresh_sign_on
 unfolding start asks signed acted_on agree request_taken agreement_taken device_of
-shows_the_panel =
-    let computed : end_on 0 (run example (rounds 0 2) signed) ≡ bound_and_shows fresh_sign_on = refl in
-    ap (end_on 0) (is_signed []) ∙ computed
+shows_the_panel = once_signed (end_on 0) [] (bound_and_shows fresh_sign_on) refl
 
-enters_letter : List Event
+abbrev enters_letter : List Event
 enters_letter = presses (key.Tab ∷ key.Char 0x58 ∷ key.Enter ∷ []) ++ Event.Up 0 ∷ []
 
 decides_on_letter : Decides (after incomplete_entry) Enter letter_place (Fact.Text (0xE7 ∷ []))
-unfolding start asks signed acted_on agree request_taken agreement_taken device_of onward backward enters_letter
+unfolding start asks signed acted_on agree request_taken agreement_taken device_of onward backward
 decides_on_letter =
     let fact = Fact.Text (0xE7 ∷ []) in
-    let computed : facts letter_place (run example (rounds 0 2 ++ enters_letter) signed) ≡ at_turn Enter (Some fact) = refl in
-    decided (after incomplete_entry) Enter letter_place fact (ap (facts letter_place) (is_signed enters_letter) ∙ computed)
+    decided (after incomplete_entry) Enter letter_place fact (once_signed (facts letter_place) enters_letter (at_turn Enter (Some fact)) refl)
 
 asks_for_the_name : end_on 0 (after answered_again) ≡ bound_and_shows (lettered_sign_on required_name)
-unfolding start asks signed acted_on agree request_taken agreement_taken device_of onward backward enters_letter
-asks_for_the_name =
-    let rest : List Event = enters_letter ++ settle 0 in
-    let computed : end_on 0 (run example (rounds 0 2 ++ rest) signed) ≡ bound_and_shows (lettered_sign_on required_name) = refl in
-    ap (end_on 0) (is_signed rest) ∙ computed
+unfolding start asks signed acted_on agree request_taken agreement_taken device_of onward backward
+asks_for_the_name = once_signed (end_on 0) (enters_letter ++ settle 0) (bound_and_shows (lettered_sign_on required_name)) refl
 
-enters_name : List Event
+abbrev enters_name : List Event
 enters_name = presses (key.Char 0x41 ∷ key.Char 0x42 ∷ key.Char 0x43 ∷ key.Enter ∷ [])
 
 shows_the_name : end_on 0 (after complete_entry) ≡ bound_and_shows (greeting_seen (0xC1 ∷ 0xC2 ∷ 0xC3 ∷ []))
-unfolding start asks signed acted_on agree request_taken agreement_taken device_of onward backward enters_letter enters_name
+unfolding start asks signed acted_on agree request_taken agreement_taken device_of onward backward
 shows_the_name =
-    let rest : List Event = enters_letter ++ (settle 0 ++ (enters_name ++ settle 0)) in
-    let computed : end_on 0 (run example (rounds 0 2 ++ rest) signed) ≡ bound_and_shows (greeting_seen (0xC1 ∷ 0xC2 ∷ 0xC3 ∷ [])) = refl in
-    ap (end_on 0) (is_signed rest) ∙ computed
+    once_signed (end_on 0) (enters_letter ++ (settle 0 ++ (enters_name ++ settle 0))) (bound_and_shows (greeting_seen (0xC1 ∷ 0xC2 ∷ 0xC3 ∷ []))) refl
 
 -- ---- the reconnecting run
 
@@ -57,9 +49,7 @@ loses = presses (key.Char 0x41 ∷ key.Enter ∷ []) ++ (Event.Lose 0 ∷ Event.
 
 is_refused : end_on 1 (after lost_entry) ≡ refused_l1
 unfolding start asks signed acted_on agree request_taken agreement_taken device_of onward backward loses
-is_refused =
-    let computed : end_on 1 (run example (rounds 0 2 ++ loses) signed) ≡ refused_l1 = refl in
-    ap (end_on 1) (is_signed loses) ∙ computed
+is_refused = once_signed (end_on 1) loses refused_l1 refl
 
 -- both ends see the losses, and the terminal connects once more
 sees : List Event

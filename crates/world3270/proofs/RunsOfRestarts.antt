@@ -6,7 +6,7 @@ use Rattle.keyboard.specs.declared.key.Key.TheVariants as key
 use Rattle.shadow.specs.Belief.{Shadow}
 use Rattle.tn3270e_msg.specs.Device.{device_of}
 use Rattle.world3270.specs.ExampleApplication.{example}
-use Rattle.world3270.specs.ExampleEnds.{rounds, settle, presses, connected, after, end_on, bound_and_shows, shown_by, apart}
+use Rattle.world3270.specs.ExampleEnds.{rounds, settle, presses, connected, after, end_on, bound_and_shows, name_place, shown_by, apart}
 use Rattle.world3270.specs.ExampleRestarts.{cleared_entry, answered_clear, terminal_anew, loss_seen, back_at_host, host_anew, back_at_new_host, alone, host_waits, host_left, RestartingRun}
 use Rattle.world3270.specs.ExampleScreens.{fresh_sign_on, unformatted, no_message}
 use Rattle.world3270.specs.Happens.{run}
@@ -14,7 +14,7 @@ use Rattle.world3270.specs.World.{Place, World, Event}
 use Rattle.world3270.specs.Headline.{IsHostsTurn}
 use Rattle.world3270.specs.Seen.{seen_link}
 use Rattle.world3270.proofs.ExampleGiven.{is_well_formed, is_well_noted, are_events}
-use Rattle.world3270.proofs.SignedOn.{request_taken, agreement_taken, acted_on, agree, IsRequested, IsAgreed, agreeing, start, asks, signed, is_signed, facts, at_turn, turned}
+use Rattle.world3270.proofs.SignedOn.{request_taken, agreement_taken, acted_on, agree, IsRequested, IsAgreed, agreeing, start, asks, signed, is_signed, once_signed, facts, at_turn, turned}
 
 -- ---- Clear
 
@@ -24,30 +24,19 @@ clears = presses (key.Tab ∷ key.Char 0x58 ∷ key.Clear ∷ []) ++ (Event.Up 0
 decides_on_clear : IsHostsTurn (seen_link ((after cleared_entry).link 0))
 unfolding start asks signed acted_on agree request_taken agreement_taken device_of onward backward clears
 decides_on_clear =
-    let computed : facts 5 (run example (rounds 0 2 ++ clears) signed) ≡ at_turn Clear None = refl in
-    turned (after cleared_entry) Clear 5 None (ap (facts 5) (is_signed clears) ∙ computed)
+    turned (after cleared_entry) Clear name_place None (once_signed (facts name_place) clears (at_turn Clear None) refl)
 
 is_cleared : shown_by (after cleared_entry) ≡ unformatted Clear no_message
 unfolding start asks signed acted_on agree request_taken agreement_taken device_of onward backward clears
-is_cleared =
-    let computed : shown_by (run example (rounds 0 2 ++ clears) signed) ≡ unformatted Clear no_message = refl in
-    ap (shown_by) (is_signed clears) ∙ computed
-
-believed : World → Shadow
-believed world = (world.link 0).host.shadow
+is_cleared = once_signed shown_by clears (unformatted Clear no_message) refl
 
 knows_the_cleared : ((after cleared_entry).link 0).host.shadow ≡ Shadow.Unformatted (replicate 32 (Some 0))
-unfolding start asks signed acted_on agree request_taken agreement_taken device_of onward backward clears believed
-knows_the_cleared =
-    let computed : believed (run example (rounds 0 2 ++ clears) signed) ≡ Shadow.Unformatted (replicate 32 (Some 0)) = refl in
-    ap believed (is_signed clears) ∙ computed
+unfolding start asks signed acted_on agree request_taken agreement_taken device_of onward backward clears
+knows_the_cleared = once_signed (λ (world : World). (world.link 0).host.shadow) clears (Shadow.Unformatted (replicate 32 (Some 0))) refl
 
 shows_the_panel_anew : end_on 0 (after answered_clear) ≡ bound_and_shows fresh_sign_on
 unfolding start asks signed acted_on agree request_taken agreement_taken device_of onward backward clears
-shows_the_panel_anew =
-    let rest : List Event = clears ++ settle 0 in
-    let computed : end_on 0 (run example (rounds 0 2 ++ rest) signed) ≡ bound_and_shows fresh_sign_on = refl in
-    ap (end_on 0) (is_signed rest) ∙ computed
+shows_the_panel_anew = once_signed (end_on 0) (clears ++ settle 0) (bound_and_shows fresh_sign_on) refl
 
 -- ---- the terminal begins anew
 
@@ -62,16 +51,13 @@ asks_anew = rounds 0 2 ++ (parts ++ asks)
 
 has_left : apart (after terminal_anew) ≡ host_waits
 unfolding start asks signed acted_on agree request_taken agreement_taken device_of onward backward clears leaves
-has_left =
-    let computed : apart (run example (rounds 0 2 ++ leaves) signed) ≡ host_waits = refl in
-    ap (apart) (is_signed leaves) ∙ computed
+has_left = once_signed apart leaves host_waits refl
 
 has_parted : apart (after loss_seen) ≡ host_left alone
 unfolding start asks signed acted_on agree request_taken agreement_taken device_of onward backward clears leaves parts
-has_parted =
-    let computed : apart (run example (rounds 0 2 ++ parts) signed) ≡ host_left alone = refl in
-    ap (apart) (is_signed parts) ∙ computed
+has_parted = once_signed apart parts (host_left alone) refl
 
+-- where both ends have agreed again
 signed_anew : World
 signed_anew = agree example (run example asks_anew signed)
 
@@ -85,15 +71,15 @@ is_signed_anew rest =
 is_granted : end_on 0 (after back_at_host) ≡ bound_and_shows fresh_sign_on
 unfolding start asks signed acted_on agree request_taken agreement_taken device_of onward backward clears leaves parts asks_anew signed_anew
 is_granted =
-    let rest : List Event = [] in
-    let computed : end_on 0 (run example (rounds 0 2 ++ rest) signed_anew) ≡ bound_and_shows fresh_sign_on = refl in
-    ap (end_on 0) (is_signed_anew rest) ∙ computed
+    let computed : end_on 0 (run example (rounds 0 2) signed_anew) ≡ bound_and_shows fresh_sign_on = refl in
+    ap (end_on 0) (is_signed_anew []) ∙ computed
 
 -- ---- the host begins anew
 
 restarts : List Event
 restarts = Event.RestartHost ∷ []
 
+-- the terminal sees that
 sees_it : List Event
 sees_it = restarts ++ (Event.TermSees 0 ∷ [])
 
@@ -104,8 +90,9 @@ has_restarted : apart (after host_anew) ≡ host_left (Place.At 0)
 unfolding start asks signed acted_on agree request_taken agreement_taken device_of onward backward clears leaves parts asks_anew signed_anew restarts
 has_restarted =
     let computed : apart (run example (rounds 0 2 ++ restarts) signed_anew) ≡ host_left (Place.At 0) = refl in
-    ap (apart) (is_signed_anew restarts) ∙ computed
+    ap apart (is_signed_anew restarts) ∙ computed
 
+-- where they have once more
 signed_at_new_host : World
 signed_at_new_host = agree example (run example asks_new_host signed_anew)
 
@@ -119,9 +106,8 @@ is_signed_at_new_host rest =
 is_granted_anew : end_on 0 (after back_at_new_host) ≡ bound_and_shows fresh_sign_on
 unfolding start asks signed acted_on agree request_taken agreement_taken device_of onward backward clears leaves parts asks_anew signed_anew restarts sees_it asks_new_host signed_at_new_host
 is_granted_anew =
-    let rest : List Event = [] in
-    let computed : end_on 0 (run example (rounds 0 2 ++ rest) signed_at_new_host) ≡ bound_and_shows fresh_sign_on = refl in
-    ap (end_on 0) (is_signed_at_new_host rest) ∙ computed
+    let computed : end_on 0 (run example (rounds 0 2) signed_at_new_host) ≡ bound_and_shows fresh_sign_on = refl in
+    ap (end_on 0) (is_signed_at_new_host []) ∙ computed
 
 -- ---- all of it
 

@@ -22,17 +22,14 @@ use Rattle.host_core.specs.Session.{Turn}
 use Rattle.host_core.specs.Takes.{talked_on}
 use Rattle.world3270.specs.ExampleApplication.{example, l1, example_pool}
 use Rattle.world3270.specs.ExampleEnds.{rounds, connects, connected, after, Decides}
-use Rattle.world3270.specs.Happens.{happens, run, host_took_it, came_up, term_took_it, came_down, went_down, RunsCompose}
+use Rattle.world3270.specs.Happens.{happens, run, host_took_it, came_up, term_took_it, came_down, went_down}
 use Rattle.world3270.specs.Headline.{IsHostsTurn}
 use Rattle.world3270.specs.Placed.{is_queued}
 use Rattle.world3270.specs.Seen.{seen_link}
 use Rattle.world3270.specs.Terminal.{bound_to, replied}
 use Rattle.world3270.specs.World.{World, Event, new_world}
 use Rattle.tn3270e_msg.proofs.Agreement.{responses_alone}
-
-run-append : RunsCompose
-run-append app [] more world = refl
-run-append app (event ∷ events) more world = run-append app events more (happens app event world)
+use Rattle.world3270.proofs.RunsInPieces.{runs_compose}
 
 -- ---- the talk's last steps, over what both ends want
 
@@ -89,7 +86,7 @@ round app rest world is after_it =
 -- a run in which the terminal connects and agrees, from some world on
 pub agreeing : (app : Application) (before rest : List Event) (world : World) → IsRequested (run app before world)
     → IsAgreed (acted_on app (run app before world)) → run app (before ++ (rounds 0 1 ++ rest)) world ≡ run app rest (agree app (run app before world))
-agreeing app before rest world is after_it = run-append app before (rounds 0 1 ++ rest) world ∙ round app rest (run app before world) is after_it
+agreeing app before rest world is after_it = runs_compose app before (rounds 0 1 ++ rest) world ∙ round app rest (run app before world) is after_it
 
 -- ---- the first agreement
 
@@ -109,6 +106,10 @@ is_signed rest =
     let is : IsRequested (run example asks start) = record { here = refl; up = refl } in
     let after_it : IsAgreed (acted_on example (run example asks start)) = record { here = refl; down = refl } in
     agreeing example asks (rounds 0 2 ++ rest) start is after_it
+
+-- what is seen after a run that begins so, once it is computed from there on
+pub once_signed : {X : Type 0} (look : World → X) (rest : List Event) (x : X) → look (run example (rounds 0 2 ++ rest) signed) ≡ x → look (after (connected ++ rest)) ≡ x
+once_signed look rest x computed = ap look (is_signed rest) ∙ computed
 
 -- ---- the host's turn
 

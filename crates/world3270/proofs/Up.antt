@@ -1,5 +1,5 @@
 -- What a host makes of the next message, at each moment.
-use Rattle.std.proofs.Common.{◌≡◌, ◌==◌, ◌<◌, ℕ, true, false, Option, None, Some, Result, Ok, Err, List, [], ◌∷◌, ◌++◌, length, refl, ap, sym, subst, ◌∙◌, IsOkAnd, IfOk}
+use Rattle.std.proofs.Common.{◌≡◌, ◌==◌, ◌<◌, ℕ, Bool, true, false, Option, None, Some, Result, Ok, Err, List, [], ◌∷◌, ◌++◌, length, refl, ap, sym, subst, ◌∙◌, IsOkAnd, IfOk}
 use Rattle.std.proofs.lemmas.Bool.Decides.{Decides-eqb}
 use Rattle.codes3270.specs.Size.{Shape, cells_in}
 use Rattle.codes3270.specs.declared.attention.Aid.{Aid}
@@ -16,6 +16,7 @@ use Rattle.shadow.specs.Belief.{Shadow}
 use Rattle.shadow.specs.Exactness.{KnownIsExact, ProtectedIsExact}
 use Rattle.shadow.specs.Heard.{heard}
 use Rattle.shadow.specs.Laws.{Believed}
+use Rattle.shadow.specs.Openness.{NothingIsOpen}
 use Rattle.shadow.specs.declared.fault.HeardFault.{HeardFault}
 use Rattle.telnet_wire.specs.declared.wire.Verb.TheVariants.{Will}
 use Rattle.tn3270e_msg.specs.HostTable.{host_line, answer_line, request_line, named_line, granted}
@@ -36,7 +37,7 @@ use Rattle.host_core.specs.Takes.{Step, Answers, quiet, with_talk, replied, gran
 use Rattle.world3270.specs.Given.{Given}
 use Rattle.world3270.specs.Link.{Link, sent}
 use Rattle.world3270.specs.Moments.{Kind, awaiting, Talking, Serving, Moment, UnderWay, IsAt, host_talk_at, term_state_at, turn_at, pending_at, down_at, up_at}
-use Rattle.world3270.specs.Occasions.{IsOccasion}
+use Rattle.world3270.specs.Occasions.{IsOccasion, IsOpenBy, IsOpenFor}
 use Rattle.world3270.specs.Stages.{scene_of, once_taken, FactsAreExact, Suits, Sees, IsPressed, WillBeHeard, IsRead, Fact, Kept}
 use Rattle.world3270.specs.View.{view_of}
 use Rattle.world3270.proofs.Queues.{more, front, nothing}
@@ -234,6 +235,20 @@ buffer_took pool conn screen number agrees pends =
     ap (λ b. once_agreed b (data_came parts conn.turn conn.pending conn) conn) agrees
     ∙ ap (λ p. data_came parts conn.turn p conn) pends
 
+-- nothing is open, so much the less after some keys
+all_open : (aid : Aid) (buffered : Bool) (s : Shadow) → NothingIsOpen s → IsOpenBy aid buffered s
+all_open (Pa key) false s o = tt
+all_open (Pa key) true s o = o
+all_open NoAid buffered s o = o
+all_open Enter buffered s o = o
+all_open Clear buffered s o = o
+all_open (Pf key) buffered s o = o
+
+open_read : (occasion : Occasion) (s old : Shadow) → NothingIsOpen s → IsOpenFor occasion old → IsOpenFor (once_read occasion) s
+open_read Occasion.Agreement s old o was = o
+open_read (Occasion.Key aid buffered) s old o was = all_open aid true s o
+open_read Occasion.Refusal s old o was = absurd was
+
 -- the key that was pressed is still the reason, once its screen was read
 read_occasion : (occasion : Occasion) (aid : Aid) → IsOccasion occasion aid → IsOccasion (once_read occasion) aid
 read_occasion Occasion.Agreement aid is = is
@@ -290,16 +305,16 @@ module _ (given : Given) (app : Application) (pool : List Entry) (link : Link) (
       let read : InboundParts = buffer_data screen in
       as_step app pool link rest k (ToHost.Data read) message (believed (once_read link.host.occasion) Pending.Nothing link.host (hears read link.host)) (e ∙ ap (λ p. ToHost.Data p) is)
       (buffer_took (answer_to pool) link.host screen number (agreed_at app pool link rest k lu (Serving.Reported number parts) at) at.pending)
-      (believes lu (Serving.Reported number parts) Serving.Deciding read (once_read link.host.occasion) Pending.Nothing (λ s. Sees link.host.shape screen s) (hears read link.host) at
+      (believes lu (Serving.Reported number parts) Serving.Deciding read (once_read link.host.occasion) Pending.Nothing (λ s. Sees link.host.shape screen s × NothingIsOpen s) (hears read link.host) at
       (given.belief.heard_exact size link.host.shadow read k.exact.known) (given.belief.heard_protected size link.host.shadow read k.exact.protected)
       (by_result (heard size link.host.shadow read) (subst (λ n. IsOkAnd (heard n link.host.shadow read) (Believed false screen)) k.whole (given.belief.reads link.host.shadow screen f.decides.sees.meets))
-      (given.belief.heard_exact size link.host.shadow read k.exact.known) (given.belief.heard_protected size link.host.shadow read k.exact.protected))
-      refl refl refl left (λ shadow sees. record { lock = f.decides.lock; occasion = read_occasion link.host.occasion screen.aid f.decides.occasion; sees = sees }))
+      (given.belief.heard_exact size link.host.shadow read k.exact.known) (given.belief.heard_protected size link.host.shadow read k.exact.protected) (given.belief.read_leaves size link.host.shadow read refl))
+      refl refl refl left (λ shadow sees. record { lock = f.decides.lock; occasion = read_occasion link.host.occasion screen.aid f.decides.occasion; closed = open_read link.host.occasion shadow link.host.shadow sees.1 f.decides.closed; sees = sees.0 }))
     where
-      by_result : (r : Result Shadow HeardFault) → IsOkAnd r (Believed false screen) → IfOk r KnownIsExact → IfOk r ProtectedIsExact → IsOkAnd r (Sees link.host.shape screen)
-      by_result (Ok s) believed known protected =
-          record { exact = record { known = known; protected = protected }; cleared = λ clear. absurd (f.not_cleared clear); meets = believed.0; lists = believed.1; told = λ sent. believed.2 refl }
-      by_result (Err fault) believed known protected = absurd believed
+      by_result : (r : Result Shadow HeardFault) → IsOkAnd r (Believed false screen) → IfOk r KnownIsExact → IfOk r ProtectedIsExact → IfOk r NothingIsOpen → IsOkAnd r (λ s. Sees link.host.shape screen s × NothingIsOpen s)
+      by_result (Ok s) believed known protected closed =
+          (record { exact = record { known = known; protected = protected }; closed = all_open screen.aid false s closed; cleared = λ clear. absurd (f.not_cleared clear); meets = believed.0; lists = believed.1; told = λ sent. believed.2 refl }, closed)
+      by_result (Err fault) believed known protected closed = absurd believed
 
 -- ---- any message, at any moment
 
@@ -340,11 +355,11 @@ answers given app pool sound link message rest e k = by_moment k.moment k.at k.f
     by_serving lu (Serving.AnsweredLate number command) at f =
         let first = front link.lost link.up message rest _ [] e at.goes_up in
         hears_response given app pool link rest k lu (Serving.AnsweredLate number command) Serving.Deciding Kind.ANote number command message at first.0 refl f.sees.exact refl refl refl first.1
-        (record { lock = f.lock; occasion = f.occasion; sees = f.sees })
+        (record { lock = f.lock; occasion = f.occasion; closed = f.closed; sees = f.sees })
     by_serving lu (Serving.Answering kind number command) at f =
         let first = front link.lost link.up message rest _ [] e at.goes_up in
         hears_response given app pool link rest k lu (Serving.Answering kind number command) Serving.Operating kind number command message at first.0 refl f.exact refl refl refl first.1
-        (record { shown = f.shown; lock = f.lock; exact = f.exact; meets = f.meets; knows = f.knows; held = f.held; messages = f.messages; noted = f.noted })
+        (record { shown = f.shown; lock = f.lock; exact = f.exact; meets = f.meets; closed = f.closed; knows = f.knows; held = f.held; messages = f.messages; noted = f.noted })
     by_serving lu (Serving.KeyBehind kind number command parts) at f =
         let first = front link.lost link.up message rest _ _ e at.goes_up in
         hears_response given app pool link rest k lu (Serving.KeyBehind kind number command parts) (Serving.KeyAlone parts) kind number command message at first.0 refl
@@ -353,16 +368,16 @@ answers given app pool sound link message rest e k = by_moment k.moment k.at k.f
     by_serving lu (Serving.KeyAlone parts) at f =
         let first = front link.lost link.up message rest _ [] e at.goes_up in
         hears_key given app pool link rest k lu (Serving.KeyAlone parts) Serving.Deciding parts message (Sees link.host.shape screen) at f.0 f.1 first.0 refl (IsKeyTime.nothing_waits refl) refl refl refl first.1
-        (λ shadow sees. record { lock = f.0.lock; occasion = (refl, f.0.some); sees = sees })
+        (λ shadow sees. record { lock = f.0.lock; occasion = (refl, f.0.some); closed = sees.closed; sees = sees })
     by_serving lu (Serving.KeyNoted number command parts) at f =
         let first = front link.lost link.up message rest _ [] e at.goes_up in
         hears_key given app pool link rest k lu (Serving.KeyNoted number command parts) (Serving.NotedLate number command) parts message (Sees link.host.shape screen) at f.0 f.1 first.0 refl (IsKeyTime.note_waits number command refl) refl refl refl first.1
-        (λ shadow sees. (record { lock = f.0.lock; occasion = (refl, f.0.some); sees = sees }, record { note = f.2.note; takes = f.2.takes }))
+        (λ shadow sees. (record { lock = f.0.lock; occasion = (refl, f.0.some); closed = sees.closed; sees = sees }, record { note = f.2.note; takes = f.2.takes }))
     by_serving lu (Serving.KeyBefore number command parts) at f =
         let first = front link.lost link.up message rest _ _ e at.goes_up in
         hears_key given app pool link rest k lu (Serving.KeyBefore number command parts) (Serving.AnsweredLate number command) parts message (λ shadow. Sees link.host.shape screen (once_taken link.host.shape command shadow)) at f.0 f.1 first.0 refl
         (IsKeyTime.note_waits number command refl) refl refl refl first.1
-        (λ shadow sees. record { lock = f.0.lock; occasion = (refl, f.0.some); sees = sees })
+        (λ shadow sees. record { lock = f.0.lock; occasion = (refl, f.0.some); closed = sees.closed; sees = sees })
     by_serving lu Serving.Deciding at f = no_more at.goes_up
     by_serving lu (Serving.Reading number) at f = no_more at.goes_up
     by_serving lu (Serving.NotedLate number command) at f = no_more at.goes_up

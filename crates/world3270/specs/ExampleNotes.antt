@@ -57,7 +57,7 @@ entered_under_bye = record (typing_sign_on bye_seen) { aid = Enter }
 abbrev pub greeted : Screen
 greeted = greeting_seen (0xC1 ∷ 0 ∷ 0 ∷ [])
 
--- A note changes the last row alone, also once a key was pressed; the host answers that key as it would have without the note.
+-- A note changes the last row alone, also once a key was pressed; and the host answers that key all the same.
 pub record NotesRun : Type 0 where
   pub are_events : AreEvents answered_clear
   pub noted : end_on 0 (after noted_entry) ≡ bound_and_shows (typing_sign_on hello_seen)

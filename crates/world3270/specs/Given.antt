@@ -4,11 +4,10 @@ use Rattle.datastream.specs.HeldLaws.{HeldAtFirst}
 use Rattle.datastream.specs.NoteLaws.{NoteKeepsBounds, NoteKeepsForm, NoteKeepsHeld, HeldStaysProtected, NoteKeepsSendable, NotesCompose}
 use Rattle.keyboard.specs.Laws.{KeysKeep, KeysStayOnTheScreen}
 use Rattle.keyboard.specs.Sendable.{KeysKeepSendable}
-use Rattle.keyboard.specs.Sending.{ClearEmptiesTheScreen}
 use Rattle.shadow.specs.Exactness.{NothingIsExact, HeardStaysExact, HeardStaysProtected, TakenStaysExact, PaintedIsExact, ProtectedIsSeen, ReturnedIsTold}
 use Rattle.shadow.specs.Laws.{HearsModified, HearsBuffer, PaintIsSpelt, PaintIsTaken, PaintedIsKnown, WrittenIsTaken}
-use Rattle.shadow.specs.Notes.{PlacedStaysKnown, NoteStaysListed, NoteStaysTold, NoteStaysExact}
-use Rattle.shadow.specs.Openness.{ClearIsHeard}
+use Rattle.shadow.specs.Notes.{PlacedStaysKnown, NoteStaysListed, NoteStaysTold, NoteStaysExact, NoteOpensNothing}
+use Rattle.shadow.specs.Openness.{ClearIsHeard, LongOpensNothing, ReadLeavesNothingOpen, PaintOpensNothing}
 use Rattle.tn3270e_msg.specs.Laws.{NameIsReadAsItself}
 use Rattle.lu_pool.specs.HolderLaws.{PoolsAreSound, StaysSoundFree, StaysSoundGranted, StaysSoundBack, NobodyHolds, AnswersWhatIsFree, AnswersNames, AnswersTheName, GrantIsHeld, OthersStay, OthersKeep, BackIsFree}
 use Rattle.host_core.specs.Laws.{ActsFit}
@@ -30,6 +29,9 @@ pub record GivenBelief : Type 0 where
   pub seen : ProtectedIsSeen
   pub told : ReturnedIsTold
   pub cleared : ClearIsHeard
+  pub long_opens : LongOpensNothing
+  pub read_leaves : ReadLeavesNothingOpen
+  pub paint_opens : PaintOpensNothing
   pub fit : ActsFit
   pub names : NameIsReadAsItself
 
@@ -38,7 +40,6 @@ pub record GivenKeys : Type 0 where
   pub keep : KeysKeep
   pub on_screen : KeysStayOnTheScreen
   pub sendable : KeysKeepSendable
-  pub clears : ClearEmptiesTheScreen
   pub at_first : HeldAtFirst
 
 -- notes
@@ -53,6 +54,7 @@ pub record GivenNotes : Type 0 where
   pub listed : NoteStaysListed
   pub stays_told : NoteStaysTold
   pub exact : NoteStaysExact
+  pub opens : NoteOpensNothing
   pub are_notes : NotesAreNotes
   pub overwrites : NotesOverwrite
   pub over_characters : NotesAreOverCharacters

@@ -1,14 +1,15 @@
 -- What the host acts on is what was pressed (our profile).
-use Rattle.std.specs.Prelude.{◌≡◌, ℕ, List, [], ◌∷◌, replicate, All, Some}
+use Rattle.std.specs.Prelude.{◌≡◌, ⊤, ℕ, Bool, true, false, List, [], ◌∷◌, replicate, All, Some}
 use Rattle.codes3270.specs.Size.{Shape, cells_in}
 use Rattle.codes3270.specs.declared.attention.Aid.{Aid}
-use Rattle.codes3270.specs.declared.attention.Aid.TheVariants.{NoAid, Clear}
+use Rattle.codes3270.specs.declared.attention.Aid.TheVariants.{NoAid, Enter, Clear, Pf, Pa}
 use Rattle.datastream.specs.Grammar.{CommandParts}
 use Rattle.shadow.specs.Belief.{Shadow}
+use Rattle.shadow.specs.Openness.{NothingIsOpen}
 use Rattle.shadow.specs.Taken.{taken}
 use Rattle.host_core.specs.NoteLaws.{IsNoteOf}
 use Rattle.host_core.specs.Session.{Occasion}
-use Rattle.world3270.specs.Headline.{IsHostsTurn}
+use Rattle.world3270.specs.Headline.{IsHostsTurn, SentFields}
 use Rattle.world3270.specs.Seen.{seen_link}
 use Rattle.world3270.specs.World.{World}
 
@@ -22,6 +23,25 @@ IsOccasion Occasion.Refusal aid = ⊥
 abbrev pub ActsOnTheKey : World → Type 0
 ActsOnTheKey world = (number : ℕ) → let link = world.link number in
     IsHostsTurn (seen_link link) → IsOccasion link.host.occasion link.term.display.screen.aid
+
+-- after PA fields are open until the screen is read; else none is
+abbrev pub IsOpenBy : Aid → (buffered : Bool) → Shadow → Type 0
+IsOpenBy (Pa key) false shadow = ⊤
+IsOpenBy (Pa key) true shadow = NothingIsOpen shadow
+IsOpenBy NoAid buffered shadow = NothingIsOpen shadow
+IsOpenBy Enter buffered shadow = NothingIsOpen shadow
+IsOpenBy Clear buffered shadow = NothingIsOpen shadow
+IsOpenBy (Pf key) buffered shadow = NothingIsOpen shadow
+
+abbrev pub IsOpenFor : Occasion → Shadow → Type 0
+IsOpenFor Occasion.Agreement shadow = NothingIsOpen shadow
+IsOpenFor (Occasion.Key aid buffered) shadow = IsOpenBy aid buffered shadow
+IsOpenFor Occasion.Refusal shadow = ⊥
+
+-- After Enter or a PF key the host believes a text, or a text or nulls, of each unprotected field.
+abbrev pub LeavesNothingOpen : World → Type 0
+LeavesNothingOpen world = (number : ℕ) → let link = world.link number in
+    IsHostsTurn (seen_link link) → SentFields link.term.display.screen.aid → NothingIsOpen link.host.shadow
 
 -- what notes make of a belief; the last one stands first
 abbrev pub after_notes : Shape → List CommandParts → Shadow → Shadow

@@ -1,5 +1,5 @@
 -- What is known of a connection at each of its moments, for proofs (our profile): the headline's invariant.
-use Rattle.std.specs.Prelude.{◌≡◌, ◌⊎◌, ◌<◌, ⊤, ℕ, Bool, List, [], length, slice_index_or, Option, Some, None, IsTrue, IsOkAnd}
+use Rattle.std.specs.Prelude.{◌≡◌, ◌⊎◌, ◌<◌, ⊤, ℕ, Bool, false, List, [], length, slice_index_or, Option, Some, None, IsTrue, IsOkAnd}
 use Rattle.codes3270.specs.Size.{Shape, cells_in}
 use Rattle.codes3270.specs.declared.attention.Aid.TheVariants.{NoAid, Clear}
 use Rattle.codes3270.specs.declared.attribute.Cell.{Cell}
@@ -19,6 +19,7 @@ use Rattle.shadow.specs.Belief.{Shadow}
 use Rattle.shadow.specs.Exactness.{KnownIsExact, ProtectedIsExact}
 use Rattle.shadow.specs.Heard.{heard}
 use Rattle.shadow.specs.Meets.{Meets, Knows, ListsFields, IsTold}
+use Rattle.shadow.specs.Openness.{NothingIsOpen}
 use Rattle.shadow.specs.Paint.{paint}
 use Rattle.shadow.specs.Taken.{taken}
 use Rattle.tn3270e_msg.specs.Lu.{is_lu}
@@ -29,7 +30,7 @@ use Rattle.host_core.specs.NoteLaws.{HasMessageRow, TakesNotes, IsNoteOf}
 use Rattle.host_core.specs.Session.{Occasion}
 use Rattle.world3270.specs.Headline.{SentFields, UnmodifiedIsKept}
 use Rattle.world3270.specs.Moments.{Talking, Serving, Moment, IsAt}
-use Rattle.world3270.specs.Occasions.{IsOccasion, IsCleared}
+use Rattle.world3270.specs.Occasions.{IsOccasion, IsOpenBy, IsOpenFor, IsCleared}
 use Rattle.world3270.specs.View.{View}
 
 -- what the facts are about: the screen's shape, what the host believes of it and why it acts; the lock, the screen, and its history
@@ -89,6 +90,7 @@ pub record IsPainted (s : Scene) (command : CommandParts) (wanted : WantedScreen
   pub over_is : over ≡ s.shadow
   pub command_is : command ≡ paint (cells_in s.shape) over wanted
   pub meets : Meets over s.screen
+  pub closed : NothingIsOpen over
   pub paintable : IsPaintable s.shape over wanted
 
 -- notes were written over protected characters alone; elsewhere stands what was left
@@ -103,6 +105,7 @@ pub record Operates (shadow : Shadow) (s : Scene) : Type 0 where
   pub lock : s.lock ≡ Wait → ⊥
   pub exact : FactsAreExact shadow
   pub meets : Meets shadow shown
+  pub closed : NothingIsOpen shadow
   pub knows : Knows shadow
   pub held : Held s.erased shown.cells s.screen.cells
   pub messages : HasMessageRow s.shape shown.cells
@@ -111,6 +114,7 @@ pub record Operates (shadow : Shadow) (s : Scene) : Type 0 where
 -- the host knows the screen
 pub record Sees (shape : Shape) (screen : Screen) (shadow : Shadow) : Type 0 where
   pub exact : FactsAreExact shadow
+  pub closed : IsOpenBy screen.aid false shadow
   pub cleared : screen.aid ≡ Clear → IsCleared shape shadow
   pub meets : Meets shadow screen
   pub lists : ListsFields shadow screen
@@ -134,6 +138,7 @@ WillSee s shadow parts = WillBeHeard s.shape shadow parts (Sees s.shape s.screen
 pub record Decides (s : Scene) (shadow : Shadow) : Type 0 where
   pub lock : s.lock ≡ Wait
   pub occasion : IsOccasion s.occasion s.screen.aid
+  pub closed : IsOpenFor s.occasion shadow
   pub sees : Sees s.shape s.screen shadow
 
 -- the screen is read first, as it never is after Clear

@@ -1,16 +1,18 @@
 //! The world on paper: a host, its connections and its terminals, and what always holds between them.
 #![tactic(auto)]
 
+ghost use Rattle.world3270.specs.Always.{Always, HeadlineHolds, NobodyRefuses};
 ghost use Rattle.world3270.specs.Example.{TheRunsEndSo};
 ghost use Rattle.world3270.specs.Forms.{FormsAreAwaited};
 ghost use Rattle.world3270.specs.Given.{Given};
-ghost use Rattle.world3270.specs.Always.{Always, HeadlineHolds, NobodyRefuses};
+ghost use Rattle.world3270.specs.Happens.{RunsCompose};
 ghost use Rattle.world3270.specs.Losses.{LostTakesNothing};
 ghost use Rattle.world3270.specs.Numbers.{NumbersFit};
+ghost use Rattle.world3270.specs.Occasions.{ActsOnTheKey, KnowsTheCleared, LeavesNothingOpen};
 ghost use Rattle.world3270.specs.Places.{EndsAgree, UpIsHeld, HoldersAreHere, LinksStay, HoldersStay, PoolIsSound};
+ghost use Rattle.world3270.specs.Seats.{HistoryFollows};
 ghost use Rattle.world3270.specs.Sendable.{AlwaysTyped, DataCanBeSpelt, PaintsAreScreens, PaintsAreSpelt, ScreensAreSendable, ScreensKeepTheirShape, ValuesAreTexts};
 ghost use Rattle.world3270.specs.Skipped.{SkippedChangesNothing};
-ghost use Rattle.world3270.specs.Seats.{HistoryFollows};
 ghost use Rattle.world3270.specs.Stands.{StandsDown, StandsUp};
 ghost use Rattle.world3270.specs.StandsEnds.{PaintStands, TakesKeepSendable, TermPresses, TermTakes, WritesAreMarked};
 ghost use Rattle.world3270.specs.StandsLinks.{
@@ -28,12 +30,10 @@ ghost use Rattle.world3270.specs.StandsLinks.{
   UpStands,
   WhatComesMayCome,
 };
-ghost use Rattle.world3270.specs.Happens.{RunsCompose};
-ghost use Rattle.world3270.specs.Occasions.{ActsOnTheKey, KnowsTheCleared};
 
 use datastream::{fields_both_ways, kept_since_the_write, sent_is_read, what_a_note_keeps};
 use host_core::{notes_are_written, what_is_shown_fits};
-use keyboard::{keys_keep_what_was_left, sent_keys_wait, what_keys_leave_can_be_sent};
+use keyboard::{keys_keep_what_was_left, what_keys_leave_can_be_sent};
 use lu_pool::the_pool_is_a_map;
 use shadow::{
     what_a_note_leaves, what_is_exact_is_so, what_is_known_is_exact, what_is_protected_is_exact,
@@ -63,14 +63,13 @@ fn what_is_given()
     what_a_note_keeps();
     what_a_note_leaves();
     notes_are_written();
-    sent_keys_wait();
 }
 
 /// Does nothing: its contract is the headline. After any list of events on a new world, with any application, any pool of LUs
 /// and up to 16 terminals: no two live sessions have one LU, and where a terminal is bound to one the host's end agreed on that,
-/// and its connection holds it in the pool; and whenever the host holds the turn with its last command
-/// answered, the screen is as it believes, it has the text of each field that was returned, and each field that wasn't has
-/// what the host left there, or nulls since Erase Input. And a run in pieces is one run.
+/// and its connection holds it in the pool; and whenever the host holds the turn with its last command answered, the screen is
+/// as it believes, and after Enter or a PF key it has the text of each field that was returned, and each unprotected field with
+/// MDT off has what the host left there, or nulls since Erase Input. And a run in pieces is one run.
 pub fn the_headline_holds()
     ensures headline { Always HeadlineHolds }
     ensures pieces { RunsCompose }
@@ -78,19 +77,21 @@ pub fn the_headline_holds()
     what_is_given();
 }
 
-/// Does nothing: its contract says that over the same lists no negative response is under way, and that neither end ever
-/// closes a connection by a cause.
+/// Does nothing: its contract says that over the same lists no terminal has ever refused a command, and that neither end has
+/// ever closed a connection by a cause.
 pub fn nobody_refuses()
     ensures { Always NobodyRefuses }
 {
     what_is_given();
 }
 
-/// Does nothing: its contract says that over the same lists the host, when it decides, acts on the key that was pressed last, and
-/// after Clear believes in no field and knows each character.
+/// Does nothing: its contract says that over the same lists the host, when it decides, acts on the key that was pressed last;
+/// that after Clear it believes in a screen without fields, of nulls but for the notes that came since; and that after Enter or
+/// a PF key it believes a text, or a text or nulls, of each unprotected field.
 pub fn what_was_pressed_is_acted_on()
     ensures key { Always ActsOnTheKey }
     ensures cleared { Always KnowsTheCleared }
+    ensures unopened { Always LeavesNothingOpen }
 {
     what_is_given();
 }
@@ -122,10 +123,10 @@ pub fn numbers_have_15_bits()
     what_is_given();
 }
 
-/// Does nothing: its contract says that over the same lists each terminal's screen keeps the application's size; and that, where
-/// keys are those of a keyboard and the application asks for screens of the profile, each terminal's screen can be sent, all
-/// data under way can be spelt, what is painted is such a screen, each paint under way is spelt by its bytes, and the values that
-/// the host has are characters.
+/// Does nothing: its contract says that over the same lists each terminal's screen keeps the shape that it began with; and that,
+/// where keys are those of a keyboard and the application asks for screens of the profile, each terminal's screen can be sent,
+/// all data under way can be spelt, what is painted is such a screen, each paint and each note under way is spelt by its bytes,
+/// and the values that the host has are characters.
 pub fn screens_can_be_sent()
     ensures shape { ScreensKeepTheirShape }
     ensures screens { AlwaysTyped ScreensAreSendable }
@@ -158,10 +159,10 @@ pub fn a_lost_connection_takes_nothing()
     ensures { LostTakesNothing }
 {}
 
-/// Does nothing: its contract is an example, two runs of a small host that are computed to their ends. In the stored run the
-/// operator leaves out a required field, is asked for it with what was typed kept, fills it in, and sees the next panel show it. In
-/// the reconnecting run the connection is lost, and the terminal's LU is refused until the host sees that, then granted. In both
-/// the host comes to decide and knows what was typed, as the headline supposes.
+/// Does nothing: its contract is an example, runs of a small host that are computed to their ends. A required field is left out,
+/// asked for and filled in; a connection is lost, and the LU refused until the host sees that; the screen is read after PA1, and
+/// where a field is in doubt; Clear, a terminal that begins anew, and a host that does; notes, two of which cross a key. Where the
+/// host decides it knows what was typed.
 pub fn the_runs_end_so()
     ensures { TheRunsEndSo }
 {}

@@ -17,6 +17,9 @@ returns c = record {
     seen = c.what_is_exact_is_so.ensures.protected;
     told = c.what_is_exact_is_so.ensures.returned;
     cleared = c.what_leaves_nothing_open.ensures.cleared;
+    long_opens = c.what_leaves_nothing_open.ensures.long;
+    read_leaves = c.what_leaves_nothing_open.ensures.buffer;
+    paint_opens = c.what_leaves_nothing_open.ensures.painted;
     fit = c.what_is_shown_fits.ensures;
     names = c.one_reading.ensures.name;
   };
@@ -24,7 +27,6 @@ returns c = record {
     keep = c.keys_keep_what_was_left.ensures.keep;
     on_screen = c.keys_keep_what_was_left.ensures.on_screen;
     sendable = c.what_keys_leave_can_be_sent.ensures;
-    clears = c.sent_keys_wait.ensures.clears;
     at_first = c.kept_since_the_write.ensures.at_first;
   };
   notes = record {
@@ -38,6 +40,7 @@ returns c = record {
     listed = c.what_a_note_leaves.ensures.listed;
     stays_told = c.what_a_note_leaves.ensures.told;
     exact = c.what_a_note_leaves.ensures.exact;
+    opens = c.what_a_note_leaves.ensures.unopened;
     are_notes = c.notes_are_written.ensures.notes;
     overwrites = c.notes_are_written.ensures.overwrites;
     over_characters = c.notes_are_written.ensures.over_characters;
