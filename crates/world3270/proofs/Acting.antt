@@ -281,9 +281,9 @@ module _ (app : Application) (text : List ℕ) (is : IsNoteText text) (link : Li
       → Kept app (view_of (host_sent (if may_note turn pending agreed then Some (noted_as text link.host) else None) link))
   notes_by Turn.Terminal Pending.Nothing true turns pends = may_note_at turns pends
   notes_by Turn.Terminal Pending.Nothing false turns pends = k
-  notes_by Turn.Terminal (Pending.Writing number command) agreed turns pends = k
+  notes_by Turn.Terminal (Pending.Writing number what) agreed turns pends = k
   notes_by Turn.Terminal (Pending.Reading number) agreed turns pends = k
-  notes_by Turn.Terminal (Pending.Noting number command) agreed turns pends = k
+  notes_by Turn.Terminal (Pending.Noting number what) agreed turns pends = k
   notes_by Turn.Host pending agreed turns pends = k
 
   pub notes : Kept app (view_of (host_sent (noted text link.host) link))

@@ -15,6 +15,8 @@ pub mod RunsOfEntries
 pub mod RunsOfReads
 pub mod RunsOfRestarts
 pub mod RunsOfNotes
+pub mod RunsOfTargets
+pub mod RunsOfLosses
 pub mod Runs
 pub mod StandsFits
 pub mod Stands
@@ -24,6 +26,7 @@ pub mod StandsComing
 pub mod Places
 pub mod Others
 pub mod Skipped
+pub mod History
 pub mod Ends
 pub mod Losses
 pub mod Forms

@@ -2,9 +2,11 @@
 use Rattle.world3270.specs.Example.{TheRunsEndSo}
 use Rattle.world3270.proofs.ExampleGiven.{is_application, is_pool}
 use Rattle.world3270.proofs.RunsOfEntries.{stored_run, reconnecting_run}
+use Rattle.world3270.proofs.RunsOfLosses.{losing_run}
 use Rattle.world3270.proofs.RunsOfNotes.{notes_run}
 use Rattle.world3270.proofs.RunsOfReads.{reading_run, doubting_run}
 use Rattle.world3270.proofs.RunsOfRestarts.{restarting_run}
+use Rattle.world3270.proofs.RunsOfTargets.{leading_run}
 
 pub the_runs : TheRunsEndSo
 the_runs = record {
@@ -16,4 +18,6 @@ the_runs = record {
   doubting = doubting_run;
   restarting = restarting_run;
   notes = notes_run;
+  leading = leading_run;
+  losing = losing_run;
 }

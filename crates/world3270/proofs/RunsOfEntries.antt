@@ -6,8 +6,8 @@ use Rattle.keyboard.specs.declared.key.Key.TheVariants as key
 use Rattle.shadow.specs.Belief.{Fact}
 use Rattle.tn3270e_msg.specs.Device.{device_of}
 use Rattle.world3270.specs.ExampleApplication.{example}
-use Rattle.world3270.specs.ExampleEnds.{rounds, settle, connects, presses, connected, after, end_on, bound_and_shows, refused_l1, name_place, letter_place, Decides}
-use Rattle.world3270.specs.ExampleRuns.{incomplete_entry, answered_again, complete_entry, lost_entry, connected_again, entered_again, StoredRun, ReconnectingRun}
+use Rattle.world3270.specs.ExampleEnds.{rounds, settle, connects, presses, connected, after, end_on, bound_and_shows, refused_l1, name_place, letter_place, Decides, wanted_of}
+use Rattle.world3270.specs.ExampleRuns.{incomplete_entry, asking_again, answered_again, complete_entry, lost_entry, connected_again, entered_again, kept_sign_on, StoredRun, ReconnectingRun}
 use Rattle.world3270.specs.ExampleScreens.{fresh_sign_on, lettered_sign_on, greeting_seen, required_name}
 use Rattle.world3270.specs.Happens.{run}
 use Rattle.world3270.specs.World.{World, Event}
@@ -28,6 +28,10 @@ unfolding start asks signed acted_on agree request_taken agreement_taken device_
 decides_on_letter =
     let fact = Fact.Text (0xE7 ∷ []) in
     decided (after incomplete_entry) Enter letter_place fact (once_signed (facts letter_place) enters_letter (at_turn Enter (Some fact)) refl)
+
+keeps_the_letter : wanted_of (after asking_again) ≡ kept_sign_on ∷ []
+unfolding start asks signed acted_on agree request_taken agreement_taken device_of onward backward
+keeps_the_letter = once_signed wanted_of (enters_letter ++ (Event.Act 0 ∷ [])) (kept_sign_on ∷ []) refl
 
 asks_for_the_name : end_on 0 (after answered_again) ≡ bound_and_shows (lettered_sign_on required_name)
 unfolding start asks signed acted_on agree request_taken agreement_taken device_of onward backward
@@ -92,6 +96,7 @@ stored_run = record {
   are_events = are_events complete_entry refl;
   first = shows_the_panel;
   decides = decides_on_letter;
+  kept = keeps_the_letter;
   asked_again = asks_for_the_name;
   stored = shows_the_name;
 }

@@ -2,10 +2,12 @@
 use Rattle.lu_pool.specs.Pool.{IsPool}
 use Rattle.host_core.specs.Application.{IsApplication}
 use Rattle.world3270.specs.ExampleApplication.{example, example_pool}
+use Rattle.world3270.specs.ExampleLosses.{LosingRun}
 use Rattle.world3270.specs.ExampleNotes.{NotesRun}
 use Rattle.world3270.specs.ExampleReads.{ReadingRun, DoubtingRun}
 use Rattle.world3270.specs.ExampleRestarts.{RestartingRun}
 use Rattle.world3270.specs.ExampleRuns.{StoredRun, ReconnectingRun}
+use Rattle.world3270.specs.ExampleTargets.{LeadingRun}
 
 pub record TheRunsEndSo : Type 0 where
   pub application : IsApplication example
@@ -16,3 +18,5 @@ pub record TheRunsEndSo : Type 0 where
   pub doubting : DoubtingRun
   pub restarting : RestartingRun
   pub notes : NotesRun
+  pub leading : LeadingRun
+  pub losing : LosingRun

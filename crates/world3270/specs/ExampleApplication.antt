@@ -1,6 +1,6 @@
 -- A small host for the example's runs: readers and proofs need it, and nothing rests on it (our profile). Its screens have two rows
 -- of 16 cells, the second one for messages; and its pool has two LUs.
-use Rattle.std.specs.Prelude.{codes, ℕ, suc, zero, ◌+◌, Bool, true, false, ◌<◌, ◌^◌, List, [], ◌∷◌, ◌++◌, length, map, replicate, None, String, if◌then◌else◌}
+use Rattle.std.specs.Prelude.{codes, ℕ, suc, zero, ◌+◌, ◌==◌, Bool, true, false, ◌<◌, ◌^◌, List, [], ◌∷◌, ◌++◌, length, map, replicate, None, String, if◌then◌else◌}
 use Rattle.std.specs.List.{range_with_len}
 use Rattle.std.specs.declared.alloc.Global.{Global}
 use Rattle.std.specs.Str.{IsUtf8}
@@ -9,7 +9,7 @@ use native.Mathlib.Nat.{le_refl}
 use lib.Utf8.{encode}
 use denote.RawPtr.{null_ptr}
 use Rattle.codes3270.specs.declared.attention.Aid.{Aid}
-use Rattle.codes3270.specs.declared.attention.Aid.TheVariants.{Enter}
+use Rattle.codes3270.specs.declared.attention.Aid.TheVariants.{Enter, Clear, Pf}
 use Rattle.codes3270.specs.declared.attribute.Attr.{Attr as Attribute}
 use Rattle.datastream.specs.Wanted.{WantedScreen}
 use Rattle.datastream.specs.declared.wanted.Want.{Want}
@@ -122,9 +122,11 @@ screen_of (suc panel) values message keep = greeting values message
 
 -- ---- the application, and the pool
 
--- Enter leads from the sign-on to the second panel, and no other key leads anywhere
+-- Enter and PF5 lead from the sign-on to the second panel, Clear from there back to the sign-on, and no other key leads anywhere
 abbrev pub led_to : ℕ → Aid → Next
 led_to zero Enter = Go 1
+led_to zero (Pf number) = if number == 5 then Go 1 else Again
+led_to (suc panel) Clear = Go 0
 led_to _ _ = Again
 
 abbrev pub example : Application

@@ -1,10 +1,11 @@
 -- What happens in the example's runs, and what is said of where they are: readers and proofs need it, and nothing rests on it (our
 -- profile).
-use Rattle.std.specs.Prelude.{◌≡◌, ◌∷◌, ◌++◌, ℕ, suc, zero, Bool, List, [], map, replicate, None, Some, option_map}
+use Rattle.std.specs.Prelude.{◌≡◌, ◌∷◌, ◌++◌, ℕ, suc, zero, Bool, List, [], map, filter_map, replicate, Option, None, Some, option_map}
 use Rattle.codes3270.specs.declared.attention.Aid.{Aid}
 use Rattle.codes3270.specs.declared.attention.Aid.TheVariants.{NoAid}
 use Rattle.codes3270.specs.declared.attribute.Cell.TheVariants.{Char}
 use Rattle.datastream.specs.Screen.{Screen}
+use Rattle.datastream.specs.Wanted.{WantedScreen}
 use Rattle.keyboard.specs.declared.key.Key.{Key}
 use Rattle.keyboard.specs.declared.key.Lock.{Lock}
 use Rattle.keyboard.specs.declared.key.Lock.TheVariants.{Free, Wait}
@@ -120,6 +121,14 @@ apart world = record { place = world.place 0; host_here = (world.link 0).host_he
 -- the host reads the screen at connection 0: its second command there goes down
 abbrev pub Reads : World → Type 0
 Reads world = (world.link 0).down ≡ ToTerminal.ReadBuffer 1 ∷ []
+
+-- what the host wants to be shown at connection 0, where a paint goes down
+abbrev pub wanted_in : ToTerminal → Option WantedScreen
+wanted_in (ToTerminal.Paint number wanted over) = Some wanted
+wanted_in _ = None
+
+abbrev pub wanted_of : World → List WantedScreen
+wanted_of world = filter_map wanted_in (world.link 0).down
 
 -- where the fields' attributes are
 abbrev pub name_place : ℕ

@@ -1,10 +1,13 @@
 -- Two runs of the example: the stored one and the reconnecting one. Readers and proofs need them, and nothing rests on them (our
 -- profile).
-use Rattle.std.specs.Prelude.{◌≡◌, List, [], ◌∷◌, ◌++◌}
+use Rattle.std.specs.Prelude.{◌≡◌, true, List, [], ◌∷◌, ◌++◌}
 use Rattle.codes3270.specs.declared.attention.Aid.TheVariants.{Enter}
+use Rattle.datastream.specs.Wanted.{WantedScreen}
 use Rattle.keyboard.specs.declared.key.Key.TheVariants as key
+use Rattle.panels.specs.declared.message.Message.TheVariants.{Required}
 use Rattle.shadow.specs.Belief.{Fact}
-use Rattle.world3270.specs.ExampleEnds.{settle, connects, presses, connected, after, end_on, bound_and_shows, refused_l1, name_place, letter_place, Decides}
+use Rattle.world3270.specs.ExampleApplication.{name_field, letter_field, sign_on}
+use Rattle.world3270.specs.ExampleEnds.{settle, connects, presses, connected, after, end_on, bound_and_shows, refused_l1, name_place, letter_place, Decides, wanted_of}
 use Rattle.world3270.specs.ExampleScreens.{fresh_sign_on, lettered_sign_on, greeting_seen, required_name}
 use Rattle.world3270.specs.World.{Event, AreEvents}
 
@@ -14,6 +17,10 @@ use Rattle.world3270.specs.World.{Event, AreEvents}
 abbrev pub incomplete_entry : List Event
 incomplete_entry = connected ++ presses (key.Tab ∷ key.Char 0x58 ∷ key.Enter ∷ []) ++ Event.Up 0 ∷ []
 
+-- the host acts
+abbrev pub asking_again : List Event
+asking_again = incomplete_entry ++ Event.Act 0 ∷ []
+
 abbrev pub answered_again : List Event
 answered_again = incomplete_entry ++ settle 0
 
@@ -21,11 +28,16 @@ answered_again = incomplete_entry ++ settle 0
 abbrev pub complete_entry : List Event
 complete_entry = answered_again ++ presses (key.Char 0x41 ∷ key.Char 0x42 ∷ key.Char 0x43 ∷ key.Enter ∷ []) ++ settle 0
 
--- The letter is kept and the name asked for; then the name is stored, and shown.
+-- the sign-on that keeps what is in its fields, and asks for the name
+abbrev pub kept_sign_on : WantedScreen
+kept_sign_on = sign_on ((letter_field.number, 0xE7 ∷ []) ∷ []) (Required name_field.number) true
+
+-- The letter is kept, not written anew, and the name asked for; then the name is stored, and shown.
 pub record StoredRun : Type 0 where
   pub are_events : AreEvents complete_entry
   pub first : end_on 0 (after connected) ≡ bound_and_shows fresh_sign_on
   pub decides : Decides (after incomplete_entry) Enter letter_place (Fact.Text (0xE7 ∷ []))
+  pub kept : wanted_of (after asking_again) ≡ kept_sign_on ∷ []
   pub asked_again : end_on 0 (after answered_again) ≡ bound_and_shows (lettered_sign_on required_name)
   pub stored : end_on 0 (after complete_entry) ≡ bound_and_shows (greeting_seen (0xC1 ∷ 0xC2 ∷ 0xC3 ∷ []))
 

@@ -6,6 +6,7 @@ pub mod Happens
 pub mod Seen
 pub mod Headline
 pub mod Always
+pub mod History
 pub mod Occasions
 pub mod Given
 pub mod View
@@ -18,6 +19,8 @@ pub mod ExampleRuns
 pub mod ExampleReads
 pub mod ExampleRestarts
 pub mod ExampleNotes
+pub mod ExampleTargets
+pub mod ExampleLosses
 pub mod Example
 pub mod Seats
 pub mod Stands

@@ -6,6 +6,7 @@ ghost use Rattle.world3270.specs.Example.{TheRunsEndSo};
 ghost use Rattle.world3270.specs.Forms.{FormsAreAwaited};
 ghost use Rattle.world3270.specs.Given.{Given};
 ghost use Rattle.world3270.specs.Happens.{RunsCompose};
+ghost use Rattle.world3270.specs.History.{HostsHistoryIsKept, TerminalsHistoryIsKept};
 ghost use Rattle.world3270.specs.Losses.{LostTakesNothing};
 ghost use Rattle.world3270.specs.Numbers.{NumbersFit};
 ghost use Rattle.world3270.specs.Occasions.{ActsOnTheKey, KnowsTheCleared, LeavesNothingOpen};
@@ -154,6 +155,13 @@ pub fn what_is_skipped_changes_nothing()
     ensures { SkippedChangesNothing }
 {}
 
+/// Does nothing: its contract says that each cause by which an end closes, and each verdict that a terminal says, is added to the
+/// history.
+pub fn the_history_is_kept()
+    ensures host { HostsHistoryIsKept }
+    ensures terminal { TerminalsHistoryIsKept }
+{}
+
 /// Does nothing: its contract says that a lost connection only delivers what was under way: no event adds to either queue.
 pub fn a_lost_connection_takes_nothing()
     ensures { LostTakesNothing }
@@ -161,8 +169,8 @@ pub fn a_lost_connection_takes_nothing()
 
 /// Does nothing: its contract is an example, runs of a small host that are computed to their ends. A required field is left out,
 /// asked for and filled in; a connection is lost, and the LU refused until the host sees that; the screen is read after PA1, and
-/// where a field is in doubt; Clear, a terminal that begins anew, and a host that does; notes, two of which cross a key. Where the
-/// host decides it knows what was typed.
+/// where a field is in doubt; Clear, a terminal that begins anew, and a host that does; notes, two of which cross a key; a PF key and
+/// Clear that lead on; what a loss leaves under way. Where the host decides it knows what was typed.
 pub fn the_runs_end_so()
     ensures { TheRunsEndSo }
 {}
