@@ -15,10 +15,7 @@ use std::time::{Duration, Instant};
 use std::{env, io};
 use telnet_wire::{Decoder, Step, put_record};
 use term_core::Terminal;
-use tn3270e_msg::{ALWAYS_RESPONSE, DataType, Header, Lu, Stop, header_bytes};
-
-/// The data bytes that a record may have.
-const RECORD_LIMIT: usize = 16_384;
+use tn3270e_msg::{ALWAYS_RESPONSE, DataType, Header, Lu, RECORD_LIMIT, Stop, header_bytes};
 
 /// How often a case is run.
 #[derive(Clone, Copy)]

@@ -21,7 +21,11 @@ use Rattle.panels.specs.Values.{set_if, value_of}
 use Rattle.tn3270e_msg.specs.Header.{next_number}
 use Rattle.host_core.specs.Application.{Application}
 use Rattle.host_core.specs.Messages.{ToTerminal}
-use Rattle.host_core.specs.Session.{Conn, Turn, Pending, Occasion, is_agreed}
+use Rattle.host_core.specs.declared.turn.Turn.{Turn}
+use Rattle.host_core.specs.declared.turn.Turn.TheVariants as whose
+use Rattle.host_core.specs.declared.occasion.Occasion.{Occasion}
+use Rattle.host_core.specs.declared.occasion.Occasion.TheVariants as occasions
+use Rattle.host_core.specs.Session.{Conn, Pending, is_agreed}
 
 -- what the host may do: read the whole screen, or show a panel with a message, with these values of fields; with `keep`, fields
 -- keep what the operator left in them where that can be
@@ -107,9 +111,9 @@ after_key app conn aid buffered =
 
 -- at agreement the first panel; after a refusal the same panel, whole
 abbrev pub act_on : Application → Conn → Occasion → Act
-act_on app conn Occasion.Agreement = Act.Show app.start Fresh false conn.values
-act_on app conn (Occasion.Key aid buffered) = after_key app conn aid buffered
-act_on app conn Occasion.Refusal = Act.Show conn.panel (repeated conn.message) false conn.values
+act_on app conn occasions.Agreement = Act.Show app.start Fresh false conn.values
+act_on app conn (occasions.Key aid buffered) = after_key app conn aid buffered
+act_on app conn occasions.Refusal = Act.Show conn.panel (repeated conn.message) false conn.values
 
 -- ---- what is sent
 
@@ -135,7 +139,7 @@ done app conn (Act.Show panel message keep values) =
     let wanted = wanted_by app conn panel message keep values in
     record {
       conn = record conn {
-        turn = Turn.Terminal;
+        turn = whose.Terminal;
         pending = Pending.Writing conn.number (paint (cells_in conn.shape) conn.shadow wanted);
         number = next_number conn.number;
         panel = panel;
@@ -147,11 +151,11 @@ done app conn (Act.Show panel message keep values) =
 
 -- it acts in its turn, once the session is agreed and its last command answered
 abbrev pub may_act : Turn → Pending → Bool → Bool
-may_act Turn.Host Pending.Nothing agreed = agreed
-may_act Turn.Host (Pending.Writing number command) agreed = false
-may_act Turn.Host (Pending.Reading number) agreed = false
-may_act Turn.Host (Pending.Noting number command) agreed = false
-may_act Turn.Terminal pending agreed = false
+may_act whose.Host Pending.Nothing agreed = agreed
+may_act whose.Host (Pending.Writing number command) agreed = false
+may_act whose.Host (Pending.Reading number) agreed = false
+may_act whose.Host (Pending.Noting number command) agreed = false
+may_act whose.Terminal pending agreed = false
 
 abbrev pub acted : Application → Conn → Option Sent
 acted app conn =

@@ -4,6 +4,14 @@ pub mod Session
 pub mod Takes
 pub mod Acts
 pub mod Notes
+pub mod Answering
+pub mod Says
+pub mod State
+pub mod Items
+pub mod Bytes
+pub mod Feeds
+pub mod Does
 pub mod NoteLaws
 pub mod Laws
-pub mod Answering
+pub mod Rooms
+pub mod Keeps

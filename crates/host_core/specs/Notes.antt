@@ -10,7 +10,9 @@ use Rattle.tn3270e_msg.specs.Header.{next_number}
 use Rattle.host_core.specs.Acts.{Sent}
 use Rattle.host_core.specs.Application.{message_place}
 use Rattle.host_core.specs.Messages.{ToTerminal}
-use Rattle.host_core.specs.Session.{Conn, Turn, Pending, is_agreed}
+use Rattle.host_core.specs.declared.turn.Turn.{Turn}
+use Rattle.host_core.specs.declared.turn.Turn.TheVariants as whose
+use Rattle.host_core.specs.Session.{Conn, Pending, is_agreed}
 
 -- a character of code page 037
 abbrev pub is_graphic : ℕ → Bool
@@ -38,11 +40,11 @@ note_command shape text = record { code = Write; wcc = Some quiet; orders = note
 
 -- in the operator's turn, where nothing waits for an answer
 abbrev pub may_note : Turn → Pending → Bool → Bool
-may_note Turn.Terminal Pending.Nothing agreed = agreed
-may_note Turn.Terminal (Pending.Writing number command) agreed = false
-may_note Turn.Terminal (Pending.Reading number) agreed = false
-may_note Turn.Terminal (Pending.Noting number command) agreed = false
-may_note Turn.Host pending agreed = false
+may_note whose.Terminal Pending.Nothing agreed = agreed
+may_note whose.Terminal (Pending.Writing number command) agreed = false
+may_note whose.Terminal (Pending.Reading number) agreed = false
+may_note whose.Terminal (Pending.Noting number command) agreed = false
+may_note whose.Host pending agreed = false
 
 -- the turn stays, and what is believed, until the note is answered
 abbrev pub noted_as : List ℕ → Conn → Sent

@@ -1,20 +1,19 @@
 -- One connection as the host has it (our profile).
 use Rattle.std.specs.Prelude.{ℕ, Bool, true, false, List, [], Option, Some, None}
 use Rattle.codes3270.specs.Size.{Shape}
-use Rattle.codes3270.specs.declared.attention.Aid.{Aid}
 use Rattle.datastream.specs.Grammar.{CommandParts}
 use Rattle.shadow.specs.Belief.{Shadow}
 use Rattle.panels.specs.declared.message.Message.{Message}
 use Rattle.panels.specs.declared.message.Message.TheVariants.{Fresh}
 use Rattle.panels.specs.Screen.{Values}
+use Rattle.host_core.specs.declared.occasion.Occasion.{Occasion}
+use Rattle.host_core.specs.declared.occasion.Occasion.TheVariants.{Agreement}
+use Rattle.host_core.specs.declared.turn.Turn.{Turn}
+use Rattle.host_core.specs.declared.turn.Turn.TheVariants.{Host}
 use Rattle.tn3270e_msg.specs.Talk.{Talk}
 use Rattle.tn3270e_msg.specs.HostTable.{host_start}
 use Rattle.tn3270e_msg.specs.declared.host_talk.HostState.{HostState}
 use Rattle.tn3270e_msg.specs.declared.host_talk.HostState.TheVariants.{Offered, Asked, Asking, Named, Countered, Agreed, Closed}
-
-pub data Turn : Type 0 where
-  Host : Turn
-  Terminal : Turn
 
 -- the command that isn't answered yet, with its number: a paint, a Read Buffer, or a note
 pub data Pending : Type 0 where
@@ -22,13 +21,6 @@ pub data Pending : Type 0 where
   Writing : ℕ → CommandParts → Pending
   Reading : ℕ → Pending
   Noting : ℕ → CommandParts → Pending
-
--- Why the host holds the turn: the session was agreed; a key was pressed, and whether a Read Buffer was answered since; or its
--- last command was refused.
-pub data Occasion : Type 0 where
-  Agreement : Occasion
-  Key : Aid → (buffered : Bool) → Occasion
-  Refusal : Occasion
 
 pub record Conn : Type 0 where
   pub talk : Talk HostState
@@ -47,14 +39,14 @@ abbrev pub new_conn : Shape → Conn
 new_conn shape = record {
   talk = host_start;
   shape = shape;
-  turn = Turn.Host;
+  turn = Host;
   pending = Pending.Nothing;
   number = 0;
   shadow = Shadow.NothingKnown;
   panel = 0;
   message = Fresh;
   values = [];
-  occasion = Occasion.Agreement;
+  occasion = Agreement;
 }
 
 -- both ends agreed

@@ -8,12 +8,14 @@ use Rattle.datastream.specs.Grammar.{CommandParts}
 use Rattle.datastream.specs.InboundText.{InboundParts}
 use Rattle.datastream.specs.declared.inbound_part.Form.{Form}
 use Rattle.datastream.specs.declared.inbound_part.Form.TheVariants.{Modified, All as AllModified, Buffer}
+use Rattle.lu_pool.specs.Holders.{granted_if, given_back}
+use Rattle.lu_pool.specs.declared.entry.Entry.{Entry}
 use Rattle.shadow.specs.Belief.{Shadow}
 use Rattle.shadow.specs.Exactness.{is_erase}
 use Rattle.shadow.specs.Heard.{heard}
 use Rattle.shadow.specs.Taken.{taken}
 use Rattle.shadow.specs.declared.fault.HeardFault.{HeardFault}
-use Rattle.tn3270e_msg.specs.Talk.{Talk, follow, Saying, says, sayings, closing}
+use Rattle.tn3270e_msg.specs.Talk.{Talk, Comes, follow, says, sayings, closing}
 use Rattle.tn3270e_msg.specs.HostTable.{host_line, answer_line}
 use Rattle.tn3270e_msg.specs.declared.cause.Cause.{Cause}
 use Rattle.tn3270e_msg.specs.declared.cause.Cause.TheVariants.{BadInbound, BadResponse, Negative as NegativeCause}
@@ -23,7 +25,11 @@ use Rattle.tn3270e_msg.specs.declared.reply.Reason.{Reason}
 use Rattle.tn3270e_msg.specs.declared.reply.Reply.{Reply}
 use Rattle.tn3270e_msg.specs.declared.reply.Reply.TheVariants as reply
 use Rattle.host_core.specs.Messages.{ToTerminal, ToHost, Verdict}
-use Rattle.host_core.specs.Session.{Conn, Turn, Pending, Occasion, is_agreed}
+use Rattle.host_core.specs.declared.turn.Turn.{Turn}
+use Rattle.host_core.specs.declared.turn.Turn.TheVariants as whose
+use Rattle.host_core.specs.declared.occasion.Occasion.{Occasion}
+use Rattle.host_core.specs.declared.occasion.Occasion.TheVariants as occasions
+use Rattle.host_core.specs.Session.{Conn, Pending, is_agreed}
 
 pub record Step : Type 0 where
   pub conn : Conn
@@ -68,8 +74,9 @@ abbrev pub talked_on : Answers → Conn → Talk HostState → Reply → Step
 talked_on pool conn talk (reply.AskPool name) = asked conn talk (pool name) talk.state
 talked_on pool conn talk reply = replied conn None (talk, reply)
 
-abbrev pub talked : Answers → Conn → Talk HostState → Saying → Step
-talked pool conn talk saying = let next = follow Closed talk (host_line talk.state (says saying)) in talked_on pool conn next.0 next.1
+-- something comes to the talk, as its table names it
+abbrev pub talked : Answers → Conn → Talk HostState → Comes → Step
+talked pool conn talk comes = let next = follow Closed talk (host_line talk.state comes) in talked_on pool conn next.0 next.1
 
 -- ---- data
 
@@ -77,17 +84,24 @@ talked pool conn talk saying = let next = follow Closed talk (host_line talk.sta
 abbrev pub hears : InboundParts → Conn → Result Shadow HeardFault
 hears parts conn = heard (cells_in conn.shape) conn.shadow parts
 
+-- Data doesn't say its own form: the host reads it as the whole screen while a read is pending, else as modified fields.
+abbrev pub form_awaited : Pending → Form
+form_awaited (Pending.Reading number) = Buffer
+form_awaited (Pending.Writing number command) = Modified
+form_awaited (Pending.Noting number command) = Modified
+form_awaited Pending.Nothing = Modified
+
 -- what was heard is believed, and the turn is the host's; what still waits for an answer then
 abbrev pub believed : Occasion → Pending → Conn → Result Shadow HeardFault → Step
 believed occasion pending conn (Ok shadow) =
-    quiet (record conn { shadow = shadow; turn = Turn.Host; pending = pending; occasion = occasion })
+    quiet (record conn { shadow = shadow; turn = whose.Host; pending = pending; occasion = occasion })
 believed occasion pending conn (Err fault) = closed_by BadInbound conn
 
 -- the key that was pressed last, and its screen was read
 abbrev pub once_read : Occasion → Occasion
-once_read (Occasion.Key aid buffered) = Occasion.Key aid true
-once_read Occasion.Agreement = Occasion.Agreement
-once_read Occasion.Refusal = Occasion.Refusal
+once_read (occasions.Key aid buffered) = occasions.Key aid true
+once_read occasions.Agreement = occasions.Agreement
+once_read occasions.Refusal = occasions.Refusal
 
 -- the answer to Read Buffer
 abbrev pub buffer_came : InboundParts → Form → Conn → Step
@@ -98,10 +112,10 @@ buffer_came parts AllModified conn = closed_by BadInbound conn
 -- a key was pressed; a note that isn't answered yet still waits
 abbrev pub key_came : InboundParts → Aid → Conn → Step
 key_came parts NoAid conn = closed_by BadInbound conn
-key_came parts Enter conn = believed (Occasion.Key Enter false) conn.pending conn (hears parts conn)
-key_came parts Clear conn = believed (Occasion.Key Clear false) conn.pending conn (hears parts conn)
-key_came parts (Pf key) conn = believed (Occasion.Key (Pf key) false) conn.pending conn (hears parts conn)
-key_came parts (Pa key) conn = believed (Occasion.Key (Pa key) false) conn.pending conn (hears parts conn)
+key_came parts Enter conn = believed (occasions.Key Enter false) conn.pending conn (hears parts conn)
+key_came parts Clear conn = believed (occasions.Key Clear false) conn.pending conn (hears parts conn)
+key_came parts (Pf key) conn = believed (occasions.Key (Pf key) false) conn.pending conn (hears parts conn)
+key_came parts (Pa key) conn = believed (occasions.Key (Pa key) false) conn.pending conn (hears parts conn)
 
 abbrev pub key_data_came : InboundParts → Form → Conn → Step
 key_data_came parts Modified conn = key_came parts parts.aid conn
@@ -112,10 +126,10 @@ key_data_came parts Buffer conn = closed_by BadInbound conn
 abbrev pub data_came : InboundParts → Turn → Pending → Conn → Step
 data_came parts turn (Pending.Reading number) conn = buffer_came parts parts.form conn
 data_came parts turn (Pending.Writing number command) conn = closed_by BadInbound conn
-data_came parts Turn.Host Pending.Nothing conn = closed_by BadInbound conn
-data_came parts Turn.Host (Pending.Noting number command) conn = closed_by BadInbound conn
-data_came parts Turn.Terminal Pending.Nothing conn = key_data_came parts parts.form conn
-data_came parts Turn.Terminal (Pending.Noting number command) conn = key_data_came parts parts.form conn
+data_came parts whose.Host Pending.Nothing conn = closed_by BadInbound conn
+data_came parts whose.Host (Pending.Noting number command) conn = closed_by BadInbound conn
+data_came parts whose.Terminal Pending.Nothing conn = key_data_came parts parts.form conn
+data_came parts whose.Terminal (Pending.Noting number command) conn = key_data_came parts parts.form conn
 
 -- ---- responses
 
@@ -126,7 +140,7 @@ answered command conn = record conn { shadow = taken (cells_in conn.shape) comma
 -- the command was refused: nothing is known any more
 abbrev pub refused : Conn → Conn
 refused conn =
-    record conn { shadow = Shadow.NothingKnown; turn = Turn.Host; pending = Pending.Nothing; occasion = Occasion.Refusal }
+    record conn { shadow = Shadow.NothingKnown; turn = whose.Host; pending = Pending.Nothing; occasion = occasions.Refusal }
 
 -- after the refusal of an erase the host has nothing left to try
 abbrev pub write_refused : CommandParts → Conn → Step
@@ -160,6 +174,17 @@ once_agreed true step conn = step
 once_agreed false step conn = quiet conn
 
 abbrev pub took : Answers → Conn → ToHost → Step
-took pool conn (ToHost.TalksUp saying) = talked pool conn conn.talk saying
+took pool conn (ToHost.TalksUp saying) = talked pool conn conn.talk (says saying)
 took pool conn (ToHost.Data parts) = once_agreed (is_agreed conn.talk.state) (data_came parts conn.turn conn.pending conn) conn
 took pool conn (ToHost.Response number verdict) = once_agreed (is_agreed conn.talk.state) (response_came number verdict conn.pending conn) conn
+
+-- ---- the pool
+
+-- where a connection closes, its LU is free
+abbrev pub freed_if : ℕ → Option Cause → List Entry → List Entry
+freed_if number None pool = pool
+freed_if number (Some cause) pool = given_back number pool
+
+-- what a step of the connection with this number makes of the pool
+abbrev pub pool_after : ℕ → Step → List Entry → List Entry
+pool_after number step pool = freed_if number step.closes (granted_if number step.grants pool)

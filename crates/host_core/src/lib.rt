@@ -5,6 +5,19 @@ ghost use Rattle.host_core.specs.Answering.{BelievesNoSooner, BelievesNotesNoSoo
 ghost use Rattle.host_core.specs.Laws.{ActsFit, PanelsAreShown, PanelsAskForScreens, ScreensAreWanted};
 ghost use Rattle.host_core.specs.NoteLaws.{HeldTakesNotes, NotesAreNotes, NotesAreOverCharacters, NotesOverwrite, NotesWriteProtected, PaintsTakeNotes, SameAttributesTakeNotes};
 
+mod acted;
+mod acting;
+mod occasion;
+mod pending;
+mod phase;
+mod room;
+mod session;
+mod turn;
+
+pub use acted::Acted;
+pub use phase::Phase;
+pub use turn::Turn;
+
 use datastream::{kept_since_the_write, written_is_read};
 use panels::{kept_fields_are_whole, the_last_row_is_for_messages};
 use shadow::what_a_note_leaves;

@@ -6,7 +6,7 @@ use Rattle.telnet_wire.specs.declared.wire.Step.TheVariants.{More, Ready}
 use Rattle.telnet_wire.specs.declared.wire.WireFault.{WireFault}
 use Rattle.telnet_wire.specs.declared.wire.WireFault.TheVariants.{Failed}
 use Rattle.telnet_wire.specs.Items.{WireItem}
-use Rattle.telnet_wire.specs.Reading.{Rest, nothing, Delivers, GoesWrong}
+use Rattle.telnet_wire.specs.Reading.{Rest, nothing, IsRest, Delivers, GoesWrong}
 
 -- A decoder, seen from outside: the data bytes that a record may have, the rest of the stream since `new` or `reset`,
 -- the item that the last byte completed, and whether a byte was refused.
@@ -23,6 +23,12 @@ fresh limit = record { limit = limit; rest = nothing; ready = None; failed = fal
 -- After a fault: it holds nothing, until `reset`.
 abbrev pub broken : ℕ → Held
 broken limit = record { limit = limit; rest = nothing; ready = None; failed = true }
+
+-- One with this limit that may go on: no byte was refused, and what it holds is within the limits.
+pub record IsRunning (limit : ℕ) (held : Held) : Type 0 where
+  pub limit_is : held.limit ≡ limit
+  pub runs : held.failed ≡ false
+  pub rest : IsRest limit held.rest
 
 -- What `push` answers of a byte that it took.
 abbrev pub step_of : Option WireItem → Step

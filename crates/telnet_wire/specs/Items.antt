@@ -4,7 +4,8 @@ use Rattle.std.specs.Prelude.{ℕ, ◌≤◌, List, [], ◌∷◌, ◌++◌, len
 use Rattle.telnet_wire.specs.declared.wire.Verb.{Verb}
 use Rattle.telnet_wire.specs.declared.wire.Item.{Item}
 use Rattle.telnet_wire.specs.declared.wire.Item.TheVariants as lent
-use Rattle.telnet_wire.specs.Token.{Token, Data, End, Opt as OptToken, Sub as SubToken, Other as OtherToken, IsOtherCode}
+use Rattle.std.specs.List.{flat_map}
+use Rattle.telnet_wire.specs.Token.{Token, Data, End, Opt as OptToken, Sub as SubToken, Other as OtherToken, IsOtherCode, text}
 
 -- What a stream hands out: a whole record (RFC 885), an option's negotiation or a subnegotiation (RFC 855), or another
 -- command (RFC 854, "TELNET Command Structure").
@@ -61,3 +62,7 @@ CanCome limit (Record bytes) = length bytes ≤ limit
 CanCome limit (Opt verb code) = Unit {0}
 CanCome limit (Sub bytes) = length bytes ≤ 256
 CanCome limit (Other code) = IsOtherCode code
+
+-- The bytes of items that are sent one after another.
+abbrev pub sent_bytes : List WireItem → List ℕ
+sent_bytes items = flat_map (λ item. text (item_tokens item)) items

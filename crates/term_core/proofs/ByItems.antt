@@ -2,15 +2,15 @@
 use Rattle.std.proofs.Common.{◌≡◌, ℕ, List, [], ◌∷◌, ◌++◌, sym, ◌∙◌, ap, subst, refl, None, Some, append_assoc}
 use Rattle.std.proofs.lemmas.List.{append-nil}
 use Rattle.std.proofs.lemmas.Grind.{flat_map-append}
-use Rattle.telnet_wire.specs.Items.{WireItem, item_tokens}
+use Rattle.telnet_wire.specs.Items.{WireItem, item_tokens, sent_bytes}
 use Rattle.telnet_wire.specs.Token.{text}
 use Rattle.telnet_wire.specs.Reading.{Rest, IsRest, Delivers}
 use Rattle.telnet_wire.specs.Laws.{ReadingNothing, DeliveriesCompose}
 use Rattle.tn3270e_msg.specs.TermTable.{Term}
 use Rattle.tn3270e_msg.specs.declared.cause.Cause.{Cause}
 use Rattle.tn3270e_msg.specs.declared.cause.Cause.TheVariants.{Wire}
-use Rattle.term_core.specs.State.{Station, Terminal, Link, Attached, Closed, record_limit}
-use Rattle.term_core.specs.Says.{sent_bytes}
+use Rattle.tn3270e_msg.specs.Header.{record_limit}
+use Rattle.term_core.specs.State.{Station, Terminal, Link, Attached, Closed}
 use Rattle.term_core.specs.Items.{TakesItem}
 use Rattle.term_core.specs.Bytes.{TakesByte, TakesBytes, before_byte}
 use Rattle.term_core.specs.Laws.{TakesItems, IsByItems, BytesAreItems}

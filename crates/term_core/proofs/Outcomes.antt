@@ -4,7 +4,7 @@ use Rattle.datastream.specs.Grammar.{CommandParts, IsCommand, IsNoCommand}
 use Rattle.datastream.specs.declared.fault.CommandFault.{CommandFault}
 use Rattle.datastream.proofs.Commands.{one_command, command_or_fault, one_command_fault}
 use Rattle.telnet_wire.specs.declared.wire.WireFault.{WireFault}
-use Rattle.telnet_wire.specs.Items.{WireItem, Record, Opt, Sub, Other}
+use Rattle.telnet_wire.specs.Items.{WireItem, Record, Opt, Sub, Other, sent_bytes}
 use Rattle.telnet_wire.specs.Reading.{Rest, Delivers, GoesWrong}
 use Rattle.telnet_wire.specs.Laws.{OneDelivery, WrongIsFinal}
 use Rattle.tn3270e_msg.specs.declared.cause.Cause.{Cause}
@@ -15,8 +15,8 @@ use Rattle.tn3270e_msg.specs.declared.term_talk.TermState.TheVariants as at
 use Rattle.tn3270e_msg.specs.Talk.{Talk, items_sent, follow, closing}
 use Rattle.tn3270e_msg.specs.TermTable.{Term, TermTakes, term_line}
 use Rattle.tn3270e_msg.specs.Laws.{OneHeader, FaultIsNoHeader, OneHearing}
-use Rattle.term_core.specs.State.{Station, Terminal, Link, Attached, record_limit}
-use Rattle.term_core.specs.Says.{sent_bytes}
+use Rattle.tn3270e_msg.specs.Header.{record_limit}
+use Rattle.term_core.specs.State.{Station, Terminal, Link, Attached}
 use Rattle.term_core.specs.Records.{TakesRecord, refused_response, refusal_of, answer_of, obeyed}
 use Rattle.term_core.specs.Items.{TakesItem, TakesItemIn, TalksOn}
 use Rattle.term_core.specs.Bytes.{TakesByte, TakesBytes, before_byte, link_after}

@@ -13,7 +13,7 @@ use Rattle.telnet_wire.specs.declared.wire.WireFault.TheVariants.{TooLong, BadSu
 use Rattle.telnet_wire.specs.Token.{End}
 use Rattle.telnet_wire.specs.declared.wire.Item.{Item}
 use Rattle.telnet_wire.specs.declared.wire.Item.TheVariants as lent
-use Rattle.telnet_wire.specs.Items.{WireItem, Record, Opt, Sub, Other, item_of}
+use Rattle.telnet_wire.specs.Items.{WireItem, Record, Opt, Sub, Other, item_of, sent_bytes}
 use Rattle.telnet_wire.specs.Reading.{Rest, nothing, IsRest, Delivers, GoesWrong}
 use Rattle.telnet_wire.specs.Held.{Held, fresh, Takes, Refuses, step_of}
 use Rattle.tn3270e_msg.specs.declared.cause.Cause.{Cause}
@@ -23,13 +23,14 @@ use Rattle.tn3270e_msg.specs.declared.header.HeadFault.{HeadFault}
 use Rattle.tn3270e_msg.specs.declared.header.Header.{Header}
 use Rattle.tn3270e_msg.specs.declared.term_talk.TermState.{TermState}
 use Rattle.tn3270e_msg.specs.declared.term_talk.TermState.TheVariants as at
-use Rattle.tn3270e_msg.specs.Header.{Begins, HasFault}
+use Rattle.tn3270e_msg.specs.Header.{Begins, HasFault, record_limit}
 use Rattle.tn3270e_msg.specs.declared.reply.Reply.{Reply}
 use Rattle.tn3270e_msg.specs.Talk.{items_sent, closing}
 use Rattle.tn3270e_msg.specs.TermTable.{Term, TermTakes}
-use Rattle.term_core.specs.State.{Station, Terminal, Attached, record_limit}
+use Rattle.telnet_wire.proofs.Running.{goes_wrong, delivers_none, delivers_item}
+use Rattle.term_core.specs.State.{Station, Terminal, Attached}
 use Rattle.term_core.specs.declared.outcome.Outcome.{Outcome}
-use Rattle.term_core.specs.Says.{sent_bytes, response}
+use Rattle.term_core.specs.Says.{response}
 use Rattle.term_core.specs.Records.{TakesRecord, refused_response, refusal_of, answer_of, obeyed}
 use Rattle.term_core.specs.Items.{TakesItem, TakesItemIn, TalksOn}
 use Rattle.term_core.specs.Bytes.{TakesByte, TakesBytes, before_byte, link_after}
@@ -133,49 +134,11 @@ for_talk talk after old item reply before out closes other takes ends sent = rec
 
 -- ---- a byte
 
-pub nothing_is_rest : IsRest record_limit nothing
-nothing_is_rest = record {
-  unfinished = lit≤ tt;
-  partial = record { token = End; missing = 255 ∷ 239 ∷ []; proper = λ e. cc; is_token = tt; is_short = tt; spelt = refl };
-}
-
--- a decoder that was reset may go on
-pub fresh_runs : (held : Held) (limit : ℕ) → held ≡ fresh limit → limit ≡ record_limit → IsRunning held
-fresh_runs held limit is right = record {
-  limit = ap (λ (h : Held). h.limit) is ∙ right;
-  runs = ap (λ (h : Held). h.failed) is;
-  rest = subst (λ (rest : Rest). IsRest record_limit rest) (sym (ap (λ (h : Held). h.rest) is)) nothing_is_rest;
-}
-
-pub goes_wrong : (held : Held) (byte : ℕ) (fault : WireFault) → IsRunning held → Refuses held byte fault
-    → GoesWrong record_limit held.rest (byte ∷ []) fault
-goes_wrong held byte TooLong running refused = rw (← running.limit) refused.1
-goes_wrong held byte BadSub running refused = rw (← running.limit) refused.1
-goes_wrong held byte Memory running refused = rw (← running.limit) refused.1
-goes_wrong held byte Failed running refused = absurd (cc (running.runs, refused))
-
-pub delivers_none : (limit : ℕ) (from : Rest) (byte : ℕ) (to : Rest) (ready : Option WireItem) → More ≡ step_of ready
-    → Delivers limit from (byte ∷ []) (option_to_list ready) to → Delivers limit from (byte ∷ []) [] to
-delivers_none limit from byte to None step delivers = delivers
-delivers_none limit from byte to (Some item) step delivers = absurd (cc)
-
-pub delivers_item : (limit : ℕ) (from : Rest) (byte : ℕ) (to : Rest) (ready : Option WireItem) (item : WireItem) → ready ≡ Some item
-    → Delivers limit from (byte ∷ []) (option_to_list ready) to → Delivers limit from (byte ∷ []) (item ∷ []) to
-delivers_item limit from byte to ready item is delivers =
-    rw is at delivers
-
-pub still_running : (held after : Held) (byte : ℕ) → IsRunning held → Takes held byte after → IsRunning after
-still_running held after byte running takes = record {
-  limit = takes.limit ∙ running.limit;
-  runs = takes.runs;
-  rest = rw (← running.limit) takes.delivers.is_rest;
-}
-
 pub byte_breaks : (held after : Held) (talk : Term) (old station : Station) (out : Vec ℕ Global) (byte : ℕ) (fault : WireFault)
     → IsRunning held → Refuses held byte fault → station ≡ before_byte old
     → TakesByte (terminal_of held talk None old out) byte (terminal_of after talk (Some Wire) station out)
 byte_breaks held after talk old station out byte fault running refused at =
-    TakesByte.breaks held.rest talk fault refl (goes_wrong held byte fault running refused)
+    TakesByte.breaks held.rest talk fault refl (goes_wrong record_limit held byte fault running refused)
     (ap (λ (s : Station). terminal_of after talk (Some Wire) s out) at)
 
 pub byte_goes_on : (held after : Held) (talk : Term) (old station : Station) (out : Vec ℕ Global) (byte : ℕ)
@@ -183,7 +146,7 @@ pub byte_goes_on : (held after : Held) (talk : Term) (old station : Station) (ou
     → TakesByte (terminal_of held talk None old out) byte (terminal_of after talk None station out)
 byte_goes_on held after talk old station out byte running takes more at =
     TakesByte.goes_on held.rest after.rest talk refl
-    (delivers_none record_limit held.rest byte after.rest after.ready more (rw (← running.limit) takes.delivers))
+    (delivers_none record_limit held after byte running takes more)
     (ap (λ (s : Station). terminal_of after talk None s out) at)
 
 pub byte_completes : (held after : Held) (talk talks : Term) (old station new : Station) (before out : Vec ℕ Global) (byte : ℕ) (item : WireItem) (closes : Option Cause)
@@ -192,13 +155,13 @@ pub byte_completes : (held after : Held) (talk talks : Term) (old station new : 
     → TakesByte (terminal_of held talk None old before) byte (terminal_of after talks closes new out)
 byte_completes held after talk talks old station new before out byte item closes running takes ready at taken =
     TakesByte.completes held.rest after.rest talk talks item taken.says closes new refl
-    (delivers_item record_limit held.rest byte after.rest after.ready item ready (rw (← running.limit) takes.delivers))
+    (delivers_item record_limit held after byte item running takes ready)
     (subst (λ (s : Station). TakesItem talk s item taken.says closes talks new) at taken.takes)
     (ap (λ (bytes : List ℕ). record { link = link_after after.rest talks closes; station = new; out = bytes }) taken.sent)
 
 pub left_running : (closes : Option Cause) (held : Held) → IsRunning held → IsLeft closes held
 left_running None held running = running
-left_running (Some cause) held running = running.limit
+left_running (Some cause) held running = running.limit_is
 
 -- ---- bytes
 
@@ -226,5 +189,5 @@ byte_more start bytes place held talk station out roomy new below same taken mor
 
 pub limit_of : (attachment : Attachment) (held : Held) → IsSound attachment held → held.limit ≡ record_limit
 limit_of part.Detached held sound = sound
-limit_of (part.Attached talk) held sound = sound.limit
+limit_of (part.Attached talk) held sound = sound.limit_is
 limit_of (part.Closed cause) held sound = sound

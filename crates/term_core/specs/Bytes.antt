@@ -1,14 +1,14 @@
 -- What a terminal makes of bytes: they are read as the stream of RFC 854, 855 and 885, and what this hands out is taken. That
 -- the terminal closes where the stream is broken is our profile.
 use Rattle.std.specs.Prelude.{◌≡◌, ℕ, false, List, [], ◌∷◌, ◌++◌, Option, None, Some}
-use Rattle.telnet_wire.specs.Items.{WireItem}
+use Rattle.telnet_wire.specs.Items.{WireItem, sent_bytes}
 use Rattle.telnet_wire.specs.Reading.{Rest, Delivers, GoesWrong}
 use Rattle.telnet_wire.specs.declared.wire.WireFault.{WireFault}
 use Rattle.tn3270e_msg.specs.TermTable.{Term}
 use Rattle.tn3270e_msg.specs.declared.cause.Cause.{Cause}
 use Rattle.tn3270e_msg.specs.declared.cause.Cause.TheVariants.{Wire}
-use Rattle.term_core.specs.State.{Terminal, Link, Station, Attached, Closed, record_limit}
-use Rattle.term_core.specs.Says.{sent_bytes}
+use Rattle.tn3270e_msg.specs.Header.{record_limit}
+use Rattle.term_core.specs.State.{Terminal, Link, Station, Attached, Closed}
 use Rattle.term_core.specs.Items.{TakesItem}
 
 -- the station before what the byte completes: no write is taken yet

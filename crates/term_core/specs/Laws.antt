@@ -1,11 +1,11 @@
 -- A terminal is one machine: what it becomes and what it sends is a function of what it was and of the bytes, however they
 -- are cut into pieces (our profile: RFC 854 knows no pieces).
 use Rattle.std.specs.Prelude.{◌≡◌, ℕ, List, [], ◌∷◌, ◌++◌, None}
-use Rattle.telnet_wire.specs.Items.{WireItem}
+use Rattle.telnet_wire.specs.Items.{WireItem, sent_bytes}
 use Rattle.telnet_wire.specs.Reading.{Rest, IsRest, Delivers}
 use Rattle.tn3270e_msg.specs.TermTable.{Term}
-use Rattle.term_core.specs.State.{Station, Terminal, Attached, record_limit}
-use Rattle.term_core.specs.Says.{sent_bytes}
+use Rattle.tn3270e_msg.specs.Header.{record_limit}
+use Rattle.term_core.specs.State.{Station, Terminal, Attached}
 use Rattle.term_core.specs.Items.{TakesItem}
 use Rattle.term_core.specs.Bytes.{TakesBytes, before_byte}
 

@@ -2,17 +2,16 @@
 -- are seen as: over these parts, and what is sent is appended to a vector.
 use Rattle.std.specs.Prelude.{◌≡◌, ℕ, false, List, ◌++◌, Option, None, Some, Vec}
 use Rattle.std.specs.declared.alloc.Global.{Global}
-use Rattle.telnet_wire.specs.Items.{WireItem}
-use Rattle.telnet_wire.specs.Reading.{IsRest}
-use Rattle.telnet_wire.specs.Held.{Held}
+use Rattle.telnet_wire.specs.Items.{WireItem, sent_bytes}
+use Rattle.telnet_wire.specs.Held.{Held, IsRunning as Running}
 use Rattle.tn3270e_msg.specs.TermTable.{Term}
 use Rattle.tn3270e_msg.specs.declared.cause.Cause.{Cause}
 use Rattle.tn3270e_msg.specs.declared.cause.Stop.{Stop}
 use Rattle.tn3270e_msg.specs.declared.cause.Stop.TheVariants.{Going, Memory, Closed as ClosedStop}
 use Rattle.term_core.specs.declared.terminal.Attachment.{Attachment}
 use Rattle.term_core.specs.declared.terminal.Attachment.TheVariants as part
-use Rattle.term_core.specs.State.{Station, Terminal, Link, Detached, Attached, Closed, record_limit}
-use Rattle.term_core.specs.Says.{sent_bytes}
+use Rattle.tn3270e_msg.specs.Header.{record_limit}
+use Rattle.term_core.specs.State.{Station, Terminal, Link, Detached, Attached, Closed}
 use Rattle.term_core.specs.Records.{TakesRecord}
 use Rattle.term_core.specs.Items.{TakesItem}
 use Rattle.term_core.specs.Bytes.{link_after}
@@ -30,10 +29,8 @@ pub record ItemTaken (talk : Term) (old : Station) (item : WireItem) (before aft
   pub sent : after.items ≡ before.items ++ sent_bytes says
 
 -- a decoder that may go on
-pub record IsRunning (held : Held) : Type 0 where
-  pub limit : held.limit ≡ record_limit
-  pub runs : held.failed ≡ false
-  pub rest : IsRest record_limit held.rest
+abbrev pub IsRunning : Held → Type 0
+IsRunning held = Running record_limit held
 
 -- a decoder of a terminal that has closed, where there is a cause, or goes on
 abbrev pub IsLeft : Option Cause → Held → Type 0

@@ -8,9 +8,8 @@ use Rattle.keyboard.specs.Keys.{Outcome, pressed}
 use Rattle.keyboard.specs.declared.key.Key.{Key}
 use Rattle.keyboard.specs.declared.key.Pressed.{Pressed}
 use Rattle.keyboard.specs.declared.key.Pressed.TheVariants.{Done, Refused, Send}
-use Rattle.telnet_wire.specs.Items.{WireItem}
+use Rattle.telnet_wire.specs.Items.{WireItem, sent_bytes}
 use Rattle.term_core.specs.State.{Station, Terminal, phase_of, is_bound}
-use Rattle.term_core.specs.Says.{sent_bytes}
 use Rattle.term_core.specs.Records.{data_sent, numbered}
 
 -- the data that a key sends, by what the keyboard answers: a terminal that is bound sends its modified fields, another

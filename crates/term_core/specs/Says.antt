@@ -1,8 +1,6 @@
 -- What a terminal sends (RFC 1647, sections 8.1 and 10.4; a record's end is RFC 885's).
 use Rattle.std.specs.Prelude.{ℕ, List, [], ◌∷◌, ◌++◌}
-use Rattle.std.specs.List.{flat_map}
-use Rattle.telnet_wire.specs.Items.{WireItem, Record, item_tokens}
-use Rattle.telnet_wire.specs.Token.{text}
+use Rattle.telnet_wire.specs.Items.{WireItem, Record}
 use Rattle.tn3270e_msg.specs.Header.{spelling}
 use Rattle.tn3270e_msg.specs.declared.header.Header.{Header}
 use Rattle.tn3270e_msg.specs.declared.header.DataType.TheVariants.{Data3270, Response}
@@ -34,7 +32,3 @@ data_header number = record { kind = Data3270; request = 0; flag = 0; seq = numb
 -- the record of inbound data with this number, which wants no response
 abbrev pub data_record : ℕ → List ℕ → WireItem
 data_record number body = Record (spelling (data_header number) ++ body)
-
--- the bytes of what is sent, one after another
-abbrev pub sent_bytes : List WireItem → List ℕ
-sent_bytes items = flat_map (λ item. text (item_tokens item)) items

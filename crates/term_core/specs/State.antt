@@ -30,10 +30,6 @@ pub record Terminal : Type 0 where
   pub station : Station
   pub out : List ℕ  -- what it has to send
 
--- the data bytes that a record may have
-abbrev pub record_limit : ℕ
-record_limit = 16384
-
 -- a screen that was left, with a keyboard that waits
 abbrev pub waiting : Screen → Station
 waiting screen = record { screen = screen; keyboard = fresh; number = 0; took_write = false }

@@ -42,4 +42,4 @@ pub use laws::one_machine;
 pub use outcome::Outcome;
 pub use phase::TermPhase;
 pub use screen_text::screen_lines;
-pub use terminal::{RECORD_LIMIT, Terminal};
+pub use terminal::Terminal;

@@ -14,10 +14,7 @@ use presentation::Screen;
 use std::alloc::{AllocError, Global};
 use std::marker::Model;
 use telnet_wire::{Decoder, Memory};
-use tn3270e_msg::{Cause, Fed, Lu, Stop, TermState, TermTalk};
-
-/// The data bytes that a record may have (our profile).
-pub const RECORD_LIMIT: usize = 16_384;
+use tn3270e_msg::{Cause, Fed, Lu, RECORD_LIMIT, Stop, TermState, TermTalk};
 
 /// Whether the terminal is attached to a connection.
 #[derive(Drop)]

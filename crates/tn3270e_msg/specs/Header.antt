@@ -70,3 +70,7 @@ HasFault bytes BadFlag =
 -- the number of the record after the one with this number (our profile: 0 to 32767, round)
 abbrev pub next_number : ℕ → ℕ
 next_number seq = if nat_lt seq 32767 then seq + 1 else 0
+
+-- the data bytes that a record may have, its header among them (our profile)
+abbrev pub record_limit : ℕ
+record_limit = 16384

@@ -75,6 +75,9 @@ impl DataType {
     }
 }
 
+/// The data bytes that a record may have, its header among them (our profile).
+pub const RECORD_LIMIT: usize = 16_384;
+
 /// RESPONSE-FLAG of 3270-DATA that wants no response (RFC 1647, section 8.1.3).
 pub const NO_RESPONSE: u8 = 0;
 

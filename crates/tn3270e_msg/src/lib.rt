@@ -44,7 +44,7 @@ pub use cause::{Cause, Fed, Stop};
 pub use device::Device;
 pub use header::{
     ALWAYS_RESPONSE, DataType, ERROR_RESPONSE, HeadFault, Header, NEGATIVE, NO_RESPONSE, POSITIVE,
-    flag_laws, header_bytes, next_seq, read_header,
+    RECORD_LIMIT, flag_laws, header_bytes, next_seq, read_header,
 };
 pub use host_talk::{HostState, HostTalk};
 pub use lu::Lu;

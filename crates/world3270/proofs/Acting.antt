@@ -20,7 +20,11 @@ use Rattle.host_core.specs.Laws.{IsPaintable}
 use Rattle.host_core.specs.Messages.{ToTerminal}
 use Rattle.host_core.specs.NoteLaws.{IsNoteOf}
 use Rattle.host_core.specs.Notes.{IsNoteText, note_command, may_note, noted_as, noted}
-use Rattle.host_core.specs.Session.{Conn, Turn, Pending, Occasion, is_agreed}
+use Rattle.host_core.specs.declared.turn.Turn.{Turn}
+use Rattle.host_core.specs.declared.turn.Turn.TheVariants as whose
+use Rattle.host_core.specs.declared.occasion.Occasion.{Occasion}
+use Rattle.host_core.specs.declared.occasion.Occasion.TheVariants as occasions
+use Rattle.host_core.specs.Session.{Conn, Pending, is_agreed}
 use Rattle.world3270.specs.Given.{Given}
 use Rattle.world3270.specs.Link.{Link, sent, host_sent}
 use Rattle.world3270.specs.Moments.{Kind, UnderWay, Talking, Serving, Moment, IsAt, host_talk_at, term_state_at, turn_at, pending_at, down_at, up_at}
@@ -87,9 +91,9 @@ key_uncleared app conn (PfAid key) buffered e is = absurd (cc)
 key_uncleared app conn (PaAid key) buffered e is = absurd (cc)
 
 reads_uncleared : (app : Application) (conn : Conn) (occasion : Occasion) (aid : Aid) → IsOccasion occasion aid → act_on app conn occasion ≡ Act.Read → aid ≡ ClearAid → ⊥
-reads_uncleared app conn Occasion.Agreement aid is e clear = absurd (cc)
-reads_uncleared app conn (Occasion.Key pressed buffered) aid is e clear = key_uncleared app conn pressed buffered e (is.0 ∙ clear)
-reads_uncleared app conn Occasion.Refusal aid is e clear = absurd is
+reads_uncleared app conn occasions.Agreement aid is e clear = absurd (cc)
+reads_uncleared app conn (occasions.Key pressed buffered) aid is e clear = key_uncleared app conn pressed buffered e (is.0 ∙ clear)
+reads_uncleared app conn occasions.Refusal aid is e clear = absurd is
 
 -- nothing is open where a panel is shown
 key_closed : (app : Application) (conn : Conn) (pressed : Aid) (buffered : Bool) (shadow : Shadow) (panel : ℕ) (message : Message) (keep : Bool) (values : Values)
@@ -103,9 +107,9 @@ key_closed app conn (PaAid key) false shadow panel message keep values e o = abs
 
 shown_closed : (app : Application) (conn : Conn) (occasion : Occasion) (shadow : Shadow) (panel : ℕ) (message : Message) (keep : Bool) (values : Values)
     → act_on app conn occasion ≡ Act.Show panel message keep values → IsOpenFor occasion shadow → NothingIsOpen shadow
-shown_closed app conn Occasion.Agreement shadow panel message keep values e o = o
-shown_closed app conn (Occasion.Key pressed buffered) shadow panel message keep values e o = key_closed app conn pressed buffered shadow panel message keep values e o
-shown_closed app conn Occasion.Refusal shadow panel message keep values e o = absurd o
+shown_closed app conn occasions.Agreement shadow panel message keep values e o = o
+shown_closed app conn (occasions.Key pressed buffered) shadow panel message keep values e o = key_closed app conn pressed buffered shadow panel message keep values e o
+shown_closed app conn occasions.Refusal shadow panel message keep values e o = absurd o
 
 abbrev command_of : Application → Conn → ℕ → Message → Bool → Values → CommandParts
 command_of app conn panel message keep values = paint (cells_in conn.shape) conn.shadow (wanted_by app conn panel message keep values)
@@ -173,7 +177,7 @@ module _ (given : Given) (app : Application) (is : IsApplication app) (link : Li
   now = sent_view (done app link.host (act_on app link.host link.host.occasion)) link
 
   -- it may act at two moments alone
-  may_act_at : link.host.turn ≡ Turn.Host → link.host.pending ≡ Pending.Nothing → is_agreed link.host.talk.state ≡ true → Kept app (view_of now)
+  may_act_at : link.host.turn ≡ whose.Host → link.host.pending ≡ Pending.Nothing → is_agreed link.host.talk.state ≡ true → Kept app (view_of now)
   may_act_at turns pends agrees = by_moment k.moment k.at k.fact
     where
       not_yet : (moment : Moment) → IsAt (view_of link) k.wanted moment → is_agreed (host_talk_at moment).state ≡ true
@@ -190,7 +194,7 @@ module _ (given : Given) (app : Application) (is : IsApplication app) (link : Li
       by_talk (Talking.Rejecting reason) at n = let x = not_yet (Moment.Talks (Talking.Rejecting reason)) at in absurd (cc)
       by_talk (Talking.Rejected reason) at n = let x = not_yet (Moment.Talks (Talking.Rejected reason)) at in absurd (cc)
 
-      by_serving : (lu : List ℕ) (serving : Serving) → IsAt (view_of link) k.wanted (Moment.Serves lu serving) → Fact k.wanted (scene_of (view_of link)) (Moment.Serves lu serving) → turn_at (Moment.Serves lu serving) ≡ Turn.Host
+      by_serving : (lu : List ℕ) (serving : Serving) → IsAt (view_of link) k.wanted (Moment.Serves lu serving) → Fact k.wanted (scene_of (view_of link)) (Moment.Serves lu serving) → turn_at (Moment.Serves lu serving) ≡ whose.Host
           → pending_at (Moment.Serves lu serving) ≡ Pending.Nothing → Kept app (view_of now)
       by_serving lu Serving.Deciding at f t p = acts_at lu (act_on app link.host link.host.occasion) refl at f
       by_serving lu (Serving.Reading number) at f t p = absurd (cc)
@@ -213,12 +217,12 @@ module _ (given : Given) (app : Application) (is : IsApplication app) (link : Li
 
   acts_by : (turn : Turn) (pending : Pending) (agreed : Bool) → link.host.turn ≡ turn → link.host.pending ≡ pending → is_agreed link.host.talk.state ≡ agreed
       → Kept app (view_of (host_sent (if may_act turn pending agreed then Some (done app link.host (act_on app link.host link.host.occasion)) else None) link))
-  acts_by Turn.Host Pending.Nothing true turns pends agrees = may_act_at turns pends agrees
-  acts_by Turn.Host Pending.Nothing false turns pends agrees = k
-  acts_by Turn.Host (Pending.Writing number command) agreed turns pends agrees = k
-  acts_by Turn.Host (Pending.Reading number) agreed turns pends agrees = k
-  acts_by Turn.Host (Pending.Noting number command) agreed turns pends agrees = k
-  acts_by Turn.Terminal pending agreed turns pends agrees = k
+  acts_by whose.Host Pending.Nothing true turns pends agrees = may_act_at turns pends agrees
+  acts_by whose.Host Pending.Nothing false turns pends agrees = k
+  acts_by whose.Host (Pending.Writing number command) agreed turns pends agrees = k
+  acts_by whose.Host (Pending.Reading number) agreed turns pends agrees = k
+  acts_by whose.Host (Pending.Noting number command) agreed turns pends agrees = k
+  acts_by whose.Terminal pending agreed turns pends agrees = k
 
   -- the host acts, if it may
   pub acts : Kept app (view_of (host_sent (acted app link.host) link))
@@ -247,10 +251,10 @@ module _ (app : Application) (text : List ℕ) (is : IsNoteText text) (link : Li
       kept_sent app link noting k (Moment.Serves lu to) same_end (sent_at link noting k.wanted (Moment.Serves lu from) (Moment.Serves lu to) same_end at refl refl (at.turn ∙ turn) pending down up) fact
 
   -- it may do so at two moments alone
-  may_note_at : link.host.turn ≡ Turn.Terminal → link.host.pending ≡ Pending.Nothing → Kept app (view_of (sent_view noting link))
+  may_note_at : link.host.turn ≡ whose.Terminal → link.host.pending ≡ Pending.Nothing → Kept app (view_of (sent_view noting link))
   may_note_at turns pends = by_moment k.moment k.at k.fact
     where
-      by_serving : (lu : List ℕ) (serving : Serving) → IsAt (view_of link) k.wanted (Moment.Serves lu serving) → Fact k.wanted (scene_of (view_of link)) (Moment.Serves lu serving) → turn_at (Moment.Serves lu serving) ≡ Turn.Terminal
+      by_serving : (lu : List ℕ) (serving : Serving) → IsAt (view_of link) k.wanted (Moment.Serves lu serving) → Fact k.wanted (scene_of (view_of link)) (Moment.Serves lu serving) → turn_at (Moment.Serves lu serving) ≡ whose.Terminal
           → pending_at (Moment.Serves lu serving) ≡ Pending.Nothing → Kept app (view_of (sent_view noting link))
       by_serving lu Serving.Operating at f t p =
           notes_at lu Serving.Operating (Serving.Noting link.host.number command) at refl refl refl refl
@@ -279,12 +283,12 @@ module _ (app : Application) (text : List ℕ) (is : IsNoteText text) (link : Li
 
   notes_by : (turn : Turn) (pending : Pending) (agreed : Bool) → link.host.turn ≡ turn → link.host.pending ≡ pending
       → Kept app (view_of (host_sent (if may_note turn pending agreed then Some (noted_as text link.host) else None) link))
-  notes_by Turn.Terminal Pending.Nothing true turns pends = may_note_at turns pends
-  notes_by Turn.Terminal Pending.Nothing false turns pends = k
-  notes_by Turn.Terminal (Pending.Writing number what) agreed turns pends = k
-  notes_by Turn.Terminal (Pending.Reading number) agreed turns pends = k
-  notes_by Turn.Terminal (Pending.Noting number what) agreed turns pends = k
-  notes_by Turn.Host pending agreed turns pends = k
+  notes_by whose.Terminal Pending.Nothing true turns pends = may_note_at turns pends
+  notes_by whose.Terminal Pending.Nothing false turns pends = k
+  notes_by whose.Terminal (Pending.Writing number what) agreed turns pends = k
+  notes_by whose.Terminal (Pending.Reading number) agreed turns pends = k
+  notes_by whose.Terminal (Pending.Noting number what) agreed turns pends = k
+  notes_by whose.Host pending agreed turns pends = k
 
   pub notes : Kept app (view_of (host_sent (noted text link.host) link))
   notes = notes_by link.host.turn link.host.pending (is_agreed link.host.talk.state) refl refl

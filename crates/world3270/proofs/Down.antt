@@ -41,7 +41,8 @@ use Rattle.tn3270e_msg.proofs.Agreement.{responses_alone, model_2, same_bytes}
 use Rattle.host_core.specs.Application.{Application, IsShape, IsApplication}
 use Rattle.host_core.specs.Messages.{ToTerminal, ToHost}
 use Rattle.host_core.specs.NoteLaws.{TakesNotes, IsNoteOf}
-use Rattle.host_core.specs.Session.{Occasion}
+use Rattle.host_core.specs.declared.occasion.Occasion.{Occasion}
+use Rattle.host_core.specs.declared.occasion.Occasion.TheVariants as occasions
 use Rattle.world3270.specs.Always.{is_negative}
 use Rattle.world3270.specs.Given.{Given}
 use Rattle.world3270.specs.Happens.{verdict_in}
@@ -294,9 +295,9 @@ open_noted : (aid after : Aid) (buffered : Bool) (old new : Shadow) → after �
 open_noted aid after buffered old new same f o = subst (λ a. IsOpenBy a buffered new) (sym same) (open_by aid buffered old new f o)
 
 open_for : (occasion : Occasion) (old new : Shadow) → (NothingIsOpen old → NothingIsOpen new) → IsOpenFor occasion old → IsOpenFor occasion new
-open_for Occasion.Agreement old new f o = f o
-open_for (Occasion.Key aid buffered) old new f o = open_by aid buffered old new f o
-open_for Occasion.Refusal old new f o = absurd o
+open_for occasions.Agreement old new f o = f o
+open_for (occasions.Key aid buffered) old new f o = open_by aid buffered old new f o
+open_for occasions.Refusal old new f o = absurd o
 
 -- the host will see the screen with the note on it
 sees_noted : Given → (shape : Shape) (command : CommandParts) (screen : Screen) (shadow : Shadow) → IsNoteOf shape command → length screen.cells ≡ cells_in shape → Noted command screen → Sees shape screen shadow

@@ -10,10 +10,10 @@ use Rattle.host_core.specs.Acts.{Sent, acted}
 use Rattle.host_core.specs.Application.{Application}
 use Rattle.host_core.specs.Messages.{ToTerminal, ToHost}
 use Rattle.host_core.specs.Notes.{noted}
-use Rattle.host_core.specs.Takes.{Step, took as host_took}
+use Rattle.host_core.specs.Takes.{freed_if, Step, took as host_took}
 use Rattle.world3270.specs.Always.{Always}
 use Rattle.world3270.specs.Given.{Given}
-use Rattle.world3270.specs.Happens.{closed_if, freed_if, came_up, left_alone, came_down, went_down, key_went, host_parted, parted, term_saw, joined, term_anew, host_left_from, host_anew, done, happens, run}
+use Rattle.world3270.specs.Happens.{closed_if, came_up, left_alone, came_down, went_down, key_went, host_parted, parted, term_saw, joined, term_anew, host_left_from, host_anew, done, happens, run}
 use Rattle.world3270.specs.Link.{Link, begun, cut, host_left, host_left_if, host_stepped, host_sent, term_left, term_left_if, term_stepped}
 use Rattle.world3270.specs.Placed.{has_place, is_link, is_queued, comes_up, free_number}
 use Rattle.world3270.specs.Places.{IsHeld, UpIsHeld, HoldersAreHere}

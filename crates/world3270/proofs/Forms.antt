@@ -6,7 +6,8 @@ use Rattle.datastream.specs.declared.inbound_part.Form.{Form}
 use Rattle.host_core.specs.Application.{Application}
 use Rattle.host_core.specs.Messages.{ToHost}
 use Rattle.world3270.specs.Always.{Always}
-use Rattle.world3270.specs.Forms.{form_awaited, FormsAreAwaited}
+use Rattle.host_core.specs.Takes.{form_awaited}
+use Rattle.world3270.specs.Forms.{FormsAreAwaited}
 use Rattle.world3270.specs.Given.{Given}
 use Rattle.world3270.specs.Happens.{run}
 use Rattle.world3270.specs.Moments.{Talking, Serving, Moment, UnderWay, talk_up, served_up, up_at, pending_in, pending_at}

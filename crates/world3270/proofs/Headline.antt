@@ -15,7 +15,10 @@ use Rattle.lu_pool.specs.Holders.{holder}
 use Rattle.host_core.specs.Answering.{number_of}
 use Rattle.host_core.specs.Application.{Application}
 use Rattle.host_core.specs.Messages.{ToHost}
-use Rattle.host_core.specs.Session.{Turn, Pending, Occasion, agreed_lu}
+use Rattle.host_core.specs.declared.turn.Turn.TheVariants as whose
+use Rattle.host_core.specs.declared.occasion.Occasion.{Occasion}
+use Rattle.host_core.specs.declared.occasion.Occasion.TheVariants as occasions
+use Rattle.host_core.specs.Session.{Pending, agreed_lu}
 use Rattle.world3270.specs.Always.{Always, HeadlineHolds, is_refusal, NobodyRefuses}
 use Rattle.world3270.specs.Given.{Given}
 use Rattle.world3270.specs.Happens.{run}
@@ -86,7 +89,7 @@ pub record Knows (v : View) : Type 0 where
   pub cleared : v.screen.aid ≡ ClearAid → IsCleared v.host.shape v.host.shadow
 
 -- the moments at which it holds the turn, with nothing that waits for an answer
-knows_by : (wanted : Option (List ℕ)) (v : View) (moment : Moment) → Fact wanted (scene_of v) moment → turn_at moment ≡ Turn.Host → pending_at moment ≡ Pending.Nothing → Knows v
+knows_by : (wanted : Option (List ℕ)) (v : View) (moment : Moment) → Fact wanted (scene_of v) moment → turn_at moment ≡ whose.Host → pending_at moment ≡ Pending.Nothing → Knows v
 knows_by wanted v (Moment.Talks talking) f t p = record {
   meets = subst (λ s. Meets s v.screen) (sym f.0.shadow) tt;
   lists = λ some. absurd (some f.0.no_fields);
@@ -111,7 +114,7 @@ knows_by wanted v (Moment.Serves lu (Serving.KeyBehind kind number command parts
 knows_by wanted v (Moment.Serves lu (Serving.KeyNoted number command parts)) f t p = absurd (cc)
 knows_by wanted v (Moment.Serves lu (Serving.KeyBefore number command parts)) f t p = absurd (cc)
 
-pub knows_at : (app : Application) (v : View) → Kept app v → v.host.turn ≡ Turn.Host → v.host.pending ≡ Pending.Nothing → Knows v
+pub knows_at : (app : Application) (v : View) → Kept app v → v.host.turn ≡ whose.Host → v.host.pending ≡ Pending.Nothing → Knows v
 knows_at app v k t p = knows_by k.wanted v k.moment k.fact (sym k.at.turn ∙ t) (sym k.at.pending ∙ p)
 
 -- no number waits: nothing does
@@ -204,9 +207,9 @@ sent_closed ClearAid buffered s sent o = absurd sent
 sent_closed (PaAid key) buffered s sent o = absurd sent
 
 closed_by_key : (occasion : Occasion) (aid : Aid) (s : Shadow) → IsOccasion occasion aid → SentFields aid → IsOpenFor occasion s → NothingIsOpen s
-closed_by_key Occasion.Agreement aid s is sent o = o
-closed_by_key (Occasion.Key pressed buffered) aid s is sent o = sent_closed pressed buffered s (subst SentFields (sym is.0) sent) o
-closed_by_key Occasion.Refusal aid s is sent o = absurd is
+closed_by_key occasions.Agreement aid s is sent o = o
+closed_by_key (occasions.Key pressed buffered) aid s is sent o = sent_closed pressed buffered s (subst SentFields (sym is.0) sent) o
+closed_by_key occasions.Refusal aid s is sent o = absurd is
 
 pub leaves_nothing_open : Given → Always LeavesNothingOpen
 leaves_nothing_open given app pool terminals events is lists few are =

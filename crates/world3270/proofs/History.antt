@@ -4,7 +4,8 @@ use Rattle.std.specs.Prelude.{filter_map}
 use Rattle.tn3270e_msg.specs.declared.cause.Cause.{Cause}
 use Rattle.lu_pool.specs.Holders.{granted_if}
 use Rattle.host_core.specs.Messages.{ToTerminal, ToHost, Verdict}
-use Rattle.world3270.specs.Happens.{closed_if, verdict_in, said, freed_if, place_after}
+use Rattle.host_core.specs.Takes.{freed_if}
+use Rattle.world3270.specs.Happens.{closed_if, verdict_in, said, place_after}
 use Rattle.world3270.specs.History.{host_step, term_step, verdicts_of, HostsHistoryIsKept, TerminalsHistoryIsKept}
 use Rattle.world3270.specs.Link.{host_stepped, term_stepped}
 use Rattle.world3270.specs.World.{World, with_at}

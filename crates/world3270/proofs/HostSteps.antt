@@ -19,7 +19,11 @@ use Rattle.tn3270e_msg.specs.declared.reply.Reason.{Reason}
 use Rattle.tn3270e_msg.specs.declared.reply.Reply.{Reply}
 use Rattle.tn3270e_msg.specs.declared.reply.Reply.TheVariants as reply
 use Rattle.host_core.specs.Messages.{ToTerminal, ToHost, Verdict}
-use Rattle.host_core.specs.Session.{Conn, Turn, Pending, Occasion, is_agreed}
+use Rattle.host_core.specs.declared.turn.Turn.{Turn}
+use Rattle.host_core.specs.declared.turn.Turn.TheVariants as whose
+use Rattle.host_core.specs.declared.occasion.Occasion.{Occasion}
+use Rattle.host_core.specs.declared.occasion.Occasion.TheVariants as occasions
+use Rattle.host_core.specs.Session.{Conn, Pending, is_agreed}
 use Rattle.host_core.specs.Takes.{Answers, Step, quiet, closed_by, replied, granted_by, asked, talked_on, hears, believed, once_read, buffer_came, key_came, key_data_came, data_came, answered, refused, write_refused, if_answers, verdict_came, read_verdict_came, response_came, once_agreed, took}
 
 -- its command still waits for its answer, or nothing does
@@ -71,10 +75,10 @@ believes occasion pending conn (Err fault) waits = closes conn _
 
 hears_key : (parts : InboundParts) (aid : Aid) (conn : Conn) → JustTalks conn (key_came parts aid conn)
 hears_key parts NoAid conn = closes conn _
-hears_key parts Enter conn = believes (Occasion.Key Enter false) conn.pending conn (hears parts conn) (inl refl)
-hears_key parts Clear conn = believes (Occasion.Key Clear false) conn.pending conn (hears parts conn) (inl refl)
-hears_key parts (Pf key) conn = believes (Occasion.Key (Pf key) false) conn.pending conn (hears parts conn) (inl refl)
-hears_key parts (Pa key) conn = believes (Occasion.Key (Pa key) false) conn.pending conn (hears parts conn) (inl refl)
+hears_key parts Enter conn = believes (occasions.Key Enter false) conn.pending conn (hears parts conn) (inl refl)
+hears_key parts Clear conn = believes (occasions.Key Clear false) conn.pending conn (hears parts conn) (inl refl)
+hears_key parts (Pf key) conn = believes (occasions.Key (Pf key) false) conn.pending conn (hears parts conn) (inl refl)
+hears_key parts (Pa key) conn = believes (occasions.Key (Pa key) false) conn.pending conn (hears parts conn) (inl refl)
 
 hears_key_data : (parts : InboundParts) (form : Form) (conn : Conn) → JustTalks conn (key_data_came parts form conn)
 hears_key_data parts Modified conn = hears_key parts parts.aid conn
@@ -89,10 +93,10 @@ hears_buffer parts AllModified conn = closes conn _
 hears_data : (parts : InboundParts) (turn : Turn) (pending : Pending) (conn : Conn) → JustTalks conn (data_came parts turn pending conn)
 hears_data parts turn (Pending.Reading number) conn = hears_buffer parts parts.form conn
 hears_data parts turn (Pending.Writing number command) conn = closes conn _
-hears_data parts Turn.Host Pending.Nothing conn = closes conn _
-hears_data parts Turn.Host (Pending.Noting number command) conn = closes conn _
-hears_data parts Turn.Terminal Pending.Nothing conn = hears_key_data parts parts.form conn
-hears_data parts Turn.Terminal (Pending.Noting number command) conn = hears_key_data parts parts.form conn
+hears_data parts whose.Host Pending.Nothing conn = closes conn _
+hears_data parts whose.Host (Pending.Noting number command) conn = closes conn _
+hears_data parts whose.Terminal Pending.Nothing conn = hears_key_data parts parts.form conn
+hears_data parts whose.Terminal (Pending.Noting number command) conn = hears_key_data parts parts.form conn
 
 -- ---- responses
 

@@ -30,7 +30,11 @@ use Rattle.host_core.specs.Acts.{acted}
 use Rattle.host_core.specs.Application.{Application}
 use Rattle.host_core.specs.Messages.{ToTerminal, ToHost, Verdict}
 use Rattle.host_core.specs.Notes.{noted}
-use Rattle.host_core.specs.Session.{Conn, Turn, Pending, Occasion, is_agreed}
+use Rattle.host_core.specs.declared.turn.Turn.{Turn}
+use Rattle.host_core.specs.declared.turn.Turn.TheVariants as whose
+use Rattle.host_core.specs.declared.occasion.Occasion.{Occasion}
+use Rattle.host_core.specs.declared.occasion.Occasion.TheVariants as occasions
+use Rattle.host_core.specs.Session.{Conn, Pending, is_agreed}
 use Rattle.host_core.specs.Takes.{Answers, Step, quiet, closed_by, asked, talked_on, hears, believed, once_read, buffer_came, key_came, key_data_came, data_came, refused, write_refused, if_answers, verdict_came, read_verdict_came, response_came, once_agreed, took as host_took}
 use Rattle.world3270.specs.Always.{Always}
 use Rattle.world3270.specs.Given.{Given}
@@ -148,10 +152,10 @@ believed_grants occasion pending conn (Err fault) = refl
 
 key_grants : (parts : InboundParts) (aid : Aid) (conn : Conn) → (key_came parts aid conn).grants ≡ None
 key_grants parts NoAid conn = refl
-key_grants parts Enter conn = believed_grants (Occasion.Key Enter false) conn.pending conn (hears parts conn)
-key_grants parts Clear conn = believed_grants (Occasion.Key Clear false) conn.pending conn (hears parts conn)
-key_grants parts (Pf key) conn = believed_grants (Occasion.Key (Pf key) false) conn.pending conn (hears parts conn)
-key_grants parts (Pa key) conn = believed_grants (Occasion.Key (Pa key) false) conn.pending conn (hears parts conn)
+key_grants parts Enter conn = believed_grants (occasions.Key Enter false) conn.pending conn (hears parts conn)
+key_grants parts Clear conn = believed_grants (occasions.Key Clear false) conn.pending conn (hears parts conn)
+key_grants parts (Pf key) conn = believed_grants (occasions.Key (Pf key) false) conn.pending conn (hears parts conn)
+key_grants parts (Pa key) conn = believed_grants (occasions.Key (Pa key) false) conn.pending conn (hears parts conn)
 
 key_data_grants : (parts : InboundParts) (form : Form) (conn : Conn) → (key_data_came parts form conn).grants ≡ None
 key_data_grants parts Modified conn = key_grants parts parts.aid conn
@@ -166,10 +170,10 @@ buffer_grants parts AllModified conn = refl
 data_grants : (parts : InboundParts) (turn : Turn) (pending : Pending) (conn : Conn) → (data_came parts turn pending conn).grants ≡ None
 data_grants parts turn (Pending.Reading number) conn = buffer_grants parts parts.form conn
 data_grants parts turn (Pending.Writing number command) conn = refl
-data_grants parts Turn.Host Pending.Nothing conn = refl
-data_grants parts Turn.Host (Pending.Noting number command) conn = refl
-data_grants parts Turn.Terminal Pending.Nothing conn = key_data_grants parts parts.form conn
-data_grants parts Turn.Terminal (Pending.Noting number command) conn = key_data_grants parts parts.form conn
+data_grants parts whose.Host Pending.Nothing conn = refl
+data_grants parts whose.Host (Pending.Noting number command) conn = refl
+data_grants parts whose.Terminal Pending.Nothing conn = key_data_grants parts parts.form conn
+data_grants parts whose.Terminal (Pending.Noting number command) conn = key_data_grants parts parts.form conn
 
 if_answers_grants : (b : Bool) (step : Step) (conn : Conn) → step.grants ≡ None → (if_answers b step conn).grants ≡ None
 if_answers_grants true step conn e = e

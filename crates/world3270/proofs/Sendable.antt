@@ -47,7 +47,11 @@ use Rattle.host_core.specs.Application.{Application, IsShape, IsApplication, Ask
 use Rattle.host_core.specs.Messages.{ToTerminal, ToHost, Verdict}
 use Rattle.host_core.specs.NoteLaws.{TakesNotes, IsProperNote}
 use Rattle.host_core.specs.Notes.{IsNoteText, note_command, noted_as, may_note, noted}
-use Rattle.host_core.specs.Session.{Conn, Turn, Pending, Occasion, is_agreed}
+use Rattle.host_core.specs.declared.turn.Turn.{Turn}
+use Rattle.host_core.specs.declared.turn.Turn.TheVariants as whose
+use Rattle.host_core.specs.declared.occasion.Occasion.{Occasion}
+use Rattle.host_core.specs.declared.occasion.Occasion.TheVariants as occasions
+use Rattle.host_core.specs.Session.{Conn, Pending, is_agreed}
 use Rattle.host_core.specs.Takes.{Step, took as host_took}
 use Rattle.world3270.specs.Given.{Given}
 use Rattle.world3270.specs.Happens.{run}
@@ -214,9 +218,9 @@ key_texts app conn (Pf key) buffered texts known = read_or_led app conn (Pf key)
 key_texts app conn (Pa key) buffered texts known = read_or_led app conn (Pa key) (is_to_be_read app conn (Pa key) && not buffered) known
 
 act_texts : (app : Application) (conn : Conn) (occasion : Occasion) → AreTexts conn.values → AreTexts (learned conn.shadow (app.fields conn.panel) conn.values) → ActsOnTexts (act_on app conn occasion)
-act_texts app conn Occasion.Agreement texts known = texts
-act_texts app conn (Occasion.Key aid buffered) texts known = key_texts app conn aid buffered texts known
-act_texts app conn Occasion.Refusal texts known = texts
+act_texts app conn occasions.Agreement texts known = texts
+act_texts app conn (occasions.Key aid buffered) texts known = key_texts app conn aid buffered texts known
+act_texts app conn occasions.Refusal texts known = texts
 
 wanted_is : (app : Application) (conn : Conn) (panel : ℕ) (message : Message) (keep : Bool) (values : Values) → AsksForScreens app → AreTexts values → IsScreen (wanted_by app conn panel message keep values)
 wanted_is app conn panel message false values asks texts = asks panel values message false texts
@@ -342,15 +346,15 @@ sends link (Some sending) c is = record {
 -- where the host may act, the screen meets what it believes, and so what it learns is characters
 acts_by : (app : Application) → AsksForScreens app → (link : Link) (turn : Turn) (pending : Pending) (agreed : Bool) → Kept app (view_of link) → CanSend link
     → link.host.turn ≡ turn → link.host.pending ≡ pending → IfSome (if may_act turn pending agreed then Some (done app link.host (act_on app link.host link.host.occasion)) else None) SendsTexts
-acts_by app asks link Turn.Host Pending.Nothing true k c turns pends =
+acts_by app asks link whose.Host Pending.Nothing true k c turns pends =
     let known = knows_at app (view_of link) k turns pends in
     let texts = learned_texts link.host.shadow link.term.display.screen (app.fields link.host.panel) link.host.values known.meets c.screen.storable c.values in
     done_texts app link.host (act_on app link.host link.host.occasion) asks c.values (act_texts app link.host link.host.occasion c.values texts)
-acts_by app asks link Turn.Host Pending.Nothing false k c turns pends = tt
-acts_by app asks link Turn.Host (Pending.Writing number command) agreed k c turns pends = tt
-acts_by app asks link Turn.Host (Pending.Reading number) agreed k c turns pends = tt
-acts_by app asks link Turn.Host (Pending.Noting number command) agreed k c turns pends = tt
-acts_by app asks link Turn.Terminal pending agreed k c turns pends = tt
+acts_by app asks link whose.Host Pending.Nothing false k c turns pends = tt
+acts_by app asks link whose.Host (Pending.Writing number command) agreed k c turns pends = tt
+acts_by app asks link whose.Host (Pending.Reading number) agreed k c turns pends = tt
+acts_by app asks link whose.Host (Pending.Noting number command) agreed k c turns pends = tt
+acts_by app asks link whose.Terminal pending agreed k c turns pends = tt
 
 notes_if : Given → (text : List ℕ) (link : Link) (b : Bool) → IsShape link.host.shape → IsNoteText text → CanSend link → IfSome (if b then Some (noted_as text link.host) else None) SendsTexts
 notes_if given text link true is note c = note_texts given text link.host is note c.values

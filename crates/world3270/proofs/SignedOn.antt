@@ -18,7 +18,8 @@ use Rattle.tn3270e_msg.specs.declared.term_talk.TermState.TheVariants.{Closed as
 use Rattle.host_core.specs.Answering.{number_of}
 use Rattle.host_core.specs.Application.{Application}
 use Rattle.host_core.specs.Messages.{ToTerminal, ToHost}
-use Rattle.host_core.specs.Session.{Turn}
+use Rattle.host_core.specs.declared.turn.Turn.{Turn}
+use Rattle.host_core.specs.declared.turn.Turn.TheVariants as whose
 use Rattle.host_core.specs.Takes.{talked_on}
 use Rattle.world3270.specs.ExampleApplication.{example, l1, example_pool}
 use Rattle.world3270.specs.ExampleEnds.{rounds, connects, connected, after, Decides}
@@ -143,7 +144,7 @@ at_turn key fact = record {
   host_here = true;
   term_here = Some 0;
   bound = Some l1;
-  turn = Turn.Host;
+  turn = whose.Host;
   pending = None;
   aid = key;
   fact = fact;

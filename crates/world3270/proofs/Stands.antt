@@ -26,12 +26,12 @@ use Rattle.shadow.specs.Belief.{Shadow}
 use Rattle.shadow.specs.Laws.{WantedIsPainted}
 use Rattle.shadow.specs.Paint.{paint}
 use Rattle.shadow.specs.Pairs.{Pairwise}
-use Rattle.telnet_wire.specs.Items.{WireItem, Record, Opt as OptItem, item_tokens, CanCome}
+use Rattle.telnet_wire.specs.Items.{WireItem, Record, Opt as OptItem, item_tokens, CanCome, sent_bytes}
 use Rattle.telnet_wire.specs.Laws.{NothingIsRest, ReadingNothing, DeliveriesCompose, DeliveryGoesOn, ItemIsRead, ItemsAreRead}
 use Rattle.telnet_wire.specs.Reading.{nothing, Delivers}
 use Rattle.telnet_wire.specs.Token.{text, spelling}
 use Rattle.telnet_wire.specs.declared.wire.Verb.TheVariants.{Do}
-use Rattle.tn3270e_msg.specs.Header.{Begins}
+use Rattle.tn3270e_msg.specs.Header.{Begins, record_limit, error_response, always_response}
 use Rattle.tn3270e_msg.specs.Laws.{OneHeader, FaultIsNoHeader}
 use Rattle.tn3270e_msg.specs.Talk.{Comes, NoTalk, Hears, Talk, items_sent, follow, Saying, says, sayings, item_of, closing}
 use Rattle.tn3270e_msg.specs.TermTable.{Term, term_line, term_start}
@@ -49,13 +49,13 @@ use Rattle.term_core.specs.Bytes.{before_byte}
 use Rattle.term_core.specs.Items.{TakesItem, TakesItemIn, TalksOn}
 use Rattle.term_core.specs.Presses.{key_outcome, data_pressed, says_of_key}
 use Rattle.term_core.specs.Records.{TakesRecord, is_restoring_write, data_read, data_sent, done_response, freed_if, answer_of, obeyed}
-use Rattle.term_core.specs.Says.{sent_bytes}
-use Rattle.term_core.specs.State.{Station, phase_of, talk_phase, record_limit, is_bound as core_is_bound}
+use Rattle.term_core.specs.State.{Station, phase_of, talk_phase, is_bound as core_is_bound}
 use Rattle.term_core.specs.declared.outcome.Outcome.TheVariants.{DeviceEnd}
 use Rattle.host_core.specs.Messages.{ToTerminal, ToHost, Verdict}
 use Rattle.term_core.proofs.Lengths.{read_buffer_fits, read_modified_fits}
 use Rattle.world3270.proofs.StandsFits.{talk_comes}
-use Rattle.world3270.specs.Stands.{command_header, always, when_refused, IsPaint, IsRead, IsNoted, read_buffer_command, StandsUp, IsEnd}
+use Rattle.host_core.specs.Says.{command_header, read_buffer_command}
+use Rattle.world3270.specs.Stands.{IsPaint, IsRead, IsNoted, StandsUp, IsEnd}
 use Rattle.world3270.specs.Seats.{History, ByteEnd, ByteStep, left_by}
 use Rattle.world3270.specs.StandsEnds.{PaintStands, IsSaid, NamesWanted, IsOpen, IsBelieved, ItemComes, TermTakes, is_painted, WritesAreMarked, TermPresses}
 use Rattle.world3270.specs.StandsLinks.{NothingStands, StandsCompose, StandsGoOn, BeginStands}
@@ -308,7 +308,7 @@ module _ (one_header : OneHeader) (fault_or_header : FaultIsNoHeader) where
       (item : WireItem) (p : IsPaint item number wanted believed) → IsBelieved wanted believed end → IsSide talk old end
       → TakesRecord old p.bytes sent closes new → next ≡ talk → SameItem next new sent closes true (paint_came number wanted end)
   painted_same number wanted believed talk next old new end sent closes item p b is taken same =
-      let done = obeys old new p.bytes p.body sent closes (command_header always number) p.command refl p.begins p.spelt taken in
+      let done = obeys old new p.bytes p.body sent closes (command_header always_response number) p.command refl p.begins p.spelt taken in
       let parts = and_parts (is_write p.command.code) (asked_by p.command).restore p.paints.writes in
       let silent = no_data p.command.code (after_command p.command old.screen) parts.0 in
       record {
@@ -319,10 +319,10 @@ module _ (one_header : OneHeader) (fault_or_header : FaultIsNoHeader) where
           keyboard_is = ap (λ (s : Station). s.keyboard) done.left ∙ ap (λ (r : Bool). freed_if r old.keyboard) parts.1 ∙ ap freed is.keyboard_is;
         };
         said = subst (λ (items : List WireItem). Pairwise StandsUp items (ToHost.Response number Verdict.Positive ∷ []))
-            (sym (done.said ∙ ap (λ (d : Option (List ℕ)). data_sent old.number d ++ done_response always number) silent))
+            (sym (done.said ∙ ap (λ (d : Option (List ℕ)). data_sent old.number d ++ done_response always_response number) silent))
             ((DeviceEnd, refl, p.begins.number, refl), tt);
         fit = subst (λ (items : List WireItem). AllByRecursion (CanCome record_limit) items)
-            (sym (done.said ∙ ap (λ (d : Option (List ℕ)). data_sent old.number d ++ done_response always number) silent))
+            (sym (done.said ∙ ap (λ (d : Option (List ℕ)). data_sent old.number d ++ done_response always_response number) silent))
             (omega arith, tt);
         closed = done.closed;
         wrote = ap (λ (s : Station). s.took_write) done.left ∙ p.paints.writes;
@@ -334,7 +334,7 @@ module _ (one_header : OneHeader) (fault_or_header : FaultIsNoHeader) where
       (item : WireItem) (p : IsRead item number) → IsSendable end.display.screen → IsSide talk old end
       → TakesRecord old p.bytes sent closes new → next ≡ talk → SameItem next new sent closes false (read_came end)
   read_same reads number talk next old new end sent closes item p r is taken same =
-      let done = obeys old new p.bytes p.body sent closes (command_header when_refused number) read_buffer_command refl p.begins p.spelt taken in
+      let done = obeys old new p.bytes p.body sent closes (command_header error_response number) read_buffer_command refl p.begins p.spelt taken in
       let inbound : IsInbound (buffer_data end.display.screen) (read_buffer old.screen) =
       subst (λ (s : Screen). IsInbound (buffer_data end.display.screen) (read_buffer s)) (sym is.screen_is) (reads.buffer end.display.screen r) in
       record {
@@ -358,7 +358,7 @@ module _ (one_header : OneHeader) (fault_or_header : FaultIsNoHeader) where
       (item : WireItem) (p : IsNoted item number command) → IsNote command → IsSide talk old end
       → TakesRecord old p.bytes sent closes new → next ≡ talk → SameItem next new sent closes false (note_came number command end)
   noted_same number command talk next old new end sent closes item p note is taken same =
-      let done = obeys old new p.bytes p.body sent closes (command_header always number) command refl p.begins p.spelt taken in
+      let done = obeys old new p.bytes p.body sent closes (command_header always_response number) command refl p.begins p.spelt taken in
       let restores : (asked_by command).restore ≡ false = note_restores command note in
       let silent : data_read command.code (after_command command old.screen) ≡ None = ap (λ (c : CommandCode). data_read c (after_command command old.screen)) note.code in
       record {
@@ -369,10 +369,10 @@ module _ (one_header : OneHeader) (fault_or_header : FaultIsNoHeader) where
           keyboard_is = ap (λ (s : Station). s.keyboard) done.left ∙ ap (λ (r : Bool). freed_if r old.keyboard) restores ∙ is.keyboard_is;
         };
         said = subst (λ (items : List WireItem). Pairwise StandsUp items (ToHost.Response number Verdict.Positive ∷ []))
-            (sym (done.said ∙ ap (λ (d : Option (List ℕ)). data_sent old.number d ++ done_response always number) silent))
+            (sym (done.said ∙ ap (λ (d : Option (List ℕ)). data_sent old.number d ++ done_response always_response number) silent))
             ((DeviceEnd, refl, p.begins.number, refl), tt);
         fit = subst (λ (items : List WireItem). AllByRecursion (CanCome record_limit) items)
-            (sym (done.said ∙ ap (λ (d : Option (List ℕ)). data_sent old.number d ++ done_response always number) silent))
+            (sym (done.said ∙ ap (λ (d : Option (List ℕ)). data_sent old.number d ++ done_response always_response number) silent))
             (omega arith, tt);
         closed = done.closed;
         wrote = ap (λ (s : Station). s.took_write) done.left ∙ note_marks_nothing command note;

@@ -23,7 +23,7 @@ use Rattle.tn3270e_msg.specs.declared.reply.Sending.{Sending}
 use Rattle.tn3270e_msg.specs.declared.reply.Sending.TheVariants as sent
 use Rattle.tn3270e_msg.specs.declared.term_talk.TermState.{TermState}
 use Rattle.tn3270e_msg.specs.declared.term_talk.TermState.TheVariants as at
-use Rattle.term_core.specs.State.{record_limit}
+use Rattle.tn3270e_msg.specs.Header.{record_limit}
 use Rattle.world3270.specs.StandsEnds.{NamesWanted}
 
 -- ---- what a talk sends of LUs is their names

@@ -5,7 +5,7 @@ use Rattle.std.proofs.lemmas.List.{append-nil}
 use Rattle.std.specs.List.{AllByRecursion}
 use Rattle.datastream.specs.InboundFields.{IsSendable}
 use Rattle.shadow.specs.Pairs.{Pairwise}
-use Rattle.telnet_wire.specs.Items.{WireItem, CanCome, item_tokens}
+use Rattle.telnet_wire.specs.Items.{WireItem, CanCome, item_tokens, sent_bytes}
 use Rattle.telnet_wire.specs.Laws.{WrongIsFinal}
 use Rattle.telnet_wire.specs.Reading.{Rest, nothing, Delivers, GoesWrong}
 use Rattle.telnet_wire.specs.Token.{text}
@@ -14,8 +14,8 @@ use Rattle.tn3270e_msg.specs.TermTable.{Term}
 use Rattle.tn3270e_msg.specs.declared.cause.Cause.{Cause}
 use Rattle.term_core.specs.Bytes.{TakesByte, before_byte, link_after}
 use Rattle.term_core.specs.Items.{TakesItem}
-use Rattle.term_core.specs.Says.{sent_bytes}
-use Rattle.term_core.specs.State.{Station, Terminal, Attached, record_limit}
+use Rattle.tn3270e_msg.specs.Header.{record_limit}
+use Rattle.term_core.specs.State.{Station, Terminal, Attached}
 use Rattle.host_core.specs.Messages.{ToTerminal, ToHost}
 use Rattle.world3270.specs.Link.{Link, sent, term_left_if, term_stepped}
 use Rattle.world3270.specs.Seats.{History, Seat, marked, SeatTakes, HistoryFollows, seat_after_key, ByteStep, end_at, EndTakes}

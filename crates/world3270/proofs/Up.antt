@@ -32,7 +32,10 @@ use Rattle.tn3270e_msg.specs.declared.reply.Sending.TheVariants.{SendType, TypeR
 use Rattle.tn3270e_msg.proofs.Agreement.{responses_alone, model_2}
 use Rattle.host_core.specs.Application.{Application}
 use Rattle.host_core.specs.Messages.{ToTerminal, ToHost, Verdict}
-use Rattle.host_core.specs.Session.{Conn, Turn, Pending, Occasion, is_agreed}
+use Rattle.host_core.specs.declared.turn.Turn.TheVariants as whose
+use Rattle.host_core.specs.declared.occasion.Occasion.{Occasion}
+use Rattle.host_core.specs.declared.occasion.Occasion.TheVariants as occasions
+use Rattle.host_core.specs.Session.{Conn, Pending, is_agreed}
 use Rattle.host_core.specs.Takes.{Step, Answers, quiet, with_talk, replied, granted_by, talked_on, talked, hears, believed, once_read, key_came, key_data_came, data_came, answered, if_answers, response_came, once_agreed, took}
 use Rattle.world3270.specs.Given.{Given}
 use Rattle.world3270.specs.Link.{Link, sent}
@@ -86,12 +89,12 @@ talk_step link next sends grants = record { conn = with_talk link.host next; sen
 -- the talk moves on, by a step that is known
 talks : (app : Application) (pool : List Entry) (link : Link) (rest : List ToHost) (k : Kept app (view_of link)) (from to : Talking) (saying : Saying) (sends : List ToTerminal) (grants : Option (List ℕ)) (message : ToHost)
     → IsAt (view_of link) k.wanted (Moment.Talks from) → message ≡ ToHost.TalksUp saying
-    → talked (answer_to pool) link.host (host_talk_at (Moment.Talks from)) saying ≡ talk_step link (host_talk_at (Moment.Talks to)) sends grants
+    → talked (answer_to pool) link.host (host_talk_at (Moment.Talks from)) (says saying) ≡ talk_step link (host_talk_at (Moment.Talks to)) sends grants
     → Grants pool link.host (talk_step link (host_talk_at (Moment.Talks to)) sends grants) → Leads k.wanted (Moment.Talks from) (Moment.Talks to) sends → UnderWay link.lost rest (up_at k.wanted (Moment.Talks to))
     → Fact k.wanted (scene_of (view_of link)) (Moment.Talks to) → Answered app pool link rest (took (answer_to pool) link.host message)
 talks app pool link rest k from to saying sends grants message at is step g l left fact =
     subst (λ m. Answered app pool link rest (took (answer_to pool) link.host m)) (sym is)
-    (subst (Answered app pool link rest) (sym (ap (λ (t : Talk HostState). talked (answer_to pool) link.host t saying) at.host_talk ∙ step))
+    (subst (Answered app pool link rest) (sym (ap (λ (t : Talk HostState). talked (answer_to pool) link.host t (says saying)) at.host_talk ∙ step))
     (record {
       kept = record {
         shape = record { begins = k.shape.begins; same = k.shape.same };
@@ -125,7 +128,7 @@ asks_pool given (Some name) is =
     ∙ ap (λ l. follow HostClosed (start_at Asked) (named_line Model2 l)) (given.belief.names name is)
 
 pool_asked : Given → (pool : Answers) (conn : Conn) (wanted : Option (List ℕ)) → IsLuIfSome wanted
-    → talked pool conn (start_at Asked) (asking_type wanted) ≡ replied conn (granted_by (pool wanted)) (follow HostClosed at_asking (answer_line Model2 (pool wanted)))
+    → talked pool conn (start_at Asked) (says (asking_type wanted)) ≡ replied conn (granted_by (pool wanted)) (follow HostClosed at_asking (answer_line Model2 (pool wanted)))
 pool_asked given pool conn wanted is = ap (λ (p : Talk HostState × Reply). talked_on pool conn p.0 p.1) (asks_pool given wanted is)
 
 abbrev answered_by : Conn → Result (List ℕ) Reason → Step
@@ -207,22 +210,22 @@ data IsKeyTime (pending : Pending) : Type 0 where
   note_waits : (number : ℕ) (command : CommandParts) → pending ≡ Pending.Noting number command → IsKeyTime pending
 
 key_data_took : (parts : InboundParts) (conn : Conn) (aid : Aid) → parts.form ≡ Modified → parts.aid ≡ aid → (aid ≡ NoAid → ⊥)
-    → key_data_came parts parts.form conn ≡ believed (Occasion.Key aid false) conn.pending conn (hears parts conn)
+    → key_data_came parts parts.form conn ≡ believed (occasions.Key aid false) conn.pending conn (hears parts conn)
 key_data_took parts conn aid form is some = ap (λ f. key_data_came parts f conn) form ∙ ap (λ a. key_came parts a conn) is ∙ by_aid aid some
   where
-    by_aid : (a : Aid) → (a ≡ NoAid → ⊥) → key_came parts a conn ≡ believed (Occasion.Key a false) conn.pending conn (hears parts conn)
+    by_aid : (a : Aid) → (a ≡ NoAid → ⊥) → key_came parts a conn ≡ believed (occasions.Key a false) conn.pending conn (hears parts conn)
     by_aid NoAid n = absurd (n refl)
     by_aid Enter n = refl
     by_aid Clear n = refl
     by_aid (Pf key) n = refl
     by_aid (Pa key) n = refl
 
-data_took : (parts : InboundParts) (conn : Conn) (pending : Pending) → conn.turn ≡ Turn.Terminal → IsKeyTime pending → data_came parts conn.turn pending conn ≡ key_data_came parts parts.form conn
+data_took : (parts : InboundParts) (conn : Conn) (pending : Pending) → conn.turn ≡ whose.Terminal → IsKeyTime pending → data_came parts conn.turn pending conn ≡ key_data_came parts parts.form conn
 data_took parts conn pending turns (IsKeyTime.nothing_waits e) = ap (λ p. data_came parts conn.turn p conn) e ∙ ap (λ t. data_came parts t Pending.Nothing conn) turns
 data_took parts conn pending turns (IsKeyTime.note_waits number command e) = ap (λ p. data_came parts conn.turn p conn) e ∙ ap (λ t. data_came parts t (Pending.Noting number command) conn) turns
 
-key_took : (pool : Answers) (conn : Conn) (parts : InboundParts) (aid : Aid) → is_agreed conn.talk.state ≡ true → conn.turn ≡ Turn.Terminal → IsKeyTime conn.pending → parts.form ≡ Modified → parts.aid ≡ aid → (aid ≡ NoAid → ⊥)
-    → took pool conn (ToHost.Data parts) ≡ believed (Occasion.Key aid false) conn.pending conn (hears parts conn)
+key_took : (pool : Answers) (conn : Conn) (parts : InboundParts) (aid : Aid) → is_agreed conn.talk.state ≡ true → conn.turn ≡ whose.Terminal → IsKeyTime conn.pending → parts.form ≡ Modified → parts.aid ≡ aid → (aid ≡ NoAid → ⊥)
+    → took pool conn (ToHost.Data parts) ≡ believed (occasions.Key aid false) conn.pending conn (hears parts conn)
 key_took pool conn parts aid agrees turns time form is some =
     ap (λ b. once_agreed b (data_came parts conn.turn conn.pending conn) conn) agrees
     ∙ data_took parts conn conn.pending turns time
@@ -245,15 +248,15 @@ all_open Clear buffered s o = o
 all_open (Pf key) buffered s o = o
 
 open_read : (occasion : Occasion) (s old : Shadow) → NothingIsOpen s → IsOpenFor occasion old → IsOpenFor (once_read occasion) s
-open_read Occasion.Agreement s old o was = o
-open_read (Occasion.Key aid buffered) s old o was = all_open aid true s o
-open_read Occasion.Refusal s old o was = absurd was
+open_read occasions.Agreement s old o was = o
+open_read (occasions.Key aid buffered) s old o was = all_open aid true s o
+open_read occasions.Refusal s old o was = absurd was
 
 -- the key that was pressed is still the reason, once its screen was read
 read_occasion : (occasion : Occasion) (aid : Aid) → IsOccasion occasion aid → IsOccasion (once_read occasion) aid
-read_occasion Occasion.Agreement aid is = is
-read_occasion (Occasion.Key pressed buffered) aid is = is
-read_occasion Occasion.Refusal aid is = absurd is
+read_occasion occasions.Agreement aid is = is
+read_occasion (occasions.Key pressed buffered) aid is = is
+read_occasion occasions.Refusal aid is = absurd is
 
 module _ (given : Given) (app : Application) (pool : List Entry) (link : Link) (rest : List ToHost) (k : Kept app (view_of link)) where
   abbrev screen : Screen
@@ -265,26 +268,26 @@ module _ (given : Given) (app : Application) (pool : List Entry) (link : Link) (
   -- what is heard is believed, and it is the host's turn
   believes : (lu : List ℕ) (from to : Serving) (parts : InboundParts) (occasion : Occasion) (pending : Pending) (Then : Shadow → Type 0) (r : Result Shadow HeardFault)
       → IsAt (view_of link) k.wanted (Moment.Serves lu from) → IfOk r KnownIsExact → IfOk r ProtectedIsExact → IsOkAnd r Then
-      → Turn.Host ≡ turn_at (Moment.Serves lu to) → pending ≡ pending_at (Moment.Serves lu to) → down_at (Moment.Serves lu from) ++ [] ≡ down_at (Moment.Serves lu to) → UnderWay link.lost rest (up_at k.wanted (Moment.Serves lu to))
+      → whose.Host ≡ turn_at (Moment.Serves lu to) → pending ≡ pending_at (Moment.Serves lu to) → down_at (Moment.Serves lu from) ++ [] ≡ down_at (Moment.Serves lu to) → UnderWay link.lost rest (up_at k.wanted (Moment.Serves lu to))
       → ((shadow : Shadow) → Then shadow
       → Fact k.wanted (record { shape = link.host.shape; shadow = shadow; occasion = occasion; lock = link.term.display.keyboard.lock; screen = screen; left = link.term.display.left; erased = link.term.display.erased }) (Moment.Serves lu to))
       → Answered app pool link rest (believed occasion pending link.host r)
   believes lu from to parts occasion pending Then (Ok shadow) at knows protects ok turn pends down left fact =
-      serves app pool link rest k lu from to (record link.host { shadow = shadow; turn = Turn.Host; pending = pending; occasion = occasion }) at refl refl (record { known = knows; protected = protects }) turn pends down left (fact shadow ok)
+      serves app pool link rest k lu from to (record link.host { shadow = shadow; turn = whose.Host; pending = pending; occasion = occasion }) at refl refl (record { known = knows; protected = protects }) turn pends down left (fact shadow ok)
   believes lu from to parts occasion pending Then (Err fault) at knows protects ok turn pends down left fact = absurd ok
 
   -- a key's data
   hears_key : (lu : List ℕ) (from to : Serving) (parts : InboundParts) (message : ToHost) (Then : Shadow → Type 0) → IsAt (view_of link) k.wanted (Moment.Serves lu from) → IsPressed (scene_of (view_of link)) parts
-      → WillBeHeard link.host.shape link.host.shadow parts Then → message ≡ ToHost.Data parts → turn_at (Moment.Serves lu from) ≡ Turn.Terminal → IsKeyTime (pending_at (Moment.Serves lu from))
-      → Turn.Host ≡ turn_at (Moment.Serves lu to) → pending_at (Moment.Serves lu from) ≡ pending_at (Moment.Serves lu to) → down_at (Moment.Serves lu from) ++ [] ≡ down_at (Moment.Serves lu to)
+      → WillBeHeard link.host.shape link.host.shadow parts Then → message ≡ ToHost.Data parts → turn_at (Moment.Serves lu from) ≡ whose.Terminal → IsKeyTime (pending_at (Moment.Serves lu from))
+      → whose.Host ≡ turn_at (Moment.Serves lu to) → pending_at (Moment.Serves lu from) ≡ pending_at (Moment.Serves lu to) → down_at (Moment.Serves lu from) ++ [] ≡ down_at (Moment.Serves lu to)
       → UnderWay link.lost rest (up_at k.wanted (Moment.Serves lu to))
       → ((shadow : Shadow) → Then shadow
-      → Fact k.wanted (record { shape = link.host.shape; shadow = shadow; occasion = Occasion.Key screen.aid false; lock = link.term.display.keyboard.lock; screen = screen; left = link.term.display.left; erased = link.term.display.erased }) (Moment.Serves lu to))
+      → Fact k.wanted (record { shape = link.host.shape; shadow = shadow; occasion = occasions.Key screen.aid false; lock = link.term.display.keyboard.lock; screen = screen; left = link.term.display.left; erased = link.term.display.erased }) (Moment.Serves lu to))
       → Answered app pool link rest (took (answer_to pool) link.host message)
   hears_key lu from to parts message Then at p will e turns time turn pends down left fact =
-      as_step app pool link rest k (ToHost.Data parts) message (believed (Occasion.Key screen.aid false) link.host.pending link.host (hears parts link.host)) e
+      as_step app pool link rest k (ToHost.Data parts) message (believed (occasions.Key screen.aid false) link.host.pending link.host (hears parts link.host)) e
       (key_took (answer_to pool) link.host parts screen.aid (agreed_at app pool link rest k lu from at) (at.turn ∙ turns) (subst IsKeyTime (sym at.pending) time) p.form p.pressed p.some)
-      (believes lu from to parts (Occasion.Key screen.aid false) link.host.pending Then (hears parts link.host) at
+      (believes lu from to parts (occasions.Key screen.aid false) link.host.pending Then (hears parts link.host) at
       (given.belief.heard_exact size link.host.shadow parts k.exact.known) (given.belief.heard_protected size link.host.shadow parts k.exact.protected) will turn (at.pending ∙ pends) down left fact)
 
   -- a response to a write

@@ -21,10 +21,10 @@ use Rattle.host_core.specs.Application.{Application, IsShape, IsApplication}
 use Rattle.host_core.specs.Messages.{ToTerminal, ToHost, Verdict}
 use Rattle.host_core.specs.Notes.{IsNoteText, may_note, noted_as, noted}
 use Rattle.host_core.specs.Session.{Conn, is_agreed}
-use Rattle.host_core.specs.Takes.{Step, took as host_took}
+use Rattle.host_core.specs.Takes.{freed_if, Step, took as host_took}
 use Rattle.world3270.specs.Always.{is_negative}
 use Rattle.world3270.specs.Given.{Given}
-use Rattle.world3270.specs.Happens.{closed_if, verdict_in, said, freed_if, came_up, host_acted, host_noted, left_alone, place_after, came_down, went_down, key_went, host_parted, parted, term_saw, joined, term_anew, host_left_from, host_anew, done, happens, run, RunsCompose}
+use Rattle.world3270.specs.Happens.{closed_if, verdict_in, said, came_up, host_acted, host_noted, left_alone, place_after, came_down, went_down, key_went, host_parted, parted, term_saw, joined, term_anew, host_left_from, host_anew, done, happens, run, RunsCompose}
 use Rattle.world3270.specs.Link.{Link, begun, unused, cut, host_left, host_left_if, host_sent, term_left, term_left_if, term_stepped}
 use Rattle.world3270.specs.Moments.{Talking, Moment}
 use Rattle.world3270.specs.Placed.{has_place, free_number, is_link, comes_up, is_queued}

@@ -1,18 +1,9 @@
 -- Inbound data doesn't say its own form: the host reads it in the one that it awaits (our profile).
 use Rattle.std.specs.Prelude.{◌≡◌, ℕ, List, ◌∷◌}
 use Rattle.datastream.specs.InboundText.{InboundParts}
-use Rattle.datastream.specs.declared.inbound_part.Form.{Form}
-use Rattle.datastream.specs.declared.inbound_part.Form.TheVariants.{Modified, Buffer}
 use Rattle.host_core.specs.Messages.{ToHost}
-use Rattle.host_core.specs.Session.{Pending}
+use Rattle.host_core.specs.Takes.{form_awaited}
 use Rattle.world3270.specs.World.{World}
-
--- the whole screen while a read is pending, else modified fields
-abbrev pub form_awaited : Pending → Form
-form_awaited (Pending.Reading number) = Buffer
-form_awaited (Pending.Writing number command) = Modified
-form_awaited (Pending.Noting number command) = Modified
-form_awaited Pending.Nothing = Modified
 
 -- The data that comes up next has the form that the host awaits.
 abbrev pub FormsAreAwaited : World → Type 0

@@ -10,7 +10,7 @@ use Rattle.datastream.specs.Screen.{attribute_over}
 use Rattle.shadow.specs.Exactness.{EachField, ProtectedSeen, ReturnedTold}
 use Rattle.shadow.specs.Meets.{Meets, ListsFields}
 use Rattle.lu_pool.specs.Holders.{holder}
-use Rattle.host_core.specs.Session.{Turn}
+use Rattle.host_core.specs.declared.turn.Turn.TheVariants as whose
 use Rattle.world3270.specs.Seen.{SeenLink, Seen}
 
 -- ---- (a) nobody else works in your name
@@ -45,7 +45,7 @@ pub record IsHostsTurn (link : SeenLink) : Type 0 where
   pub host : link.host_here ≡ true
   pub terminal : ℕ
   pub held : link.term_here ≡ Some terminal
-  pub turn : link.turn ≡ Turn.Host
+  pub turn : link.turn ≡ whose.Host
   pub answered : link.pending ≡ None
 
 -- the operator's last key sent fields: Enter or a PF key

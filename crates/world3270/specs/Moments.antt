@@ -15,7 +15,9 @@ use Rattle.tn3270e_msg.specs.declared.reply.Sending.TheVariants.{SendType, TypeR
 use Rattle.tn3270e_msg.specs.declared.term_talk.TermState.{TermState}
 use Rattle.tn3270e_msg.specs.declared.term_talk.TermState.TheVariants.{Waiting, Willing, TypeAsked, FunctionsAsked, Agreed, Refused}
 use Rattle.host_core.specs.Messages.{ToTerminal, ToHost, Verdict}
-use Rattle.host_core.specs.Session.{Turn, Pending}
+use Rattle.host_core.specs.declared.turn.Turn.{Turn}
+use Rattle.host_core.specs.declared.turn.Turn.TheVariants as whose
+use Rattle.host_core.specs.Session.{Pending}
 use Rattle.world3270.specs.View.{View}
 
 -- a write that isn't answered yet: a paint, or a note
@@ -106,16 +108,16 @@ term_state_at (Moment.Begins lu number command wanted over) = FunctionsAsked lu
 term_state_at (Moment.Serves lu serving) = Agreed lu
 
 abbrev pub turn_in : Serving → Turn
-turn_in Serving.Deciding = Turn.Host
-turn_in (Serving.Reading number) = Turn.Host
-turn_in (Serving.Reported number parts) = Turn.Host
-turn_in (Serving.NotedLate number command) = Turn.Host
-turn_in (Serving.AnsweredLate number command) = Turn.Host
-turn_in _ = Turn.Terminal
+turn_in Serving.Deciding = whose.Host
+turn_in (Serving.Reading number) = whose.Host
+turn_in (Serving.Reported number parts) = whose.Host
+turn_in (Serving.NotedLate number command) = whose.Host
+turn_in (Serving.AnsweredLate number command) = whose.Host
+turn_in _ = whose.Terminal
 
 abbrev pub turn_at : Moment → Turn
-turn_at (Moment.Talks talking) = Turn.Host
-turn_at (Moment.Begins lu number command wanted over) = Turn.Terminal
+turn_at (Moment.Talks talking) = whose.Host
+turn_at (Moment.Begins lu number command wanted over) = whose.Terminal
 turn_at (Moment.Serves lu serving) = turn_in serving
 
 abbrev pub pending_in : Serving → Pending

@@ -8,16 +8,17 @@ use Rattle.shadow.specs.Belief.{Shadow}
 use Rattle.shadow.specs.Openness.{NothingIsOpen}
 use Rattle.shadow.specs.Taken.{taken}
 use Rattle.host_core.specs.NoteLaws.{IsNoteOf}
-use Rattle.host_core.specs.Session.{Occasion}
+use Rattle.host_core.specs.declared.occasion.Occasion.{Occasion}
+use Rattle.host_core.specs.declared.occasion.Occasion.TheVariants as occasions
 use Rattle.world3270.specs.Headline.{IsHostsTurn, SentFields}
 use Rattle.world3270.specs.Seen.{seen_link}
 use Rattle.world3270.specs.World.{World}
 
 -- no key was pressed and both ends just agreed; or the last key is the one that was pressed; no refusal is ever the reason
 abbrev pub IsOccasion : Occasion → Aid → Type 0
-IsOccasion Occasion.Agreement aid = aid ≡ NoAid
-IsOccasion (Occasion.Key pressed buffered) aid = (pressed ≡ aid) × (aid ≡ NoAid → ⊥)
-IsOccasion Occasion.Refusal aid = ⊥
+IsOccasion occasions.Agreement aid = aid ≡ NoAid
+IsOccasion (occasions.Key pressed buffered) aid = (pressed ≡ aid) × (aid ≡ NoAid → ⊥)
+IsOccasion occasions.Refusal aid = ⊥
 
 -- When the host decides, it does so for the key whose identifier the screen has.
 abbrev pub ActsOnTheKey : World → Type 0
@@ -34,9 +35,9 @@ IsOpenBy Clear buffered shadow = NothingIsOpen shadow
 IsOpenBy (Pf key) buffered shadow = NothingIsOpen shadow
 
 abbrev pub IsOpenFor : Occasion → Shadow → Type 0
-IsOpenFor Occasion.Agreement shadow = NothingIsOpen shadow
-IsOpenFor (Occasion.Key aid buffered) shadow = IsOpenBy aid buffered shadow
-IsOpenFor Occasion.Refusal shadow = ⊥
+IsOpenFor occasions.Agreement shadow = NothingIsOpen shadow
+IsOpenFor (occasions.Key aid buffered) shadow = IsOpenBy aid buffered shadow
+IsOpenFor occasions.Refusal shadow = ⊥
 
 -- After Enter or a PF key the host believes a text, or a text or nulls, of each unprotected field.
 abbrev pub LeavesNothingOpen : World → Type 0

@@ -4,7 +4,8 @@ use Rattle.datastream.specs.Screen.{Screen}
 use Rattle.lu_pool.specs.declared.entry.Entry.{Entry}
 use Rattle.shadow.specs.Belief.{Shadow}
 use Rattle.host_core.specs.Answering.{number_of}
-use Rattle.host_core.specs.Session.{Turn, agreed_lu}
+use Rattle.host_core.specs.declared.turn.Turn.{Turn}
+use Rattle.host_core.specs.Session.{agreed_lu}
 use Rattle.world3270.specs.Link.{Link}
 use Rattle.world3270.specs.Terminal.{bound_to}
 use Rattle.world3270.specs.World.{World}

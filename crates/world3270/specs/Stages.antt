@@ -27,7 +27,8 @@ use Rattle.tn3270e_msg.specs.Talk.{IsLuIfSome}
 use Rattle.host_core.specs.Application.{Application}
 use Rattle.host_core.specs.Laws.{IsPaintable}
 use Rattle.host_core.specs.NoteLaws.{HasMessageRow, TakesNotes, IsNoteOf}
-use Rattle.host_core.specs.Session.{Occasion}
+use Rattle.host_core.specs.declared.occasion.Occasion.{Occasion}
+use Rattle.host_core.specs.declared.occasion.Occasion.TheVariants as occasions
 use Rattle.world3270.specs.Headline.{SentFields, UnmodifiedIsKept}
 use Rattle.world3270.specs.Moments.{Talking, Serving, Moment, IsAt}
 use Rattle.world3270.specs.Occasions.{IsOccasion, IsOpenBy, IsOpenFor, IsCleared}
@@ -77,7 +78,7 @@ pub record Suits (wanted : Option (List ℕ)) (lu : List ℕ) : Type 0 where
 -- both ends as they are at the begin of a connection, but for the talk
 pub record IsNew (s : Scene) : Type 0 where
   pub shadow : s.shadow ≡ Shadow.NothingKnown
-  pub occasion : s.occasion ≡ Occasion.Agreement
+  pub occasion : s.occasion ≡ occasions.Agreement
   pub lock : s.lock ≡ Wait
   pub aid : s.screen.aid ≡ NoAid
   pub no_fields : fields s.screen.cells ≡ []

@@ -14,16 +14,17 @@ use Rattle.shadow.specs.Painted.{plainly_painted}
 use Rattle.shadow.specs.Pairs.{Pairwise}
 use Rattle.telnet_wire.specs.Items.{WireItem, Record}
 use Rattle.telnet_wire.specs.Reading.{Rest, IsRest, nothing, Delivers}
-use Rattle.tn3270e_msg.specs.Header.{Begins}
+use Rattle.tn3270e_msg.specs.Header.{Begins, record_limit, error_response, always_response}
 use Rattle.tn3270e_msg.specs.TermTable.{Term}
 use Rattle.tn3270e_msg.specs.declared.header.Header.{Header}
 use Rattle.tn3270e_msg.specs.declared.header.DataType.TheVariants.{Data3270}
 use Rattle.term_core.specs.Records.{is_restoring_write}
 use Rattle.term_core.specs.Says.{response, data_record}
-use Rattle.term_core.specs.State.{Attached, record_limit}
+use Rattle.term_core.specs.State.{Attached}
 use Rattle.term_core.specs.declared.outcome.Outcome.{Outcome}
 use Rattle.term_core.specs.declared.outcome.Outcome.TheVariants.{DeviceEnd}
 use Rattle.host_core.specs.Messages.{ToTerminal, ToHost, Verdict}
+use Rattle.host_core.specs.Says.{command_header, read_buffer_command}
 use Rattle.tn3270e_msg.specs.Talk.{item_of}
 use Rattle.host_core.specs.Session.{Conn}
 use Rattle.world3270.specs.Link.{Link}
@@ -31,17 +32,6 @@ use Rattle.world3270.specs.Seats.{Seat, ByteEnd, end_at}
 use Rattle.world3270.specs.Terminal.{TermEnd}
 
 -- ---- one item down
-
--- the header of a command's record
-abbrev pub command_header : ℕ → ℕ → Header
-command_header flag number = record { kind = Data3270; request = 0; flag = flag; seq = number }
-
--- ERROR-RESPONSE and ALWAYS-RESPONSE
-abbrev pub when_refused : ℕ
-when_refused = 1
-
-abbrev pub always : ℕ
-always = 2
 
 -- The command is a write that restores, and leaves the wanted screen of every screen of its size that meets what is believed.
 pub record Paints (command : CommandParts) (wanted : WantedScreen) (believed : Shadow) : Type 0 where
@@ -55,19 +45,16 @@ pub record IsPaint (item : WireItem) (number : ℕ) (wanted : WantedScreen) (bel
   pub body : List ℕ
   pub command : CommandParts
   pub is_record : item ≡ Record bytes
-  pub begins : Begins bytes (command_header always number) body
+  pub begins : Begins bytes (command_header always_response number) body
   pub spelt : IsCommand command body
   pub paints : Paints command wanted believed
-
-abbrev pub read_buffer_command : CommandParts
-read_buffer_command = record { code = ReadBufferCode; wcc = None; orders = [] }
 
 -- a record that asks for a response where its Read Buffer is refused
 pub record IsRead (item : WireItem) (number : ℕ) : Type 0 where
   pub bytes : List ℕ
   pub body : List ℕ
   pub is_record : item ≡ Record bytes
-  pub begins : Begins bytes (command_header when_refused number) body
+  pub begins : Begins bytes (command_header error_response number) body
   pub spelt : IsCommand read_buffer_command body
 
 -- a record that asks for a response in any case, with this very write
@@ -75,7 +62,7 @@ pub record IsNoted (item : WireItem) (number : ℕ) (command : CommandParts) : T
   pub bytes : List ℕ
   pub body : List ℕ
   pub is_record : item ≡ Record bytes
-  pub begins : Begins bytes (command_header always number) body
+  pub begins : Begins bytes (command_header always_response number) body
   pub spelt : IsCommand command body
 
 abbrev pub StandsDown : WireItem → ToTerminal → Type 0

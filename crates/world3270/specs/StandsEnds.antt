@@ -12,18 +12,17 @@ use Rattle.shadow.specs.Fits.{fits}
 use Rattle.shadow.specs.Meets.{Meets}
 use Rattle.shadow.specs.Paint.{paint}
 use Rattle.shadow.specs.Pairs.{Pairwise}
-use Rattle.telnet_wire.specs.Items.{WireItem, Record, CanCome}
+use Rattle.telnet_wire.specs.Items.{WireItem, Record, CanCome, sent_bytes}
 use Rattle.telnet_wire.specs.Reading.{Rest}
-use Rattle.tn3270e_msg.specs.Header.{Begins}
+use Rattle.tn3270e_msg.specs.Header.{Begins, record_limit, always_response}
 use Rattle.tn3270e_msg.specs.Talk.{IsSending, IsLuIfSome, Saying}
 use Rattle.tn3270e_msg.specs.declared.term_talk.TermState.{TermState}
 use Rattle.tn3270e_msg.specs.declared.term_talk.TermState.TheVariants.{Willing, Closed}
 use Rattle.term_core.specs.Presses.{key_outcome}
-use Rattle.term_core.specs.Says.{sent_bytes}
-use Rattle.term_core.specs.State.{record_limit}
 use Rattle.host_core.specs.Messages.{ToTerminal}
+use Rattle.host_core.specs.Says.{command_header}
 use Rattle.world3270.specs.Seats.{Seat, ByteEnd, ByteStep, EndTakes, seat_after_key}
-use Rattle.world3270.specs.Stands.{always, command_header, StandsDown, StandsUp, IsEnd, Holds}
+use Rattle.world3270.specs.Stands.{StandsDown, StandsUp, IsEnd, Holds}
 use Rattle.world3270.specs.Terminal.{TermEnd, TermStep, is_bound, took, key_came}
 
 -- ---- what is painted
@@ -31,7 +30,7 @@ use Rattle.world3270.specs.Terminal.{TermEnd, TermStep, is_bound, took, key_came
 -- A record with a paint of what is wanted stands for it, wherever it fits what is believed.
 abbrev pub PaintStands : Type 0
 PaintStands = (number : ℕ) (wanted : WantedScreen) (believed : Shadow) (bytes body : List ℕ)
-    → Begins bytes (command_header always number) body → IsCommand (paint (length wanted.cells) believed wanted) body → fits believed wanted ≡ true
+    → Begins bytes (command_header always_response number) body → IsCommand (paint (length wanted.cells) believed wanted) body → fits believed wanted ≡ true
     → StandsDown (Record bytes) (ToTerminal.Paint number wanted believed)
 
 -- ---- when a message may come

@@ -6,11 +6,10 @@ use Rattle.codes3270.specs.Size.{model_2}
 use Rattle.datastream.specs.InboundFields.{IsSendable}
 use Rattle.keyboard.specs.declared.key.Key.{Key}
 use Rattle.shadow.specs.Pairs.{Pairwise}
-use Rattle.telnet_wire.specs.Items.{WireItem, CanCome}
+use Rattle.telnet_wire.specs.Items.{WireItem, CanCome, sent_bytes}
 use Rattle.telnet_wire.specs.Reading.{Rest, nothing, Delivers}
 use Rattle.term_core.specs.Presses.{key_outcome}
-use Rattle.term_core.specs.Says.{sent_bytes}
-use Rattle.term_core.specs.State.{record_limit}
+use Rattle.tn3270e_msg.specs.Header.{record_limit}
 use Rattle.host_core.specs.Messages.{ToTerminal, ToHost}
 use Rattle.host_core.specs.Session.{Conn, new_conn}
 use Rattle.world3270.specs.Link.{Link, begun, sent, host_left, term_left, term_stepped}

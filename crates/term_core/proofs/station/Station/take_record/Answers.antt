@@ -1,6 +1,5 @@
 use Rattle.std.proofs.Common.{ap, ◌++◌, ◌∙◌, List}
-use Rattle.telnet_wire.specs.Items.{WireItem}
-use Rattle.term_core.specs.Says.{sent_bytes}
+use Rattle.telnet_wire.specs.Items.{WireItem, sent_bytes}
 use Rattle.term_core.specs.Records.{refusal_of}
 use Rattle.term_core.proofs.Steps.{without_header, of_another_type, with_fault, with_command, answered_if_wanted, silent_if_not_wanted}
 use Rattle.term_core.proofs.station.Station.take_record.Goals as goal

@@ -1,0 +1,49 @@
+-- What a host makes of bytes: they are read as the stream of RFC 854, 855 and 885, and what this hands out is taken. That the host
+-- closes where the stream is broken is our profile.
+use Rattle.std.specs.Prelude.{◌≡◌, ℕ, List, [], ◌∷◌, ◌++◌, map, Option, None, Some}
+use Rattle.lu_pool.specs.Asking.{answer_to}
+use Rattle.lu_pool.specs.Holders.{given_back}
+use Rattle.lu_pool.specs.declared.entry.Entry.{Entry}
+use Rattle.telnet_wire.specs.Items.{WireItem, sent_bytes}
+use Rattle.telnet_wire.specs.Reading.{Rest, Delivers, GoesWrong}
+use Rattle.telnet_wire.specs.declared.wire.WireFault.{WireFault}
+use Rattle.tn3270e_msg.specs.Header.{record_limit}
+use Rattle.tn3270e_msg.specs.declared.cause.Cause.{Cause}
+use Rattle.tn3270e_msg.specs.declared.cause.Cause.TheVariants.{Wire}
+use Rattle.host_core.specs.Items.{TakesItem}
+use Rattle.host_core.specs.Says.{item_sent}
+use Rattle.host_core.specs.Session.{Conn}
+use Rattle.host_core.specs.State.{Service, Line}
+use Rattle.host_core.specs.Takes.{Step, pool_after}
+
+-- what a connection's bytes may change: the pool, and the connection's own line
+pub record Counter : Type 0 where
+  pub pool : List Entry
+  pub line : Line
+
+abbrev pub service_after : Rest → Conn → Option Cause → Service
+service_after rest conn None = Service.Open rest conn
+service_after rest conn (Some cause) = Service.Closed cause
+
+-- after an item: what is said stands behind what is still to be sent
+abbrev pub stepped : ℕ → Rest → Step → Counter → Counter
+stepped number rest step old = record {
+  pool = pool_after number step old.pool;
+  line = record { service = service_after rest step.conn step.closes; out = old.line.out ++ sent_bytes (map item_sent step.sends) };
+}
+
+-- a byte comes to the connection with this number: nothing is complete with it; it completes an item; or it breaks the stream
+pub data TakesByte (number : ℕ) (old : Counter) (byte : ℕ) (new : Counter) : Type 0 where
+  goes_on : (rest to : Rest) (conn : Conn) → old.line.service ≡ Service.Open rest conn → Delivers record_limit rest (byte ∷ []) [] to
+      → new ≡ record { pool = old.pool; line = record { service = Service.Open to conn; out = old.line.out } } → TakesByte number old byte new
+  completes : (rest to : Rest) (conn : Conn) (item : WireItem) (step : Step) → old.line.service ≡ Service.Open rest conn
+      → Delivers record_limit rest (byte ∷ []) (item ∷ []) to → TakesItem (answer_to old.pool) conn item step
+      → new ≡ stepped number to step old → TakesByte number old byte new
+  breaks : (rest : Rest) (conn : Conn) (fault : WireFault) → old.line.service ≡ Service.Open rest conn → GoesWrong record_limit rest (byte ∷ []) fault
+      → new ≡ record { pool = given_back number old.pool; line = record { service = Service.Closed Wire; out = old.line.out } }
+      → TakesByte number old byte new
+
+-- bytes come, one after another; a number that is free, or was closed, takes none
+abbrev pub TakesBytes : ℕ → Counter → List ℕ → Counter → Type 0
+TakesBytes number old [] new = new ≡ old
+TakesBytes number old (byte ∷ bytes) new = (mid : Counter) × TakesByte number old byte mid × TakesBytes number mid bytes new

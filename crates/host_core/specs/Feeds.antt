@@ -1,0 +1,34 @@
+-- What feeding a host says (our profile).
+use Rattle.std.specs.Prelude.{◌≡◌, ◌<◌, ◌≤◌, ◌⊎◌, ⊤, ℕ, List, take, length}
+use Rattle.tn3270e_msg.specs.declared.cause.Fed.{Fed}
+use Rattle.tn3270e_msg.specs.declared.cause.Stop.{Stop}
+use Rattle.tn3270e_msg.specs.declared.cause.Stop.TheVariants.{Going, Memory, Closed as ClosedStop}
+use Rattle.host_core.specs.Bytes.{Counter, TakesBytes}
+use Rattle.host_core.specs.State.{Service, Host, line_at, with_line}
+
+abbrev pub IsOpen : Service → Type 0
+IsOpen Service.Free = ⊥
+IsOpen (Service.Open rest conn) = ⊤
+IsOpen (Service.Closed cause) = ⊥
+
+-- where it stopped: at the end of the bytes, or at once where the number is free; before a byte for which there was no room; or
+-- closed
+abbrev pub StopsFor : Stop → Counter → List ℕ → ℕ → Counter → Type 0
+StopsFor Going old bytes taken new = ((taken ≡ length bytes) × IsOpen new.line.service) ⊎ ((taken ≡ 0) × (old.line.service ≡ Service.Free))
+StopsFor Memory old bytes taken new = (taken < length bytes) × IsOpen new.line.service
+StopsFor (ClosedStop cause) old bytes taken new = new.line.service ≡ Service.Closed cause
+
+-- it took so many of the bytes and stands as after these
+pub record Feeds (number : ℕ) (old : Counter) (bytes : List ℕ) (fed : Fed) (new : Counter) : Type 0 where
+  pub few : fed.taken ≤ length bytes
+  pub takes : TakesBytes number old (take fed.taken bytes) new
+  pub stops : StopsFor fed.stop old bytes fed.taken new
+
+-- ---- the host
+
+abbrev pub counter_at : ℕ → Host → Counter
+counter_at number host = record { pool = host.pool; line = line_at number host }
+
+-- the host with another pool, and another line at a number; all others are as they were
+abbrev pub with_counter : ℕ → Counter → Host → Host
+with_counter number counter host = with_line number counter.line (record host { pool = counter.pool })

@@ -1,0 +1,54 @@
+-- What a host makes of what the stream hands out: options and subnegotiations (RFC 1647, section 7), and records (sections 8.1 and
+-- 10.4). That others are dropped, and the causes, are our profile.
+use Rattle.std.specs.Prelude.{◌≡◌, ◌==◌, ⊤, ℕ, Bool, true, false, List, if◌then◌else◌}
+use Rattle.datastream.specs.InboundText.{InboundParts, IsInbound, IsNoInbound}
+use Rattle.datastream.specs.declared.inbound_part.InboundFault.{InboundFault}
+use Rattle.telnet_wire.specs.Items.{WireItem, Record, Opt, Sub, Other}
+use Rattle.tn3270e_msg.specs.Header.{Begins, HasFault, positive}
+use Rattle.tn3270e_msg.specs.Talk.{Comes, Hears}
+use Rattle.tn3270e_msg.specs.declared.cause.Cause.TheVariants.{BadRecord, BadInbound}
+use Rattle.tn3270e_msg.specs.declared.header.Header.{Header}
+use Rattle.tn3270e_msg.specs.declared.header.HeadFault.{HeadFault}
+use Rattle.tn3270e_msg.specs.declared.header.DataType.{DataType}
+use Rattle.tn3270e_msg.specs.declared.header.DataType.TheVariants.{Data3270, Response}
+use Rattle.host_core.specs.Messages.{Verdict}
+use Rattle.host_core.specs.Session.{Conn, is_agreed}
+use Rattle.host_core.specs.Takes.{Answers, Step, quiet, closed_by, form_awaited, data_came, response_came, talked}
+
+-- what the flag of a response says
+abbrev pub verdict_of : ℕ → Verdict
+verdict_of flag = if flag == positive then Verdict.Positive else Verdict.Negative
+
+-- neither data nor a response
+abbrev pub IsOther : DataType → Type 0
+IsOther Data3270 = ⊥
+IsOther Response = ⊥
+IsOther _ = ⊤
+
+-- A record comes, once both ends agreed. Without a header the host closes; data is read in the form that it awaits; of a response the
+-- header counts alone; other types are dropped.
+pub data TakesRecord (conn : Conn) (bytes : List ℕ) (step : Step) : Type 0 where
+  no_header : (fault : HeadFault) → HasFault bytes fault → step ≡ closed_by BadRecord conn → TakesRecord conn bytes step
+  dropped : (header : Header) (body : List ℕ) → Begins bytes header body → IsOther header.kind → step ≡ quiet conn → TakesRecord conn bytes step
+  no_data : (header : Header) (body : List ℕ) (fault : InboundFault) → Begins bytes header body → header.kind ≡ Data3270
+      → IsNoInbound (form_awaited conn.pending) fault body → step ≡ closed_by BadInbound conn → TakesRecord conn bytes step
+  hears : (header : Header) (body : List ℕ) (parts : InboundParts) → Begins bytes header body → header.kind ≡ Data3270
+      → parts.form ≡ form_awaited conn.pending → IsInbound parts body → step ≡ data_came parts conn.turn conn.pending conn
+      → TakesRecord conn bytes step
+  answered : (header : Header) (body : List ℕ) → Begins bytes header body → header.kind ≡ Response
+      → step ≡ response_came header.seq (verdict_of header.flag) conn.pending conn → TakesRecord conn bytes step
+
+-- before agreement records are dropped
+abbrev pub TakesRecordIf : Bool → Conn → List ℕ → Step → Type 0
+TakesRecordIf true conn bytes step = TakesRecord conn bytes step
+TakesRecordIf false conn bytes step = step ≡ quiet conn
+
+-- all else is for the talk
+abbrev pub Talks : Answers → Conn → WireItem → Step → Type 0
+Talks pool conn item step = (comes : Comes) × Hears item comes × (step ≡ talked pool conn conn.talk comes)
+
+abbrev pub TakesItem : Answers → Conn → WireItem → Step → Type 0
+TakesItem pool conn (Record bytes) step = TakesRecordIf (is_agreed conn.talk.state) conn bytes step
+TakesItem pool conn (Opt verb code) step = Talks pool conn (Opt verb code) step
+TakesItem pool conn (Sub bytes) step = Talks pool conn (Sub bytes) step
+TakesItem pool conn (Other code) step = Talks pool conn (Other code) step

@@ -1,0 +1,120 @@
+-- How the host keeps a connection, and its steps as the code takes them (our profile); only private contracts and proofs need it.
+use Rattle.std.specs.Prelude.{◌≡◌, ◌≢◌, ◌==◌, ◌↔◌, ◌≤◌, ⊤, ℕ, Bool, true, List, [], ◌∷◌, ◌++◌, drop, Option, Some, None, map, Vec, if◌then◌else◌}
+use Rattle.std.specs.Vec.{vec_capacity}
+use Rattle.std.specs.declared.alloc.Global.{Global}
+use Rattle.codes3270.specs.WriteControl.{wcc_of}
+use Rattle.datastream.specs.Grammar.{CommandParts, IsCommand, codes_of}
+use Rattle.datastream.specs.Reading.{orders_in}
+use Rattle.datastream.specs.declared.command_code.CommandCode.{CommandCode}
+use Rattle.datastream.specs.declared.command_code.CommandCode.TheVariants.{Write, EraseWrite}
+use Rattle.lu_pool.specs.Asking.{answer_to}
+use Rattle.lu_pool.specs.Pool.{Holds}
+use Rattle.lu_pool.specs.declared.entry.Entry.{Entry}
+use Rattle.shadow.specs.Stores.{is_plain}
+use Rattle.telnet_wire.specs.Held.{Held, IsRunning as Running}
+use Rattle.telnet_wire.specs.Items.{WireItem, sent_bytes}
+use Rattle.tn3270e_msg.specs.Header.{record_limit}
+use Rattle.tn3270e_msg.specs.HostTable.{granted}
+use Rattle.tn3270e_msg.specs.declared.cause.Cause.{Cause}
+use Rattle.tn3270e_msg.specs.declared.cause.Stop.{Stop}
+use Rattle.tn3270e_msg.specs.declared.cause.Stop.TheVariants.{Going, Memory, Closed as ClosedStop}
+use Rattle.host_core.specs.Acts.{Act, Sent}
+use Rattle.host_core.specs.Bytes.{Counter, service_after}
+use Rattle.host_core.specs.Items.{TakesItem}
+use Rattle.host_core.specs.Says.{item_sent}
+use Rattle.host_core.specs.Session.{Conn, Pending}
+use Rattle.host_core.specs.Takes.{Step, pool_after}
+use Rattle.host_core.specs.declared.acting.Act.{Act as Chosen}
+use Rattle.host_core.specs.declared.acting.Act.TheVariants as chosen
+use Rattle.host_core.specs.declared.acted.Acted.{Acted}
+use Rattle.host_core.specs.declared.acted.Acted.TheVariants.{Sent as IsSent, Nothing, Memory as NoMemory}
+use Rattle.host_core.specs.declared.pending.Pending.{Pending as Unanswered}
+use Rattle.host_core.specs.declared.pending.Pending.TheVariants as unanswered
+
+-- ---- a connection
+
+-- the write that its bytes spell; the host sends no other than these two
+abbrev pub code_in : ℕ → CommandCode
+code_in byte = if byte == (codes_of EraseWrite).1 then EraseWrite else Write
+
+abbrev pub command_in : List ℕ → CommandParts
+command_in (code ∷ wcc ∷ text) = record { code = code_in code; wcc = Some (wcc_of wcc); orders = orders_in text }
+command_in _ = record { code = Write; wcc = None; orders = [] }
+
+-- the command that isn't answered yet; its bytes stand behind the header of the record that was sent last
+abbrev pub pending_in : Unanswered → List ℕ → Pending
+pending_in unanswered.Nothing sent = Pending.Nothing
+pending_in (unanswered.Writing number) sent = Pending.Writing number (command_in (drop 5 sent))
+pending_in (unanswered.Reading number) sent = Pending.Reading number
+pending_in (unanswered.Noting number) sent = Pending.Noting number (command_in (drop 5 sent))
+
+-- a write that the belief can take
+abbrev pub IsPlainWrite : List ℕ → Type 0
+IsPlainWrite bytes = IsCommand (command_in bytes) bytes × (is_plain (command_in bytes) ≡ true)
+
+abbrev pub IsKept : Unanswered → List ℕ → Type 0
+IsKept unanswered.Nothing sent = ⊤
+IsKept (unanswered.Writing number) sent = IsPlainWrite (drop 5 sent)
+IsKept (unanswered.Reading number) sent = ⊤
+IsKept (unanswered.Noting number) sent = IsPlainWrite (drop 5 sent)
+
+-- ---- what comes
+
+-- a step that says and grants nothing
+abbrev pub silent : Conn → Option Cause → Step
+silent conn closes = record { conn = conn; sends = []; grants = None; closes = closes }
+
+-- An item is taken: what it says is put behind what is there. Where the connection closes its LU is still held.
+pub record ItemTaken (number : ℕ) (pool : List Entry) (old : Conn) (item : WireItem) (before after : Vec ℕ Global) (closes : Option Cause) (left : List Entry) (new : Conn) : Type 0 where
+  pub step : Step
+  pub takes : TakesItem (answer_to pool) old item step
+  pub conn : new ≡ step.conn
+  pub ends : closes ≡ step.closes
+  pub pool_is : left ≡ pool_after number (record step { closes = None }) pool
+  pub sent : after.items ≡ before.items ++ sent_bytes (map item_sent step.sends)
+
+-- The pool holds this LU for the connection, and no other; or none at all.
+abbrev pub HoldsJust : ℕ → List Entry → Option (List ℕ) → Type 0
+HoldsJust number pool held = (lu : List ℕ) → Holds pool number lu ↔ (held ≡ Some lu)
+
+-- the LU that was granted to a connection, which is free once the connection is closed
+abbrev pub claim : Option Cause → Conn → Option (List ℕ)
+claim None conn = granted conn.talk.state
+claim (Some cause) conn = None
+
+-- what others hold stays
+abbrev pub OthersHold : ℕ → List Entry → List Entry → Type 0
+OthersHold number old new = (other : ℕ) (lu : List ℕ) → other ≢ number → Holds new other lu ↔ Holds old other lu
+
+-- ---- bytes
+
+-- a decoder that may go on
+abbrev pub IsRunning : Held → Type 0
+IsRunning held = Running record_limit held
+
+-- the counter of these parts; the connection is open unless there is a cause
+abbrev pub counter_of : List Entry → Held → Conn → Option Cause → Vec ℕ Global → Counter
+counter_of pool held conn closes out = record { pool = pool; line = record { service = service_after held.rest conn closes; out = out.items } }
+
+abbrev pub cause_of : Stop → Option Cause
+cause_of Going = None
+cause_of Memory = None
+cause_of (ClosedStop cause) = Some cause
+
+-- ---- acts
+
+abbrev pub act_of : Chosen → Act
+act_of chosen.Read = Act.Read
+act_of (chosen.Show panel message keep values) = Act.Show panel message keep values
+
+-- something was sent: its bytes stand behind what is there
+pub record IsSentOn (sent : Sent) (before after : Vec ℕ Global) (new : Conn) : Type 0 where
+  pub conn : new ≡ sent.conn
+  pub bytes : after.items ≡ before.items ++ sent_bytes (item_sent sent.message ∷ [])
+
+-- there is nothing to do, or it is done, or memory is refused; then nothing has changed
+abbrev pub DoesOn : Option Sent → Conn → Vec ℕ Global → Acted → Conn → Vec ℕ Global → Type 0
+DoesOn None old before answer new after = (answer ≡ Nothing) × (new ≡ old) × (after.items ≡ before.items)
+DoesOn (Some sent) old before IsSent new after = IsSentOn sent before after new
+DoesOn (Some sent) old before NoMemory new after = (new ≡ old) × (after.items ≡ before.items)
+DoesOn (Some sent) old before Nothing new after = ⊥

@@ -1,0 +1,46 @@
+-- What a host sends, on the wire (RFC 1647, sections 7, 8.1 and 10.4; the commands are those of GA23-0059-07; which record wants which
+-- response is our profile).
+use Rattle.std.specs.Prelude.{ℕ, List, [], ◌∷◌, ◌++◌, Option, Some, None, length}
+use Rattle.codes3270.specs.WriteControl.{wcc_byte}
+use Rattle.codes3270.specs.declared.write_control.Wcc.{Wcc}
+use Rattle.datastream.specs.Grammar.{CommandParts, codes_of}
+use Rattle.datastream.specs.Writing.{orders_bytes}
+use Rattle.datastream.specs.declared.command_code.CommandCode.TheVariants.{ReadBuffer as ReadBufferCode}
+use Rattle.datastream.specs.declared.order.Order.{Order}
+use Rattle.shadow.specs.Paint.{paint}
+use Rattle.telnet_wire.specs.Items.{WireItem, Record}
+use Rattle.tn3270e_msg.specs.Header.{spelling, error_response, always_response}
+use Rattle.tn3270e_msg.specs.Talk.{item_of}
+use Rattle.tn3270e_msg.specs.declared.header.Header.{Header}
+use Rattle.tn3270e_msg.specs.declared.header.DataType.TheVariants.{Data3270}
+use Rattle.host_core.specs.Messages.{ToTerminal}
+
+-- ---- commands
+
+-- what stands behind a command's code: the write control character of a write, and orders
+abbrev pub behind_code : Option Wcc → List Order → List ℕ
+behind_code None orders = orders_bytes orders
+behind_code (Some wcc) orders = wcc_byte wcc ∷ orders_bytes orders
+
+-- the bytes that a command is written as, with the second of its codes
+abbrev pub written : CommandParts → List ℕ
+written command = (codes_of command.code).1 ∷ behind_code command.wcc command.orders
+
+abbrev pub read_buffer_command : CommandParts
+read_buffer_command = record { code = ReadBufferCode; wcc = None; orders = [] }
+
+-- ---- records
+
+-- the header of a command's record
+abbrev pub command_header : ℕ → ℕ → Header
+command_header flag number = record { kind = Data3270; request = 0; flag = flag; seq = number }
+
+abbrev pub command_record : ℕ → ℕ → CommandParts → List ℕ
+command_record flag number command = spelling (command_header flag number) ++ written command
+
+-- A write wants a response in any case; a Read Buffer wants one where it is refused, since else the data answers it.
+abbrev pub item_sent : ToTerminal → WireItem
+item_sent (ToTerminal.TalksDown saying) = item_of saying
+item_sent (ToTerminal.Paint number wanted believed) = Record (command_record always_response number (paint (length wanted.cells) believed wanted))
+item_sent (ToTerminal.ReadBuffer number) = Record (command_record error_response number read_buffer_command)
+item_sent (ToTerminal.Note number command) = Record (command_record always_response number command)

@@ -1,0 +1,94 @@
+-- A host, seen from outside (our profile).
+use Rattle.std.specs.Prelude.{ℕ, List, [], ◌∷◌, Option, Some, None, replicate, slice_set, slice_index_or}
+use Rattle.codes3270.specs.Size.{model_2}
+use Rattle.lu_pool.specs.Holders.{all_free}
+use Rattle.lu_pool.specs.declared.entry.Entry.{Entry}
+use Rattle.panels.specs.Panel.{Panels}
+use Rattle.shadow.specs.Belief.{Shadow}
+use Rattle.telnet_wire.specs.Items.{Opt, sent_bytes}
+use Rattle.telnet_wire.specs.Reading.{Rest, nothing}
+use Rattle.telnet_wire.specs.declared.wire.Verb.TheVariants.{Do}
+use Rattle.tn3270e_msg.specs.HostTable.{granted}
+use Rattle.tn3270e_msg.specs.declared.cause.Cause.{Cause}
+use Rattle.host_core.specs.Answering.{number_of}
+use Rattle.host_core.specs.Session.{Conn, new_conn, agreed_lu}
+use Rattle.host_core.specs.declared.phase.Phase.{Phase}
+use Rattle.host_core.specs.declared.phase.Phase.TheVariants as phase
+use Rattle.host_core.specs.declared.turn.Turn.{Turn}
+use Rattle.host_core.specs.declared.turn.Turn.TheVariants.{Host as HostTurn}
+
+-- A connection number, to the host: free; open, with what it holds of the stream and the connection; or closed, by this cause.
+pub data Service : Type 0 where
+  Free : Service
+  Open : Rest → Conn → Service
+  Closed : Cause → Service
+
+-- with what the host has to send on it
+pub record Line : Type 0 where
+  pub service : Service
+  pub out : List ℕ
+
+pub record Host : Type 0 where
+  pub panels : Panels
+  pub pool : List Entry
+  pub lines : List Line  -- by their numbers
+
+-- the numbers that there are
+abbrev pub most_connections : ℕ
+most_connections = 64
+
+-- ---- a number
+
+abbrev pub unused : Line
+unused = record { service = Service.Free; out = [] }
+
+-- TN3270E is offered at once, to a model 2
+abbrev pub opened : Line
+opened = record { service = Service.Open nothing (new_conn model_2); out = sent_bytes (Opt Do 40 ∷ []) }
+
+abbrev pub phase_agreed : Option (List ℕ) → Phase
+phase_agreed None = phase.Talking
+phase_agreed (Some lu) = phase.Bound lu
+
+abbrev pub phase_of : Service → Phase
+phase_of Service.Free = phase.Free
+phase_of (Service.Open rest conn) = phase_agreed (agreed_lu conn.talk.state)
+phase_of (Service.Closed cause) = phase.Closed cause
+
+-- the LU that was granted there
+abbrev pub lu_of : Service → Option (List ℕ)
+lu_of Service.Free = None
+lu_of (Service.Open rest conn) = granted conn.talk.state
+lu_of (Service.Closed cause) = None
+
+abbrev pub turn_of : Service → Turn
+turn_of Service.Free = HostTurn
+turn_of (Service.Open rest conn) = conn.turn
+turn_of (Service.Closed cause) = HostTurn
+
+-- the number of the command that isn't answered yet
+abbrev pub pending_of : Service → Option ℕ
+pending_of Service.Free = None
+pending_of (Service.Open rest conn) = number_of conn.pending
+pending_of (Service.Closed cause) = None
+
+abbrev pub shadow_of : Service → Shadow
+shadow_of Service.Free = Shadow.NothingKnown
+shadow_of (Service.Open rest conn) = conn.shadow
+shadow_of (Service.Closed cause) = Shadow.NothingKnown
+
+-- ---- the host
+
+abbrev pub line_at : ℕ → Host → Line
+line_at number host = slice_index_or host.lines number unused
+
+abbrev pub service_at : ℕ → Host → Service
+service_at number host = (line_at number host).service
+
+-- the host with another line at a number
+abbrev pub with_line : ℕ → Line → Host → Host
+with_line number line host = record host { lines = slice_set host.lines number line }
+
+-- as it begins: each LU is free, and so is each number
+abbrev pub new_host : Panels → List Entry → Host
+new_host panels pool = record { panels = panels; pool = all_free pool; lines = replicate most_connections unused }

@@ -1,0 +1,10 @@
+/// What became of an act, or of a note.
+#[derive(Clone, Copy, Debug, PartialEq, Eq)]
+pub enum Acted {
+    /// A command was sent.
+    Sent,
+    /// There was nothing to do; nothing has changed.
+    Nothing,
+    /// Memory was refused; nothing has changed.
+    Memory,
+}

@@ -1,0 +1,12 @@
+use codes3270::Aid;
+
+/// Why the host holds the turn (our profile).
+#[derive(Clone, Copy, Debug, PartialEq, Eq)]
+pub(crate) enum Occasion {
+    /// The session was agreed.
+    Agreement,
+    /// A key was pressed; whether its screen was read since, by Read Buffer.
+    Key(Aid, bool),
+    /// The last command was refused.
+    Refusal,
+}
