@@ -15,6 +15,7 @@ mod session;
 mod turn;
 
 pub use acted::Acted;
+pub use occasion::Occasion;
 pub use phase::Phase;
 pub use turn::Turn;
 
