@@ -5,3 +5,5 @@ pub mod Writable
 pub mod Notes
 pub mod MessageRows
 pub mod KeptWhole
+pub mod Hosts
+pub mod LineActs

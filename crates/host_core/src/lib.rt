@@ -7,14 +7,18 @@ ghost use Rattle.host_core.specs.NoteLaws.{HeldTakesNotes, NotesAreNotes, NotesA
 
 mod acted;
 mod acting;
+mod host;
+mod line;
 mod occasion;
 mod pending;
 mod phase;
 mod room;
 mod session;
+mod stubs;
 mod turn;
 
 pub use acted::Acted;
+pub use host::{Host, MOST_CONNECTIONS};
 pub use occasion::Occasion;
 pub use phase::Phase;
 pub use turn::Turn;
