@@ -7,3 +7,4 @@ pub mod MessageRows
 pub mod KeptWhole
 pub mod Hosts
 pub mod LineActs
+pub mod Turns

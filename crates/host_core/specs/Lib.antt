@@ -12,6 +12,7 @@ pub mod Bytes
 pub mod Feeds
 pub mod Does
 pub mod Sound
+pub mod Serves
 pub mod NoteLaws
 pub mod Laws
 pub mod Rooms

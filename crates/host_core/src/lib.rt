@@ -9,18 +9,22 @@ mod acted;
 mod acting;
 mod host;
 mod line;
+mod links;
 mod occasion;
 mod pending;
 mod phase;
 mod room;
+mod serving;
 mod session;
 mod stubs;
 mod turn;
 
 pub use acted::Acted;
 pub use host::{Host, MOST_CONNECTIONS};
+pub use links::{LinkRead, LinkWrite, Links};
 pub use occasion::Occasion;
 pub use phase::Phase;
+pub use serving::{Served, serve_turn};
 pub use turn::Turn;
 
 use datastream::{kept_since_the_write, written_is_read};

@@ -1,3 +1,6 @@
+ghost use Rattle.std.specs.Prelude.{◌↔◌, IsTrue};
+ghost use Rattle.host_core.specs.Serves.{IsClosed};
+
 use tn3270e_msg::{Cause, Lu};
 
 /// How far a host is with the terminal of a connection number.
@@ -11,4 +14,13 @@ pub enum Phase {
     Bound(Lu),
     /// The host closed the connection for this cause.
     Closed(Cause),
+}
+
+impl Phase {
+    /// Whether the host closed the connection.
+    pub fn is_closed(&self) -> bool
+        ensures { IsTrue result ↔ IsClosed self.now }
+    {
+        matches!(self, Phase::Closed(_))
+    }
 }

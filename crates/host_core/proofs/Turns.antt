@@ -1,0 +1,9 @@
+-- What a turn of serving a connection does.
+use Rattle.std.proofs.Common.{◌≡◌, ℕ, List, ap, sym}
+use Rattle.std.proofs.lemmas.List.{set-get_or}
+use Rattle.host_core.specs.Serves.{sent_from}
+use Rattle.host_core.specs.State.{Host, Line, unused}
+
+-- where a write took nothing the host stays
+pub none_sent : (conn : ℕ) (host : Host) → host ≡ sent_from conn 0 host
+none_sent conn host = sym (ap (λ (lines : List Line). record host { lines = lines }) (set-get_or host.lines conn unused))

@@ -1,0 +1,137 @@
+-- A turn of serving a connection: one read, what the host makes of it, one act, and one write (our profile).
+use Rattle.std.specs.Prelude.{◌≡◌, ◌≢◌, ◌<◌, ◌≤◌, ◌+◌, ◌⊎◌, ⊤, ℕ, Bool, true, false, Option, Some, None, List, [], take, drop, length}
+use Rattle.tn3270e_msg.specs.declared.cause.Cause.{Cause}
+use Rattle.tn3270e_msg.specs.declared.cause.Fed.{Fed}
+use Rattle.tn3270e_msg.specs.declared.cause.Stop.TheVariants.{Memory as FeedMemory}
+use Rattle.host_core.specs.Application.{application_of}
+use Rattle.host_core.specs.Does.{Does, acted_by}
+use Rattle.host_core.specs.Feeds.{Feeds, counter_at, with_counter}
+use Rattle.host_core.specs.State.{Host, Line, line_at, service_at, with_line, phase_of}
+use Rattle.host_core.specs.declared.acted.Acted.{Acted}
+use Rattle.host_core.specs.declared.acted.Acted.TheVariants.{Memory as ActMemory}
+use Rattle.host_core.specs.declared.links.LinkRead.{LinkRead}
+use Rattle.host_core.specs.declared.links.LinkRead.TheVariants as read
+use Rattle.host_core.specs.declared.links.LinkWrite.{LinkWrite}
+use Rattle.host_core.specs.declared.links.LinkWrite.TheVariants as write
+use Rattle.host_core.specs.declared.phase.Phase.{Phase}
+use Rattle.host_core.specs.declared.phase.Phase.TheVariants as phase
+use Rattle.host_core.specs.declared.serving.Served.{Served}
+use Rattle.host_core.specs.declared.serving.Served.TheVariants.{Going, Lost, Memory}
+
+-- ---- reads and writes
+
+-- the bytes that a read got
+abbrev pub bytes_got : LinkRead → List ℕ → List ℕ
+bytes_got (read.Got count) buffer = take count buffer
+bytes_got read.NotNow buffer = []
+bytes_got read.Ended buffer = []
+bytes_got read.Failed buffer = []
+
+abbrev pub GotWithin : LinkRead → ℕ → Type 0
+GotWithin (read.Got count) room = count ≤ room
+GotWithin _ room = ⊤
+
+abbrev pub TookWithin : LinkWrite → ℕ → Type 0
+TookWithin (write.Took count) given = count ≤ given
+TookWithin _ given = ⊤
+
+-- how many bytes a write took
+abbrev pub taken_by : LinkWrite → ℕ
+taken_by (write.Took count) = count
+taken_by write.NotNow = 0
+taken_by write.Failed = 0
+
+-- a connection's count rises by one, those of others stay
+abbrev pub Rises : ℕ → (ℕ → ℕ) → (ℕ → ℕ) → Type 0
+Rises conn old new = (new conn ≡ old conn + 1) × ((other : ℕ) → other ≢ conn → new other ≡ old other)
+
+abbrev pub Stays : (ℕ → ℕ) → (ℕ → ℕ) → Type 0
+Stays old new = (conn : ℕ) → new conn ≡ old conn
+
+-- An end raises the count of ends and a failure that of failures; nothing else raises one.
+abbrev pub ReadCounts : ℕ → LinkRead → (ℕ → ℕ) → (ℕ → ℕ) → (ℕ → ℕ) → (ℕ → ℕ) → Type 0
+ReadCounts conn (read.Got count) ends ends_after failures failures_after = Stays ends ends_after × Stays failures failures_after
+ReadCounts conn read.NotNow ends ends_after failures failures_after = Stays ends ends_after × Stays failures failures_after
+ReadCounts conn read.Ended ends ends_after failures failures_after = Rises conn ends ends_after × Stays failures failures_after
+ReadCounts conn read.Failed ends ends_after failures failures_after = Stays ends ends_after × Rises conn failures failures_after
+
+abbrev pub WriteCounts : ℕ → LinkWrite → (ℕ → ℕ) → (ℕ → ℕ) → (ℕ → ℕ) → (ℕ → ℕ) → Type 0
+WriteCounts conn (write.Took count) ends ends_after failures failures_after = Stays ends ends_after × Stays failures failures_after
+WriteCounts conn write.NotNow ends ends_after failures failures_after = Stays ends ends_after × Stays failures failures_after
+WriteCounts conn write.Failed ends ends_after failures failures_after = Stays ends ends_after × Rises conn failures failures_after
+
+-- where a write was sound nothing ended or failed
+abbrev pub SendCounts : ℕ → Bool → (ℕ → ℕ) → (ℕ → ℕ) → (ℕ → ℕ) → (ℕ → ℕ) → Type 0
+SendCounts conn true ends ends_after failures failures_after = Stays ends ends_after × Stays failures failures_after
+SendCounts conn false ends ends_after failures failures_after = Stays ends ends_after × Rises conn failures failures_after
+
+-- ---- a turn
+
+-- the host takes bytes, and makes of them this
+pub record FeedsHost (conn : ℕ) (old : Host) (bytes : List ℕ) (fed : Fed) (new : Host) : Type 0 where
+  pub feeds : Feeds conn (counter_at conn old) bytes fed (counter_at conn new)
+  pub others : new ≡ with_counter conn (counter_at conn new) old
+
+-- the host acts
+pub record ActsHost (conn : ℕ) (old : Host) (answer : Acted) (new : Host) : Type 0 where
+  pub does : Does (acted_by (application_of old.panels) (service_at conn old)) (line_at conn old) answer (line_at conn new)
+  pub others : new ≡ with_line conn (line_at conn new) old
+
+-- The host is fed bytes, and then acts; false where memory was refused it for the one or the other.
+pub data Responds (conn : ℕ) (old : Host) (bytes : List ℕ) (sound : Bool) (new : Host) : Type 0 where
+  unfed : (fed : Fed) → FeedsHost conn old bytes fed new → fed.stop ≡ FeedMemory → sound ≡ false → Responds conn old bytes sound new
+  idle : (fed : Fed) (mid : Host) → FeedsHost conn old bytes fed mid → fed.stop ≢ FeedMemory → ActsHost conn mid ActMemory new → sound ≡ false
+      → Responds conn old bytes sound new
+  acts : (fed : Fed) (mid : Host) (answer : Acted) → FeedsHost conn old bytes fed mid → fed.stop ≢ FeedMemory → ActsHost conn mid answer new
+      → answer ≢ ActMemory → sound ≡ true → Responds conn old bytes sound new
+
+-- so many bytes of what there was to send were sent
+abbrev pub sent_from : ℕ → ℕ → Host → Host
+sent_from conn count host = with_line conn (record (line_at conn host) { out = drop count (line_at conn host).out }) host
+
+-- a read that the connection doesn't end at
+abbrev pub GoesOn : LinkRead → Type 0
+GoesOn (read.Got count) = ⊤
+GoesOn read.NotNow = ⊤
+GoesOn read.Ended = ⊥
+GoesOn read.Failed = ⊥
+
+abbrev pub IsClosed : Phase → Type 0
+IsClosed (phase.Closed cause) = ⊤
+IsClosed _ = ⊥
+
+-- counts of a read: none rises, or where the connection is over that of its ends or its failures
+abbrev pub ReceiveCounts : ℕ → Option ℕ → (ℕ → ℕ) → (ℕ → ℕ) → (ℕ → ℕ) → (ℕ → ℕ) → Type 0
+ReceiveCounts conn (Some count) ends ends_after failures failures_after = Stays ends ends_after × Stays failures failures_after
+ReceiveCounts conn None ends ends_after failures failures_after =
+    (Rises conn ends ends_after × Stays failures failures_after) ⊎ (Stays ends ends_after × Rises conn failures failures_after)
+
+module _ {L : Type 0} (gave : L → ℕ → List ℕ → LinkRead → L → Type 0) (took : L → ℕ → List ℕ → LinkWrite → L → Type 0) where
+  -- a read of the connection: None where that is over
+  abbrev pub Receives : ℕ → L → List ℕ → Option ℕ → L → Type 0
+  Receives conn old buffer (Some count) new = (got : LinkRead) × gave old conn (take count buffer) got new × GoesOn got × (count ≤ length buffer)
+  Receives conn old buffer None new = (got : LinkRead) × gave old conn [] got new × (GoesOn got → ⊥)
+
+  -- What there is to send is handed to one write, and what that took is dropped; where there is nothing to send, nothing is written.
+  pub data SendsOut (conn : ℕ) (host : Host) (old : L) (new_host : Host) (new : L) : Type 0 where
+    nothing : (line_at conn host).out ≡ [] → new_host ≡ host → new ≡ old → SendsOut conn host old new_host new
+    handed : (wrote : LinkWrite) → took old conn (line_at conn host).out wrote new → new_host ≡ sent_from conn (taken_by wrote) host
+        → SendsOut conn host old new_host new
+
+  -- One read; where that ended or failed nothing else. Else the host is fed what came, acts, and sends; want of memory ends the turn.
+  pub data Serves (conn : ℕ) (host : Host) (old : L) (answer : Served) (new_host : Host) (new : L) : Type 0 where
+    over : (got : LinkRead) → gave old conn [] got new → (GoesOn got → ⊥) → new_host ≡ host → answer ≡ Lost → Serves conn host old answer new_host new
+    starved : (got : LinkRead) (bytes : List ℕ) → gave old conn bytes got new → GoesOn got → Responds conn host bytes false new_host
+        → answer ≡ Memory → Serves conn host old answer new_host new
+    served : (got : LinkRead) (bytes : List ℕ) (mid : Host) (links : L) → gave old conn bytes got links → GoesOn got → Responds conn host bytes true mid
+        → SendsOut conn mid links new_host new → answer ≢ Memory → Serves conn host old answer new_host new
+
+-- A connection is lost where its count of ends or failures rose, or its phase is closed: exactly there, unless memory ended the turn.
+pub data IsLost (conn : ℕ) (ends ends_after failures failures_after : ℕ → ℕ) (phase : Phase) : Type 0 where
+  ended : ends conn < ends_after conn → IsLost conn ends ends_after failures failures_after phase
+  failed : failures conn < failures_after conn → IsLost conn ends ends_after failures failures_after phase
+  closed : IsClosed phase → IsLost conn ends ends_after failures failures_after phase
+
+-- the counts of other connections stay
+abbrev pub OthersCount : ℕ → (ℕ → ℕ) → (ℕ → ℕ) → Type 0
+OthersCount conn old new = (other : ℕ) → other ≢ conn → new other ≡ old other

@@ -1,0 +1,54 @@
+//! The connections of a host, as it reads and writes them.
+ghost use Rattle.std.specs.Prelude.{◌≡◌, ℕ, List, length};
+ghost use Rattle.host_core.specs.Serves.{GotWithin, TookWithin, ReadCounts, WriteCounts, bytes_got};
+
+/// What a read of a connection gave.
+#[derive(Clone, Copy, Debug, PartialEq, Eq)]
+pub enum LinkRead {
+    /// So many bytes, at the front of the buffer.
+    Got(usize),
+    /// Nothing this time.
+    NotNow,
+    /// The end of what the peer sends.
+    Ended,
+    /// The connection failed.
+    Failed,
+}
+
+/// What a write to a connection took.
+#[derive(Clone, Copy, Debug, PartialEq, Eq)]
+pub enum LinkWrite {
+    /// So many bytes, from the front of what it was handed.
+    Took(usize),
+    /// Nothing this time.
+    NotNow,
+    /// The connection failed.
+    Failed,
+}
+
+/// The connections that a host serves, by their numbers.
+///
+/// Contracts see how often each ended or failed, and what an implementation says of its reads and writes (`gave`, `took`): over
+/// the links before, the number, the bytes got or handed in, the answer, and the links after. An implementation whose count is
+/// at its last value answers NotNow instead.
+pub trait Links {
+    ghost use Rattle.host_core.specs.declared.links.LinkRead.{LinkRead};
+    ghost use Rattle.host_core.specs.declared.links.LinkWrite.{LinkWrite};
+
+    ghost ends: { Self → ℕ → ℕ };
+    ghost failures: { Self → ℕ → ℕ };
+    ghost gave: { Self → ℕ → List ℕ → LinkRead → Self → Type 0 };
+    ghost took: { Self → ℕ → List ℕ → LinkWrite → Self → Type 0 };
+
+    /// Reads once.
+    fn read(&mut self, conn: usize, buffer: &mut [u8]) -> LinkRead
+        ensures within { GotWithin result (length buffer.new) }
+        ensures counts { ReadCounts conn result (ends self.old) (ends self.new) (failures self.old) (failures self.new) }
+        ensures gave { gave self.old conn (bytes_got result buffer.new) result self.new };
+
+    /// Hands bytes over to be sent, once.
+    fn write(&mut self, conn: usize, bytes: &[u8]) -> LinkWrite
+        ensures within { TookWithin result (length bytes.now) }
+        ensures counts { WriteCounts conn result (ends self.old) (ends self.new) (failures self.old) (failures self.new) }
+        ensures took { took self.old conn bytes.now result self.new };
+}

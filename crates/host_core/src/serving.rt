@@ -1,0 +1,98 @@
+//! Serving connections, a turn at a time.
+ghost use Rattle.std.specs.Prelude.{◌≡◌, ◌≢◌, ◌<◌, ◌↔◌};
+ghost use Rattle.host_core.specs.Serves.{Serves, Receives, ReceiveCounts, Responds, SendsOut, SendCounts, IsLost, OthersCount};
+ghost use Rattle.host_core.specs.State.{most_connections, service_at, phase_of};
+ghost use Rattle.host_core.specs.declared.serving.Served.TheVariants as served;
+
+use crate::acted::Acted;
+use crate::host::Host;
+use crate::links::{LinkRead, LinkWrite, Links};
+use tn3270e_msg::Stop;
+
+/// How many bytes one read asks for.
+const READ_ROOM: usize = 4096;
+
+/// What became of a connection in a turn.
+#[derive(Clone, Copy, Debug, PartialEq, Eq)]
+pub enum Served {
+    /// It goes on.
+    Going,
+    /// It ended, failed or was closed: its number can be given up.
+    Lost,
+    /// Memory was refused.
+    Memory,
+}
+
+/// Hands what there is to send to one write, and answers whether that didn't fail.
+fn send_out<L: Links>(host: &mut Host, links: &mut L, conn: usize) -> bool
+    requires number { conn < most_connections }
+    ensures sends { SendsOut L.gave L.took conn host.old links.old host.new links.new }
+    ensures counts { SendCounts conn result (L.ends links.old) (L.ends links.new) (L.failures links.old) (L.failures links.new) }
+    ensures phase { phase_of (service_at conn host.new) ≡ phase_of (service_at conn host.old) }
+{
+    if host.out(conn).is_empty() {
+        return true;
+    }
+    match links.write(conn, host.out(conn)) {
+        LinkWrite::Took(count) => {
+            host.sent(conn, count);
+            true
+        }
+        LinkWrite::NotNow => true,
+        LinkWrite::Failed => false,
+    }
+}
+
+/// Reads a connection once, and answers how many bytes came; None where it is over.
+fn receive<L: Links>(links: &mut L, conn: usize, buffer: &mut [u8]) -> Option<usize>
+    ensures receives { Receives L.gave L.took conn links.old buffer.new result links.new }
+    ensures counts { ReceiveCounts conn result (L.ends links.old) (L.ends links.new) (L.failures links.old) (L.failures links.new) }
+{
+    match links.read(conn, buffer) {
+        LinkRead::Got(count) => Some(count),
+        LinkRead::NotNow => Some(0),
+        LinkRead::Ended => None,
+        LinkRead::Failed => None,
+    }
+}
+
+/// Feeds the host what came, and has it act. Answers false where memory was refused.
+fn respond(host: &mut Host, conn: usize, bytes: &[u8]) -> bool
+    requires number { conn < most_connections }
+    ensures { Responds conn host.old bytes.now result host.new }
+{
+    if let Stop::Memory = host.feed(conn, bytes).stop {
+        return false;
+    }
+    match host.act(conn) {
+        Acted::Memory => false,
+        Acted::Sent => true,
+        Acted::Nothing => true,
+    }
+}
+
+/// Reads a connection once and feeds the host what came; then the host acts, and what there is to send is handed to one write.
+/// Where the read ended or failed, nothing else is done.
+///
+/// Lost where the read or the write ended or failed, or the connection is closed. After Memory what was read and not taken is
+/// gone. No other connection changes.
+pub fn serve_turn<L: Links>(host: &mut Host, links: &mut L, conn: usize) -> Served
+    requires number { conn < most_connections }
+    ensures serves { Serves L.gave L.took conn host.old links.old result host.new links.new }
+    ensures lost { result ≢ served.Memory → (result ≡ served.Lost) ↔ IsLost conn (L.ends links.old) (L.ends links.new) (L.failures links.old) (L.failures links.new) (phase_of (service_at conn host.new)) }
+    ensures ends { OthersCount conn (L.ends links.old) (L.ends links.new) }
+    ensures failures { OthersCount conn (L.failures links.old) (L.failures links.new) }
+{
+    let mut buffer = [0; READ_ROOM];
+    let Some(count) = receive(links, conn, &mut buffer) else {
+        return Served::Lost;
+    };
+    if !respond(host, conn, &buffer[..count]) {
+        return Served::Memory;
+    }
+    if send_out(host, links, conn) && !host.phase(conn).is_closed() {
+        Served::Going
+    } else {
+        Served::Lost
+    }
+}
