@@ -1,16 +1,21 @@
-//! Keys on screens that commands laid out: what each key answers, where the cursor goes, and what is read afterwards. What is
-//! owned lives in helpers that answer whether all is as it should be, so that a test has few ways out.
+//! Keys on screens that commands laid out: what each key answers, where the cursor goes, and what is read afterwards. A test
+//! makes what is owned and lends it to one helper, which answers whether all is as it should be.
 use crate::*;
 use codes3270::{Aid, CELLS};
 use datastream::read_command;
 use presentation::Screen;
-use std::alloc::{AllocError, Global};
 use std::test::Fail;
 
 // ---- helpers
 
 /// A key, what it answers, and where it leaves the cursor.
 type Step = (Key, Pressed, u16);
+
+/// A command for a blank screen, where its cursor is, and what Read Modified answers after a key and Enter there.
+type Edited = (&'static [u8], u16, &'static [u8]);
+
+/// A command for a blank screen, where its cursor is, where it is once X is inserted, and what Read Modified answers.
+type Inserted = (&'static [u8], u16, u16, &'static [u8]);
 
 const DONE: Pressed = Pressed::Done;
 
@@ -26,18 +31,12 @@ const NOT_NUMERIC: Pressed = Pressed::Refused(Refusal::NotNumeric);
 
 const NO_ROOM: Pressed = Pressed::Refused(Refusal::NoRoom);
 
-/// A panel with the fields USER, at 166, and DEPT, at 246; autoskip fields surround them. The cursor is at 167.
-const SIGN_ON: &str =
-    "F5 C3 11 40 40 1D F0 E2 C9 C7 D5 40 D6 D5 11 C2 60 1D F0 E4 E2 C5 D9 11 C2 E6 1D 40 11 C2 6F 1D F0 11 C3 F0 1D F0 C4 C5 D7 E3 11 C3 F6 1D 40 11 C3 7B 1D F0 11 5C F0 1D F8 11 C2 E7 13";
+/// Room for what reads answer here.
+const ROOM: usize = 2048;
 
-/// The bytes that pairs of hexadecimal digits name, with blanks between them.
-fn bytes(alloc: Global, pairs: &str) -> Result<Vec<u8>, Fail> {
-    let mut bytes = Vec::new(alloc);
-    for pair in pairs.split_whitespace() {
-        bytes.push(u8::from_str_radix(pair, 16)?)?;
-    }
-    Ok(bytes)
-}
+/// A panel with the fields USER, at 166, and DEPT, at 246; autoskip fields surround them. The cursor is at 167.
+const SIGN_ON: &[u8] =
+    b"\xF5\xC3\x11\x40\x40\x1D\xF0\xE2\xC9\xC7\xD5\x40\xD6\xD5\x11\xC2\x60\x1D\xF0\xE4\xE2\xC5\xD9\x11\xC2\xE6\x1D\x40\x11\xC2\x6F\x1D\xF0\x11\xC3\xF0\x1D\xF0\xC4\xC5\xD7\xE3\x11\xC3\xF6\x1D\x40\x11\xC3\x7B\x1D\xF0\x11\x5C\xF0\x1D\xF8\x11\xC2\xE7\x13";
 
 /// What a command says of restoring; None where the bytes spell none.
 fn obey(screen: &mut Screen, command: &[u8]) -> Option<bool> {
@@ -45,12 +44,6 @@ fn obey(screen: &mut Screen, command: &[u8]) -> Option<bool> {
         Ok(command) => Some(screen.apply(&command).restore),
         Err(_) => None,
     }
-}
-
-/// Whether a screen obeys what the pairs spell.
-fn obeys(alloc: Global, screen: &mut Screen, pairs: &str) -> Result<bool, Fail> {
-    let command = bytes(alloc, pairs)?;
-    Ok(obey(screen, command.as_slice()).is_some())
 }
 
 /// A keyboard that a write has freed.
@@ -69,75 +62,57 @@ fn is_brought(lock: Lock, answer: Pressed) -> bool {
     }
 }
 
-/// Whether keys answer, leave the cursor, and lock as they should.
+/// Whether a key answers, leaves the cursor, and locks as it should.
+fn presses_one(keyboard: &mut Keyboard, screen: &mut Screen, step: Step) -> bool {
+    let (key, answer, cursor) = step;
+    keyboard.press(screen, key) == answer
+        && screen.cursor().get() == cursor
+        && is_brought(keyboard.lock(), answer)
+}
+
+/// Whether keys do as they should, one after the other.
 fn presses(keyboard: &mut Keyboard, screen: &mut Screen, steps: &[Step]) -> bool {
-    for (key, answer, cursor) in steps {
-        let is_answered = keyboard.press(screen, *key) == *answer;
-        if !is_answered
-            || screen.cursor().get() != *cursor
-            || !is_brought(keyboard.lock(), *answer)
-        {
+    for step in steps {
+        if !presses_one(keyboard, screen, *step) {
             return false;
         }
     }
     true
 }
 
-fn type_text(keyboard: &mut Keyboard, screen: &mut Screen, text: &str) {
-    for letter in text.chars() {
-        let _pressed = keyboard.press(screen, Key::Char(letter));
-    }
+/// Whether Read Modified, or Read Modified All, answers these bytes. There is room for them.
+fn reads_bytes(screen: &Screen, out: &mut Vec<u8>, all: bool, wanted: &[u8]) -> bool {
+    out.clear();
+    screen.put_read_modified(out, all).is_ok() && out.as_slice() == wanted
 }
 
-/// Whether Read Modified, or Read Modified All, answers these bytes.
-fn reads_bytes(
-    alloc: Global,
-    screen: &Screen,
-    all: bool,
-    wanted: &[u8],
-) -> Result<bool, AllocError> {
-    let mut out = Vec::new(alloc);
-    screen.put_read_modified(&mut out, all)?;
-    Ok(out.as_slice() == wanted)
-}
-
-/// Whether Read Modified answers what the pairs spell.
-fn reads(alloc: Global, screen: &Screen, pairs: &str) -> Result<bool, Fail> {
-    let wanted = bytes(alloc, pairs)?;
-    Ok(reads_bytes(alloc, screen, false, wanted.as_slice())?)
+/// Whether Read Modified answers these bytes.
+fn reads(screen: &Screen, out: &mut Vec<u8>, wanted: &[u8]) -> bool {
+    reads_bytes(screen, out, false, wanted)
 }
 
 /// Whether, on the screen of a command, keys do as they should.
-fn answers(alloc: Global, command: &str, steps: &[Step]) -> Result<bool, Fail> {
+fn answers(command: &[u8], steps: &[Step]) -> bool {
     let mut screen = Screen::blank();
-    Ok(obeys(alloc, &mut screen, command)? && presses(&mut free(), &mut screen, steps))
-}
-
-/// Whether, after a text was typed as well, Read Modified answers what it should.
-fn types(
-    alloc: Global,
-    screen: &mut Screen,
-    command: &str,
-    text: &str,
-    steps: &[Step],
-    answer: &str,
-) -> Result<bool, Fail> {
-    let mut keyboard = free();
-    let is_obeyed = obeys(alloc, screen, command)?;
-    type_text(&mut keyboard, screen, text);
-    Ok(is_obeyed && presses(&mut keyboard, screen, steps) && reads(alloc, screen, answer)?)
+    obey(&mut screen, command).is_some() && presses(&mut free(), &mut screen, steps)
 }
 
 /// Whether keys on the screen of a command do as they should, and Read Modified answers so then.
-fn goes(alloc: Global, command: &str, steps: &[Step], answer: &str) -> Result<bool, Fail> {
-    types(alloc, &mut Screen::blank(), command, "", steps, answer)
+fn goes(
+    screen: &mut Screen,
+    out: &mut Vec<u8>,
+    command: &[u8],
+    steps: &[Step],
+    answer: &[u8],
+) -> bool {
+    obey(screen, command).is_some()
+        && presses(&mut free(), screen, steps)
+        && reads(screen, out, answer)
 }
 
 // ---- characters
 
-#[test]
-fn typing_skips_at_the_end_of_a_field(rt: HostRuntime) -> Result<(), Fail> {
-    let command = "F5 C3 11 40 40 1D 40 13 00 1D F0 00 1D 40 00 1D 60";
+fn typing_skips_at_the_end_of_a_field(out: &mut Vec<u8>) -> bool {
     let steps = [
         // The next attribute is autoskip: to the next start.
         (Key::Char('A'), DONE, 5),
@@ -147,13 +122,12 @@ fn typing_skips_at_the_end_of_a_field(rt: HostRuntime) -> Result<(), Fail> {
         (Key::Reset, DONE, 7),
         (Key::Enter, ENTERED, 7),
     ];
-    let answer = "7D 40 C7 11 40 C1 C1 11 40 C5 C2";
-    assert!(rt; goes(rt.alloc(), command, &steps, answer)?);
-    Ok(())
+    let command = b"\xF5\xC3\x11\x40\x40\x1D\x40\x13\x00\x1D\xF0\x00\x1D\x40\x00\x1D\x60";
+    let answer = b"\x7D\x40\xC7\x11\x40\xC1\xC1\x11\x40\xC5\xC2";
+    goes(&mut Screen::blank(), out, command, &steps, answer)
 }
 
-#[test]
-fn refusals_come_in_order(rt: HostRuntime) -> Result<(), Fail> {
+fn refusals_come_in_order(out: &mut Vec<u8>) -> bool {
     let steps = [
         (Key::Char('A'), NOT_NUMERIC, 1),
         (Key::Char('5'), LOCKED, 1),
@@ -165,214 +139,244 @@ fn refusals_come_in_order(rt: HostRuntime) -> Result<(), Fail> {
         (Key::Char('\u{20AC}'), NO_CODE, 2),
         (Key::Enter, ENTERED, 2),
     ];
-    let command = "F5 C3 11 40 40 1D 50 13 F1 00 F3 1D 60";
-    assert!(rt; goes(rt.alloc(), command, &steps, "7D 40 C2 11 40 C1 F5 F1 F3")?);
-    Ok(())
+    let command = b"\xF5\xC3\x11\x40\x40\x1D\x50\x13\xF1\x00\xF3\x1D\x60";
+    let answer = b"\x7D\x40\xC2\x11\x40\xC1\xF5\xF1\xF3";
+    goes(&mut Screen::blank(), out, command, &steps, answer)
 }
 
-// A character without a code in a protected cell, and at a lock.
-#[test]
-fn no_code_comes_after_a_lock_alone(rt: HostRuntime) -> Result<(), Fail> {
-    let steps = [
-        (Key::Char('\u{20AC}'), NO_CODE, 1),
-        (Key::Char('A'), PROTECTED, 1),
-        (Key::Char('\u{20AC}'), LOCKED, 1),
-    ];
-    assert!(rt; answers(rt.alloc(), "F5 C3 11 40 40 1D 70 13", &steps)?);
-    Ok(())
-}
-
-#[test]
-fn refusals_have_numbers(rt: HostRuntime) {
-    let table = [
-        (Refusal::Locked, 1),
-        (Refusal::Protected, 2),
-        (Refusal::NotNumeric, 3),
-        (Refusal::NoRoom, 4),
-        (Refusal::NoCode, 5),
-    ];
-    for (refusal, number) in table {
-        assert_eq!(rt; refusal.number(), number, "{refusal:?}");
-    }
-}
-
-#[test]
-fn typed_text_is_read(rt: HostRuntime) -> Result<(), Fail> {
+fn typed_text_is_read(out: &mut Vec<u8>) -> bool {
     let steps = [(Key::Char('A'), DONE, 5), (Key::Enter, ENTERED, 5)];
-    let command = "F5 C3 11 40 40 1D 60 C8 C9 1D 40 13";
-    assert!(rt; goes(rt.alloc(), command, &steps, "7D 40 C5 11 40 C4 C1")?);
-    Ok(())
+    let command = b"\xF5\xC3\x11\x40\x40\x1D\x60\xC8\xC9\x1D\x40\x13";
+    let answer = b"\x7D\x40\xC5\x11\x40\xC4\xC1";
+    goes(&mut Screen::blank(), out, command, &steps, answer)
 }
 
-#[test]
-fn a_null_between_two_characters_is_not_read(rt: HostRuntime) -> Result<(), Fail> {
+fn a_null_between_two_characters_is_not_read(out: &mut Vec<u8>) -> bool {
     let steps = [
         (Key::Char('A'), DONE, 2),
         (Key::CursorRight, DONE, 3),
         (Key::Char('B'), DONE, 4),
         (Key::Enter, ENTERED, 4),
     ];
-    let command = "F5 C3 11 40 40 1D 40 13 11 40 C5 1D 60";
-    assert!(rt; goes(rt.alloc(), command, &steps, "7D 40 C4 11 40 C1 C1 C2")?);
-    Ok(())
+    let command = b"\xF5\xC3\x11\x40\x40\x1D\x40\x13\x11\x40\xC5\x1D\x60";
+    let answer = b"\x7D\x40\xC4\x11\x40\xC1\xC1\xC2";
+    goes(&mut Screen::blank(), out, command, &steps, answer)
 }
 
-#[test]
-fn a_field_that_goes_round_the_end_is_read(rt: HostRuntime) -> Result<(), Fail> {
+fn a_field_that_goes_round_the_end_is_read(out: &mut Vec<u8>) -> bool {
     let steps = [
+        (Key::Char('A'), DONE, 1911),
+        (Key::Char('B'), DONE, 1912),
+        (Key::Char('C'), DONE, 1913),
+        (Key::Char('D'), DONE, 1914),
+        (Key::Char('E'), DONE, 1915),
+        (Key::Char('F'), DONE, 1916),
+        (Key::Char('G'), DONE, 1917),
+        (Key::Char('H'), DONE, 1918),
+        (Key::Char('I'), DONE, 1919),
+        (Key::Char('J'), DONE, 0),
+        (Key::Char('K'), DONE, 1),
         (Key::Tab, DONE, 7),
         (Key::Char('Z'), DONE, 8),
         (Key::Enter, ENTERED, 8),
     ];
-    let is_read = types(
-        rt.alloc(),
-        &mut Screen::blank(),
-        "F5 C3 11 40 C6 1D 40 11 5D F5 1D 40 13",
-        "ABCDEFGHIJK",
-        &steps,
-        "7D 40 C8 11 40 C7 E9 11 5D F6 C1 C2 C3 C4 C5 C6 C7 C8 C9 D1 D2",
-    )?;
-    assert!(rt; is_read);
+    let command = b"\xF5\xC3\x11\x40\xC6\x1D\x40\x11\x5D\xF5\x1D\x40\x13";
+    let answer =
+        b"\x7D\x40\xC8\x11\x40\xC7\xE9\x11\x5D\xF6\xC1\xC2\xC3\xC4\xC5\xC6\xC7\xC8\xC9\xD1\xD2";
+    goes(&mut Screen::blank(), out, command, &steps, answer)
+}
+
+#[test]
+fn types_characters(rt: HostRuntime) -> Result<(), Fail> {
+    let mut out = Vec::with_capacity(rt.alloc(), ROOM)?;
+    let is_so = typing_skips_at_the_end_of_a_field(&mut out)
+        && refusals_come_in_order(&mut out)
+        && typed_text_is_read(&mut out)
+        && a_null_between_two_characters_is_not_read(&mut out)
+        && a_field_that_goes_round_the_end_is_read(&mut out);
+    assert!(rt; is_so);
     Ok(())
+}
+
+/// Whether a character without a code is refused so in a protected cell, and after that at a lock.
+fn no_code_comes_after_a_lock_alone() -> bool {
+    let steps = [
+        (Key::Char('\u{20AC}'), NO_CODE, 1),
+        (Key::Char('A'), PROTECTED, 1),
+        (Key::Char('\u{20AC}'), LOCKED, 1),
+    ];
+    answers(b"\xF5\xC3\x11\x40\x40\x1D\x70\x13", &steps)
+}
+
+// Without fields the null at 0 is behind the end.
+fn inserts_nothing_without_a_null() -> bool {
+    let steps = [(Key::Insert, DONE, 1918), (Key::Char('X'), NO_ROOM, 1918)];
+    answers(b"\xF5\xC3\x11\x5D\x7E\xC1\xC2\x11\x5D\x7E\x13", &steps)
+}
+
+fn erases_no_protected_cell(key: Key) -> bool {
+    answers(b"\xF5\xC3\x11\x40\x40\x1D\x60\x13", &[(key, PROTECTED, 1)])
+}
+
+#[test]
+fn refuses(rt: HostRuntime) {
+    let is_so = no_code_comes_after_a_lock_alone()
+        && inserts_nothing_without_a_null()
+        && erases_no_protected_cell(Key::Delete)
+        && erases_no_protected_cell(Key::EraseEof);
+    assert!(rt; is_so);
+}
+
+fn refusals_have_these_numbers() -> bool {
+    Refusal::Locked.number() == 1
+        && Refusal::Protected.number() == 2
+        && Refusal::NotNumeric.number() == 3
+        && Refusal::NoRoom.number() == 4
+        && Refusal::NoCode.number() == 5
+}
+
+#[test]
+fn refusals_have_numbers(rt: HostRuntime) {
+    assert!(rt; refusals_have_these_numbers());
 }
 
 // ---- insert, Delete and the erasing keys
 
-#[test]
-fn deletes_within_field_and_row(rt: HostRuntime) -> Result<(), Fail> {
-    let table = [
-        // A field that goes on in the next row.
-        (
-            "F5 C3 11 C1 4B 1D 40 C1 C2 C3 C4 C5 C6 1D 60 11 C1 4D 13",
-            77,
-            "7D C1 4D 11 C1 4C C1 C3 C4 C5 C6",
-        ),
-        // A field that goes round the end, which is a row's end too.
-        (
-            "F5 C3 11 5D 7D 1D 40 C1 C2 C3 C4 1D 60 11 5D 7E 13",
-            1918,
-            "7D 5D 7E 11 5D 7E C2 C3 C4",
-        ),
-        // The same field behind the end.
-        (
-            "F5 C3 11 5D 7D 1D 40 C1 C2 C3 C4 1D 60 11 40 40 13",
-            0,
-            "7D 40 40 11 5D 7E C1 C2 C4",
-        ),
-        // No fields: up to the end of the row, and of the screen.
-        ("F5 C3 C1 C2 11 C1 50 C3 11 40 40 13", 0, "7D 40 40 C2 C3"),
-        (
-            "F5 C3 C3 11 5D 7E C1 C2 11 5D 7E 13",
-            1918,
-            "7D 5D 7E C3 C2",
-        ),
+/// Within a field and its row.
+static DELETED: [Edited; 5] = [
+    // A field that goes on in the next row.
+    (
+        b"\xF5\xC3\x11\xC1\x4B\x1D\x40\xC1\xC2\xC3\xC4\xC5\xC6\x1D\x60\x11\xC1\x4D\x13",
+        77,
+        b"\x7D\xC1\x4D\x11\xC1\x4C\xC1\xC3\xC4\xC5\xC6",
+    ),
+    // A field that goes round the end, which is a row's end too.
+    (
+        b"\xF5\xC3\x11\x5D\x7D\x1D\x40\xC1\xC2\xC3\xC4\x1D\x60\x11\x5D\x7E\x13",
+        1918,
+        b"\x7D\x5D\x7E\x11\x5D\x7E\xC2\xC3\xC4",
+    ),
+    // The same field behind the end.
+    (
+        b"\xF5\xC3\x11\x5D\x7D\x1D\x40\xC1\xC2\xC3\xC4\x1D\x60\x11\x40\x40\x13",
+        0,
+        b"\x7D\x40\x40\x11\x5D\x7E\xC1\xC2\xC4",
+    ),
+    // No fields: up to the end of the row, and of the screen.
+    (
+        b"\xF5\xC3\xC1\xC2\x11\xC1\x50\xC3\x11\x40\x40\x13",
+        0,
+        b"\x7D\x40\x40\xC2\xC3",
+    ),
+    (
+        b"\xF5\xC3\xC3\x11\x5D\x7E\xC1\xC2\x11\x5D\x7E\x13",
+        1918,
+        b"\x7D\x5D\x7E\xC3\xC2",
+    ),
+];
+
+static ERASED_TO_THE_END: [Edited; 3] = [
+    (
+        b"\xF5\xC3\x11\x40\x40\x1D\x60\xC8\xC9\x1D\x40\x13",
+        4,
+        b"\x7D\x40\xC4\x11\x40\xC4",
+    ),
+    (
+        b"\xF5\xC3\x11\x40\x40\x1D\x40\xC1\x13\xC2\xC3\x1D\x60",
+        2,
+        b"\x7D\x40\xC2\x11\x40\xC1\xC1",
+    ),
+    (b"\xF5\xC3\xC1\x13\xC2", 1, b"\x7D\x40\xC1\xC1"),
+];
+
+static ERASED_INPUT: [Edited; 2] = [
+    (
+        b"\xF5\xC3\x11\x40\x40\x1D\x40\xC1\xC2\x1D\x60\x13",
+        1,
+        b"\x7D\x40\xC1",
+    ),
+    (
+        b"\xF5\xC3\x11\x40\x40\x1D\x40\xC1\xC2\x1D\xC1\xC4\x1D\x60",
+        1,
+        b"\x7D\x40\xC1",
+    ),
+];
+
+/// Whether a key leaves the cursor there, and Read Modified answers so then.
+fn edits(key: &Key, out: &mut Vec<u8>, command: &[u8], at: u16, answer: &[u8]) -> bool {
+    let steps = [(*key, DONE, at), (Key::Enter, ENTERED, at)];
+    goes(&mut Screen::blank(), out, command, &steps, answer)
+}
+
+fn edits_all(key: &Key, out: &mut Vec<u8>, cases: &[Edited]) -> bool {
+    for (command, at, answer) in cases {
+        if !edits(key, out, command, *at, answer) {
+            return false;
+        }
+    }
+    true
+}
+
+/// Up to the first null.
+static INSERTED: [Inserted; 3] = [
+    // A field that goes round the end; what lies behind its null stays.
+    (
+        b"\xF5\xC3\x11\x5D\x7D\x1D\x40\xC1\xC2\x00\xC4\x1D\x60\x11\x5D\x7E\x13",
+        1918,
+        1919,
+        b"\x7D\x5D\x7F\x11\x5D\x7E\xE7\xC1\xC2\xC4",
+    ),
+    // Blanks aren't nulls.
+    (
+        b"\xF5\xC3\x11\x40\x40\x1D\x40\x13\xC1\x40\x00\x1D\x60",
+        1,
+        2,
+        b"\x7D\x40\xC2\x11\x40\xC1\xE7\xC1\x40",
+    ),
+    // No fields.
+    (
+        b"\xF5\xC3\xC4\x11\x5D\x7D\xC1\xC2\x00\x11\x5D\x7D\x13",
+        1917,
+        1918,
+        b"\x7D\x5D\x7E\xC4\xE7\xC1\xC2",
+    ),
+];
+
+fn inserts(out: &mut Vec<u8>, command: &[u8], at: u16, next: u16, answer: &[u8]) -> bool {
+    let steps = [
+        (Key::Insert, DONE, at),
+        (Key::Char('X'), DONE, next),
+        // The room was for one.
+        (Key::Char('Y'), NO_ROOM, next),
+        (Key::Reset, DONE, next),
+        (Key::Enter, ENTERED, next),
     ];
-    for (command, at, answer) in table {
-        let steps = [(Key::Delete, DONE, at), (Key::Enter, ENTERED, at)];
-        assert!(rt; goes(rt.alloc(), command, &steps, answer)?, "{command}");
+    goes(&mut Screen::blank(), out, command, &steps, answer)
+}
+
+fn inserts_all(out: &mut Vec<u8>, cases: &[Inserted]) -> bool {
+    for (command, at, next, answer) in cases {
+        if !inserts(out, command, *at, *next, answer) {
+            return false;
+        }
     }
-    Ok(())
+    true
 }
 
 #[test]
-fn inserts_up_to_the_first_null(rt: HostRuntime) -> Result<(), Fail> {
-    let table = [
-        // A field that goes round the end; what lies behind its null stays.
-        (
-            "F5 C3 11 5D 7D 1D 40 C1 C2 00 C4 1D 60 11 5D 7E 13",
-            1918,
-            1919,
-            "7D 5D 7F 11 5D 7E E7 C1 C2 C4",
-        ),
-        // Blanks aren't nulls.
-        (
-            "F5 C3 11 40 40 1D 40 13 C1 40 00 1D 60",
-            1,
-            2,
-            "7D 40 C2 11 40 C1 E7 C1 40",
-        ),
-        // No fields.
-        (
-            "F5 C3 C4 11 5D 7D C1 C2 00 11 5D 7D 13",
-            1917,
-            1918,
-            "7D 5D 7E C4 E7 C1 C2",
-        ),
-    ];
-    for (command, at, next, answer) in table {
-        let steps = [
-            (Key::Insert, DONE, at),
-            (Key::Char('X'), DONE, next),
-            // The room was for one.
-            (Key::Char('Y'), NO_ROOM, next),
-            (Key::Reset, DONE, next),
-            (Key::Enter, ENTERED, next),
-        ];
-        assert!(rt; goes(rt.alloc(), command, &steps, answer)?, "{command}");
-    }
-    Ok(())
-}
-
-// Without fields the null at 0 is behind the end.
-#[test]
-fn inserts_nothing_without_a_null(rt: HostRuntime) -> Result<(), Fail> {
-    let steps = [(Key::Insert, DONE, 1918), (Key::Char('X'), NO_ROOM, 1918)];
-    assert!(rt; answers(rt.alloc(), "F5 C3 11 5D 7E C1 C2 11 5D 7E 13", &steps)?);
-    Ok(())
-}
-
-#[test]
-fn erases(rt: HostRuntime) -> Result<(), Fail> {
-    let table = [
-        (
-            "F5 C3 11 40 40 1D 60 C8 C9 1D 40 13",
-            Key::EraseEof,
-            4,
-            "7D 40 C4 11 40 C4",
-        ),
-        (
-            "F5 C3 11 40 40 1D 40 C1 13 C2 C3 1D 60",
-            Key::EraseEof,
-            2,
-            "7D 40 C2 11 40 C1 C1",
-        ),
-        ("F5 C3 C1 13 C2", Key::EraseEof, 1, "7D 40 C1 C1"),
-        (
-            "F5 C3 11 40 40 1D 40 C1 C2 1D 60 13",
-            Key::EraseInput,
-            1,
-            "7D 40 C1",
-        ),
-        (
-            "F5 C3 11 40 40 1D 40 C1 C2 1D C1 C4 1D 60",
-            Key::EraseInput,
-            1,
-            "7D 40 C1",
-        ),
-    ];
-    for (command, key, at, answer) in table {
-        let steps = [(key, DONE, at), (Key::Enter, ENTERED, at)];
-        assert!(rt; goes(rt.alloc(), command, &steps, answer)?, "{command}");
-    }
-    Ok(())
-}
-
-#[test]
-fn erases_no_protected_cell(rt: HostRuntime) -> Result<(), Fail> {
-    for key in [Key::Delete, Key::EraseEof] {
-        let steps = [(key, PROTECTED, 1)];
-        assert!(rt;
-            answers(rt.alloc(), "F5 C3 11 40 40 1D 60 13", &steps)?,
-            "{key:?}"
-        );
-    }
+fn deletes_erases_and_inserts(rt: HostRuntime) -> Result<(), Fail> {
+    let mut out = Vec::with_capacity(rt.alloc(), ROOM)?;
+    let is_so = edits_all(&Key::Delete, &mut out, &DELETED)
+        && edits_all(&Key::EraseEof, &mut out, &ERASED_TO_THE_END)
+        && edits_all(&Key::EraseInput, &mut out, &ERASED_INPUT)
+        && inserts_all(&mut out, &INSERTED);
+    assert!(rt; is_so);
     Ok(())
 }
 
 // ---- the cursor
 
-#[test]
-fn moves_on_a_panel(rt: HostRuntime) -> Result<(), Fail> {
+fn moves_on_a_panel() -> bool {
     let steps = [
         (Key::NewLine, DONE, 247),
         (Key::BackTab, DONE, 167),
@@ -388,12 +392,10 @@ fn moves_on_a_panel(rt: HostRuntime) -> Result<(), Fail> {
         (Key::Tab, DONE, 167),
         (Key::Backspace, DONE, 166),
     ];
-    assert!(rt; answers(rt.alloc(), SIGN_ON, &steps)?);
-    Ok(())
+    answers(SIGN_ON, &steps)
 }
 
-#[test]
-fn moves_where_there_is_no_field(rt: HostRuntime) -> Result<(), Fail> {
+fn moves_where_there_is_no_field() -> bool {
     let steps = [
         (Key::NewLine, DONE, 160),
         (Key::Tab, DONE, 0),
@@ -409,13 +411,11 @@ fn moves_where_there_is_no_field(rt: HostRuntime) -> Result<(), Fail> {
         (Key::CursorDown, DONE, 0),
     ];
     // The cursor at 82, in the second row.
-    assert!(rt; answers(rt.alloc(), "F5 C3 11 C1 D2 13", &steps)?);
-    Ok(())
+    answers(b"\xF5\xC3\x11\xC1\xD2\x13", &steps)
 }
 
 // One protected field: no start, and no cell to type into.
-#[test]
-fn moves_where_all_is_protected(rt: HostRuntime) -> Result<(), Fail> {
+fn moves_where_all_is_protected() -> bool {
     let steps = [
         (Key::Tab, DONE, 0),
         (Key::CursorDown, DONE, 80),
@@ -425,15 +425,21 @@ fn moves_where_all_is_protected(rt: HostRuntime) -> Result<(), Fail> {
         (Key::CursorDown, DONE, 80),
         (Key::Home, DONE, 0),
     ];
-    assert!(rt; answers(rt.alloc(), "F5 C3 1D 60 11 C1 D2 13", &steps)?);
-    Ok(())
+    answers(b"\xF5\xC3\x1D\x60\x11\xC1\xD2\x13", &steps)
+}
+
+fn the_only_start_is_the_next_one() -> bool {
+    let steps = [(Key::Tab, DONE, 7), (Key::BackTab, DONE, 7)];
+    answers(b"\xF5\xC3\x11\x40\xC6\x1D\x40\x13\x00\x1D\x60", &steps)
 }
 
 #[test]
-fn the_only_start_is_the_next_one(rt: HostRuntime) -> Result<(), Fail> {
-    let steps = [(Key::Tab, DONE, 7), (Key::BackTab, DONE, 7)];
-    assert!(rt; answers(rt.alloc(), "F5 C3 11 40 C6 1D 40 13 00 1D 60", &steps)?);
-    Ok(())
+fn moves(rt: HostRuntime) {
+    let is_so = moves_on_a_panel()
+        && moves_where_there_is_no_field()
+        && moves_where_all_is_protected()
+        && the_only_start_is_the_next_one();
+    assert!(rt; is_so);
 }
 
 // ---- locks, and what is sent
@@ -454,98 +460,83 @@ fn waits_until_it_is_restored(keyboard: &mut Keyboard, screen: &mut Screen) -> b
     is_waiting && keyboard.lock() == Lock::Free
 }
 
-fn waits(alloc: Global, screen: &mut Screen) -> Result<bool, Fail> {
-    Ok(
-        obeys(alloc, screen, SIGN_ON)?
-            && waits_until_it_is_restored(&mut free(), screen)
-            && reads(alloc, screen, "7D C2 E8 11 C2 E7 C1")?,
-    )
+fn waits(screen: &mut Screen, out: &mut Vec<u8>) -> bool {
+    obey(screen, SIGN_ON).is_some()
+        && waits_until_it_is_restored(&mut free(), screen)
+        && reads(screen, out, b"\x7D\xC2\xE8\x11\xC2\xE7\xC1")
 }
 
-#[test]
-fn waits_for_the_host(rt: HostRuntime) -> Result<(), Fail> {
-    let is_so = waits(rt.alloc(), &mut Screen::blank())?;
-    assert!(rt; is_so);
-    Ok(())
+/// Reads the whole buffer. Answers whether there was room for it.
+fn has_buffer(screen: &Screen, out: &mut Vec<u8>) -> bool {
+    out.clear();
+    screen.put_read_buffer(out).is_ok()
 }
 
-/// What Read Buffer answers.
-fn buffer(alloc: Global, screen: &Screen) -> Result<Vec<u8>, AllocError> {
-    let mut out = Vec::new(alloc);
-    screen.put_read_buffer(&mut out)?;
-    Ok(out)
+/// Whether Erase All Unprotected takes an A away that was typed.
+fn erases_all_unprotected(screen: &mut Screen, out: &mut Vec<u8>) -> bool {
+    obey(screen, b"\xF5\xC3\x11\x40\x40\x1D\x60\xC8\xC9\x1D\x40\x13").is_some()
+        && presses_one(&mut free(), screen, (Key::Char('A'), DONE, 5))
+        && reads(screen, out, b"\x60\x40\xC5\x11\x40\xC4\xC1")
+        && obey(screen, b"\x6F") == Some(true)
+        && reads(screen, out, b"\x60\x40\xC4")
+        && has_buffer(screen, out)
+        && out
+            .as_slice()
+            .starts_with(b"\x60\x40\xC4\x1D\x60\xC8\xC9\x1D\x40\x00\x00")
 }
 
 /// Whether a buffer is that of the panel, after PA1, with AB in its first field.
 fn is_panel_with_ab(buffer: &[u8]) -> bool {
     // The AID, the cursor, all cells, and one byte more for each of the eight attributes. Two of them lie before the field.
     buffer.len() == 3 + CELLS as usize + 8
-        && buffer.get(..6) == Some(b"\x6C\xC2\xE9\x1D\xF0\xE2".as_slice())
+        && buffer.starts_with(b"\x6C\xC2\xE9\x1D\xF0\xE2")
         && buffer.get(171..175) == Some(b"\x1D\xC1\xC1\xC2".as_slice())
 }
 
-fn has_panel_with_ab(alloc: Global, screen: &Screen) -> Result<bool, AllocError> {
-    let buffer = buffer(alloc, screen)?;
-    Ok(is_panel_with_ab(buffer.as_slice()))
+/// Whether PA1, behind AB, sends its name alone.
+fn sends_a_name_alone(screen: &mut Screen, out: &mut Vec<u8>) -> bool {
+    let Some(pa1) = PaNo::new(1) else {
+        return false;
+    };
+    let steps = [
+        (Key::Char('A'), DONE, 168),
+        (Key::Char('B'), DONE, 169),
+        (Key::Pa(pa1), Pressed::Send(Aid::Pa(pa1)), 169),
+    ];
+    goes(screen, out, SIGN_ON, &steps, b"\x6C")
+        && has_buffer(screen, out)
+        && is_panel_with_ab(out.as_slice())
 }
 
-#[test]
-fn sends_a_name_alone(rt: HostRuntime) -> Result<(), Fail> {
-    let pa1 = PaNo::new(1).ok_or("no such key")?;
-    let steps = [(Key::Pa(pa1), Pressed::Send(Aid::Pa(pa1)), 169)];
-    let mut screen = Screen::blank();
-    let is_sent = types(rt.alloc(), &mut screen, SIGN_ON, "AB", &steps, "6C")?
-        && has_panel_with_ab(rt.alloc(), &screen)?;
-    assert!(rt; is_sent);
-    Ok(())
+fn sends_a_function_key(screen: &mut Screen, out: &mut Vec<u8>) -> bool {
+    let Some(pf24) = PfNo::new(24) else {
+        return false;
+    };
+    let steps = [(Key::Pf(pf24), Pressed::Send(Aid::Pf(pf24)), 167)];
+    goes(screen, out, SIGN_ON, &steps, b"\x4C\xC2\xE7")
 }
 
 /// Whether Clear, on a screen that was sent, sends its name alone and empties the screen.
-fn clears(alloc: Global, screen: &mut Screen) -> Result<bool, Fail> {
-    let steps = [(Key::Clear, Pressed::Send(Aid::Clear), 0)];
-    Ok(
-        presses(&mut free(), screen, &steps)
-            && reads(alloc, screen, "6D")?
-            && reads_bytes(alloc, screen, true, b"\x6D\x40\x40")?,
-    )
+fn clears(screen: &mut Screen, out: &mut Vec<u8>) -> bool {
+    let clear = (Key::Clear, Pressed::Send(Aid::Clear), 0);
+    presses_one(&mut free(), screen, clear)
+        && reads(screen, out, b"\x6D")
+        && reads_bytes(screen, out, true, b"\x6D\x40\x40")
+}
+
+fn sends(screen: &mut Screen, out: &mut Vec<u8>) -> bool {
+    sends_a_name_alone(&mut Screen::blank(), out)
+        && sends_a_function_key(screen, out)
+        && clears(screen, out)
 }
 
 #[test]
-fn sends_function_keys_and_clear(rt: HostRuntime) -> Result<(), Fail> {
-    let pf24 = PfNo::new(24).ok_or("no such key")?;
-    let steps = [(Key::Pf(pf24), Pressed::Send(Aid::Pf(pf24)), 167)];
-    let mut screen = Screen::blank();
-    let is_sent = types(rt.alloc(), &mut screen, SIGN_ON, "", &steps, "4C C2 E7")?
-        && clears(rt.alloc(), &mut screen)?;
-    assert!(rt; is_sent);
-    Ok(())
-}
-
-fn begins(alloc: Global, screen: &Screen, start: &[u8]) -> Result<bool, AllocError> {
-    let buffer = buffer(alloc, screen)?;
-    Ok(buffer.as_slice().starts_with(start))
-}
-
-/// Whether Erase All Unprotected takes an A away that was typed.
-fn erases_all_unprotected(alloc: Global, screen: &mut Screen) -> Result<bool, Fail> {
-    Ok(
-        obeys(alloc, screen, "F5 C3 11 40 40 1D 60 C8 C9 1D 40 13")?
-            && presses(&mut free(), screen, &[(Key::Char('A'), DONE, 5)])
-            && reads(alloc, screen, "60 40 C5 11 40 C4 C1")?
-            && obey(screen, b"\x6F") == Some(true)
-            && reads(alloc, screen, "60 40 C4")?
-            && begins(
-                alloc,
-                screen,
-                b"\x60\x40\xC4\x1D\x60\xC8\xC9\x1D\x40\x00\x00",
-            )?,
-    )
-}
-
-#[test]
-fn a_command_erases_what_was_typed(rt: HostRuntime) -> Result<(), Fail> {
-    let is_erased = erases_all_unprotected(rt.alloc(), &mut Screen::blank())?;
-    assert!(rt; is_erased);
+fn waits_for_the_host_obeys_it_and_sends(rt: HostRuntime) -> Result<(), Fail> {
+    let mut out = Vec::with_capacity(rt.alloc(), ROOM)?;
+    let is_so = waits(&mut Screen::blank(), &mut out)
+        && erases_all_unprotected(&mut Screen::blank(), &mut out)
+        && sends(&mut Screen::blank(), &mut out);
+    assert!(rt; is_so);
     Ok(())
 }
 
@@ -572,23 +563,23 @@ fn inserts_once_restored(keyboard: &mut Keyboard, screen: &mut Screen) -> bool {
 
 #[test]
 fn begins_waiting(rt: HostRuntime) {
-    let is_so = inserts_once_restored(&mut Keyboard::new(), &mut Screen::blank());
-    assert!(rt; is_so);
+    assert!(rt; inserts_once_restored(&mut Keyboard::new(), &mut Screen::blank()));
 }
 
-fn prints(alloc: Global, lock: Lock, name: &str) -> Result<bool, AllocError> {
-    let text = format!(in alloc; "{lock}")?;
-    Ok(text.as_str() == name)
+fn prints(text: &mut String, lock: Lock, name: &str) -> bool {
+    text.clear();
+    write!(text, "{lock}").is_ok() && text.as_str() == name
+}
+
+fn prints_names(text: &mut String) -> bool {
+    prints(text, Lock::Free, "free")
+        && prints(text, Lock::Wait, "wait")
+        && prints(text, Lock::Error, "error")
 }
 
 #[test]
 fn locks_print_their_names(rt: HostRuntime) -> Result<(), Fail> {
-    for (lock, name) in [
-        (Lock::Free, "free"),
-        (Lock::Wait, "wait"),
-        (Lock::Error, "error"),
-    ] {
-        assert!(rt; prints(rt.alloc(), lock, name)?, "{name}");
-    }
+    let mut text = String::with_capacity(rt.alloc(), 16)?;
+    assert!(rt; prints_names(&mut text));
     Ok(())
 }

@@ -1,18 +1,29 @@
-//! What is shown after commands, and what reads answer: whole byte strings in, whole screens and byte strings out. What is
-//! owned lives in helpers that answer whether all is as it should be, so that a test has few ways out.
+//! What is shown after commands, and what reads answer: whole byte strings in, whole screens and byte strings out. A test
+//! makes what is owned and lends it to one helper, which answers whether all is as it should be.
 ghost use Rattle.std.specs.Prelude.{◌<◌, ◌≤◌};
-ghost use Rattle.codes3270.specs.Size.{cell_count, rows};
+ghost use Rattle.codes3270.specs.Size.{rows};
 
 use crate::{Applied, Field, Screen};
-use codes3270::{Addr, Aid, Attr, COLUMNS, Cell, PaNo, ROWS};
+use codes3270::{Addr, Aid, Attr, CELLS, COLUMNS, Cell, PaNo, ROWS};
 use datastream::read_command;
-use std::alloc::{AllocError, Global};
 use std::test::Fail;
 
 // ---- helpers
 
 /// A row's number, from 0 on, and what is printed of it without trailing blanks.
 type Row = (u16, &'static str);
+
+/// Commands for a blank screen, the rows that are printed then, and where the cursor is.
+type Shown = (&'static [&'static [u8]], &'static [Row], u16);
+
+/// A command for a blank screen, what is typed then and where, where the cursor is put, and what Read Modified answers
+/// after Enter.
+type Typed = (
+    &'static [u8],
+    &'static [(u16, &'static [u8])],
+    u16,
+    &'static [u8],
+);
 
 const NOTHING: Applied = Applied {
     restore: false,
@@ -29,55 +40,47 @@ const RESTORE: Applied = Applied {
     alarm: false,
 };
 
-/// The bytes that pairs of hexadecimal digits name, with blanks between them.
-fn bytes(alloc: Global, pairs: &str) -> Result<Vec<u8>, Fail> {
-    let mut bytes = Vec::new(alloc);
-    for pair in pairs.split_whitespace() {
-        bytes.push(u8::from_str_radix(pair, 16)?)?;
-    }
-    Ok(bytes)
-}
-
 /// What a command asks for; None where the bytes spell none.
-fn apply(screen: &mut Screen, command: &[u8]) -> Option<Applied> {
+fn obey(screen: &mut Screen, command: &[u8]) -> Option<Applied> {
     match read_command(command) {
         Ok(command) => Some(screen.apply(&command)),
         Err(_) => None,
     }
 }
 
-/// What the command asks for that pairs spell; None where they spell none.
-fn obey(alloc: Global, screen: &mut Screen, pairs: &str) -> Result<Option<Applied>, Fail> {
-    let command = bytes(alloc, pairs)?;
-    Ok(apply(screen, command.as_slice()))
-}
-
-/// Whether a screen obeys what the pairs spell, line by line.
-fn obeys(alloc: Global, screen: &mut Screen, commands: &[&str]) -> Result<bool, Fail> {
+/// Whether a screen obeys all commands.
+fn obeys(screen: &mut Screen, commands: &[&[u8]]) -> bool {
     for command in commands {
-        if obey(alloc, screen, command)?.is_none() {
-            return Ok(false);
+        if obey(screen, command).is_none() {
+            return false;
         }
     }
-    Ok(true)
+    true
+}
+
+/// Whether a screen obeys a command; Enter is its AID then.
+fn enters(screen: &mut Screen, command: &[u8]) -> bool {
+    let is_obeyed = obey(screen, command).is_some();
+    screen.set_aid(Aid::Enter);
+    is_obeyed
 }
 
 /// The address with a number.
-fn at(place: u16) -> Addr
-    requires { place ≤ cell_count }
-{
-    Addr::first().forward(place)
+fn at(place: u16) -> Addr {
+    Addr::first().forward(place % CELLS)
 }
 
-/// A row as it is printed, with its trailing blanks. Rows count from 0.
-fn row(alloc: Global, screen: &Screen, row: u16) -> Result<String, AllocError>
+/// Whether a row is printed so, with nothing but blanks behind. Rows count from 0.
+fn has_row(screen: &Screen, row: u16, wanted: &str) -> bool
     requires { row < rows }
 {
-    let mut text = String::new(alloc);
+    let mut letters = wanted.chars();
     for column in 0..COLUMNS {
-        text.push(screen.glyph_at(at(row * COLUMNS + column)))?;
+        if screen.glyph_at(at(row * COLUMNS + column)) != letters.next().unwrap_or(' ') {
+            return false;
+        }
     }
-    Ok(text)
+    letters.next().is_none()
 }
 
 /// What is wanted of a row: nothing but blanks where none is given.
@@ -91,62 +94,49 @@ fn wanted_row(rows: &[Row], place: u16) -> &'static str {
     wanted
 }
 
-/// Whether a row is printed so, without trailing blanks.
-fn has_row(alloc: Global, screen: &Screen, place: u16, wanted: &str) -> Result<bool, AllocError>
-    requires { place < rows }
-{
-    let text = row(alloc, screen, place)?;
-    Ok(text.as_str().trim_end_matches(' ') == wanted)
-}
-
 /// Whether the rows given are printed, all others are blank, and the cursor is there.
-fn is_shown(alloc: Global, screen: &Screen, rows: &[Row], cursor: u16) -> Result<bool, AllocError> {
+fn is_shown(screen: &Screen, rows: &[Row], cursor: u16) -> bool {
     for place in 0..ROWS {
-        if !has_row(alloc, screen, place, wanted_row(rows, place))? {
-            return Ok(false);
+        if !has_row(screen, place, wanted_row(rows, place)) {
+            return false;
         }
     }
-    Ok(screen.cursor().get() == cursor)
+    screen.cursor().get() == cursor
 }
 
 /// Whether commands on a blank screen leave it so.
-fn shows(alloc: Global, commands: &[&str], rows: &[Row], cursor: u16) -> Result<bool, Fail> {
-    let mut screen = Screen::blank();
-    Ok(obeys(alloc, &mut screen, commands)? && is_shown(alloc, &screen, rows, cursor)?)
+fn shows(screen: &mut Screen, commands: &[&[u8]], rows: &[Row], cursor: u16) -> bool {
+    obeys(screen, commands) && is_shown(screen, rows, cursor)
 }
 
-/// Whether Read Modified, or Read Modified All, answers these bytes.
-fn reads_bytes(
-    alloc: Global,
-    screen: &Screen,
-    all: bool,
-    wanted: &[u8],
-) -> Result<bool, AllocError> {
-    let mut out = Vec::new(alloc);
-    screen.put_read_modified(&mut out, all)?;
-    Ok(out.as_slice() == wanted)
+/// Which case is the first that isn't shown so.
+fn first_not_shown(cases: &[Shown]) -> Option<usize> {
+    for case in 0..cases.len() {
+        let (commands, rows, cursor) = cases[case];
+        if !shows(&mut Screen::blank(), commands, rows, cursor) {
+            return Some(case);
+        }
+    }
+    None
 }
 
-/// Whether Read Modified answers what the pairs spell.
-fn reads(alloc: Global, screen: &Screen, pairs: &str) -> Result<bool, Fail> {
-    let wanted = bytes(alloc, pairs)?;
-    Ok(reads_bytes(alloc, screen, false, wanted.as_slice())?)
+/// Whether Read Modified, or Read Modified All, answers these bytes. There is room for them.
+fn reads_bytes(screen: &Screen, out: &mut Vec<u8>, all: bool, wanted: &[u8]) -> bool {
+    out.clear();
+    screen.put_read_modified(out, all).is_ok() && out.as_slice() == wanted
 }
 
-/// Whether Read Modified All answers what the pairs spell.
-fn reads_all(alloc: Global, screen: &Screen, pairs: &str) -> Result<bool, Fail> {
-    let wanted = bytes(alloc, pairs)?;
-    Ok(reads_bytes(alloc, screen, true, wanted.as_slice())?)
+/// Whether Read Modified answers these bytes.
+fn reads(screen: &Screen, out: &mut Vec<u8>, wanted: &[u8]) -> bool {
+    reads_bytes(screen, out, false, wanted)
 }
 
-/// Stores characters from a place on.
+/// Stores characters from a place on, and moves the cursor behind them.
 fn store(screen: &mut Screen, place: Addr, codes: &[u8]) {
     let mut next = place;
     for code in codes {
-        if let Cell::Char(_) = screen.cell(next) {
-            if codes3270::storable(*code) {
-                screen.set_char(next, *code);
-            }
+        if matches!(screen.cell(next), Cell::Char(_)) && codes3270::storable(*code) {
+            screen.set_char(next, *code);
         }
         next = next.next();
     }
@@ -163,242 +153,259 @@ fn type_at(screen: &mut Screen, place: Addr, codes: &[u8]) {
 
 // ---- what is shown
 
-const STARS: &str =
-    "********************************************************************************";
-
-const GREETING: &str = "F5 C3 11 40 40 1D 60 C8 C9 1D 40 13";
+const GREETING: &[u8] = b"\xF5\xC3\x11\x40\x40\x1D\x60\xC8\xC9\x1D\x40\x13";
 
 /// An unprotected field with AB, a protected one with C, and a modified one with D.
-const FIELDS: &str = "F5 C3 11 40 40 1D 40 C1 C2 1D 60 C3 1D C1 C4 13";
+const FIELDS: &[u8] = b"\xF5\xC3\x11\x40\x40\x1D\x40\xC1\xC2\x1D\x60\xC3\x1D\xC1\xC4\x13";
 
-const ERASE: &str = "F1 C3 11 40 C2 12 40 C6";
+const ERASE: &[u8] = b"\xF1\xC3\x11\x40\xC2\x12\x40\xC6";
+
+static ERASE_WRITES: [Shown; 4] = [
+    // A hidden field, text round the end, and a greeting.
+    (
+        &[b"\xF5\xC3\x11\x40\x40\x1D\x4C\xC1\xC2\x1D\x60\xC3\x13"],
+        &[(0, "    C")],
+        5,
+    ),
+    (
+        &[b"\xF5\xC3\x11\x5D\x7F\xC1\xC2\x13"],
+        &[
+            (0, "B"),
+            (
+                23,
+                "                                                                               A",
+            ),
+        ],
+        1,
+    ),
+    (&[GREETING], &[(0, " HI")], 4),
+    // DUP and FM, other controls, and code 41, a no-break space.
+    (
+        &[b"\x7E\xC3\x1C\x1E\x0C\x15\xFF\x3F\xC1\x41\x4B"],
+        &[(0, "*;    A\u{A0}.")],
+        0,
+    ),
+];
 
 #[test]
-fn shows_erase_writes(rt: HostRuntime) -> Result<(), Fail> {
-    let hidden = "F5 C3 11 40 40 1D 4C C1 C2 1D 60 C3 13";
-    assert!(rt; shows(rt.alloc(), &[hidden], &[(0, "    C")], 5)?);
-    let wrapped = "f5 c3 11 5d 7f c1 c2 13";
-    let last = "                                                                               A";
-    assert!(rt; shows(rt.alloc(), &[wrapped], &[(0, "B"), (23, last)], 1)?);
-    assert!(rt; shows(rt.alloc(), &[GREETING], &[(0, " HI")], 4)?);
-    Ok(())
+fn shows_erase_writes(rt: HostRuntime) {
+    assert_eq!(rt; first_not_shown(&ERASE_WRITES), None);
 }
 
-// DUP and FM, other controls, and code 41, a no-break space.
+static REPEATED_AND_ERASED: [Shown; 4] = [
+    // Unprotected fields up to an address, and in all of the screen.
+    (&[FIELDS, ERASE], &[(0, " A  C D")], 7),
+    (&[FIELDS, ERASE, b"\x6F"], &[(0, "    C")], 1),
+    // From the last but one cell up to address 2, over a protected and an unprotected field there.
+    (
+        &[b"\xF5\xC3\x11\x5D\x7E\x3C\x40\xC2\x5C\x13"],
+        &[
+            (0, "**"),
+            (
+                23,
+                "                                                                              **",
+            ),
+        ],
+        2,
+    ),
+    // The field at 1918 is protected and goes on to 1; that at 2 isn't.
+    (
+        &[
+            b"\xF5\xC3\x11\x5D\x7D\xC1\x1D\x60\xC2\xC3\xC4\x1D\x40\xC5\xC6\x13",
+            b"\xF1\xC2\x11\x5D\x7D\x12\x40\xC5",
+        ],
+        &[
+            (0, "CD"),
+            (
+                23,
+                "                                                                               B",
+            ),
+        ],
+        5,
+    ),
+];
+
 #[test]
-fn shows_controls(rt: HostRuntime) -> Result<(), Fail> {
-    let controls = "7E C3 1C 1E 0C 15 FF 3F C1 41 4B";
-    assert!(rt; shows(rt.alloc(), &[controls], &[(0, "*;    A\u{A0}.")], 0)?);
-    Ok(())
+fn shows_what_is_repeated_and_erased(rt: HostRuntime) {
+    assert_eq!(rt; first_not_shown(&REPEATED_AND_ERASED), None);
 }
+
+static TABS: [Shown; 6] = [
+    // To the next unprotected field.
+    (
+        &[b"\xF5\xC3\x11\x40\x40\x1D\x40\x1D\x60\x11\x40\x40\x05\xC1\x13"],
+        &[(0, " A")],
+        2,
+    ),
+    // Without data nothing is nulled: after SBA, after IC, after RA, and after SF.
+    (
+        &[b"\xF5\xC3\x3C\x40\xC6\x5C\x1D\x40\x11\x40\xC1\x05\x13"],
+        &[(0, "******")],
+        7,
+    ),
+    (
+        &[b"\xF5\xC3\x3C\x40\xC6\x5C\x1D\x40\x11\x40\xC1\x13\x05\x13"],
+        &[(0, "******")],
+        7,
+    ),
+    (
+        &[b"\xF5\xC3\x3C\x40\xC6\x5C\x1D\x40\x11\x40\xC1\x3C\x40\xC2\x5C\x05\x13"],
+        &[(0, "******")],
+        7,
+    ),
+    (
+        &[b"\xF5\xC3\x3C\x40\xC6\x5C\x1D\x40\x11\x40\xC1\x1D\x60\x05\x13"],
+        &[(0, "* ****")],
+        7,
+    ),
+    // After data, up to the attribute.
+    (
+        &[b"\xF5\xC3\x3C\x40\xC6\x5C\x1D\x40\x11\x40\xC1\xC1\x05\x13"],
+        &[(0, "*A")],
+        7,
+    ),
+];
 
 #[test]
-fn shows_what_commands_erase(rt: HostRuntime) -> Result<(), Fail> {
-    assert!(rt; shows(rt.alloc(), &[FIELDS, ERASE], &[(0, " A  C D")], 7)?);
-    assert!(rt; shows(rt.alloc(), &[FIELDS, ERASE, "6F"], &[(0, "    C")], 1)?);
-    Ok(())
+fn a_tab_finds_a_field_and_nulls_after_data(rt: HostRuntime) {
+    assert_eq!(rt; first_not_shown(&TABS), None);
 }
 
-#[test]
-fn shows_what_a_tab_finds(rt: HostRuntime) -> Result<(), Fail> {
-    let tab = "F5 C3 11 40 40 1D 40 1D 60 11 40 40 05 C1 13";
-    assert!(rt; shows(rt.alloc(), &[tab], &[(0, " A")], 2)?);
-    Ok(())
-}
+static STARS: &str =
+    "********************************************************************************";
 
-/// Whether a row is full of stars.
-fn is_starred(alloc: Global, screen: &Screen, place: u16) -> Result<bool, AllocError>
-    requires { place < rows }
+/// Whether rows are full of stars.
+fn is_starred(screen: &Screen, from: u16, to: u16) -> bool
+    requires { to ≤ rows }
 {
-    has_row(alloc, screen, place, STARS)
-}
-
-/// Whether rows but the first and the last are full of stars.
-fn is_starred_between(alloc: Global, screen: &Screen) -> Result<bool, AllocError> {
-    for place in 1..ROWS - 1 {
-        if !is_starred(alloc, screen, place)? {
-            return Ok(false);
+    for place in from..to {
+        if !has_row(screen, place, STARS) {
+            return false;
         }
     }
-    Ok(true)
+    true
+}
+
+fn has_no_field(screen: &Screen) -> bool {
+    screen.fields().next().is_none() && screen.field_at(at(0)).is_none()
 }
 
 /// Whether stars over the whole screen leave no field, and the cursor where it was.
-fn repeats_all_over(alloc: Global, screen: &mut Screen) -> Result<bool, Fail> {
-    Ok(
-        obeys(alloc, screen, &[GREETING, "F1 C3 11 40 40 3C 40 40 5C"])?
-            && is_starred(alloc, screen, 0)?
-            && is_starred_between(alloc, screen)?
-            && is_starred(alloc, screen, ROWS - 1)?
-            && screen.cursor().get() == 4
-            && screen.fields().next().is_none()
-            && screen.field_at(at(0)).is_none(),
-    )
+fn repeats_all_over(screen: &mut Screen) -> bool {
+    obeys(screen, &[GREETING, b"\xF1\xC3\x11\x40\x40\x3C\x40\x40\x5C"])
+        && is_starred(screen, 0, ROWS)
+        && screen.cursor().get() == 4
+        && has_no_field(screen)
 }
 
 #[test]
-fn repeats_over_the_whole_screen(rt: HostRuntime) -> Result<(), Fail> {
-    let is_repeated = repeats_all_over(rt.alloc(), &mut Screen::blank())?;
-    assert!(rt; is_repeated);
-    Ok(())
+fn repeats_over_the_whole_screen(rt: HostRuntime) {
+    assert!(rt; repeats_all_over(&mut Screen::blank()));
 }
+
+static NULLED_ROUND_THE_END: &[u8] =
+    b"\xF5\xC3\x3C\x40\x40\x5C\x11\x40\xC3\x1D\x60\x11\x5D\x7A\x1D\x40\xC1\x05\x05\xC2\x13";
+
+static NULLED_FIRST: &str =
+    "    ****************************************************************************";
+
+static NULLED_LAST: &str =
+    "************************************************************************** B";
 
 /// Whether a tab that nulls through the last cell lets the next one null from the first cell on.
-fn passes_on_that_it_nulls(alloc: Global, screen: &mut Screen) -> Result<bool, Fail> {
-    let command = "F5 C3 3C 40 40 5C 11 40 C3 1D 60 11 5D 7A 1D 40 C1 05 05 C2 13";
-    let first = "    ****************************************************************************";
-    let last = "************************************************************************** B";
-    Ok(
-        obeys(alloc, screen, &[command])?
-            && has_row(alloc, screen, 0, first)?
-            && is_starred_between(alloc, screen)?
-            && has_row(alloc, screen, ROWS - 1, last)?
-            && screen.cursor().get() == 1916,
-    )
+fn passes_on_that_it_nulls(screen: &mut Screen) -> bool {
+    obey(screen, NULLED_ROUND_THE_END).is_some()
+        && has_row(screen, 0, NULLED_FIRST)
+        && is_starred(screen, 1, ROWS - 1)
+        && has_row(screen, ROWS - 1, NULLED_LAST)
+        && screen.cursor().get() == 1916
 }
 
 #[test]
-fn a_tab_passes_on_that_it_nulls(rt: HostRuntime) -> Result<(), Fail> {
-    let is_passed = passes_on_that_it_nulls(rt.alloc(), &mut Screen::blank())?;
-    assert!(rt; is_passed);
-    Ok(())
-}
-
-#[test]
-fn a_tab_nulls_nothing_without_data(rt: HostRuntime) -> Result<(), Fail> {
-    // After SBA, after SF, after IC, and after RA.
-    for command in [
-        "F5 C3 3C 40 C6 5C 1D 40 11 40 C1 05 13",
-        "F5 C3 3C 40 C6 5C 1D 40 11 40 C1 13 05 13",
-        "F5 C3 3C 40 C6 5C 1D 40 11 40 C1 3C 40 C2 5C 05 13",
-    ] {
-        assert!(rt;
-            shows(rt.alloc(), &[command], &[(0, "******")], 7)?,
-            "{command}"
-        );
-    }
-    let command = "F5 C3 3C 40 C6 5C 1D 40 11 40 C1 1D 60 05 13";
-    assert!(rt; shows(rt.alloc(), &[command], &[(0, "* ****")], 7)?);
-    Ok(())
-}
-
-// Up to the attribute.
-#[test]
-fn a_tab_nulls_after_data(rt: HostRuntime) -> Result<(), Fail> {
-    let command = "F5 C3 3C 40 C6 5C 1D 40 11 40 C1 C1 05 13";
-    assert!(rt; shows(rt.alloc(), &[command], &[(0, "*A")], 7)?);
-    Ok(())
-}
-
-#[test]
-fn repeats_and_erases_round_the_end(rt: HostRuntime) -> Result<(), Fail> {
-    // From the last but one cell up to address 2, over a protected and an unprotected field there.
-    let repeated = "F5 C3 11 5D 7E 3C 40 C2 5C 13";
-    let last = "                                                                              **";
-    assert!(rt; shows(rt.alloc(), &[repeated], &[(0, "**"), (23, last)], 2)?);
-    // The field at 1918 is protected and goes on to 1; that at 2 isn't.
-    let fields = "F5 C3 11 5D 7D C1 1D 60 C2 C3 C4 1D 40 C5 C6 13";
-    let erase = "F1 C2 11 5D 7D 12 40 C5";
-    let last = "                                                                               B";
-    assert!(rt; shows(rt.alloc(), &[fields, erase], &[(0, "CD"), (23, last)], 5)?);
-    Ok(())
+fn a_tab_passes_on_that_it_nulls(rt: HostRuntime) {
+    assert!(rt; passes_on_that_it_nulls(&mut Screen::blank()));
 }
 
 /// A protected and an unprotected field, both modified.
-const MODIFIED: &str = "F5 C3 11 40 40 1D C1 C1 1D 61 C2 1D 40";
+static MODIFIED: &[u8] = b"\xF5\xC3\x11\x40\x40\x1D\xC1\xC1\x1D\x61\xC2\x1D\x40";
 
 /// Whether writes reset both, whether protected or not, and ask for what their control characters say.
-fn resets(alloc: Global, screen: &mut Screen) -> Result<bool, Fail> {
-    let is_obeyed = obeys(alloc, screen, &[MODIFIED])?;
-    screen.set_aid(Aid::Enter);
-    Ok(
-        is_obeyed
-            && reads(alloc, screen, "7D 40 40 11 40 C1 C1 11 40 C3 C2")?
-            && obey(alloc, screen, "F1 C5")? == Some(ALARM)
-            && reads(alloc, screen, "7D 40 40")?
-            && obey(alloc, screen, "F1 C2")? == Some(RESTORE)
-            && reads(alloc, screen, "60 40 40")?,
-    )
+fn resets(screen: &mut Screen, out: &mut Vec<u8>) -> bool {
+    enters(screen, MODIFIED)
+        && reads(screen, out, b"\x7D\x40\x40\x11\x40\xC1\xC1\x11\x40\xC3\xC2")
+        && obey(screen, b"\xF1\xC5") == Some(ALARM)
+        && reads(screen, out, b"\x7D\x40\x40")
+        && obey(screen, b"\xF1\xC2") == Some(RESTORE)
+        && reads(screen, out, b"\x60\x40\x40")
 }
 
 /// Whether Erase All Unprotected resets MDT where fields are unprotected.
-fn resets_where_unprotected(alloc: Global, screen: &mut Screen) -> Result<bool, Fail> {
-    let is_obeyed = obeys(alloc, screen, &[MODIFIED])?;
-    screen.set_aid(Aid::Enter);
-    Ok(
-        is_obeyed
-            && obey(alloc, screen, "6F")? == Some(RESTORE)
-            && reads(alloc, screen, "60 40 C1 11 40 C3 C2")?,
-    )
+fn resets_where_unprotected(screen: &mut Screen, out: &mut Vec<u8>) -> bool {
+    enters(screen, MODIFIED)
+        && obey(screen, b"\x6F") == Some(RESTORE)
+        && reads(screen, out, b"\x60\x40\xC1\x11\x40\xC3\xC2")
 }
 
 #[test]
-fn writes_reset_and_restore(rt: HostRuntime) -> Result<(), Fail> {
-    let is_reset = resets(rt.alloc(), &mut Screen::blank())?;
+fn commands_reset_and_restore(rt: HostRuntime) -> Result<(), Fail> {
+    let mut out = Vec::with_capacity(rt.alloc(), ROOM)?;
+    let is_reset = resets(&mut Screen::blank(), &mut out)
+        && resets_where_unprotected(&mut Screen::blank(), &mut out);
     assert!(rt; is_reset);
     Ok(())
 }
 
-#[test]
-fn erase_all_unprotected_resets_and_restores(rt: HostRuntime) -> Result<(), Fail> {
-    let is_reset = resets_where_unprotected(rt.alloc(), &mut Screen::blank())?;
-    assert!(rt; is_reset);
-    Ok(())
-}
+static NO_COMMANDS: [&[u8]; 6] = [
+    b"\xF5",
+    b"\xF1\xC3\x3C\x40\x40",
+    b"\xF1\xC3\x02",
+    b"\xF1\xC3\x3C\x40\x40\x08",
+    b"\xF3\x00",
+    b"\xF5\xC3\x11\x40",
+];
 
-/// Whether lines that spell no command change nothing.
-fn spell_nothing(alloc: Global, screen: &mut Screen, lines: &[&str]) -> Result<bool, Fail> {
+/// Whether bytes that spell no command change nothing.
+fn spell_nothing(screen: &mut Screen, lines: &[&[u8]]) -> bool {
     for line in lines {
-        if obey(alloc, screen, line)?.is_some() {
-            return Ok(false);
+        if obey(screen, line).is_some() {
+            return false;
         }
     }
-    Ok(is_shown(alloc, screen, &[], 0)?)
+    is_shown(screen, &[], 0)
 }
 
 #[test]
-fn what_is_no_command_changes_nothing(rt: HostRuntime) -> Result<(), Fail> {
-    let lines = [
-        "F5",
-        "F1 C3 3C 40 40",
-        "F1 C3 02",
-        "F1 C3 3C 40 40 08",
-        "F3 00",
-        "F5 C3 11 40",
-    ];
-    let is_nothing = spell_nothing(rt.alloc(), &mut Screen::blank(), &lines)?;
-    assert!(rt; is_nothing);
-    Ok(())
+fn what_is_no_command_changes_nothing(rt: HostRuntime) {
+    assert!(rt; spell_nothing(&mut Screen::blank(), &NO_COMMANDS));
+}
+
+static READS: [&[u8]; 6] = [b"\xF2", b"\xF6", b"\x6E", b"\x02", b"\x06", b"\x0E\xC1"];
+
+/// Whether all commands ask for nothing.
+fn ask_nothing(screen: &mut Screen, commands: &[&[u8]]) -> bool {
+    for command in commands {
+        if obey(screen, command) != Some(NOTHING) {
+            return false;
+        }
+    }
+    true
 }
 
 /// Whether reads ask for nothing and change nothing.
-fn only_read(alloc: Global, screen: &mut Screen, reads: &[&str]) -> Result<bool, Fail> {
-    for read in reads {
-        if obey(alloc, screen, read)? != Some(NOTHING) {
-            return Ok(false);
-        }
-    }
-    Ok(is_shown(alloc, screen, &[(0, " HI")], 4)? && screen.aid() == Aid::Enter)
-}
-
-fn only_read_a_greeting(alloc: Global, screen: &mut Screen) -> Result<bool, Fail> {
-    let is_obeyed = obeys(alloc, screen, &[GREETING])?;
-    screen.set_aid(Aid::Enter);
-    let reads = ["F2", "F6", "6E", "02", "06", "0E C1"];
-    Ok(is_obeyed && only_read(alloc, screen, &reads)?)
+fn only_read_a_greeting(screen: &mut Screen) -> bool {
+    enters(screen, GREETING)
+        && ask_nothing(screen, &READS)
+        && is_shown(screen, &[(0, " HI")], 4)
+        && screen.aid() == Aid::Enter
 }
 
 #[test]
-fn reads_change_nothing(rt: HostRuntime) -> Result<(), Fail> {
-    let is_unchanged = only_read_a_greeting(rt.alloc(), &mut Screen::blank())?;
-    assert!(rt; is_unchanged);
-    Ok(())
+fn reads_change_nothing(rt: HostRuntime) {
+    assert!(rt; only_read_a_greeting(&mut Screen::blank()));
 }
 
 /// A field by the address of its attribute.
-fn field(attr: u16, length: u16) -> Field
-    requires { attr ≤ cell_count }
-{
+fn field(attr: u16, length: u16) -> Field {
     Field {
         attr: at(attr),
         length,
@@ -426,58 +433,66 @@ fn finds_three(screen: &Screen) -> bool {
         && screen.field_at(at(2)) == Some(field(1910, 12))
 }
 
-fn has_three_fields(alloc: Global, screen: &mut Screen) -> Result<bool, Fail> {
-    let command = "F5 C3 11 5D F6 1D 40 C1 11 40 C3 1D 60 C2 1D 40 C3";
-    Ok(obeys(alloc, screen, &[command])? && lists_three(screen) && finds_three(screen))
+static THREE_FIELDS: &[u8] =
+    b"\xF5\xC3\x11\x5D\xF6\x1D\x40\xC1\x11\x40\xC3\x1D\x60\xC2\x1D\x40\xC3";
+
+fn has_three_fields(screen: &mut Screen) -> bool {
+    obey(screen, THREE_FIELDS).is_some() && lists_three(screen) && finds_three(screen)
 }
 
 #[test]
-fn lists_and_finds_fields(rt: HostRuntime) -> Result<(), Fail> {
-    let has_three = has_three_fields(rt.alloc(), &mut Screen::blank())?;
-    assert!(rt; has_three);
-    Ok(())
+fn lists_and_finds_fields(rt: HostRuntime) {
+    assert!(rt; has_three_fields(&mut Screen::blank()));
 }
 
-fn has_home(alloc: Global, command: &str, home: u16) -> Result<bool, Fail> {
-    let mut screen = Screen::blank();
-    Ok(obeys(alloc, &mut screen, &[command])? && screen.home().get() == home)
+static HOMES: [(&[u8], u16); 7] = [
+    // No field, a protected one, and an unprotected one without cells before another attribute.
+    (b"\xF5\xC3", 0),
+    (b"\xF5\xC3\x11\x40\xC1\x1D\x60", 0),
+    (b"\xF5\xC3\x11\x40\xC1\x1D\x40\x1D\x60", 0),
+    // The second field of two, and the first of three.
+    (b"\xF5\xC3\x1D\x60\xC1\x1D\x40", 3),
+    (b"\xF5\xC3\x11\x40\xC5\x1D\x40\x00\x1D\x40\x00\x1D\x60", 6),
+    // Behind an attribute at the last cell.
+    (b"\xF5\xC3\x11\x40\xC1\x1D\x60\x11\x5D\x7F\x1D\x40", 0),
+    (b"\xF5\xC3\x1D\x60\x00\x1D\x40\x11\x5D\x7F\x1D\x40", 3),
+];
+
+fn has_home(screen: &mut Screen, command: &[u8], home: u16) -> bool {
+    obey(screen, command).is_some() && screen.home().get() == home
 }
 
-#[test]
-fn home_is_the_lowest_start(rt: HostRuntime) -> Result<(), Fail> {
-    let table = [
-        // No field, a protected one, and an unprotected one without cells before another attribute.
-        ("F5 C3", 0),
-        ("F5 C3 11 40 C1 1D 60", 0),
-        ("F5 C3 11 40 C1 1D 40 1D 60", 0),
-        // The second field of two, and the first of three.
-        ("F5 C3 1D 60 C1 1D 40", 3),
-        ("F5 C3 11 40 C5 1D 40 00 1D 40 00 1D 60", 6),
-        // Behind an attribute at the last cell.
-        ("F5 C3 11 40 C1 1D 60 11 5D 7F 1D 40", 0),
-        ("F5 C3 1D 60 00 1D 40 11 5D 7F 1D 40", 3),
-    ];
-    for (command, home) in table {
-        assert!(rt; has_home(rt.alloc(), command, home)?, "{command}");
+/// Which case is the first that has another home.
+fn first_other_home(cases: &[(&[u8], u16)]) -> Option<usize> {
+    for case in 0..cases.len() {
+        let (command, home) = cases[case];
+        if !has_home(&mut Screen::blank(), command, home) {
+            return Some(case);
+        }
     }
-    Ok(())
+    None
+}
+
+#[test]
+fn home_is_the_lowest_start(rt: HostRuntime) {
+    assert_eq!(rt; first_other_home(&HOMES), None);
 }
 
 // ---- what keys change
 
-/// Whether the cursor and the AID go to and fro without another change.
-fn goes_to_and_fro(screen: &mut Screen, shown: &Screen) -> bool {
+/// Moves the cursor and the AID to and fro. Answers whether they were there.
+fn goes_to_and_fro(screen: &mut Screen) -> bool {
     screen.set_cursor(at(1919));
     screen.set_aid(Aid::Enter);
     let is_there = screen.cursor().get() == 1919 && screen.aid() == Aid::Enter;
     screen.set_cursor(at(0));
     screen.set_aid(Aid::NoAid);
-    is_there && *screen == *shown
+    is_there
 }
 
 /// Whether a letter typed into the first of two fields leaves the cells around it.
 fn changes_its_cell_alone(screen: &mut Screen) -> bool {
-    type_at(screen, at(1), &[0xC3]);
+    type_at(screen, at(1), b"\xC3");
     screen.cell(at(0)) == Cell::Attr(Attr::from_code(0x41))
         && screen.cell(at(1)) == Cell::Char(0xC3)
         && screen.cell(at(2)) == Cell::Attr(Attr::from_code(0x60))
@@ -491,192 +506,174 @@ fn is_cleared(screen: &mut Screen) -> bool {
     *screen == Screen::blank()
 }
 
+/// Whether each change, of a screen like the one that is shown, is that alone.
+fn changes_alone(screen: &mut Screen, shown: &Screen) -> bool {
+    goes_to_and_fro(screen)
+        && *screen == *shown
+        && changes_its_cell_alone(screen)
+        && is_cleared(screen)
+}
+
 #[test]
 fn each_change_is_that_alone(rt: HostRuntime) -> Result<(), Fail> {
     let mut screen = Screen::blank();
-    let is_shown = obeys(rt.alloc(), &mut screen, &["F5 C3 1D 40 C1 1D 60 C2"])?;
+    let is_obeyed = obey(&mut screen, b"\xF5\xC3\x1D\x40\xC1\x1D\x60\xC2").is_some();
     let shown = screen.clone()?;
-    let is_alone = is_shown
-        && goes_to_and_fro(&mut screen, &shown)
-        && changes_its_cell_alone(&mut screen)
-        && is_cleared(&mut screen);
+    let is_alone = is_obeyed && changes_alone(&mut screen, &shown);
     assert!(rt; is_alone);
     Ok(())
 }
 
 // ---- what reads answer
 
-/// A screen after a command, with Enter as its AID. Answers whether the pairs spell a command.
-fn enters(alloc: Global, screen: &mut Screen, command: &str) -> Result<bool, Fail> {
-    let is_obeyed = obeys(alloc, screen, &[command])?;
-    screen.set_aid(Aid::Enter);
-    Ok(is_obeyed)
+/// Room for what reads answer here.
+const ROOM: usize = 2048;
+
+static TYPED: [Typed; 5] = [
+    // A field is read once it is modified, though it is empty, and then with what is typed.
+    (GREETING, &[(4, b"")], 4, b"\x7D\x40\xC4\x11\x40\xC4"),
+    (
+        GREETING,
+        &[(4, b""), (4, b"\xC1")],
+        5,
+        b"\x7D\x40\xC5\x11\x40\xC4\xC1",
+    ),
+    // Nulls between two characters are left out.
+    (
+        b"\xF5\xC3\x11\x40\x40\x1D\x40\x13\x11\x40\xC5\x1D\x60",
+        &[(1, b"\xC1"), (3, b"\xC2")],
+        4,
+        b"\x7D\x40\xC4\x11\x40\xC1\xC1\xC2",
+    ),
+    // Each field that was typed into.
+    (
+        b"\xF5\xC3\x11\x40\x40\x1D\x40\x13\x00\x1D\xF0\x00\x1D\x40\x00\x1D\x60",
+        &[(1, b"\xC1"), (5, b"\xC2")],
+        7,
+        b"\x7D\x40\xC7\x11\x40\xC1\xC1\x11\x40\xC5\xC2",
+    ),
+    // A field that goes round the end comes in its place.
+    (
+        b"\xF5\xC3\x11\x40\xC6\x1D\x40\x11\x5D\xF5\x1D\x40\x13",
+        &[
+            (1910, b"\xC1\xC2\xC3\xC4\xC5\xC6\xC7\xC8\xC9\xD1\xD2"),
+            (7, b"\xE9"),
+        ],
+        8,
+        b"\x7D\x40\xC8\x11\x40\xC7\xE9\x11\x5D\xF6\xC1\xC2\xC3\xC4\xC5\xC6\xC7\xC8\xC9\xD1\xD2",
+    ),
+];
+
+fn type_all(screen: &mut Screen, texts: &[(u16, &[u8])]) {
+    for (place, codes) in texts {
+        type_at(screen, at(*place), codes);
+    }
 }
 
-/// Whether Read Modified answers so after characters were typed at a place.
+/// Whether Read Modified answers so after texts were typed.
 fn reads_typed(
-    alloc: Global,
     screen: &mut Screen,
-    place: Addr,
-    codes: &[u8],
-    answer: &str,
-) -> Result<bool, Fail> {
-    type_at(screen, place, codes);
-    reads(alloc, screen, answer)
+    out: &mut Vec<u8>,
+    command: &[u8],
+    texts: &[(u16, &[u8])],
+    cursor: u16,
+    answer: &[u8],
+) -> bool {
+    let is_obeyed = enters(screen, command);
+    type_all(screen, texts);
+    screen.set_cursor(at(cursor));
+    is_obeyed && reads(screen, out, answer)
 }
 
-/// Whether a field is read once it is modified, though it is empty, and then with what is typed.
-fn reads_a_field(alloc: Global, screen: &mut Screen) -> Result<bool, Fail> {
-    Ok(
-        enters(alloc, screen, GREETING)?
-            && reads_typed(alloc, screen, at(4), &[], "7D 40 C4 11 40 C4")?
-            && reads_typed(alloc, screen, at(4), &[0xC1], "7D 40 C5 11 40 C4 C1")?,
-    )
-}
-
-/// Whether nulls between two characters are left out.
-fn leaves_nulls_out(alloc: Global, screen: &mut Screen) -> Result<bool, Fail> {
-    let is_shown = enters(alloc, screen, "F5 C3 11 40 40 1D 40 13 11 40 C5 1D 60")?;
-    type_at(screen, at(1), &[0xC1]);
-    Ok(is_shown && reads_typed(alloc, screen, at(3), &[0xC2], "7D 40 C4 11 40 C1 C1 C2")?)
-}
-
-fn reads_two_fields(alloc: Global, screen: &mut Screen) -> Result<bool, Fail> {
-    let command = "F5 C3 11 40 40 1D 40 13 00 1D F0 00 1D 40 00 1D 60";
-    let is_shown = enters(alloc, screen, command)?;
-    type_at(screen, at(1), &[0xC1]);
-    type_at(screen, at(5), &[0xC2]);
-    screen.set_cursor(at(7));
-    Ok(is_shown && reads(alloc, screen, "7D 40 C7 11 40 C1 C1 11 40 C5 C2")?)
+/// Which case is the first that is read otherwise.
+fn first_read_otherwise(out: &mut Vec<u8>, cases: &[Typed]) -> Option<usize> {
+    for case in 0..cases.len() {
+        let (command, texts, cursor, answer) = cases[case];
+        if !reads_typed(&mut Screen::blank(), out, command, texts, cursor, answer) {
+            return Some(case);
+        }
+    }
+    None
 }
 
 #[test]
 fn reads_what_was_typed(rt: HostRuntime) -> Result<(), Fail> {
-    let is_read = reads_a_field(rt.alloc(), &mut Screen::blank())?;
-    assert!(rt; is_read);
+    let mut out = Vec::with_capacity(rt.alloc(), ROOM)?;
+    assert_eq!(rt; first_read_otherwise(&mut out, &TYPED), None);
     Ok(())
 }
 
-#[test]
-fn reads_no_nulls(rt: HostRuntime) -> Result<(), Fail> {
-    let is_read = leaves_nulls_out(rt.alloc(), &mut Screen::blank())?;
-    assert!(rt; is_read);
-    Ok(())
-}
-
-#[test]
-fn reads_each_field_that_was_typed_into(rt: HostRuntime) -> Result<(), Fail> {
-    let is_read = reads_two_fields(rt.alloc(), &mut Screen::blank())?;
-    assert!(rt; is_read);
-    Ok(())
-}
-
-fn reads_erased(alloc: Global, screen: &mut Screen) -> Result<bool, Fail> {
+fn reads_erased(screen: &mut Screen, out: &mut Vec<u8>) -> bool {
     screen.erase_unprotected();
-    reads(alloc, screen, "7D 40 C1")
+    reads(screen, out, b"\x7D\x40\xC1")
 }
 
-fn erases_one_field(alloc: Global, screen: &mut Screen) -> Result<bool, Fail> {
-    let field = "F5 C3 11 40 40 1D 40 C1 C2 1D 60 13";
-    Ok(enters(alloc, screen, field)? && reads_erased(alloc, screen)?)
+fn erases_one_field(screen: &mut Screen, out: &mut Vec<u8>) -> bool {
+    enters(screen, b"\xF5\xC3\x11\x40\x40\x1D\x40\xC1\xC2\x1D\x60\x13") && reads_erased(screen, out)
 }
 
-fn erases_a_modified_field(alloc: Global, screen: &mut Screen) -> Result<bool, Fail> {
-    let filled = "F5 C3 11 40 40 1D 40 C1 C2 1D C1 C4 1D 60";
-    Ok(
-        enters(alloc, screen, filled)?
-            && reads(alloc, screen, "7D 40 40 11 40 C4 C4")?
-            && reads_erased(alloc, screen)?,
-    )
+fn erases_a_modified_field(screen: &mut Screen, out: &mut Vec<u8>) -> bool {
+    enters(
+        screen,
+        b"\xF5\xC3\x11\x40\x40\x1D\x40\xC1\xC2\x1D\xC1\xC4\x1D\x60",
+    ) && reads(screen, out, b"\x7D\x40\x40\x11\x40\xC4\xC4")
+        && reads_erased(screen, out)
 }
 
 #[test]
-fn reads_after_erase_input(rt: HostRuntime) -> Result<(), Fail> {
-    let is_erased = erases_one_field(rt.alloc(), &mut Screen::blank())?;
+fn reads_nothing_after_erase_input(rt: HostRuntime) -> Result<(), Fail> {
+    let mut out = Vec::with_capacity(rt.alloc(), ROOM)?;
+    let is_erased = erases_one_field(&mut Screen::blank(), &mut out)
+        && erases_a_modified_field(&mut Screen::blank(), &mut out);
     assert!(rt; is_erased);
-    Ok(())
-}
-
-#[test]
-fn reads_nothing_modified_after_erase_input(rt: HostRuntime) -> Result<(), Fail> {
-    let is_erased = erases_a_modified_field(rt.alloc(), &mut Screen::blank())?;
-    assert!(rt; is_erased);
-    Ok(())
-}
-
-fn reads_round_the_end(alloc: Global, screen: &mut Screen) -> Result<bool, Fail> {
-    let is_shown = enters(alloc, screen, "F5 C3 11 40 C6 1D 40 11 5D F5 1D 40 13")?;
-    let letters = b"\xC1\xC2\xC3\xC4\xC5\xC6\xC7\xC8\xC9\xD1\xD2";
-    type_at(screen, at(1910), letters.as_slice());
-    type_at(screen, at(7), &[0xE9]);
-    let wanted = "7D 40 C8 11 40 C7 E9 11 5D F6 C1 C2 C3 C4 C5 C6 C7 C8 C9 D1 D2";
-    Ok(is_shown && reads(alloc, screen, wanted)?)
-}
-
-#[test]
-fn reads_a_wrapping_field_in_its_place(rt: HostRuntime) -> Result<(), Fail> {
-    let is_read = reads_round_the_end(rt.alloc(), &mut Screen::blank())?;
-    assert!(rt; is_read);
     Ok(())
 }
 
 /// Whether a key that sends its name alone is read so, and with all else where all is asked for.
-fn reads_short(
-    alloc: Global,
-    screen: &mut Screen,
-    aid: Aid,
-    short: &str,
-    all: &str,
-) -> Result<bool, Fail> {
+fn reads_short(screen: &mut Screen, out: &mut Vec<u8>, aid: Aid, short: &[u8], all: &[u8]) -> bool {
     screen.set_aid(aid);
-    Ok(reads(alloc, screen, short)? && reads_all(alloc, screen, all)?)
+    reads(screen, out, short) && reads_bytes(screen, out, true, all)
 }
 
-fn reads_by_keys(alloc: Global, screen: &mut Screen, pa1: PaNo) -> Result<bool, Fail> {
-    let is_read = enters(alloc, screen, "F5 C3 11 40 C1 C1 00 C2 13")?
-        && reads(alloc, screen, "7D 40 C4 C1 C2")?
-        && reads_short(alloc, screen, Aid::Pa(pa1), "6C", "6C 40 C4 C1 C2")?;
+fn reads_by_keys(screen: &mut Screen, out: &mut Vec<u8>) -> bool {
+    let Some(pa1) = PaNo::new(1) else {
+        return false;
+    };
+    let is_read = enters(screen, b"\xF5\xC3\x11\x40\xC1\xC1\x00\xC2\x13")
+        && reads(screen, out, b"\x7D\x40\xC4\xC1\xC2")
+        && reads_short(screen, out, Aid::Pa(pa1), b"\x6C", b"\x6C\x40\xC4\xC1\xC2");
     screen.clear();
-    Ok(is_read && reads_short(alloc, screen, Aid::Clear, "6D", "6D 40 40")?)
-}
-
-#[test]
-fn reads_without_fields_and_by_keys(rt: HostRuntime) -> Result<(), Fail> {
-    let pa1 = PaNo::new(1).ok_or("no PA1")?;
-    let is_read = reads_by_keys(rt.alloc(), &mut Screen::blank(), pa1)?;
-    assert!(rt; is_read);
-    Ok(())
+    is_read && reads_short(screen, out, Aid::Clear, b"\x6D", b"\x6D\x40\x40")
 }
 
 /// A panel with a title, two labels and two fields.
-const SIGN_ON: &str =
-    "F5 C3 11 40 40 1D F0 E2 C9 C7 D5 40 D6 D5 11 C2 60 1D F0 E4 E2 C5 D9 11 C2 E6 1D 40 11 C2 6F 1D F0 11 C3 F0 1D F0 C4 C5 D7 E3 11 C3 F6 1D 40 11 C3 7B 1D F0 11 5C F0 1D F8 11 C2 E7 13";
+static SIGN_ON: &[u8] =
+    b"\xF5\xC3\x11\x40\x40\x1D\xF0\xE2\xC9\xC7\xD5\x40\xD6\xD5\x11\xC2\x60\x1D\xF0\xE4\xE2\xC5\xD9\x11\xC2\xE6\x1D\x40\x11\xC2\x6F\x1D\xF0\x11\xC3\xF0\x1D\xF0\xC4\xC5\xD7\xE3\x11\xC3\xF6\x1D\x40\x11\xC3\x7B\x1D\xF0\x11\x5C\xF0\x1D\xF8\x11\xC2\xE7\x13";
 
 /// Whether a buffer is that of the panel, after PA1, with AB in its first field.
 fn is_panel_with_ab(buffer: &[u8]) -> bool {
     // The AID, the cursor, each cell, and one byte more for each of eight attributes. Two stand before that at 166.
     buffer.len() == 1931
-        && buffer.starts_with(&[0x6C, 0xC2, 0xE9, 0x1D, 0xF0, 0xE2])
-        && buffer.get(171..175) == Some([0x1D, 0xC1, 0xC1, 0xC2].as_slice())
+        && buffer.starts_with(b"\x6C\xC2\xE9\x1D\xF0\xE2")
+        && buffer.get(171..175) == Some(b"\x1D\xC1\xC1\xC2".as_slice())
 }
 
-fn has_panel_with_ab(alloc: Global, screen: &Screen) -> Result<bool, AllocError> {
-    let mut out = Vec::new(alloc);
-    screen.put_read_buffer(&mut out)?;
-    Ok(is_panel_with_ab(out.as_slice()))
-}
-
-fn reads_the_panel(alloc: Global, screen: &mut Screen, pa1: PaNo) -> Result<bool, Fail> {
-    let is_obeyed = obeys(alloc, screen, &[SIGN_ON])?;
-    type_at(screen, at(167), &[0xC1, 0xC2]);
+fn reads_the_panel(screen: &mut Screen, out: &mut Vec<u8>) -> bool {
+    let Some(pa1) = PaNo::new(1) else {
+        return false;
+    };
+    let is_obeyed = obey(screen, SIGN_ON).is_some();
+    type_at(screen, at(167), b"\xC1\xC2");
     screen.set_aid(Aid::Pa(pa1));
-    Ok(is_obeyed && has_panel_with_ab(alloc, screen)?)
+    out.clear();
+    is_obeyed && screen.put_read_buffer(out).is_ok() && is_panel_with_ab(out.as_slice())
 }
 
 #[test]
-fn reads_the_whole_buffer(rt: HostRuntime) -> Result<(), Fail> {
-    let pa1 = PaNo::new(1).ok_or("no PA1")?;
-    let is_read = reads_the_panel(rt.alloc(), &mut Screen::blank(), pa1)?;
+fn reads_by_keys_and_the_whole_buffer(rt: HostRuntime) -> Result<(), Fail> {
+    let mut out = Vec::with_capacity(rt.alloc(), ROOM)?;
+    let is_read = reads_by_keys(&mut Screen::blank(), &mut out)
+        && reads_the_panel(&mut Screen::blank(), &mut out);
     assert!(rt; is_read);
     Ok(())
 }
@@ -708,15 +705,17 @@ fn appends_where_there_is_room(screen: &Screen, out: &mut Vec<u8>) -> bool {
     out.capacity() < before + 7 || screen.put_read_modified(out, true).is_ok()
 }
 
+fn appends(screen: &mut Screen, out: &mut Vec<u8>) -> bool {
+    obey(screen, b"\xF5\xC3\x11\x40\x40\x1D\xC1\xC1").is_some()
+        && appends_fields(screen, out)
+        && appends_cells(screen, out)
+        && appends_where_there_is_room(screen, out)
+}
+
 // With room for all of it an answer is appended; where memory is refused nothing is. Each growth is refused in turn by
 // running this test with one allocation after the other failing.
 #[test]
 fn appends_all_or_nothing(rt: HostRuntime) {
-    let mut screen = Screen::blank();
-    let mut out = Vec::new(rt.alloc());
-    let is_appended = apply(&mut screen, b"\xF5\xC3\x11\x40\x40\x1D\xC1\xC1").is_some()
-        && appends_fields(&screen, &mut out)
-        && appends_cells(&screen, &mut out)
-        && appends_where_there_is_room(&screen, &mut out);
+    let is_appended = appends(&mut Screen::blank(), &mut Vec::new(rt.alloc()));
     assert!(rt; is_appended);
 }
