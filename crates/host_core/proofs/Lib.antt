@@ -5,3 +5,7 @@ pub mod Writable
 pub mod Notes
 pub mod MessageRows
 pub mod KeptWhole
+pub mod Lengths
+pub mod Commands
+pub mod Wanting
+pub mod Paintings

@@ -11,6 +11,7 @@ mod occasion;
 mod pending;
 mod phase;
 mod room;
+mod sending;
 mod session;
 mod turn;
 
