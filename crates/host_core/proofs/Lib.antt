@@ -9,3 +9,4 @@ pub mod Lengths
 pub mod Commands
 pub mod Wanting
 pub mod Paintings
+pub mod Knowing

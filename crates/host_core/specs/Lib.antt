@@ -15,3 +15,4 @@ pub mod NoteLaws
 pub mod Laws
 pub mod Rooms
 pub mod Keeps
+pub mod Choices

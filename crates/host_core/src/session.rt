@@ -30,6 +30,8 @@ pub(crate) struct Session {
     pub(crate) occasion: Occasion,
     // The record that was sent last, its header first; it has room for the largest.
     pub(crate) sent: Vec<u8>,
+    // For the texts of fields.
+    pub(crate) alloc: Global,
 }
 
 impl Model for Session {
@@ -37,6 +39,7 @@ impl Model for Session {
     ghost use Rattle.codes3270.specs.Size.{model_2};
     ghost use Rattle.host_core.specs.Keeps.{IsKept, pending_in};
     ghost use Rattle.host_core.specs.Rooms.{record_room};
+    ghost use Rattle.shadow.specs.Storable.{CanBeStored};
     ghost use Rattle.host_core.specs.Session.{Conn};
 
     ghost Value = { Conn };
@@ -54,7 +57,7 @@ impl Model for Session {
         occasion = s.occasion;
     } };
 
-    ghost invariant = { λ s. IsKept s.pending s.sent.items × (record_room ≤ vec_capacity s.sent) };
+    ghost invariant = { λ s. IsKept s.pending s.sent.items × (record_room ≤ vec_capacity s.sent) × CanBeStored s.shadow };
 }
 
 impl Session {
@@ -74,6 +77,7 @@ impl Session {
             values: Values::new(alloc),
             occasion: Occasion::Agreement,
             sent,
+            alloc,
         })
     }
 }

@@ -14,7 +14,8 @@ invariant_of-self c =
     (laws.spelt c.self.inside.shadow c.fitting_screen-wanted.result c.fitting_screen-wanted.ensures.screen)
     (laws.plain cell_count c.self.inside.shadow c.fitting_screen-wanted.result)
     (begun ∙ ap (λ (bytes : List ℕ). bytes ++ paint_bytes cell_count c.self.inside.shadow c.fitting_screen-wanted.result) c.begin_record.ensures.begun),
-    omega arith)
+    omega arith,
+    c.self.invariant.2)
 
 pub returns : goal.returns
 returns c =
