@@ -10,3 +10,4 @@ pub mod Commands
 pub mod Wanting
 pub mod Paintings
 pub mod Knowing
+pub mod Doings
