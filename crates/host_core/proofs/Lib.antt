@@ -11,3 +11,4 @@ pub mod Wanting
 pub mod Paintings
 pub mod Knowing
 pub mod Doings
+pub mod NoteBytes

@@ -8,6 +8,7 @@ ghost use Rattle.host_core.specs.NoteLaws.{HeldTakesNotes, NotesAreNotes, NotesA
 mod acted;
 mod acting;
 mod learning;
+mod noting;
 mod occasion;
 mod pending;
 mod phase;
