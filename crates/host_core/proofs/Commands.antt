@@ -1,9 +1,9 @@
 -- What the bytes of a command that the host sends are read as.
-use Rattle.std.proofs.Common.{◌≡◌, ◌==◌, ◌≤◌, ◌+◌, ◌⊎◌, inl, inr, ℕ, Bool, true, false, List, [], ◌∷◌, ◌++◌, length, drop, Option, Some, None, refl, ap, sym, subst, ◌∙◌, arith}
+use Rattle.std.proofs.Common.{◌≡◌, ◌⊎◌, inl, inr, ℕ, true, List, ◌++◌, drop, Some, refl, ap, sym, subst, ◌∙◌}
 use Rattle.codes3270.specs.declared.write_control.Wcc.{Wcc}
 use Rattle.codes3270.specs.WriteControl.{wcc_of, wcc_byte}
 use Rattle.datastream.proofs.Sequences.{orders_in-whole}
-use Rattle.datastream.specs.Grammar.{CommandParts, IsCommand, write, other, AreOrders, is_write, codes_of}
+use Rattle.datastream.specs.Grammar.{CommandParts, IsCommand, write, other, is_write, codes_of}
 use Rattle.datastream.specs.Reading.{orders_in}
 use Rattle.datastream.specs.Writing.{orders_bytes, write_bytes}
 use Rattle.datastream.specs.declared.command_code.CommandCode.{CommandCode}
@@ -71,7 +71,8 @@ pub plain_behind : (number : ℕ) (code : CommandCode) (wcc : Wcc) (orders : Lis
 plain_behind number code wcc orders sent is spelt plain begun =
     let same : command_in (drop 5 sent) ≡ record { code = code; wcc = Some wcc; orders = orders } = read_behind number code wcc orders sent is spelt begun in
     let bytes : drop 5 sent ≡ write_bytes code wcc orders =
-    ap (λ (all : List ℕ). drop 5 all) begun ∙ behind_header (command_header always_response number) (write_bytes code wcc orders) in
-    (subst (λ (command : CommandParts). IsCommand command (drop 5 sent)) (sym same)
-    (subst (λ (all : List ℕ). IsCommand (record { code = code; wcc = Some wcc; orders = orders }) all) (sym bytes) spelt),
-    ap is_plain same ∙ plain)
+    ap (λ (all : List ℕ). drop 5 all) begun ∙ behind_header (command_header always_response number) (write_bytes code wcc orders) in (
+      subst (λ (command : CommandParts). IsCommand command (drop 5 sent)) (sym same)
+          (subst (λ (all : List ℕ). IsCommand (record { code = code; wcc = Some wcc; orders = orders }) all) (sym bytes) spelt),
+      ap is_plain same ∙ plain,
+    )

@@ -1,5 +1,5 @@
 -- What is done is what there is to do.
-use Rattle.std.proofs.Common.{◌≡◌, ◌<◌, ◌++◌, ◌∷◌, [], ℕ, Bool, true, List, Option, Some, None, ap, sym, subst, ◌∙◌, Vec, if◌then◌else◌}
+use Rattle.std.proofs.Common.{◌≡◌, ◌<◌, ◌++◌, ◌∷◌, [], ℕ, Bool, true, List, Some, None, ap, sym, subst, ◌∙◌, Vec, if◌then◌else◌}
 use Rattle.std.specs.declared.alloc.Global.{Global}
 use Rattle.telnet_wire.specs.Items.{sent_bytes}
 use Rattle.host_core.specs.Acts.{Act, Sent, act_on, acted, done, may_act}

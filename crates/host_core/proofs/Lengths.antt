@@ -1,7 +1,6 @@
 -- How long what a host sends can be.
-use Rattle.std.proofs.Common.{◌≡◌, ℕ, ◌+◌, ◌*◌, ◌<◌, ◌≤◌, ◌==◌, true, false, List, [], ◌∷◌, ◌++◌, length, arith, length-append, rules, if◌then◌else◌, Result, Ok, Err, OnErr, IsOk}
+use Rattle.std.proofs.Common.{ℕ, ◌+◌, ◌*◌, ◌<◌, ◌≤◌, ◌==◌, true, false, List, [], ◌∷◌, length, arith, length-append, rules, if◌then◌else◌, Result, Ok, Err, OnErr, IsOk}
 use Rattle.std.specs.declared.alloc.AllocError.{AllocError}
-use Rattle.std.specs.List.{flat_map}
 use Rattle.telnet_wire.specs.Token.{escaped, text}
 use Rattle.telnet_wire.specs.Items.{record_tokens}
 

@@ -1,5 +1,5 @@
 -- A note, as it is written.
-use Rattle.std.proofs.Common.{◌≡◌, ◌≤◌, ◌-◌, ◌+◌, ◌<◌, ℕ, zero, suc, Bool, true, false, List, [], ◌∷◌, ◌++◌, length, map, take, drop, Some, refl, ap, sym, subst, ◌∙◌, arith, append_assoc, inl, inr, Vec}
+use Rattle.std.proofs.Common.{◌≡◌, ◌≤◌, ◌-◌, ◌+◌, ℕ, zero, suc, true, List, [], ◌∷◌, ◌++◌, length, map, take, drop, Some, refl, ap, sym, ◌∙◌, arith, append_assoc, inl, inr, Vec}
 use Rattle.std.specs.Prelude.{replicate, All, slice_index_or}
 use Rattle.std.specs.List.{list_all}
 use Rattle.std.specs.declared.alloc.Global.{Global}
@@ -7,13 +7,11 @@ use Rattle.std.proofs.lemmas.List.{take-replicate}
 use Rattle.std.proofs.lemmas.List.Elements.{All-take}
 use Rattle.codes3270.proofs.RoundTrips.{wcc_read_back}
 use Rattle.codes3270.specs.Size.{Shape, model_2}
-use Rattle.codes3270.specs.WriteControl.{wcc_byte}
 use Rattle.datastream.proofs.Written.{orders_written, orders_bytes-chars}
-use Rattle.datastream.specs.Grammar.{CommandParts, IsCommand, write, codes_of}
+use Rattle.datastream.specs.Grammar.{CommandParts, IsCommand, write}
 use Rattle.datastream.specs.Note.{quiet}
 use Rattle.datastream.specs.Writing.{order_bytes, orders_bytes, command_start, write_bytes}
 use Rattle.datastream.specs.declared.command_code.CommandCode.TheVariants.{Write}
-use Rattle.datastream.specs.declared.order.Order.{Order}
 use Rattle.datastream.specs.declared.order.Order.TheVariants.{Sba, Char as Data}
 use Rattle.shadow.specs.Stores.{is_plain, is_plain_order}
 use Rattle.telnet_wire.specs.Items.{Record, sent_bytes}

@@ -1,7 +1,7 @@
 -- A paint that is sent.
-use Rattle.std.proofs.Common.{◌≡◌, ℕ, Bool, true, false, List, [], ◌∷◌, ◌++◌, length, drop, Option, Some, None, refl, ap, sym, subst, ◌∙◌, Vec, inl, inr}
+use Rattle.std.proofs.Common.{◌≡◌, ℕ, Bool, true, false, List, [], ◌∷◌, ◌++◌, length, drop, refl, ap, sym, ◌∙◌, Vec, inl, inr}
 use Rattle.std.specs.declared.alloc.Global.{Global}
-use Rattle.codes3270.specs.Size.{model_2, cell_count, cells_in}
+use Rattle.codes3270.specs.Size.{cells_in}
 use Rattle.codes3270.specs.declared.write_control.Wcc.{Wcc}
 use Rattle.datastream.specs.Grammar.{CommandParts, IsCommand}
 use Rattle.datastream.specs.Wanted.{WantedScreen}

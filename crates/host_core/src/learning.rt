@@ -85,7 +85,12 @@ fn learn(values: &mut Values, shadow: &Shadow, field: &Field, alloc: Global) -> 
 }
 
 /// The values of fields, once the known texts are set.
-pub(crate) fn learned(shadow: &Shadow, fields: &[Field], values: &Values, alloc: Global) -> Result<Values, Memory>
+pub(crate) fn learned(
+    shadow: &Shadow,
+    fields: &[Field],
+    values: &Values,
+    alloc: Global,
+) -> Result<Values, Memory>
     requires { CanBeStored shadow.now }
     ensures { IfOk result (λ known. known ≡ learned shadow.now fields.now values.now) }
 {

@@ -1,4 +1,4 @@
-use Rattle.std.proofs.Common.{List, ℕ, ◌+◌, ◌++◌, ap, length, arith, vec_len, ◌∙◌}
+use Rattle.std.proofs.Common.{List, ℕ, ◌++◌, ap, length, arith, ◌∙◌}
 use Rattle.std.specs.Vec.{vec_capacity}
 use Rattle.datastream.proofs.Written.{orders_bytes-chars}
 use Rattle.host_core.proofs.Lengths.{ok_with_room}

@@ -1,8 +1,5 @@
-use Rattle.std.proofs.Common.{ℕ, ◌++◌, ap, ◌∙◌, Vec}
-use Rattle.std.specs.declared.alloc.Global.{Global}
-use Rattle.datastream.specs.Note.{quiet}
-use Rattle.datastream.specs.Writing.{command_start, order_bytes}
-use Rattle.datastream.specs.declared.command_code.CommandCode.TheVariants.{Write}
+use Rattle.std.proofs.Common.{ℕ, ◌++◌, ap, ◌∙◌}
+use Rattle.datastream.specs.Writing.{order_bytes}
 use Rattle.datastream.specs.declared.order.Order.TheVariants.{Sba}
 use Rattle.codes3270.specs.Size.{model_2}
 use Rattle.host_core.proofs.NoteBytes.{note_written}

@@ -1,6 +1,5 @@
-use Rattle.std.proofs.Common.{◌≡◌, ◌++◌, ◌∷◌, [], ℕ, List, ap, refl, sym, subst, arith, ◌∙◌, length, ◌≤◌}
+use Rattle.std.proofs.Common.{◌++◌, ◌∷◌, [], ℕ, List, ap, refl, arith, ◌∙◌}
 use Rattle.codes3270.specs.Size.{model_2}
-use Rattle.host_core.specs.Rooms.{record_room}
 use Rattle.host_core.specs.Notes.{note_command}
 use Rattle.host_core.specs.Says.{written}
 use Rattle.telnet_wire.specs.Items.{Record, sent_bytes}
@@ -13,11 +12,12 @@ send_record-requires-clause-short c =
     (c.as_slice.ensures.value ∙ c.put_note.ensures.appended ∙ ap (λ (bytes : List ℕ). bytes ++ written (note_command model_2 c.args.text.now)) c.begin_record.ensures.begun)
 
 pub invariant_of-self : goal.invariant_of-self
-invariant_of-self c =
-    (note_is_kept c.self.inside.number c.args.text.now c.put_note.new.bytes.items c.requires.text
-    (c.put_note.ensures.appended ∙ ap (λ (bytes : List ℕ). bytes ++ written (note_command model_2 c.args.text.now)) c.begin_record.ensures.begun),
-    omega arith,
-    c.self.invariant.2)
+invariant_of-self c = (
+  note_is_kept c.self.inside.number c.args.text.now c.put_note.new.bytes.items c.requires.text
+      (c.put_note.ensures.appended ∙ ap (λ (bytes : List ℕ). bytes ++ written (note_command model_2 c.args.text.now)) c.begin_record.ensures.begun),
+  omega arith,
+  c.self.invariant.2,
+)
 
 pub returns : goal.returns
 returns c =

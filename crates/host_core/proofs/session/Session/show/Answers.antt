@@ -2,20 +2,21 @@ use Rattle.std.proofs.Common.{◌≡◌, ◌++◌, ◌∷◌, [], ℕ, List, ap,
 use Rattle.codes3270.specs.Size.{cell_count, cells_in}
 use Rattle.shadow.specs.Paint.{paint_bytes}
 use Rattle.telnet_wire.specs.Items.{Record, sent_bytes}
-use Rattle.host_core.proofs.Paintings.{paint_record, paint_is_kept, shows}
+use Rattle.host_core.proofs.Paintings.{paint_is_kept, shows}
 use Rattle.host_core.specs.Application.{application_of}
 use Rattle.host_core.proofs.session.Session.show.Goals as goal
 
 pub invariant_of-self : goal.invariant_of-self
 invariant_of-self c =
     let laws = c.what_is_wanted_is_painted.ensures in
-    let begun = rw c.unwrap.ensures at c.paint.ensures.painted in
-    (paint_is_kept cell_count c.self.inside.number c.self.inside.shadow c.fitting_screen-wanted.result c.paint.new.out.items
-    (laws.spelt c.self.inside.shadow c.fitting_screen-wanted.result c.fitting_screen-wanted.ensures.screen)
-    (laws.plain cell_count c.self.inside.shadow c.fitting_screen-wanted.result)
-    (begun ∙ ap (λ (bytes : List ℕ). bytes ++ paint_bytes cell_count c.self.inside.shadow c.fitting_screen-wanted.result) c.begin_record.ensures.begun),
-    omega arith,
-    c.self.invariant.2)
+    let begun = rw c.unwrap.ensures at c.paint.ensures.painted in (
+      paint_is_kept cell_count c.self.inside.number c.self.inside.shadow c.fitting_screen-wanted.result c.paint.new.out.items
+          (laws.spelt c.self.inside.shadow c.fitting_screen-wanted.result c.fitting_screen-wanted.ensures.screen)
+          (laws.plain cell_count c.self.inside.shadow c.fitting_screen-wanted.result)
+          (begun ∙ ap (λ (bytes : List ℕ). bytes ++ paint_bytes cell_count c.self.inside.shadow c.fitting_screen-wanted.result) c.begin_record.ensures.begun),
+      omega arith,
+      c.self.invariant.2,
+    )
 
 pub returns : goal.returns
 returns c =
