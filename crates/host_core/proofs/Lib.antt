@@ -8,3 +8,10 @@ pub mod KeptWhole
 pub mod Hosts
 pub mod LineActs
 pub mod Turns
+pub mod Lengths
+pub mod Commands
+pub mod Wanting
+pub mod Paintings
+pub mod Knowing
+pub mod Doings
+pub mod NoteBytes

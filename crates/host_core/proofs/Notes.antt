@@ -29,13 +29,13 @@ use Rattle.host_core.specs.Notes.{is_graphic, IsNoteText, in_cells, note_orders,
 
 -- ---- the text
 
-abbrev IsStored : ℕ → Type 0
+abbrev pub IsStored : ℕ → Type 0
 IsStored byte = is_storable byte ≡ true
 
 in_range : (byte : ℕ) → not (nat_lt byte 0x40) ≡ true → nat_lt byte 0xFF ≡ true → is_in_range 0x40 0xFE byte ≡ true
 in_range byte low high = grind (arith, nat_tests)
 
-graphic_stored : (byte : ℕ) → IsTrue (is_graphic byte) → IsStored byte
+pub graphic_stored : (byte : ℕ) → IsTrue (is_graphic byte) → IsStored byte
 graphic_stored byte h =
     let parts = and_parts (not (nat_lt byte 0x40)) (nat_lt byte 0xFF) h in
     ap (λ (inside : Bool). inside || list_any (λ control. byte == control) stored_controls) (in_range byte parts.0 parts.1)
@@ -45,7 +45,7 @@ text_stored room text is =
     All-take IsStored room (text ++ replicate room 0)
     (All-append IsStored text (replicate room 0) (λ k d below. graphic_stored (slice_index_or text k d) (is.graphic k d below)) (All-replicate IsStored room 0 refl))
 
-few_taken : (room : ℕ) (text : List ℕ) → length (take room text) ≤ room
+pub few_taken : (room : ℕ) (text : List ℕ) → length (take room text) ≤ room
 few_taken zero [] = omega arith
 few_taken zero (byte ∷ text) = omega arith
 few_taken (suc room) [] = omega arith
@@ -56,7 +56,7 @@ few_taken (suc room) (byte ∷ text) = let rest = few_taken room text in omega a
 address_on : (cells columns count : ℕ) → 1 < columns → columns ≤ cells → cells ≤ count → cells - columns + 1 < count
 address_on cells columns count room row addresses = omega arith
 
-orders_proper : (shape : Shape) (text : List ℕ) → IsShape shape → IsNoteText text → All IsProper (note_orders shape text)
+pub orders_proper : (shape : Shape) (text : List ℕ) → IsShape shape → IsNoteText text → All IsProper (note_orders shape text)
 orders_proper shape text shaped is =
     All-cons IsProper (Sba (message_place shape + 1)) (map Data (in_cells (shape.columns - 1) text))
     (address_on (cells_in shape) shape.columns cell_count shaped.columns shaped.row shaped.addresses)

@@ -18,3 +18,4 @@ pub mod Laws
 pub mod Rooms
 pub mod Keeps
 pub mod Lines
+pub mod Choices

@@ -1,5 +1,29 @@
 //! What a host does in its turn.
-use panels::{Message, Values};
+ghost use Rattle.std.specs.Prelude.{◌≡◌, ◌<◌, ℕ, false, IfOk, length};
+ghost use Rattle.std.specs.List.{list_any};
+ghost use Rattle.codes3270.specs.declared.attention.Aid.TheVariants.{Clear};
+ghost use Rattle.panels.specs.Keys.{IsKey};
+ghost use Rattle.panels.specs.declared.message.Message.TheVariants.{Fresh};
+ghost use Rattle.panels.specs.declared.next.Next.TheVariants.{Go};
+ghost use Rattle.host_core.specs.Acts.{Act as Doing, act_on, acted, after_key, gone_to, is_in_doubt as in_doubt, is_to_be_read, led, may_act, repeated, target_or, unless_missing};
+ghost use Rattle.host_core.specs.Application.{application_of};
+ghost use Rattle.host_core.specs.Choices.{CanBeDone};
+ghost use Rattle.host_core.specs.Keeps.{DoesOn, act_of};
+ghost use Rattle.host_core.specs.Session.{is_agreed};
+
+use crate::acted::Acted;
+use crate::learning::{first_missing, is_in_doubt, learned};
+use crate::occasion::Occasion;
+use crate::pending::Pending;
+use crate::room::COMMAND_ROOM;
+use crate::sending::panel_in;
+use crate::session::Session;
+use crate::turn::Turn;
+use codes3270::Aid;
+use panels::{Field, Message, Next, PanelSet, Values};
+use shadow::Shadow;
+use telnet_wire::Memory;
+use tn3270e_msg::HostState;
 
 /// What the host may do: read the whole screen, or show a panel with a message and these values of fields.
 #[derive(Drop)]
@@ -7,4 +31,204 @@ pub(crate) enum Act {
     Read,
     /// The panel, its message, whether fields keep what the operator left in them, and the values.
     Show(usize, Message, bool, Values),
+}
+
+/// Whether some field is in doubt.
+fn is_some_in_doubt(shadow: &Shadow, fields: &[Field]) -> bool
+    ensures { result ≡ list_any (in_doubt shadow.now) fields.now }
+{
+    fields.iter().any(|field| is_in_doubt(shadow, field))
+}
+
+/// A message again, after a refusal.
+fn repeated(message: Message) -> Message
+    ensures { result ≡ repeated message }
+{
+    match message {
+        Message::Fresh | Message::Plain => Message::Plain,
+        Message::KeyNotActive => Message::KeyNotActive,
+        Message::Required(field) => Message::Required(field),
+    }
+}
+
+/// A target is shown anew; but while a required field is missing, the panel is shown again.
+fn unless_missing(panel: usize, target: usize, values: Values, missing: Option<usize>) -> Act
+    ensures { act_of result ≡ unless_missing panel target values missing }
+{
+    match missing {
+        None => Act::Show(target, Message::Fresh, false, values),
+        Some(field) => Act::Show(panel, Message::Required(field), true, values),
+    }
+}
+
+/// Does nothing: its contract says that an identifier is a key's, or none's.
+fn aid_is_real(aid: &Aid)
+    ensures { IsKey aid.now }
+{
+    match aid {
+        Aid::Pf(key) => {
+            let _number = key.get();
+        }
+        Aid::Pa(key) => {
+            let _number = key.get();
+        }
+        Aid::NoAid | Aid::Enter | Aid::Clear => {}
+    }
+}
+
+/// Where a key leads.
+fn next_of(panels: &PanelSet, panel: usize, aid: &Aid) -> Next
+    requires { panel < length panels.now.panels }
+    ensures next { result ≡ (application_of panels.now).next panel aid.now }
+    ensures target { (target : ℕ) → result ≡ Go target → target < length panels.now.panels }
+{
+    aid_is_real(aid);
+    panel_in(panels, panel).next(*aid)
+}
+
+impl Session {
+    /// Whether the screen is to be read before a key is answered: after PA, or where some field of the panel is in doubt.
+    fn is_to_be_read(&self, panels: &PanelSet, aid: &Aid) -> bool
+        requires { self.now.panel < length panels.now.panels }
+        ensures { result ≡ is_to_be_read (application_of panels.now) self.now aid.now }
+    {
+        match aid {
+            Aid::Pa(_) => true,
+            Aid::NoAid | Aid::Enter | Aid::Clear | Aid::Pf(_) => {
+                is_some_in_doubt(&self.shadow, panel_in(panels, self.panel).fields())
+            }
+        }
+    }
+
+    /// The first required field that is missing, after Enter.
+    fn missing_after(&self, panels: &PanelSet, values: &Values, aid: &Aid) -> Option<usize>
+        requires { self.now.panel < length panels.now.panels }
+        ensures { (target : ℕ) → gone_to (application_of panels.now) self.now target values.now aid.now ≡ unless_missing self.now.panel target values.now result }
+    {
+        match aid {
+            Aid::Enter => first_missing(values, panel_in(panels, self.panel).fields()),
+            Aid::NoAid | Aid::Clear | Aid::Pf(_) | Aid::Pa(_) => None,
+        }
+    }
+
+    /// Where a key leads with these values; one without a target isn't active.
+    fn led(&self, panels: &PanelSet, values: Values, aid: &Aid, next: Next) -> Act
+        requires panel { self.now.panel < length panels.now.panels }
+        requires target { (target : ℕ) → next ≡ Go target → target < length panels.now.panels }
+        ensures act { act_of result ≡ led (application_of panels.now) self.now values aid.now next }
+        ensures can_be_done { CanBeDone (length panels.now.panels) result }
+    {
+        match next {
+            Next::Again => Act::Show(self.panel, Message::KeyNotActive, true, values),
+            Next::Go(target) => {
+                let missing = self.missing_after(panels, &values, aid);
+                unless_missing(self.panel, target, values, missing)
+            }
+        }
+    }
+
+    /// What is shown after Clear: the target of that key, else the same panel.
+    fn after_clear(&self, panels: &PanelSet) -> Result<Act, Memory>
+        requires { self.now.panel < length panels.now.panels }
+        ensures act { IfOk result (λ act. act_of act ≡ Doing.Show (target_or self.now.panel ((application_of panels.now).next self.now.panel Clear)) Fresh false self.now.values) }
+        ensures can_be_done { IfOk result (CanBeDone (length panels.now.panels)) }
+    {
+        let target = match next_of(panels, self.panel, &Aid::Clear) {
+            Next::Again => self.panel,
+            Next::Go(target) => target,
+        };
+        Ok(Act::Show(target, Message::Fresh, false, self.values.clone()?))
+    }
+
+    /// What is done after a key.
+    fn after_key(&self, panels: &PanelSet, aid: &Aid, buffered: bool) -> Result<Act, Memory>
+        requires { self.now.panel < length panels.now.panels }
+        ensures act { IfOk result (λ act. act_of act ≡ after_key (application_of panels.now) self.now aid.now buffered) }
+        ensures can_be_done { IfOk result (CanBeDone (length panels.now.panels)) }
+    {
+        if let Aid::Clear = aid {
+            return self.after_clear(panels);
+        }
+        if self.is_to_be_read(panels, aid) && !buffered {
+            return Ok(Act::Read);
+        }
+        let fields = panel_in(panels, self.panel).fields();
+        let values = learned(&self.shadow, fields, &self.values, self.alloc)?;
+        Ok(self.led(panels, values, aid, next_of(panels, self.panel, aid)))
+    }
+
+    /// What is done: at agreement the first panel is shown, after a refusal the same panel, whole. It takes memory for the values.
+    pub(crate) fn act_on(&self, panels: &PanelSet) -> Result<Act, Memory>
+        requires { self.now.panel < length panels.now.panels }
+        ensures act { IfOk result (λ act. act_of act ≡ act_on (application_of panels.now) self.now self.now.occasion) }
+        ensures can_be_done { IfOk result (CanBeDone (length panels.now.panels)) }
+    {
+        match self.occasion {
+            Occasion::Agreement => Ok(Act::Show(
+                panels.start(),
+                Message::Fresh,
+                false,
+                self.values.clone()?,
+            )),
+            Occasion::Key(aid, buffered) => self.after_key(panels, &aid, buffered),
+            Occasion::Refusal => Ok(Act::Show(
+                self.panel,
+                repeated(self.message),
+                false,
+                self.values.clone()?,
+            )),
+        }
+    }
+
+    /// Whether both ends agreed.
+    pub(crate) fn agreed(&self) -> bool
+        ensures { result ≡ is_agreed self.now.talk.state }
+    {
+        match self.talk.state() {
+            HostState::Agreed(_, _) => true,
+            HostState::Offered
+            | HostState::Asked
+            | HostState::Asking(_)
+            | HostState::Named(_, _)
+            | HostState::Countered(_, _)
+            | HostState::Closed(_) => false,
+        }
+    }
+
+    /// Whether it may act: in its turn, once the session is agreed and its last command answered.
+    fn may_act(&self) -> bool
+        ensures { result ≡ may_act self.now.turn self.now.pending (is_agreed self.now.talk.state) }
+    {
+        match self.turn {
+            Turn::Terminal => false,
+            Turn::Host => match self.pending {
+                Pending::Nothing => self.agreed(),
+                Pending::Writing(_) | Pending::Reading(_) | Pending::Noting(_) => false,
+            },
+        }
+    }
+
+    /// Sends what there is to do in its turn.
+    pub(crate) fn act(&mut self, panels: &PanelSet, out: &mut Vec<u8>) -> Acted
+        requires panel { self.old.panel < length panels.now.panels }
+        ensures acted { DoesOn (acted (application_of panels.now) self.old) self.old out.old result self.new out.new }
+        ensures panel { self.new.panel < length panels.now.panels }
+    {
+        if !self.may_act() {
+            return Acted::Nothing;
+        }
+        if out.reserve(COMMAND_ROOM).is_err() {
+            return Acted::Memory;
+        }
+        let Ok(act) = self.act_on(panels) else {
+            return Acted::Memory;
+        };
+        match act {
+            Act::Read => self.read(out),
+            Act::Show(panel, message, keep, values) => {
+                self.show(panels, panel, message, keep, values, out);
+            }
+        }
+        Acted::Sent
+    }
 }

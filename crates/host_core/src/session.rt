@@ -30,6 +30,8 @@ pub(crate) struct Session {
     pub(crate) occasion: Occasion,
     // The record that was sent last, its header first; it has room for the largest.
     pub(crate) sent: Vec<u8>,
+    // For the texts of fields.
+    pub(crate) alloc: Global,
 }
 
 impl Model for Session {
@@ -75,6 +77,7 @@ impl Session {
             values: Values::new(alloc),
             occasion: Occasion::Agreement,
             sent,
+            alloc,
         })
     }
 

@@ -1,15 +1,10 @@
-ghost use Rattle.std.specs.Prelude.{◌≡◌, ◌<◌, length, None};
+ghost use Rattle.std.specs.Prelude.{◌≡◌, None};
 ghost use Rattle.tn3270e_msg.specs.HostTable.{granted};
-ghost use Rattle.host_core.specs.Acts.{acted};
-ghost use Rattle.host_core.specs.Application.{application_of};
 ghost use Rattle.host_core.specs.Feeds.{Feeds};
-ghost use Rattle.host_core.specs.Keeps.{IsRunning, counter_of, cause_of, claim, OthersHold, DoesOn, IsLeft};
-ghost use Rattle.host_core.specs.Notes.{IsNoteText, noted};
+ghost use Rattle.host_core.specs.Keeps.{IsRunning, counter_of, cause_of, claim, OthersHold, IsLeft};
 ghost use Rattle.host_core.specs.Sound.{HoldsJust};
-use crate::acted::Acted;
 use crate::session::Session;
 use lu_pool::Pool;
-use panels::PanelSet;
 use telnet_wire::Decoder;
 use tn3270e_msg::{Fed, Stop};
 
@@ -23,22 +18,4 @@ pub(crate) fn feed_open(pool: &mut Pool, number: usize, decoder: &mut Decoder, s
     ensures left { IsLeft (cause_of result.stop) decoder.new }
 {
     Fed { taken: 0, stop: Stop::Going }
-}
-
-impl Session {
-    pub(crate) fn act(&mut self, panels: &PanelSet, out: &mut Vec<u8>) -> Acted
-        requires panel { self.old.panel < length panels.now.panels }
-        ensures acted { DoesOn (acted (application_of panels.now) self.old) self.old out.old result self.new out.new }
-        ensures panel { self.new.panel < length panels.now.panels }
-    {
-        Acted::Nothing
-    }
-
-    pub(crate) fn note(&mut self, text: &[u8], out: &mut Vec<u8>) -> Acted
-        requires text { IsNoteText text.now }
-        ensures noted { DoesOn (noted text.now self.old) self.old out.old result self.new out.new }
-        ensures panel { self.new.panel ≡ self.old.panel }
-    {
-        Acted::Nothing
-    }
 }

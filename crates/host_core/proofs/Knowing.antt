@@ -1,0 +1,106 @@
+-- What is known of fields.
+use Rattle.std.proofs.Common.{◌≡◌, ℕ, ◌+◌, ◌-◌, ◌==◌, not, Bool, true, false, List, [], ◌∷◌, ◌++◌, drop, Option, Some, None, refl, ap, sym, ◌∙◌, inl, inr, if◌then◌else◌, append_assoc, append-nil, arith}
+use Rattle.std.specs.Prelude.{All, slice_get, option_and_then}
+use Rattle.std.specs.Option.{option_map_or}
+use Rattle.std.proofs.lemmas.Bool.{and_parts}
+use Rattle.std.proofs.lemmas.List.{drop_more, drop_all}
+use Rattle.std.proofs.lemmas.List.Elements.{All-head, All-tail}
+use Rattle.std.proofs.lemmas.Option.{slice_get_within, get_or_from_slice_get, slice_get_cases}
+use Rattle.datastream.specs.Inbound.{without_nulls}
+use Rattle.codes3270.specs.Storable.{is_storable}
+use Rattle.panels.specs.Characters.{AreCharacters}
+use Rattle.shadow.specs.Asked.{value_of, field_at, value_at}
+use Rattle.shadow.specs.Belief.{Fact, Belief, Shadow}
+use Rattle.shadow.specs.Meets.{told}
+use Rattle.shadow.specs.Storable.{IsTextChar, CanBeStored, ToldCanBeStored}
+use Rattle.panels.specs.declared.panel.Field.{Field}
+use Rattle.host_core.specs.Acts.{is_settled_fact, text_known}
+
+-- ---- the text of a field, character by character
+
+abbrev pub IsRead : List ℕ → List ℕ → ℕ → Type 0
+IsRead text value index = text ++ without_nulls (drop index value) ≡ without_nulls value
+
+pub value_there : (place index : ℕ) (shadow : Shadow) (belief : Belief) → field_at place shadow ≡ Some belief → value_at place index shadow ≡ slice_get (value_of belief.fact) index
+value_there place index shadow belief there = ap (λ (known : Option Belief). option_and_then (λ (b : Belief). slice_get (value_of b.fact) index) known) there
+
+pub read_all : (text value : List ℕ) (index : ℕ) → ((byte : ℕ) → slice_get value index ≡ Some byte → ⊥) → IsRead text value index → text ≡ without_nulls value
+read_all text value index none read =
+    elim (slice_get_cases value index).1 [
+      | inl within ↦ absurd (none within.0 within.2)
+      | inr past ↦ sym (append-nil text) ∙ ap (λ (rest : List ℕ). text ++ without_nulls rest) (sym (drop_all index value past.0)) ∙ read
+    ]
+
+one_more : (text rest : List ℕ) (byte : ℕ) (keeps : Bool)
+    → (if keeps then text ++ byte ∷ [] else text) ++ rest ≡ text ++ (if keeps then byte ∷ rest else rest)
+one_more text rest byte true = append_assoc text (byte ∷ []) rest
+one_more text rest byte false = refl
+
+without_nulls-cons : (byte : ℕ) (rest : List ℕ) → without_nulls (byte ∷ rest) ≡ (if not (byte == 0) then byte ∷ without_nulls rest else without_nulls rest)
+without_nulls-cons byte rest = refl
+
+pub read_more : (text new value : List ℕ) (index byte : ℕ) → Some byte ≡ slice_get value index → IsRead text value index
+    → new ≡ (if not (byte == 0) then text ++ byte ∷ [] else text) → IsRead new value (index + 1)
+read_more text new value index byte there read put =
+    let within = slice_get_within value index byte (sym there) in
+    let first : drop index value ≡ byte ∷ drop (index + 1) value =
+    drop_more value index 0 within ∙ ap (λ (b : ℕ). b ∷ drop (index + 1) value) (get_or_from_slice_get value index byte 0 (sym there)) in
+    ap (λ (t : List ℕ). t ++ without_nulls (drop (index + 1) value)) put
+    ∙ one_more text (without_nulls (drop (index + 1) value)) byte (not (byte == 0))
+    ∙ ap (λ (rest : List ℕ). text ++ rest) (sym (without_nulls-cons byte (drop (index + 1) value)))
+    ∙ ap (λ (rest : List ℕ). text ++ without_nulls rest) (sym first)
+    ∙ read
+
+-- ---- the text that is told
+
+abbrev IsSettled : Option Belief → Type 0
+IsSettled known = option_map_or (λ belief. is_settled_fact belief.fact) known false ≡ true
+
+no_nulls : (text : List ℕ) → All IsTextChar text → without_nulls text ≡ text
+no_nulls [] each = refl
+no_nulls (byte ∷ text) each =
+    let here = and_parts (is_storable byte) (not (byte == 0)) (All-head IsTextChar byte text each) in
+    let rest = no_nulls text (All-tail IsTextChar byte text each) in
+    without_nulls-cons byte text ∙ ap (λ (keeps : Bool). if keeps then byte ∷ without_nulls text else without_nulls text) here.1 ∙ ap (λ (more : List ℕ). byte ∷ more) rest
+
+told_is : (fact : Fact) (text : List ℕ) → is_settled_fact fact ≡ true → ((value : List ℕ) → told fact ≡ Some value → All IsTextChar value)
+    → text ≡ without_nulls (value_of fact) → Some text ≡ told fact
+told_is (Fact.Exact value) text settled stored is = ap (λ (t : List ℕ). Some t) is
+told_is (Fact.ExactOrNulls value) text settled stored is = absurd (cc)
+told_is (Fact.Text value) text settled stored is = ap (λ (t : List ℕ). Some t) (is ∙ no_nulls value (stored value refl))
+told_is (Fact.TextOrNulls value) text settled stored is = absurd (cc)
+told_is (Fact.Any known) text settled stored is = absurd (cc)
+
+told_of : Option Belief → Option (List ℕ)
+told_of known = option_and_then (λ belief. told belief.fact) known
+
+told_of_known : ToldCanBeStored → (shadow : Shadow) (place : ℕ) (known : Option Belief) (text : List ℕ) → CanBeStored shadow → field_at place shadow ≡ known → IsSettled known
+    → ((belief : Belief) → field_at place shadow ≡ Some belief → text ≡ without_nulls (value_of belief.fact)) → Some text ≡ told_of known
+unfolding told_of
+told_of_known law shadow place None text stored there settled is = absurd (cc)
+told_of_known law shadow place (Some belief) text stored there settled is =
+    told_is belief.fact text settled (λ value tells. law shadow place belief value stored there tells) (is belief there)
+
+chars_of_known : ToldCanBeStored → (shadow : Shadow) (place : ℕ) (known : Option Belief) (text : List ℕ) → CanBeStored shadow → field_at place shadow ≡ known → Some text ≡ told_of known
+    → AreCharacters text
+unfolding told_of
+chars_of_known law shadow place None text stored there tells = absurd (cc)
+chars_of_known law shadow place (Some belief) text stored there tells = law shadow place belief text stored there (sym tells)
+
+attribute_of : (place first : ℕ) → place + 1 ≡ first → first - 1 ≡ place
+attribute_of place first is = omega arith
+
+-- the text that was read of a field is the one that is known
+pub text_is_known : ToldCanBeStored → (shadow : Shadow) (field : Field) (place : ℕ) (text : List ℕ) → CanBeStored shadow → place + 1 ≡ field.extent.first
+    → IsSettled (field_at place shadow) → ((belief : Belief) → field_at place shadow ≡ Some belief → text ≡ without_nulls (value_of belief.fact))
+    → Some text ≡ text_known shadow field
+unfolding told_of
+text_is_known law shadow field place text stored at settled is =
+    told_of_known law shadow place (field_at place shadow) text stored refl settled is
+    ∙ ap (λ (p : ℕ). told_of (field_at p shadow)) (sym (attribute_of place field.extent.first at))
+
+-- and it is of characters
+pub text_is_characters : ToldCanBeStored → (shadow : Shadow) (field : Field) (text : List ℕ) → CanBeStored shadow → Some text ≡ text_known shadow field → AreCharacters text
+unfolding told_of
+text_is_characters law shadow field text stored known =
+    chars_of_known law shadow (field.extent.first - 1) (field_at (field.extent.first - 1) shadow) text stored refl known

@@ -1,0 +1,11 @@
+use Rattle.std.proofs.Common.{◌≡◌, subst, sym, IfOk}
+use Rattle.codes3270.specs.declared.attention.Aid.{Aid}
+use Rattle.host_core.specs.Acts.{after_key}
+use Rattle.host_core.specs.Application.{application_of}
+use Rattle.host_core.specs.Keeps.{act_of}
+use Rattle.host_core.proofs.session.Session.after_key.Goals as goal
+
+pub returns-in-Clear-clause-act : goal.returns-in-Clear-clause-act
+returns-in-Clear-clause-act c =
+    subst (λ (aid : Aid). IfOk c.after_clear.result (λ act. act_of act ≡ after_key (application_of c.args.panels.now) c.args.self.now aid c.args.buffered))
+    (sym c.in-Clear.is) c.after_clear.ensures.act

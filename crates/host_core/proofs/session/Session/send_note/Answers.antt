@@ -1,0 +1,28 @@
+use Rattle.std.proofs.Common.{◌++◌, ◌∷◌, [], ℕ, List, ap, refl, arith, ◌∙◌}
+use Rattle.codes3270.specs.Size.{model_2}
+use Rattle.host_core.specs.Notes.{note_command}
+use Rattle.host_core.specs.Says.{written}
+use Rattle.telnet_wire.specs.Items.{Record, sent_bytes}
+use Rattle.host_core.proofs.NoteBytes.{note_is_kept, note_record_fits, note_sent}
+use Rattle.host_core.proofs.session.Session.send_note.Goals as goal
+
+pub send_record-requires-clause-short : goal.send_record-requires-clause-short
+send_record-requires-clause-short c =
+    note_record_fits c.self.inside.number c.args.text.now c.as_slice.result.now
+    (c.as_slice.ensures.value ∙ c.put_note.ensures.appended ∙ ap (λ (bytes : List ℕ). bytes ++ written (note_command model_2 c.args.text.now)) c.begin_record.ensures.begun)
+
+pub invariant_of-self : goal.invariant_of-self
+invariant_of-self c = (
+  note_is_kept c.self.inside.number c.args.text.now c.put_note.new.bytes.items c.requires.text
+      (c.put_note.ensures.appended ∙ ap (λ (bytes : List ℕ). bytes ++ written (note_command model_2 c.args.text.now)) c.begin_record.ensures.begun),
+  omega arith,
+  c.self.invariant.2,
+)
+
+pub returns : goal.returns
+returns c =
+    note_sent c.args.self.now _ c.args.text.now c.put_note.new.bytes.items c.args.out.now c.send_record.new.out
+    (rw (← c.self.view_is) refl) c.requires.text
+    (rw (← c.self.view_is) (c.put_note.ensures.appended ∙ ap (λ (bytes : List ℕ). bytes ++ written (note_command model_2 c.args.text.now)) c.begin_record.ensures.begun))
+    (rw (← c.self.view_is, c.next_seq-self-inside.ensures) refl)
+    (c.send_record.ensures ∙ ap (λ (bytes : List ℕ). c.args.out.now.items ++ sent_bytes (Record bytes ∷ [])) c.as_slice.ensures.value)

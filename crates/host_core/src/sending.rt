@@ -1,0 +1,173 @@
+//! The commands that are sent in the host's turn.
+ghost use Rattle.std.specs.Prelude.{◌≡◌, ◌<◌, ◌≤◌, ◌+◌, ◌++◌, ◌∷◌, [], ℕ, true, false, length, vec_len};
+ghost use Rattle.std.specs.Vec.{vec_capacity};
+ghost use Rattle.codes3270.specs.declared.attention.Aid.{Aid as Identifier};
+ghost use Rattle.datastream.specs.Wanted.{IsScreen};
+ghost use Rattle.shadow.specs.Fits.{fits};
+ghost use Rattle.panels.specs.Keys.{IsKey};
+ghost use Rattle.panels.specs.Panel.{target_of};
+ghost use Rattle.panels.specs.declared.message.Message.TheVariants.{Fresh};
+ghost use Rattle.telnet_wire.specs.Items.{Record, sent_bytes};
+ghost use Rattle.tn3270e_msg.specs.Header.{always_response, spelling};
+ghost use Rattle.host_core.specs.Acts.{Act as Doing, done, wanted_by};
+ghost use Rattle.host_core.specs.Application.{Application, application_of, panel_at};
+ghost use Rattle.host_core.specs.Keeps.{IsSentOn};
+ghost use Rattle.host_core.specs.Rooms.{HasRoomForCommand, record_room};
+ghost use Rattle.host_core.specs.Says.{command_header, read_buffer_command, written};
+
+use crate::pending::Pending;
+use crate::session::Session;
+use crate::turn::Turn;
+use crate::{panels_are_shown, what_is_shown_fits};
+use codes3270::Wcc;
+use datastream::{CommandCode, CommandWriter, Wanted};
+use panels::{Message, Panel, PanelSet, Values};
+use shadow::what_is_wanted_is_painted;
+use telnet_wire::put_record;
+use tn3270e_msg::{ALWAYS_RESPONSE, DataType, ERROR_RESPONSE, Header, header_bytes, next_seq};
+
+/// The panel with a number.
+pub(crate) fn panel_in(panels: &PanelSet, number: usize) -> &Panel
+    requires { number < length panels.now.panels }
+    ensures panel { result.now ≡ panel_at panels.now number }
+    // Its keys lead to panels that are there.
+    ensures targets { (aid : Identifier) (target : ℕ) → IsKey aid → target_of result.now aid ≡ Some target → target < length panels.now.panels }
+{
+    match panels.panel(number) {
+        Some(panel) => panel,
+        None => unreachable!(),
+    }
+}
+
+/// Begins the record of a command, in place of another: its header.
+pub(crate) fn begin_record(bytes: &mut Vec<u8>, flag: u8, number: u16)
+    requires flag { flag ≤ always_response }
+    requires room { record_room ≤ vec_capacity bytes.old }
+    ensures begun { bytes.new.items ≡ spelling (command_header flag number) }
+    ensures capacity { vec_capacity bytes.old ≤ vec_capacity bytes.new }
+{
+    let header = Header {
+        kind: DataType::Data3270,
+        request: 0,
+        flag,
+        seq: number,
+    };
+    bytes.clear();
+    bytes.extend_from_slice(&header_bytes(&header)).unwrap();
+}
+
+/// Sends the record of a command.
+pub(crate) fn send_record(bytes: &[u8], out: &mut Vec<u8>)
+    requires room { HasRoomForCommand out.old }
+    requires short { length bytes.now ≤ record_room }
+    ensures { out.new.items ≡ out.old.items ++ sent_bytes (Record bytes.now ∷ []) }
+{
+    put_record(out, bytes).unwrap();
+}
+
+/// Appends a Read Buffer.
+fn put_read_buffer(bytes: &mut Vec<u8>)
+    requires { vec_len bytes.old + 1 ≤ vec_capacity bytes.old }
+    ensures appended { bytes.new.items ≡ bytes.old.items ++ written read_buffer_command }
+    ensures capacity { vec_capacity bytes.old ≤ vec_capacity bytes.new }
+{
+    // A read has no write control character.
+    let none = Wcc {
+        alarm: false,
+        restore: false,
+        reset: false,
+    };
+    let mut writer = CommandWriter::new(bytes);
+    writer.begin(CommandCode::ReadBuffer, none).unwrap();
+}
+
+impl Session {
+    /// Asks for the whole screen.
+    pub(crate) fn read(&mut self, out: &mut Vec<u8>)
+        requires { HasRoomForCommand out.old }
+        ensures { (app : Application) → IsSentOn (done app self.old Doing.Read) out.old out.new self.new }
+    {
+        begin_record(&mut self.sent, ERROR_RESPONSE, self.number);
+        put_read_buffer(&mut self.sent);
+        send_record(self.sent.as_slice(), out);
+        self.pending = Pending::Reading(self.number);
+        self.number = next_seq(self.number);
+    }
+
+    /// The screen that is wanted: one that keeps fields where that fits what is believed, else a whole one.
+    fn wanted_by(
+        &self,
+        panels: &PanelSet,
+        panel: usize,
+        message: Message,
+        keep: bool,
+        values: &Values,
+    ) -> Wanted
+        requires panel { panel < length panels.now.panels }
+        requires fresh { message ≡ Fresh → keep ≡ false }
+        ensures { result ≡ wanted_by (application_of panels.now) self.now panel message keep values.now }
+    {
+        let shown = panel_in(panels, panel);
+        if !keep {
+            return shown.wanted(values, message, false);
+        }
+        let kept = shown.wanted(values, message, true);
+        if self.shadow.fits(&kept) {
+            kept
+        } else {
+            shown.wanted(values, message, false)
+        }
+    }
+
+    /// The same. It fits what is believed, and is a screen of the profile.
+    fn fitting_screen(
+        &self,
+        panels: &PanelSet,
+        panel: usize,
+        message: Message,
+        keep: bool,
+        values: &Values,
+    ) -> Wanted
+        requires panel { panel < length panels.now.panels }
+        requires fresh { message ≡ Fresh → keep ≡ false }
+        ensures wanted { result ≡ wanted_by (application_of panels.now) self.now panel message keep values.now }
+        ensures fits { fits self.now.shadow result ≡ true }
+        ensures screen { IsScreen result }
+    {
+        what_is_shown_fits();
+        panels_are_shown();
+        panels.panels_are_sound();
+        let wanted = self.wanted_by(panels, panel, message, keep, values);
+        let _cells = wanted.cells();
+        let _cursor = wanted.cursor();
+        wanted
+    }
+
+    /// Shows a panel with a message and these values of fields.
+    pub(crate) fn show(
+        &mut self,
+        panels: &PanelSet,
+        panel: usize,
+        message: Message,
+        keep: bool,
+        values: Values,
+        out: &mut Vec<u8>,
+    )
+        requires panel { panel < length panels.now.panels }
+        requires fresh { message ≡ Fresh → keep ≡ false }
+        requires room { HasRoomForCommand out.old }
+        ensures { IsSentOn (done (application_of panels.now) self.old (Doing.Show panel message keep values)) out.old out.new self.new }
+    {
+        what_is_wanted_is_painted();
+        let wanted = self.fitting_screen(panels, panel, message, keep, &values);
+        begin_record(&mut self.sent, ALWAYS_RESPONSE, self.number);
+        self.shadow.paint(&mut self.sent, &wanted).unwrap();
+        send_record(self.sent.as_slice(), out);
+        self.turn = Turn::Terminal;
+        self.pending = Pending::Writing(self.number);
+        self.number = next_seq(self.number);
+        self.panel = panel;
+        self.message = message;
+        self.values = values;
+    }
+}
