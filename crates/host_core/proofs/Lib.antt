@@ -5,3 +5,4 @@ pub mod Writable
 pub mod Notes
 pub mod MessageRows
 pub mod KeptWhole
+pub mod RecordsTaken

@@ -1,6 +1,5 @@
 -- How the host keeps a connection, and its steps as the code takes them (our profile); only private contracts and proofs need it.
-use Rattle.std.specs.Prelude.{◌≡◌, ◌≢◌, ◌==◌, ◌↔◌, ◌≤◌, ⊤, ℕ, Bool, true, List, [], ◌∷◌, ◌++◌, drop, Option, Some, None, map, Vec, if◌then◌else◌}
-use Rattle.std.specs.Vec.{vec_capacity}
+use Rattle.std.specs.Prelude.{◌≡◌, ◌≢◌, ◌==◌, ◌↔◌, ⊤, ℕ, true, List, [], ◌∷◌, ◌++◌, drop, Option, Some, None, map, Vec, if◌then◌else◌}
 use Rattle.std.specs.declared.alloc.Global.{Global}
 use Rattle.codes3270.specs.WriteControl.{wcc_of}
 use Rattle.datastream.specs.Grammar.{CommandParts, IsCommand, codes_of}
@@ -47,6 +46,20 @@ pending_in unanswered.Nothing sent = Pending.Nothing
 pending_in (unanswered.Writing number) sent = Pending.Writing number (command_in (drop 5 sent))
 pending_in (unanswered.Reading number) sent = Pending.Reading number
 pending_in (unanswered.Noting number) sent = Pending.Noting number (command_in (drop 5 sent))
+
+-- the write that waits for its answer
+abbrev pub write_of : Pending → CommandParts
+write_of Pending.Nothing = command_in []
+write_of (Pending.Writing number command) = command
+write_of (Pending.Reading number) = command_in []
+write_of (Pending.Noting number command) = command
+
+-- a write does
+abbrev pub IsWrite : Pending → Type 0
+IsWrite Pending.Nothing = ⊥
+IsWrite (Pending.Writing number command) = ⊤
+IsWrite (Pending.Reading number) = ⊥
+IsWrite (Pending.Noting number command) = ⊤
 
 -- a write that the belief can take
 abbrev pub IsPlainWrite : List ℕ → Type 0
