@@ -5,4 +5,6 @@ pub mod Writable
 pub mod Notes
 pub mod MessageRows
 pub mod KeptWhole
+pub mod Hosts
+pub mod LineActs
 pub mod RecordsTaken

@@ -15,7 +15,8 @@ use Rattle.tn3270e_msg.specs.declared.header.DataType.{DataType}
 use Rattle.tn3270e_msg.specs.declared.header.DataType.TheVariants.{Data3270, ScsData, Response, BindImage, Unbind, NvtData, Request, SscpLuData, Unnamed}
 use Rattle.tn3270e_msg.specs.declared.header.Header.{Header}
 use Rattle.host_core.specs.Items.{TakesRecord, IsOther}
-use Rattle.host_core.specs.Keeps.{IsKept, IsPlainWrite, IsWrite, pending_in, silent}
+use Rattle.host_core.specs.Keeps.{IsKept, IsPlainWrite, pending_in, silent}
+use Rattle.host_core.specs.Parts.{IsWrite}
 use Rattle.host_core.specs.Session.{Conn, Pending}
 use Rattle.host_core.specs.Takes.{Step, believed, buffer_came, data_came, form_awaited, hears, once_read}
 use Rattle.host_core.specs.declared.occasion.Occasion.{Occasion}

@@ -1,5 +1,5 @@
 -- How the host keeps a connection, and its steps as the code takes them (our profile); only private contracts and proofs need it.
-use Rattle.std.specs.Prelude.{◌≡◌, ◌≢◌, ◌==◌, ◌↔◌, ⊤, ℕ, true, List, [], ◌∷◌, ◌++◌, drop, Option, Some, None, map, Vec, if◌then◌else◌}
+use Rattle.std.specs.Prelude.{◌≡◌, ◌≢◌, ◌==◌, ◌↔◌, ◌≤◌, ⊤, ℕ, Bool, true, List, [], ◌∷◌, ◌++◌, drop, Option, Some, None, map, Vec, if◌then◌else◌}
 use Rattle.std.specs.declared.alloc.Global.{Global}
 use Rattle.codes3270.specs.WriteControl.{wcc_of}
 use Rattle.datastream.specs.Grammar.{CommandParts, IsCommand, codes_of}
@@ -47,19 +47,11 @@ pending_in (unanswered.Writing number) sent = Pending.Writing number (command_in
 pending_in (unanswered.Reading number) sent = Pending.Reading number
 pending_in (unanswered.Noting number) sent = Pending.Noting number (command_in (drop 5 sent))
 
--- the write that waits for its answer
-abbrev pub write_of : Pending → CommandParts
-write_of Pending.Nothing = command_in []
-write_of (Pending.Writing number command) = command
-write_of (Pending.Reading number) = command_in []
-write_of (Pending.Noting number command) = command
-
--- a write does
-abbrev pub IsWrite : Pending → Type 0
-IsWrite Pending.Nothing = ⊥
-IsWrite (Pending.Writing number command) = ⊤
-IsWrite (Pending.Reading number) = ⊥
-IsWrite (Pending.Noting number command) = ⊤
+abbrev pub number_kept : Unanswered → Option ℕ
+number_kept unanswered.Nothing = None
+number_kept (unanswered.Writing number) = Some number
+number_kept (unanswered.Reading number) = Some number
+number_kept (unanswered.Noting number) = Some number
 
 -- a write that the belief can take
 abbrev pub IsPlainWrite : List ℕ → Type 0
@@ -86,10 +78,6 @@ pub record ItemTaken (number : ℕ) (pool : List Entry) (old : Conn) (item : Wir
   pub pool_is : left ≡ pool_after number (record step { closes = None }) pool
   pub sent : after.items ≡ before.items ++ sent_bytes (map item_sent step.sends)
 
--- The pool holds this LU for the connection, and no other; or none at all.
-abbrev pub HoldsJust : ℕ → List Entry → Option (List ℕ) → Type 0
-HoldsJust number pool held = (lu : List ℕ) → Holds pool number lu ↔ (held ≡ Some lu)
-
 -- the LU that was granted to a connection, which is free once the connection is closed
 abbrev pub claim : Option Cause → Conn → Option (List ℕ)
 claim None conn = granted conn.talk.state
@@ -104,6 +92,11 @@ OthersHold number old new = (other : ℕ) (lu : List ℕ) → other ≢ number �
 -- a decoder that may go on
 abbrev pub IsRunning : Held → Type 0
 IsRunning held = Running record_limit held
+
+-- one of a connection that has closed, where there is a cause, or goes on
+abbrev pub IsLeft : Option Cause → Held → Type 0
+IsLeft None held = IsRunning held
+IsLeft (Some cause) held = ⊤
 
 -- the counter of these parts; the connection is open unless there is a cause
 abbrev pub counter_of : List Entry → Held → Conn → Option Cause → Vec ℕ Global → Counter

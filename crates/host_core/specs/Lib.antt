@@ -11,7 +11,10 @@ pub mod Items
 pub mod Bytes
 pub mod Feeds
 pub mod Does
+pub mod Sound
 pub mod NoteLaws
 pub mod Laws
 pub mod Rooms
 pub mod Keeps
+pub mod Parts
+pub mod Lines

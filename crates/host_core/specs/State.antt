@@ -1,7 +1,7 @@
 -- A host, seen from outside (our profile).
 use Rattle.std.specs.Prelude.{ℕ, List, [], ◌∷◌, Option, Some, None, replicate, slice_set, slice_index_or}
 use Rattle.codes3270.specs.Size.{model_2}
-use Rattle.lu_pool.specs.Holders.{all_free}
+use Rattle.lu_pool.specs.Holders.{all_free, given_back}
 use Rattle.lu_pool.specs.declared.entry.Entry.{Entry}
 use Rattle.panels.specs.Panel.{Panels}
 use Rattle.shadow.specs.Belief.{Shadow}
@@ -92,3 +92,7 @@ with_line number line host = record host { lines = slice_set host.lines number l
 -- as it begins: each LU is free, and so is each number
 abbrev pub new_host : Panels → List Entry → Host
 new_host panels pool = record { panels = panels; pool = all_free pool; lines = replicate most_connections unused }
+
+-- a connection is given up: its number is free, and so is its LU
+abbrev pub given_up : ℕ → Host → Host
+given_up number host = with_line number unused (record host { pool = given_back number host.pool })

@@ -7,20 +7,26 @@ ghost use Rattle.host_core.specs.NoteLaws.{HeldTakesNotes, NotesAreNotes, NotesA
 
 mod acted;
 mod acting;
+mod host;
+mod line;
 mod occasion;
 mod pending;
 mod phase;
 mod records;
 mod room;
 mod session;
+mod stubs;
 mod turn;
 
 pub use acted::Acted;
+pub use host::{Host, MOST_CONNECTIONS};
+pub use occasion::Occasion;
+pub use phase::Phase;
+pub use turn::Turn;
+
 use datastream::{kept_since_the_write, written_is_read};
 use panels::{kept_fields_are_whole, the_last_row_is_for_messages};
-pub use phase::Phase;
 use shadow::what_a_note_leaves;
-pub use turn::Turn;
 
 /// Does nothing: its contract says that whatever a host does, it paints what fits its belief.
 pub fn what_is_shown_fits()

@@ -1,8 +1,8 @@
 use codes3270::Aid;
 
-/// Why the host holds the turn (our profile).
+/// Why the host holds the turn (our profile). Contracts speak of it: what the host does follows from it.
 #[derive(Clone, Copy, Debug, PartialEq, Eq)]
-pub(crate) enum Occasion {
+pub enum Occasion {
     /// The session was agreed.
     Agreement,
     /// A key was pressed; whether its screen was read since, by Read Buffer.

@@ -1,3 +1,6 @@
+ghost use Rattle.std.specs.Prelude.{◌≡◌};
+ghost use Rattle.host_core.specs.Keeps.{number_kept};
+
 /// The command that isn't answered yet, with its number (our profile).
 #[derive(Clone, Copy, Debug, PartialEq, Eq)]
 pub(crate) enum Pending {
@@ -9,4 +12,18 @@ pub(crate) enum Pending {
     Reading(u16),
     /// A note.
     Noting(u16),
+}
+
+impl Pending {
+    /// Its number.
+    pub(crate) fn number(self) -> Option<u16>
+        ensures { result ≡ number_kept self }
+    {
+        match self {
+            Pending::Nothing => None,
+            Pending::Writing(number) | Pending::Reading(number) | Pending::Noting(number) => {
+                Some(number)
+            }
+        }
+    }
 }

@@ -1,7 +1,7 @@
 //! A connection as the host has it, once its stream is read.
 ghost use Rattle.std.specs.Prelude.{◌≡◌, IfOk};
 ghost use Rattle.codes3270.specs.Size.{model_2};
-ghost use Rattle.host_core.specs.Session.{new_conn};
+ghost use Rattle.host_core.specs.Session.{agreed_lu, new_conn};
 
 use crate::occasion::Occasion;
 use crate::pending::Pending;
@@ -12,7 +12,7 @@ use shadow::Shadow;
 use std::alloc::Global;
 use std::marker::Model;
 use telnet_wire::Memory;
-use tn3270e_msg::HostTalk;
+use tn3270e_msg::{HostState, HostTalk, Lu};
 
 /// The talk, whose turn it is, what waits for an answer, what is believed of the screen, and what is shown there.
 ///
@@ -37,24 +37,25 @@ impl Model for Session {
     ghost use Rattle.codes3270.specs.Size.{model_2};
     ghost use Rattle.host_core.specs.Keeps.{IsKept, pending_in};
     ghost use Rattle.host_core.specs.Rooms.{record_room};
+    ghost use Rattle.shadow.specs.Storable.{CanBeStored};
     ghost use Rattle.host_core.specs.Session.{Conn};
 
     ghost Value = { Conn };
 
     ghost view = { λ s. record {
-      talk = s.talk;
-      shape = model_2;
-      turn = s.turn;
-      pending = pending_in s.pending s.sent.items;
-      number = s.number;
-      shadow = s.shadow;
-      panel = s.panel;
-      message = s.message;
-      values = s.values;
-      occasion = s.occasion;
+        talk = s.talk;
+        shape = model_2;
+        turn = s.turn;
+        pending = pending_in s.pending s.sent.items;
+        number = s.number;
+        shadow = s.shadow;
+        panel = s.panel;
+        message = s.message;
+        values = s.values;
+        occasion = s.occasion;
     } };
 
-    ghost invariant = { λ s. IsKept s.pending s.sent.items × (record_room ≤ vec_capacity s.sent) };
+    ghost invariant = { λ s. IsKept s.pending s.sent.items × (record_room ≤ vec_capacity s.sent) × CanBeStored s.shadow };
 }
 
 impl Session {
@@ -75,5 +76,20 @@ impl Session {
             occasion: Occasion::Agreement,
             sent,
         })
+    }
+
+    /// The LU that both ends agreed on.
+    pub(crate) fn lu(&self) -> Option<Lu>
+        ensures { result ≡ agreed_lu self.now.talk.state }
+    {
+        match self.talk.state() {
+            HostState::Agreed(_, lu) => Some(lu),
+            HostState::Offered
+            | HostState::Asked
+            | HostState::Asking(_)
+            | HostState::Named(_, _)
+            | HostState::Countered(_, _)
+            | HostState::Closed(_) => None,
+        }
     }
 }

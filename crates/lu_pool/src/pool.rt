@@ -112,6 +112,7 @@ impl Pool {
     pub fn lu_held_by(&self, conn: usize) -> Option<Lu>
         ensures held { IfSome result (Holds self.now conn) }
         ensures none { IfNone result (HoldsNone self.now conn) }
+        ensures one_holder { OneHolder self.now }
     {
         let place = place_held_by(&self.entries, conn)?;
         Some(self.entries[place].lu)

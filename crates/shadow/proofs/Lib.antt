@@ -37,3 +37,5 @@ pub mod Opening
 pub mod PaintLength
 pub mod Noted
 pub mod PaintOpening
+pub mod StorableHeard
+pub mod StorableTaken

@@ -12,6 +12,7 @@ pub mod Paint
 pub mod Laws
 pub mod Exactness
 pub mod Openness
+pub mod Storable
 pub mod Notes
 pub mod Asked
 pub mod Held

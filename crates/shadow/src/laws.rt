@@ -3,6 +3,7 @@ ghost use Rattle.shadow.specs.Openness.{LongOpensNothing, ReadLeavesNothingOpen,
 ghost use Rattle.shadow.specs.Notes.{NoteOverwritesProtected, NoteOverwritesBare, PlacedStaysKnown, NoteStaysListed, NoteStaysTold, NoteStaysExact, NoteOpensNothing, NoteStaysWhole};
 ghost use Rattle.shadow.specs.Laws.{HearsModified, HearsAll, HearsBuffer, WrittenIsTaken, WantedIsPainted, PaintIsTaken, PaintedIsKnown, PaintIsBounded, PaintIsPlain, PaintIsSpelt, KnownIsThere, AttributesAreKnown};
 ghost use Rattle.shadow.specs.Exactness.{NothingIsExact, HeardStaysExact, HeardStaysProtected, TakenStaysExact, ErasedIsExact, PaintedIsExact, WrittenStaysProtected, ProtectedIsSeen, ReturnedIsTold};
+ghost use Rattle.shadow.specs.Storable.{HeardCanBeStored, TakenCanBeStored, ToldCanBeStored};
 
 use datastream::written_is_read;
 
@@ -87,4 +88,12 @@ pub fn what_leaves_nothing_open()
     ensures erased { EraseLeavesNothingOpen }
     ensures cleared { ClearIsHeard }
     ensures painted { PaintOpensNothing }
+{}
+
+/// What is believed can be stored: where a cell can hold each character that is known, and those of texts are no nulls, this
+/// stays so, whatever is heard or written; and the texts that the host is told are of such characters, without nulls.
+pub fn what_is_believed_can_be_stored()
+    ensures heard { HeardCanBeStored }
+    ensures taken { TakenCanBeStored }
+    ensures told { ToldCanBeStored }
 {}

@@ -21,9 +21,10 @@ mod writing;
 pub use fact::Fact;
 pub use fault::HeardFault;
 pub use laws::{
-    what_a_note_leaves, what_is_exact_is_so, what_is_known_is_exact, what_is_known_is_there,
-    what_is_protected_is_exact, what_is_read_is_heard, what_is_sent_is_heard,
-    what_is_wanted_is_painted, what_is_written_is_taken, what_leaves_nothing_open,
+    what_a_note_leaves, what_is_believed_can_be_stored, what_is_exact_is_so,
+    what_is_known_is_exact, what_is_known_is_there, what_is_protected_is_exact,
+    what_is_read_is_heard, what_is_sent_is_heard, what_is_wanted_is_painted,
+    what_is_written_is_taken, what_leaves_nothing_open,
 };
 pub use mark::Mark;
 pub use shadow::Shadow;

@@ -205,6 +205,13 @@ impl HostTalk {
         follow(&mut self.state, &mut self.refusals_left, line)
     }
 
+    /// Where it stands.
+    pub fn state(&self) -> HostState
+        ensures { result ≡ self.now.state }
+    {
+        self.state
+    }
+
     /// Whether the pool's answer is awaited: after [`Reply::AskPool`], until it is given or the talk
     /// closes.
     pub fn asking(&self) -> bool

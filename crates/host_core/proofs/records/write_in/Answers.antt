@@ -25,3 +25,11 @@ returns-clause-plain c =
     let read = c.read_command.ensures.only command spelt in
     let same : c.unwrap.result ≡ command = cc (read, c.unwrap.ensures) in
     ap is_plain same ∙ c.requires.1
+
+pub returns-clause-spelt : goal.returns-clause-spelt
+returns-clause-spelt c =
+    let command : CommandParts = command_in (drop 5 c.args.sent.now) in
+    let spelt = subst (λ (bytes : List ℕ). IsCommand command bytes) (sym (behind c.args.sent.now)) c.requires.0 in
+    let read = c.read_command.ensures.only command spelt in
+    let same : command ≡ c.unwrap.result = cc (read, c.unwrap.ensures) in
+    (drop 5 c.args.sent.now, subst (λ (parts : CommandParts). IsCommand parts (drop 5 c.args.sent.now)) same c.requires.0)

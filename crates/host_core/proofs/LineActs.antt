@@ -1,0 +1,75 @@
+-- What acts and notes make of a connection is what they make of its line, and they leave the talk.
+use Rattle.std.proofs.Common.{◌≡◌, ℕ, Bool, true, false, List, Option, Some, None, Vec, refl, ap, sym, subst, ◌∙◌, if◌then◌else◌}
+use Rattle.std.specs.declared.alloc.Global.{Global}
+use Rattle.telnet_wire.specs.Reading.{Rest}
+use Rattle.tn3270e_msg.specs.HostTable.{granted}
+use Rattle.host_core.specs.Acts.{Act, Sent, acted, act_on, done, may_act}
+use Rattle.host_core.specs.Application.{Application}
+use Rattle.host_core.specs.Does.{Does, sent_on}
+use Rattle.host_core.specs.Keeps.{DoesOn, IsSentOn}
+use Rattle.host_core.specs.Lines.{service_of}
+use Rattle.host_core.specs.Notes.{noted, noted_as, may_note}
+use Rattle.host_core.specs.Session.{Conn, is_agreed}
+use Rattle.host_core.specs.State.{Service, Line, lu_of}
+use Rattle.host_core.specs.declared.acted.Acted.{Acted}
+use Rattle.host_core.specs.declared.acted.Acted.TheVariants as answer
+use Rattle.host_core.specs.declared.line.Connection.{Connection}
+use Rattle.host_core.specs.declared.line.Service.{Service as Kept}
+use Rattle.host_core.specs.declared.line.Service.TheVariants as kept
+use Rattle.std.proofs.Common.{Box}
+
+abbrev open_line : Rest → Conn → List ℕ → Line
+open_line rest conn out = record { service = Service.Open rest conn; out = out }
+
+same_line : (rest : Rest) (one other : Conn) (bytes others : List ℕ) → one ≡ other → bytes ≡ others → open_line rest one bytes ≡ open_line rest other others
+same_line rest one other bytes others conns outs = ap (λ c. open_line rest c bytes) conns ∙ ap (open_line rest other) outs
+
+on_line : (what : Option Sent) (rest : Rest) (old new : Conn) (before after : Vec ℕ Global) (answered : Acted) → DoesOn what old before answered new after
+    → Does what (open_line rest old before.items) answered (open_line rest new after.items)
+on_line None rest old new before after answered does = (does.0, same_line rest new old after.items before.items does.1 does.2)
+on_line (Some sent) rest old new before after answer.Sent does = same_line rest new sent.conn after.items _ does.conn does.bytes
+on_line (Some sent) rest old new before after answer.Memory does = same_line rest new old after.items before.items does.0 does.1
+on_line (Some sent) rest old new before after answer.Nothing does = absurd does
+
+-- the line of an open connection, from its parts
+line_is : (now : Line) (service : Kept) (box : Box Connection Global) (old : Connection) (before : Vec ℕ Global)
+    → now ≡ record { service = service_of service; out = before.items } → service ≡ kept.Open box → old ≡ box.value
+    → now ≡ open_line old.decoder.rest old.session before.items
+line_is now service box old before view is value =
+    view ∙ ap (λ (s : Kept). record { service = service_of s; out = before.items }) is
+    ∙ ap (λ (x : Connection). open_line x.decoder.rest x.session before.items) (sym value)
+
+pub does_line : (what : Service → Option Sent) (now : Line) (service : Kept) (box : Box Connection Global) (old : Connection) (new : Conn) (before after : Vec ℕ Global) (answered : Acted)
+    → now ≡ record { service = service_of service; out = before.items } → service ≡ kept.Open box → old ≡ box.value
+    → DoesOn (what (Service.Open old.decoder.rest old.session)) old.session before answered new after
+    → Does (what now.service) now answered (open_line old.decoder.rest new after.items)
+does_line what now service box old new before after answered view is value does =
+    subst (λ (l : Line). Does (what l.service) l answered (open_line old.decoder.rest new after.items)) (sym (line_is now service box old before view is value))
+    (on_line (what (Service.Open old.decoder.rest old.session)) old.decoder.rest old.session new before after answered does)
+
+-- ---- the talk stays
+
+keeps : (b : Bool) (sent : Sent) (old new : Conn) (before after : Vec ℕ Global) (answered : Acted) → sent.conn.talk ≡ old.talk
+    → DoesOn (if b then Some sent else None) old before answered new after → new.talk ≡ old.talk
+keeps false sent old new before after answered same does = ap (λ (c : Conn). c.talk) does.1
+keeps true sent old new before after answer.Sent same does = ap (λ (c : Conn). c.talk) does.conn ∙ same
+keeps true sent old new before after answer.Memory same does = ap (λ (c : Conn). c.talk) does.0
+keeps true sent old new before after answer.Nothing same does = absurd does
+
+done_keeps : (app : Application) (conn : Conn) (act : Act) → (done app conn act).conn.talk ≡ conn.talk
+done_keeps app conn Act.Read = refl
+done_keeps app conn (Act.Show panel message keep values) = refl
+
+module _ (now : Line) (service : Kept) (box : Box Connection Global) (old : Connection) (new : Conn) (before after : Vec ℕ Global) (answered : Acted)
+    (view : now ≡ record { service = service_of service; out = before.items }) (is : service ≡ kept.Open box) (value : old ≡ box.value) where
+  same_claim : new.talk ≡ old.session.talk → granted new.talk.state ≡ lu_of now.service
+  same_claim same = ap (λ t. granted t.state) same ∙ sym (ap (λ (l : Line). lu_of l.service) (line_is now service box old before view is value))
+
+  pub act_holds : (app : Application) → DoesOn (acted app old.session) old.session before answered new after → granted new.talk.state ≡ lu_of now.service
+  act_holds app does =
+      same_claim (keeps (may_act old.session.turn old.session.pending (is_agreed old.session.talk.state)) (done app old.session (act_on app old.session old.session.occasion)) old.session new before after answered
+          (done_keeps app old.session (act_on app old.session old.session.occasion)) does)
+
+  pub note_holds : (text : List ℕ) → DoesOn (noted text old.session) old.session before answered new after → granted new.talk.state ≡ lu_of now.service
+  note_holds text does =
+      same_claim (keeps (may_note old.session.turn old.session.pending (is_agreed old.session.talk.state)) (noted_as text old.session) old.session new before after answered refl does)

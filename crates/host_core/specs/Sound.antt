@@ -1,0 +1,32 @@
+-- What holds of each host, whatever its peers send (our profile).
+use Rattle.std.specs.Prelude.{◌≡◌, ◌<◌, ◌↔◌, ⊤, ℕ, List, length, Option, Some}
+use Rattle.lu_pool.specs.Pool.{Holds}
+use Rattle.lu_pool.specs.declared.entry.Entry.{Entry}
+use Rattle.host_core.specs.State.{Service, Host, most_connections, service_at, lu_of}
+
+-- The pool holds this LU for the connection with this number, and no other; or none at all.
+abbrev pub HoldsJust : ℕ → List Entry → Option (List ℕ) → Type 0
+HoldsJust number pool held = (lu : List ℕ) → Holds pool number lu ↔ (held ≡ Some lu)
+
+-- An LU is held for a connection exactly while it is granted there: that of a connection that closed is free.
+abbrev pub LusAreHeld : Host → Type 0
+LusAreHeld host = (number : ℕ) → HoldsJust number host.pool (lu_of (service_at number host))
+
+-- the panel that is shown is one of so many
+abbrev pub IsShown : ℕ → Service → Type 0
+IsShown count Service.Free = ⊤
+IsShown count (Service.Open rest conn) = conn.panel < count
+IsShown count (Service.Closed cause) = ⊤
+
+-- each connection is shown a panel that there is
+abbrev pub PanelsAreShown : Host → Type 0
+PanelsAreShown host = (number : ℕ) → IsShown (length host.panels.panels) (service_at number host)
+
+pub record IsSound (host : Host) : Type 0 where
+  pub lines : length host.lines ≡ most_connections
+  pub held : LusAreHeld host
+  pub shown : PanelsAreShown host
+
+-- So no two connections are granted one LU.
+abbrev pub NobodyShares : Host → Type 0
+NobodyShares host = (one other : ℕ) (lu : List ℕ) → lu_of (service_at one host) ≡ Some lu → lu_of (service_at other host) ≡ Some lu → one ≡ other

@@ -1,0 +1,214 @@
+//! The host: panels, a pool of LUs, and the connections that it serves.
+ghost use Rattle.std.specs.Prelude.{◌≡◌, ◌≤◌, ◌<◌, length, drop, replicate, IfOk, OnOk, OnErr};
+ghost use Rattle.host_core.specs.Application.{application_of};
+ghost use Rattle.host_core.specs.Does.{Does, acted_by, noted_by};
+ghost use Rattle.host_core.specs.Feeds.{Feeds, counter_at, with_counter};
+ghost use Rattle.host_core.specs.Notes.{IsNoteText};
+ghost use Rattle.host_core.specs.Sound.{IsSound, NobodyShares};
+ghost use Rattle.host_core.specs.State.{new_host, most_connections, opened, unused, given_up, line_at, service_at, with_line, phase_of, turn_of, pending_of, shadow_of};
+ghost use Rattle.host_core.specs.declared.phase.Phase.TheVariants as phase;
+
+use crate::acted::Acted;
+use crate::line::Line;
+use crate::phase::Phase;
+use crate::turn::Turn;
+use lu_pool::Pool;
+use panels::PanelSet;
+use shadow::Shadow;
+use std::alloc::Global;
+use std::marker::Model;
+use telnet_wire::Memory;
+use tn3270e_msg::Fed;
+
+/// How many connections there may be: their numbers are below this (our profile).
+pub const MOST_CONNECTIONS: usize = 64;
+
+/// A host that serves panels: Telnet bytes come in on 64 connection numbers, and go out there.
+///
+/// Contracts see its panels, its pool of LUs, and for each number whether it is free, open, or closed for a cause, and what is
+/// to be sent there.
+#[derive(Drop)]
+pub struct Host {
+    panels: PanelSet,
+    pool: Pool,
+    lines: Vec<Line>,
+    // What is believed of a screen on a number that isn't open.
+    nothing_known: Shadow,
+}
+
+impl Model for Host {
+    ghost use Rattle.std.specs.Prelude.{◌≡◌};
+    ghost use Rattle.host_core.specs.Sound.{IsSound};
+    ghost use Rattle.host_core.specs.State.{Host as Stands};
+    ghost use Rattle.shadow.specs.Belief.Shadow.{NothingKnown};
+
+    ghost Value = { Stands };
+
+    ghost view = { λ host. record { panels = host.panels; pool = host.pool; lines = host.lines.items } };
+
+    ghost invariant = { λ host. IsSound (record { panels = host.panels; pool = host.pool; lines = host.lines.items })
+        × (host.nothing_known ≡ NothingKnown) };
+}
+
+/// So many numbers, all free.
+fn unused_lines(alloc: Global) -> Result<Vec<Line>, Memory>
+    ensures { IfOk result (λ lines. lines.items ≡ replicate most_connections unused) }
+{
+    let mut lines = Vec::with_capacity(alloc, MOST_CONNECTIONS)?;
+    for _ in 0..MOST_CONNECTIONS {
+        lines.push(Line::unused(alloc))?;
+    }
+    Ok(lines)
+}
+
+/// Frees each number.
+fn clear_each(lines: &mut Vec<Line>)
+    ensures { lines.new.items ≡ replicate (length lines.old.items) unused }
+{
+    for index in 0..lines.len() {
+        lines[index].clear();
+    }
+}
+
+impl Host {
+    /// A host that serves these panels to terminals which it grants the LUs of this pool. All LUs and numbers are free.
+    pub fn new(alloc: Global, panels: PanelSet, pool: Pool) -> Result<Host, Memory>
+        ensures { IfOk result (λ host. host ≡ new_host panels pool) }
+    {
+        let lines = unused_lines(alloc)?;
+        let mut pool = pool;
+        pool.free_all();
+        Ok(Host {
+            panels,
+            pool,
+            lines,
+            nothing_known: Shadow::blank(),
+        })
+    }
+
+    /// Begins a connection on a number that is free, and offers TN3270E there. All the room that a session needs is made here;
+    /// where memory is refused nothing has changed.
+    pub fn open(&mut self, conn: usize) -> Result<(), Memory>
+        requires number { conn < most_connections }
+        requires free { phase_of (service_at conn self.old) ≡ phase.Free }
+        ensures opened { OnOk result (self.new ≡ with_line conn opened self.old) }
+        ensures unchanged { OnErr result (self.new ≡ self.old) }
+    {
+        let _first = self.panels.start();
+        self.lines[conn].open()
+    }
+
+    /// Takes bytes that came on a connection, up to one for which there is no room or that closes the connection, and answers
+    /// how many it took and what stopped it. It stands as after these.
+    ///
+    /// Room for the largest reply is made before a byte is taken. A number that is free takes nothing and answers Going, one
+    /// that has closed takes nothing and answers its cause. An LU of a connection that closes is free at once.
+    pub fn feed(&mut self, conn: usize, bytes: &[u8]) -> Fed
+        requires number { conn < most_connections }
+        ensures fed { Feeds conn (counter_at conn self.old) bytes.now result (counter_at conn self.new) }
+        ensures others { self.new ≡ with_counter conn (counter_at conn self.new) self.old }
+    {
+        self.lines[conn].feed(&mut self.pool, conn, bytes)
+    }
+
+    /// Does what the host does in its turn: it reads the screen, or shows a panel. Nothing where it isn't the host's turn, a
+    /// command waits for its answer, or the ends haven't agreed.
+    pub fn act(&mut self, conn: usize) -> Acted
+        requires number { conn < most_connections }
+        ensures acted { Does (acted_by (application_of self.old.panels) (service_at conn self.old)) (line_at conn self.old) result (line_at conn self.new) }
+        ensures others { self.new ≡ with_line conn (line_at conn self.new) self.old }
+    {
+        self.lines[conn].act(&self.panels)
+    }
+
+    /// Sends a note, of at most 131 characters of code page 037, into the last row while the operator has the turn. What is
+    /// longer than the row's room is cut. Nothing where it isn't the terminal's turn, a command waits for its answer, or the ends
+    /// haven't agreed.
+    pub fn note(&mut self, conn: usize, text: &[u8]) -> Acted
+        requires number { conn < most_connections }
+        requires text { IsNoteText text.now }
+        ensures noted { Does (noted_by text.now (service_at conn self.old)) (line_at conn self.old) result (line_at conn self.new) }
+        ensures others { self.new ≡ with_line conn (line_at conn self.new) self.old }
+    {
+        self.lines[conn].note(text)
+    }
+
+    /// What there is to send on a connection.
+    pub fn out(&self, conn: usize) -> &[u8]
+        requires number { conn < most_connections }
+        ensures { result.now ≡ (line_at conn self.now).out }
+    {
+        self.lines[conn].out()
+    }
+
+    /// The first `count` bytes of `out` were sent, and are dropped.
+    pub fn sent(&mut self, conn: usize, count: usize)
+        requires number { conn < most_connections }
+        requires count { count ≤ length (line_at conn self.old).out }
+        ensures { self.new ≡ with_line conn (record (line_at conn self.old) { out = drop count (line_at conn self.old).out }) self.old }
+    {
+        self.lines[conn].sent(count);
+    }
+
+    /// A connection is lost, or its peer left: frees its number and its LU, and hands back what wasn't sent.
+    pub fn closed(&mut self, conn: usize) -> Vec<u8>
+        requires number { conn < most_connections }
+        ensures unsent { result.items ≡ (line_at conn self.old).out }
+        ensures closed { self.new ≡ given_up conn self.old }
+    {
+        self.pool.give_back(conn);
+        self.lines[conn].close()
+    }
+
+    /// How far the host is with the terminal of a number.
+    pub fn phase(&self, conn: usize) -> Phase
+        requires number { conn < most_connections }
+        ensures { result ≡ phase_of (service_at conn self.now) }
+    {
+        self.lines[conn].phase()
+    }
+
+    /// Whose turn it is on a connection: the host's before agreement, and on a number that is free or closed.
+    pub fn turn(&self, conn: usize) -> Turn
+        requires number { conn < most_connections }
+        ensures { result ≡ turn_of (service_at conn self.now) }
+    {
+        self.lines[conn].turn()
+    }
+
+    /// The number of the command that waits for its answer, if one does.
+    pub fn pending(&self, conn: usize) -> Option<u16>
+        requires number { conn < most_connections }
+        ensures { result ≡ pending_of (service_at conn self.now) }
+    {
+        self.lines[conn].pending()
+    }
+
+    /// What is believed of the screen of a connection: nothing where the number isn't open.
+    pub fn shadow(&self, conn: usize) -> &Shadow
+        requires number { conn < most_connections }
+        ensures { result.now ≡ shadow_of (service_at conn self.now) }
+    {
+        match self.lines[conn].shadow() {
+            Some(shadow) => shadow,
+            None => &self.nothing_known,
+        }
+    }
+
+    /// Begins anew: all numbers and all LUs are free.
+    pub fn restart(&mut self)
+        ensures { self.new ≡ new_host self.old.panels self.old.pool }
+    {
+        clear_each(&mut self.lines);
+        self.pool.free_all();
+    }
+
+    /// Does nothing: its contract says what holds of each host. An LU is held for a connection exactly while it is granted
+    /// there, so no two connections are granted one; and each connection is shown a panel that there is.
+    pub fn hosts_are_sound(&self)
+        ensures sound { IsSound self.now }
+        ensures unshared { NobodyShares self.now }
+    {
+        let _holders = self.pool.lu_held_by(0);
+    }
+}
