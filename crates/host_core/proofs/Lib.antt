@@ -8,3 +8,5 @@ pub mod KeptWhole
 pub mod Hosts
 pub mod LineActs
 pub mod RecordsTaken
+pub mod TalkSteps
+pub mod ReplyLengths

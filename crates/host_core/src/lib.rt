@@ -16,6 +16,7 @@ mod records;
 mod room;
 mod session;
 mod stubs;
+mod talking;
 mod turn;
 
 pub use acted::Acted;
