@@ -10,3 +10,4 @@ pub mod LineActs
 pub mod RecordsTaken
 pub mod TalkSteps
 pub mod ReplyLengths
+pub mod ByteSteps

@@ -7,6 +7,7 @@ ghost use Rattle.host_core.specs.NoteLaws.{HeldTakesNotes, NotesAreNotes, NotesA
 
 mod acted;
 mod acting;
+mod feeding;
 mod host;
 mod line;
 mod occasion;
