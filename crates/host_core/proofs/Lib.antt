@@ -11,3 +11,4 @@ pub mod RecordsTaken
 pub mod TalkSteps
 pub mod ReplyLengths
 pub mod ByteSteps
+pub mod Outcomes

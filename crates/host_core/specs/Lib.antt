@@ -11,6 +11,7 @@ pub mod Items
 pub mod Bytes
 pub mod Feeds
 pub mod Does
+pub mod Machine
 pub mod Sound
 pub mod NoteLaws
 pub mod Laws

@@ -9,6 +9,7 @@ mod acted;
 mod acting;
 mod feeding;
 mod host;
+mod laws;
 mod line;
 mod occasion;
 mod pending;
@@ -22,6 +23,7 @@ mod turn;
 
 pub use acted::Acted;
 pub use host::{Host, MOST_CONNECTIONS};
+pub use laws::one_machine;
 pub use occasion::Occasion;
 pub use phase::Phase;
 pub use turn::Turn;
