@@ -15,3 +15,8 @@ pub mod Paintings
 pub mod Knowing
 pub mod Doings
 pub mod NoteBytes
+pub mod RecordsTaken
+pub mod TalkSteps
+pub mod ReplyLengths
+pub mod ByteSteps
+pub mod Outcomes

@@ -11,11 +11,13 @@ pub mod Items
 pub mod Bytes
 pub mod Feeds
 pub mod Does
+pub mod Machine
 pub mod Sound
 pub mod Serves
 pub mod NoteLaws
 pub mod Laws
 pub mod Rooms
 pub mod Keeps
+pub mod Parts
 pub mod Lines
 pub mod Choices

@@ -7,7 +7,9 @@ ghost use Rattle.host_core.specs.NoteLaws.{HeldTakesNotes, NotesAreNotes, NotesA
 
 mod acted;
 mod acting;
+mod feeding;
 mod host;
+mod laws;
 mod line;
 mod links;
 mod learning;
@@ -15,16 +17,18 @@ mod noting;
 mod occasion;
 mod pending;
 mod phase;
+mod records;
 mod room;
 mod serving;
 mod sending;
 mod session;
-mod stubs;
+mod talking;
 mod turn;
 
 pub use acted::Acted;
 pub use host::{Host, MOST_CONNECTIONS};
 pub use links::{LinkRead, LinkWrite, Links};
+pub use laws::one_machine;
 pub use occasion::Occasion;
 pub use phase::Phase;
 pub use serving::{Served, serve_turn};

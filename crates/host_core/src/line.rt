@@ -15,7 +15,7 @@ use crate::acted::Acted;
 use crate::phase::Phase;
 use crate::room::COMMAND_ROOM;
 use crate::session::Session;
-use crate::stubs::feed_open;
+use crate::feeding::feed_open;
 use crate::turn::Turn;
 use lu_pool::Pool;
 use panels::PanelSet;

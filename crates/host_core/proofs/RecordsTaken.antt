@@ -1,0 +1,93 @@
+-- What a record makes of a connection, as the code takes it.
+use Rattle.std.proofs.Common.{◌≡◌, ◌≢◌, ◌-◌, ℕ, true, false, List, length, take, drop, refl, ap, sym, ◌∙◌, subst, Option, Some, None, Result, Ok, Err, arith}
+use Rattle.std.specs.Option.{is_some}
+use Rattle.std.proofs.lemmas.List.{take_all, length-drop}
+use Rattle.datastream.specs.InboundText.{InboundParts, IsInbound, IsNoInbound}
+use Rattle.datastream.specs.declared.inbound_part.Form.{Form}
+use Rattle.datastream.specs.declared.inbound_part.Form.TheVariants.{Buffer}
+use Rattle.datastream.specs.declared.inbound_part.InboundFault.{InboundFault}
+use Rattle.shadow.specs.Belief.{Shadow}
+use Rattle.shadow.specs.declared.fault.HeardFault.{HeardFault}
+use Rattle.tn3270e_msg.specs.Header.{Begins}
+use Rattle.tn3270e_msg.specs.declared.cause.Cause.{Cause}
+use Rattle.tn3270e_msg.specs.declared.cause.Cause.TheVariants.{BadInbound}
+use Rattle.tn3270e_msg.specs.declared.header.DataType.{DataType}
+use Rattle.tn3270e_msg.specs.declared.header.DataType.TheVariants.{Data3270, ScsData, Response, BindImage, Unbind, NvtData, Request, SscpLuData, Unnamed}
+use Rattle.tn3270e_msg.specs.declared.header.Header.{Header}
+use Rattle.host_core.specs.Items.{TakesRecord, IsOther}
+use Rattle.host_core.specs.Keeps.{IsKept, IsPlainWrite, pending_in, silent}
+use Rattle.host_core.specs.Parts.{IsWrite}
+use Rattle.host_core.specs.Session.{Conn, Pending}
+use Rattle.host_core.specs.Takes.{Step, believed, buffer_came, data_came, form_awaited, hears, once_read}
+use Rattle.host_core.specs.declared.occasion.Occasion.{Occasion}
+use Rattle.host_core.specs.declared.pending.Pending.{Pending as Unanswered}
+use Rattle.host_core.specs.declared.pending.Pending.TheVariants as unanswered
+
+-- ---- the whole screen
+
+-- where what came was believed, nothing waits for an answer then
+ends : (heard : Result Shadow HeardFault) (occasion : Occasion) (old mid : Conn) (cause : Option Cause) → silent mid cause ≡ believed occasion old.pending old heard
+    → is_some cause ≡ false → silent (record mid { pending = Pending.Nothing }) cause ≡ believed occasion Pending.Nothing old heard
+ends (Ok shadow) occasion old mid cause came none = ap (λ (step : Step). record step { conn = record step.conn { pending = Pending.Nothing } }) came
+ends (Err fault) occasion old mid cause came none =
+    let closes : cause ≡ Some BadInbound = ap (λ (step : Step). step.closes) came in
+    absurd (let opens : is_some cause ≡ true = ap (λ (c : Option Cause). is_some c) closes in cc)
+
+-- where it wasn't, all is as it was
+refuses : (heard : Result Shadow HeardFault) (occasion : Occasion) (old mid : Conn) (cause : Option Cause) → silent mid cause ≡ believed occasion old.pending old heard
+    → is_some cause ≡ true → silent mid cause ≡ believed occasion Pending.Nothing old heard
+refuses (Ok shadow) occasion old mid cause came some =
+    let goes : cause ≡ None = ap (λ (step : Step). step.closes) came in
+    absurd (let closes : is_some cause ≡ false = ap (λ (c : Option Cause). is_some c) goes in cc)
+refuses (Err fault) occasion old mid cause came some = came
+
+came_in : (parts : InboundParts) (old : Conn) → parts.form ≡ Buffer → believed (once_read old.occasion) Pending.Nothing old (hears parts old) ≡ buffer_came parts parts.form old
+came_in parts old form = ap (λ (f : Form). buffer_came parts f old) (sym form)
+
+pub buffer_believed : (parts : InboundParts) (occasion : Occasion) (old mid : Conn) (cause : Option Cause) → parts.form ≡ Buffer → occasion ≡ once_read old.occasion
+    → silent mid cause ≡ believed occasion old.pending old (hears parts old) → is_some cause ≡ false
+    → silent (record mid { pending = Pending.Nothing }) cause ≡ buffer_came parts parts.form old
+buffer_believed parts occasion old mid cause form read came none =
+    ends (hears parts old) occasion old mid cause came none ∙ ap (λ (o : Occasion). believed o Pending.Nothing old (hears parts old)) read ∙ came_in parts old form
+
+pub buffer_refused : (parts : InboundParts) (occasion : Occasion) (old mid : Conn) (cause : Option Cause) → parts.form ≡ Buffer → occasion ≡ once_read old.occasion
+    → silent mid cause ≡ believed occasion old.pending old (hears parts old) → is_some cause ≡ true
+    → silent mid cause ≡ buffer_came parts parts.form old
+buffer_refused parts occasion old mid cause form read came some =
+    refuses (hears parts old) occasion old mid cause came some ∙ ap (λ (o : Occasion). believed o Pending.Nothing old (hears parts old)) read ∙ came_in parts old form
+
+-- ---- the write that waits for its answer
+
+pub behind : (bytes : List ℕ) → take (length bytes - 5) (drop 5 bytes) ≡ drop 5 bytes
+behind bytes = take_all (length bytes - 5) (drop 5 bytes) (omega (arith, length-drop 5 bytes))
+
+-- its bytes are there
+pub write_kept : (pending : Unanswered) (sent : List ℕ) → IsKept pending sent → IsWrite (pending_in pending sent) → IsPlainWrite (drop 5 sent)
+write_kept unanswered.Nothing sent kept is = absurd is
+write_kept (unanswered.Writing number) sent kept is = kept
+write_kept (unanswered.Reading number) sent kept is = absurd is
+write_kept (unanswered.Noting number) sent kept is = kept
+
+-- ---- a record
+
+pub other_type : (kind : DataType) → kind ≢ Data3270 → kind ≢ Response → IsOther kind
+other_type Data3270 no_data no_response = absurd (no_data refl)
+other_type Response no_data no_response = absurd (no_response refl)
+other_type ScsData no_data no_response = tt
+other_type BindImage no_data no_response = tt
+other_type Unbind no_data no_response = tt
+other_type NvtData no_data no_response = tt
+other_type Request no_data no_response = tt
+other_type SscpLuData no_data no_response = tt
+other_type (Unnamed code) no_data no_response = tt
+
+pub of_no_data : (old : Conn) (bytes : List ℕ) (header : Header) (body : List ℕ) (form : Form) (fault : InboundFault) → Begins bytes header body → header.kind ≡ Data3270
+    → form ≡ form_awaited old.pending → IsNoInbound form fault body → TakesRecord old bytes (silent old (Some BadInbound))
+of_no_data old bytes header body form fault begins kind awaited wrong =
+    TakesRecord.no_data header body fault begins kind (subst (λ (f : Form). IsNoInbound f fault body) awaited wrong) refl
+
+pub of_data : (old new : Conn) (bytes : List ℕ) (cause : Option Cause) (header : Header) (body : List ℕ) (form : Form) (parts : InboundParts) → Begins bytes header body → header.kind ≡ Data3270
+    → form ≡ form_awaited old.pending → parts.form ≡ form → IsInbound parts body
+    → silent new cause ≡ data_came parts old.turn old.pending old → TakesRecord old bytes (silent new cause)
+of_data old new bytes cause header body form parts begins kind awaited read is came =
+    TakesRecord.hears header body parts begins kind (read ∙ awaited) is came

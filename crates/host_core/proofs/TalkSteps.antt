@@ -1,0 +1,434 @@
+-- What an item makes of the talk, of the pool and of what is sent, as the code takes it.
+use Rattle.std.proofs.Common.{◌≡◌, ◌≢◌, ◌==◌, ◌-◌, ℕ, Bool, true, false, List, [], ◌∷◌, ◌++◌, map, refl, ap, sym, ◌∙◌, subst, Option, Some, None, Result, Ok, Err, Vec, if◌then◌else◌, ◌⊎◌, inl, inr}
+use Rattle.std.specs.Prelude.{◌↔◌, ⊤, IfOk, OnErr, IfNone}
+use Rattle.std.specs.Borrow.{Bor}
+use Rattle.std.proofs.lemmas.List.{append-nil}
+use Rattle.std.specs.declared.alloc.Global.{Global}
+use Rattle.lu_pool.specs.Asking.{answer_to}
+use Rattle.lu_pool.specs.Holders.{granted_if, granted_to, given_back}
+use Rattle.lu_pool.specs.Pool.{Holds, HoldsNone}
+use Rattle.lu_pool.specs.declared.entry.Entry.{Entry}
+use Rattle.telnet_wire.specs.Items.{WireItem, Record, Opt, Sub, Other, item_of, sent_bytes}
+use Rattle.telnet_wire.specs.declared.wire.Item.{Item}
+use Rattle.telnet_wire.specs.declared.wire.Item.TheVariants as lent
+use Rattle.tn3270e_msg.specs.Device.{device_of}
+use Rattle.tn3270e_msg.specs.HostTable.{host_line, named_line, request_line, answer_line, granted, IsAsking, HostTakes, HostAnswered}
+use Rattle.tn3270e_msg.specs.Lu.{lu_of}
+use Rattle.tn3270e_msg.specs.Message.{Name, Connect, Associate}
+use Rattle.tn3270e_msg.specs.Talk.{Talk, Comes, Hears, Saying, follow, sayings, items_sent, closing}
+use Rattle.tn3270e_msg.specs.declared.cause.Cause.{Cause}
+use Rattle.tn3270e_msg.specs.declared.cause.Cause.TheVariants.{TooMany}
+use Rattle.tn3270e_msg.specs.declared.reply.After.TheVariants.{Close as CloseAfter, Going}
+use Rattle.tn3270e_msg.specs.declared.device.Device.{Device}
+use Rattle.tn3270e_msg.specs.declared.functions.Wants.TheVariants.{ResponsesAlone, ResponsesAndMore, NoResponses}
+use Rattle.tn3270e_msg.specs.declared.hearing.Line.{Line}
+use Rattle.tn3270e_msg.specs.declared.hearing.Line.TheVariants.{Stays, Goes, Refuses, Closes}
+use Rattle.tn3270e_msg.specs.declared.host_talk.HostState.{HostState}
+use Rattle.tn3270e_msg.specs.declared.host_talk.HostState.TheVariants as at
+use Rattle.tn3270e_msg.specs.declared.reply.Reason.{Reason}
+use Rattle.tn3270e_msg.specs.declared.reply.Reply.{Reply}
+use Rattle.tn3270e_msg.specs.declared.reply.Reply.TheVariants as reply
+use Rattle.tn3270e_msg.specs.declared.reply.Sending.{Sending}
+use Rattle.tn3270e_msg.specs.declared.reply.Sending.TheVariants as sent
+use Rattle.host_core.specs.Items.{TakesItem, TakesRecord, TakesRecordIf, Talks}
+use Rattle.host_core.specs.Keeps.{ItemTaken, OthersHold, silent}
+use Rattle.host_core.specs.Sound.{HoldsJust}
+use Rattle.host_core.specs.Parts.{TalkTaken}
+use Rattle.host_core.specs.Messages.{ToTerminal}
+use Rattle.host_core.specs.Says.{item_sent}
+use Rattle.host_core.specs.Session.{Conn, is_agreed}
+use Rattle.host_core.specs.Takes.{Answers, Step, asked, granted_by, quiet, replied, talked, talked_on, with_talk}
+
+-- ---- the table
+
+-- A line that goes to the pool leads to where its answer is awaited, and nothing is granted before; any other keeps what is granted.
+abbrev GoesFrom : HostState → HostState → Reply → Type 0
+GoesFrom state next (reply.AskPool name) = IsAsking next × (granted state ≡ None)
+GoesFrom state next _ = granted next ≡ granted state
+
+abbrev AsksNothing : Reply → Type 0
+AsksNothing (reply.AskPool name) = ⊥
+AsksNothing _ = ⊤
+
+abbrev KeepsGrant : HostState → Line HostState → Type 0
+KeepsGrant state (Stays reply) = AsksNothing reply
+KeepsGrant state (Goes next reply) = GoesFrom state next reply
+KeepsGrant state (Refuses next sending) = granted next ≡ granted state
+KeepsGrant state (Closes cause) = ⊤
+
+named_keeps : (device : Device) (lu : Option (List ℕ)) → KeepsGrant at.Asked (named_line device lu)
+named_keeps device None = refl
+named_keeps device (Some lu) = (tt, refl)
+
+request_keeps : (device : Option Device) (name : Option Name) → KeepsGrant at.Asked (request_line device name)
+request_keeps None name = refl
+request_keeps (Some device) None = (tt, refl)
+request_keeps (Some device) (Some (Connect name)) = named_keeps device (lu_of name)
+request_keeps (Some device) (Some (Associate name)) = refl
+
+-- each line of the table
+line_keeps : (state : HostState) (comes : Comes) → KeepsGrant state (host_line state comes)
+line_keeps at.Offered Comes.Will = refl
+line_keeps at.Offered Comes.Wont = tt
+line_keeps at.Offered Comes.Do = tt
+line_keeps at.Offered Comes.Dont = tt
+line_keeps at.Offered (Comes.OtherWill code) = tt
+line_keeps at.Offered (Comes.OtherDo code) = tt
+line_keeps at.Offered Comes.SendsType = tt
+line_keeps at.Offered (Comes.RequestsType kind name) = tt
+line_keeps at.Offered (Comes.IsType kind name) = tt
+line_keeps at.Offered (Comes.RejectsType reason) = tt
+line_keeps at.Offered (Comes.RequestsFunctions wants) = tt
+line_keeps at.Offered (Comes.IsFunctions wants) = tt
+line_keeps at.Offered Comes.BreaksForm = tt
+line_keeps at.Offered Comes.NoTalk = tt
+line_keeps at.Asked Comes.Will = tt
+line_keeps at.Asked Comes.Wont = tt
+line_keeps at.Asked Comes.Do = tt
+line_keeps at.Asked Comes.Dont = tt
+line_keeps at.Asked (Comes.OtherWill code) = tt
+line_keeps at.Asked (Comes.OtherDo code) = tt
+line_keeps at.Asked Comes.SendsType = tt
+line_keeps at.Asked (Comes.RequestsType kind name) = request_keeps (device_of kind) name
+line_keeps at.Asked (Comes.IsType kind name) = tt
+line_keeps at.Asked (Comes.RejectsType reason) = tt
+line_keeps at.Asked (Comes.RequestsFunctions wants) = tt
+line_keeps at.Asked (Comes.IsFunctions wants) = tt
+line_keeps at.Asked Comes.BreaksForm = tt
+line_keeps at.Asked Comes.NoTalk = tt
+line_keeps (at.Asking device) Comes.Will = tt
+line_keeps (at.Asking device) Comes.Wont = tt
+line_keeps (at.Asking device) Comes.Do = tt
+line_keeps (at.Asking device) Comes.Dont = tt
+line_keeps (at.Asking device) (Comes.OtherWill code) = tt
+line_keeps (at.Asking device) (Comes.OtherDo code) = tt
+line_keeps (at.Asking device) Comes.SendsType = tt
+line_keeps (at.Asking device) (Comes.RequestsType kind name) = tt
+line_keeps (at.Asking device) (Comes.IsType kind name) = tt
+line_keeps (at.Asking device) (Comes.RejectsType reason) = tt
+line_keeps (at.Asking device) (Comes.RequestsFunctions wants) = tt
+line_keeps (at.Asking device) (Comes.IsFunctions wants) = tt
+line_keeps (at.Asking device) Comes.BreaksForm = tt
+line_keeps (at.Asking device) Comes.NoTalk = tt
+line_keeps (at.Named device lu) Comes.Will = tt
+line_keeps (at.Named device lu) Comes.Wont = tt
+line_keeps (at.Named device lu) Comes.Do = tt
+line_keeps (at.Named device lu) Comes.Dont = tt
+line_keeps (at.Named device lu) (Comes.OtherWill code) = tt
+line_keeps (at.Named device lu) (Comes.OtherDo code) = tt
+line_keeps (at.Named device lu) Comes.SendsType = tt
+line_keeps (at.Named device lu) (Comes.RequestsType kind name) = tt
+line_keeps (at.Named device lu) (Comes.IsType kind name) = tt
+line_keeps (at.Named device lu) (Comes.RejectsType reason) = tt
+line_keeps (at.Named device lu) (Comes.RequestsFunctions ResponsesAlone) = refl
+line_keeps (at.Named device lu) (Comes.RequestsFunctions ResponsesAndMore) = refl
+line_keeps (at.Named device lu) (Comes.RequestsFunctions NoResponses) = tt
+line_keeps (at.Named device lu) (Comes.IsFunctions wants) = tt
+line_keeps (at.Named device lu) Comes.BreaksForm = tt
+line_keeps (at.Named device lu) Comes.NoTalk = tt
+line_keeps (at.Countered device lu) Comes.Will = tt
+line_keeps (at.Countered device lu) Comes.Wont = tt
+line_keeps (at.Countered device lu) Comes.Do = tt
+line_keeps (at.Countered device lu) Comes.Dont = tt
+line_keeps (at.Countered device lu) (Comes.OtherWill code) = tt
+line_keeps (at.Countered device lu) (Comes.OtherDo code) = tt
+line_keeps (at.Countered device lu) Comes.SendsType = tt
+line_keeps (at.Countered device lu) (Comes.RequestsType kind name) = tt
+line_keeps (at.Countered device lu) (Comes.IsType kind name) = tt
+line_keeps (at.Countered device lu) (Comes.RejectsType reason) = tt
+line_keeps (at.Countered device lu) (Comes.RequestsFunctions ResponsesAlone) = refl
+line_keeps (at.Countered device lu) (Comes.RequestsFunctions ResponsesAndMore) = refl
+line_keeps (at.Countered device lu) (Comes.RequestsFunctions NoResponses) = tt
+line_keeps (at.Countered device lu) (Comes.IsFunctions ResponsesAlone) = refl
+line_keeps (at.Countered device lu) (Comes.IsFunctions ResponsesAndMore) = tt
+line_keeps (at.Countered device lu) (Comes.IsFunctions NoResponses) = tt
+line_keeps (at.Countered device lu) Comes.BreaksForm = tt
+line_keeps (at.Countered device lu) Comes.NoTalk = tt
+line_keeps (at.Agreed device lu) Comes.Will = tt
+line_keeps (at.Agreed device lu) Comes.Wont = tt
+line_keeps (at.Agreed device lu) Comes.Do = tt
+line_keeps (at.Agreed device lu) Comes.Dont = tt
+line_keeps (at.Agreed device lu) (Comes.OtherWill code) = tt
+line_keeps (at.Agreed device lu) (Comes.OtherDo code) = tt
+line_keeps (at.Agreed device lu) Comes.SendsType = tt
+line_keeps (at.Agreed device lu) (Comes.RequestsType kind name) = tt
+line_keeps (at.Agreed device lu) (Comes.IsType kind name) = tt
+line_keeps (at.Agreed device lu) (Comes.RejectsType reason) = tt
+line_keeps (at.Agreed device lu) (Comes.RequestsFunctions wants) = tt
+line_keeps (at.Agreed device lu) (Comes.IsFunctions wants) = tt
+line_keeps (at.Agreed device lu) Comes.BreaksForm = tt
+line_keeps (at.Agreed device lu) Comes.NoTalk = tt
+line_keeps (at.Closed cause) comes = tt
+
+-- what comes of a line: the pool is asked from where nothing is granted; else what is granted stays, unless the talk closes
+abbrev AfterReply : HostState → HostState → Reply → Type 0
+AfterReply state next (reply.AskPool name) = IsAsking next × (granted state ≡ None)
+AfterReply state next answer = closing answer ≡ None → granted next ≡ granted state
+
+stays_after : (state : HostState) (answer : Reply) → AsksNothing answer → AfterReply state state answer
+stays_after state reply.Nothing asks = λ going. refl
+stays_after state (reply.Opt verb code) asks = λ going. refl
+stays_after state (reply.Sub sending after) asks = λ going. refl
+stays_after state (reply.AskPool name) asks = absurd asks
+stays_after state reply.Agreed asks = λ going. refl
+stays_after state (reply.Refused reason) asks = λ going. refl
+stays_after state (reply.Close cause) asks = λ going. refl
+
+goes_after : (state next : HostState) (answer : Reply) → GoesFrom state next answer → AfterReply state next answer
+goes_after state next reply.Nothing goes = λ going. goes
+goes_after state next (reply.Opt verb code) goes = λ going. goes
+goes_after state next (reply.Sub sending after) goes = λ going. goes
+goes_after state next (reply.AskPool name) goes = goes
+goes_after state next reply.Agreed goes = λ going. goes
+goes_after state next (reply.Refused reason) goes = λ going. goes
+goes_after state next (reply.Close cause) goes = λ going. goes
+
+abbrev AfterLine : HostState → Talk HostState × Reply → Type 0
+AfterLine state next = AfterReply state next.0.state next.1
+
+followed : (old : Talk HostState) (line : Line HostState) → KeepsGrant old.state line → AfterLine old.state (follow at.Closed old line)
+followed old (Stays answer) keeps = stays_after old.state answer keeps
+followed old (Goes next answer) keeps = goes_after old.state next answer keeps
+followed old (Refuses next sending) keeps = by_test (old.refusals_left - 1 == 0)
+  where
+    by_test : (b : Bool) → AfterLine old.state (if b
+        then (record { state = at.Closed TooMany; refusals_left = 0 }, reply.Sub sending (CloseAfter TooMany))
+        else (record { state = next; refusals_left = old.refusals_left - 1 }, reply.Sub sending Going))
+    by_test true = λ going. absurd (cc)
+    by_test false = λ going. keeps
+followed old (Closes cause) keeps = λ going. absurd (cc)
+
+taken_after : (old new : Talk HostState) (item : WireItem) (answer : Reply) → HostTakes old item answer new → AfterReply old.state new.state answer
+taken_after old new item answer takes =
+    subst (AfterLine old.state) (sym takes.gives) (followed old (host_line old.state takes.comes) (line_keeps old.state takes.comes))
+
+pub awaits_answer : (old new : Talk HostState) (item : WireItem) (name : Option (List ℕ)) → HostTakes old item (reply.AskPool name) new → IsAsking new.state
+awaits_answer old new item name takes = (taken_after old new item (reply.AskPool name) takes).0
+
+pub asks_with_none : (old new : Talk HostState) (item : WireItem) (name : Option (List ℕ)) → HostTakes old item (reply.AskPool name) new → granted old.state ≡ None
+asks_with_none old new item name takes = (taken_after old new item (reply.AskPool name) takes).1
+
+asks_no_more : (state next : HostState) (answer : Reply) → ((name : Option (List ℕ)) → answer ≡ reply.AskPool name → ⊥) → AfterReply state next answer
+    → closing answer ≡ None → granted next ≡ granted state
+asks_no_more state next reply.Nothing other after = after
+asks_no_more state next (reply.Opt verb code) other after = after
+asks_no_more state next (reply.Sub sending how) other after = after
+asks_no_more state next (reply.AskPool name) other after = absurd (other name refl)
+asks_no_more state next reply.Agreed other after = after
+asks_no_more state next (reply.Refused reason) other after = after
+asks_no_more state next (reply.Close cause) other after = after
+
+pub keeps_granted : (old new : Talk HostState) (item : WireItem) (answer : Reply) → ((name : Option (List ℕ)) → answer ≡ reply.AskPool name → ⊥) → HostTakes old item answer new
+    → closing answer ≡ None → granted new.state ≡ granted old.state
+keeps_granted old new item answer other takes = asks_no_more old.state new.state answer other (taken_after old new item answer takes)
+
+-- ---- the pool
+
+-- what holds of a pool that gave what was asked for
+pub just_granted : (number : ℕ) (old new : List Entry) (answer : Result (List ℕ) Reason) → HoldsNone old number
+    → ((other : ℕ) (lu : List ℕ) → Holds new other lu ↔ (Holds old other lu ⊎ ((other ≡ number) × (answer ≡ Ok lu))))
+    → HoldsJust number new (granted_by answer)
+just_granted number old new (Ok given) none held = λ lu. (
+  λ holds. elim ((held number lu).0 holds) [ inl before ↦ absurd (none lu before) | inr now ↦ let same = now.1 in cc ],
+  λ is. (held number lu).1 (inr (refl, cc)),
+)
+just_granted number old new (Err reason) none held = λ lu. (
+  λ holds. elim ((held number lu).0 holds) [ inl before ↦ absurd (none lu before) | inr now ↦ absurd (let refused = now.1 in cc) ],
+  λ is. absurd (cc),
+)
+
+pub others_hold : (number : ℕ) (old new : List Entry) (answer : Result (List ℕ) Reason)
+    → ((other : ℕ) (lu : List ℕ) → Holds new other lu ↔ (Holds old other lu ⊎ ((other ≡ number) × (answer ≡ Ok lu))))
+    → OthersHold number old new
+others_hold number old new answer held = λ other lu differs. (
+  λ holds. elim ((held other lu).0 holds) [ inl before ↦ before | inr now ↦ absurd (differs now.0) ],
+  λ holds. (held other lu).1 (inl holds),
+)
+
+pub none_held : (number : ℕ) (pool : List Entry) (held : Option (List ℕ)) → HoldsJust number pool held → held ≡ None → HoldsNone pool number
+none_held number pool held just none = λ lu holds. absurd (let some = (just lu).0 holds in cc)
+
+-- ---- the talk
+
+sends_down : (answer : Reply) → items_sent answer ≡ map item_sent (map ToTerminal.TalksDown (sayings answer))
+sends_down reply.Nothing = refl
+sends_down (reply.Opt verb code) = refl
+sends_down (reply.Sub sending after) = refl
+sends_down (reply.AskPool name) = refl
+sends_down reply.Agreed = refl
+sends_down (reply.Refused reason) = refl
+sends_down (reply.Close cause) = refl
+
+sent_down : (answer : Reply) (before after : List ℕ) → after ≡ before ++ sent_bytes (items_sent answer) → after ≡ before ++ sent_bytes (map item_sent (map ToTerminal.TalksDown (sayings answer)))
+sent_down answer before after sent = sent ∙ ap (λ (items : List WireItem). before ++ sent_bytes items) (sends_down answer)
+
+-- the talk replied by itself
+talked_by : (pool : Answers) (conn : Conn) (new : Talk HostState) (answer : Reply) → ((name : Option (List ℕ)) → answer ≡ reply.AskPool name → ⊥)
+    → talked_on pool conn new answer ≡ replied conn None (new, answer)
+talked_by pool conn new reply.Nothing other = refl
+talked_by pool conn new (reply.Opt verb code) other = refl
+talked_by pool conn new (reply.Sub sending after) other = refl
+talked_by pool conn new (reply.AskPool name) other = absurd (other name refl)
+talked_by pool conn new reply.Agreed other = refl
+talked_by pool conn new (reply.Refused reason) other = refl
+talked_by pool conn new (reply.Close cause) other = refl
+
+-- what it made of what came
+comes_to : (pool : Answers) (conn : Conn) (old new : Talk HostState) (item : WireItem) (answer : Reply) (takes : HostTakes old item answer new) → conn.talk ≡ old
+    → talked_on pool conn new answer ≡ talked pool conn conn.talk takes.comes
+comes_to pool conn old new item answer takes is =
+    ap (λ (next : Talk HostState × Reply). talked_on pool conn next.0 next.1) takes.gives ∙ ap (λ (talk : Talk HostState). talked pool conn talk takes.comes) (sym is)
+
+with_closes : (step : Step) (closes : Option Cause) → closes ≡ step.closes → record step { closes = closes } ≡ step
+with_closes step closes is = ap (λ (c : Option Cause). record step { closes = c }) is
+
+pub replies : (number : ℕ) (pool : List Entry) (old new : Talk HostState) (item : WireItem) (answer : Reply) (before after : Vec ℕ Global) (closes : Option Cause)
+    → ((name : Option (List ℕ)) → answer ≡ reply.AskPool name → ⊥) → HostTakes old item answer new → closes ≡ closing answer
+    → after.items ≡ before.items ++ sent_bytes (items_sent answer) → TalkTaken number pool old item before after closes pool new
+replies number pool old new item answer before after closes other takes ends sent = record {
+  sends = map ToTerminal.TalksDown (sayings answer);
+  grants = None;
+  talks = λ conn is. (
+    takes.comes,
+    takes.hears,
+    with_closes (replied conn None (new, answer)) closes ends ∙ sym (talked_by (answer_to pool) conn new answer other) ∙ comes_to (answer_to pool) conn old new item answer takes is,
+  );
+  pool_is = refl;
+  sent = sent_down answer before.items after.items sent;
+}
+
+-- the pool was asked, and the talk replied by its answer
+answered_by : (pool : Answers) (conn : Conn) (mid new : Talk HostState) (name : Option (List ℕ)) (answer : Result (List ℕ) Reason) (said : Reply) → HostAnswered mid answer said new → answer ≡ pool name
+    → replied conn (granted_by answer) (new, said) ≡ talked_on pool conn mid (reply.AskPool name)
+answered_by pool conn mid new name answer said answered is =
+    ap (λ (next : Talk HostState × Reply). replied conn (granted_by answer) next) answered.gives
+    ∙ ap (λ (state : HostState). asked conn mid answer state) (sym answered.asking)
+    ∙ ap (λ (given : Result (List ℕ) Reason). asked conn mid given mid.state) is
+
+pub replies_by_pool : (number : ℕ) (pool left : List Entry) (old mid new : Talk HostState) (item : WireItem) (name : Option (List ℕ)) (answer : Result (List ℕ) Reason) (said : Reply)
+    (before after : Vec ℕ Global) (closes : Option Cause) → HostTakes old item (reply.AskPool name) mid → answer ≡ answer_to pool name → HostAnswered mid answer said new
+    → left ≡ granted_if number (granted_by answer) pool → closes ≡ closing said → after.items ≡ before.items ++ sent_bytes (items_sent said)
+    → TalkTaken number pool old item before after closes left new
+replies_by_pool number pool left old mid new item name answer said before after closes takes is answered granting ends sent = record {
+  sends = map ToTerminal.TalksDown (sayings said);
+  grants = granted_by answer;
+  talks = λ conn same. (
+    takes.comes,
+    takes.hears,
+    with_closes (replied conn (granted_by answer) (new, said)) closes ends ∙ answered_by (answer_to pool) conn mid new name answer said answered is
+        ∙ comes_to (answer_to pool) conn old mid item (reply.AskPool name) takes same,
+  );
+  pool_is = granting;
+  sent = sent_down said before.items after.items sent;
+}
+
+-- what is granted by the answer
+abbrev granted_after : Talk HostState × Reply → Option (List ℕ)
+granted_after next = granted next.0.state
+
+granted_then : (device : Device) (mid : Talk HostState) (answer : Result (List ℕ) Reason) → granted_after (follow at.Closed mid (answer_line device answer)) ≡ granted_by answer
+granted_then device mid (Ok lu) = refl
+granted_then device mid (Err reason) = by_test (mid.refusals_left - 1 == 0)
+  where
+    by_test : (b : Bool) → granted_after (if b
+        then (record { state = at.Closed TooMany; refusals_left = 0 }, reply.Sub (sent.TypeReject reason) (CloseAfter TooMany))
+        else (record { state = at.Asked; refusals_left = mid.refusals_left - 1 }, reply.Sub (sent.TypeReject reason) Going)) ≡ None
+    by_test true = refl
+    by_test false = refl
+
+pub granted_by_pool : (number : ℕ) (left : List Entry) (mid new : Talk HostState) (answer : Result (List ℕ) Reason) (said : Reply) → HostAnswered mid answer said new
+    → HoldsJust number left (granted_by answer) → HoldsJust number left (granted new.state)
+granted_by_pool number left mid new answer said answered just =
+    subst (HoldsJust number left)
+    (sym (ap granted_after answered.gives ∙ granted_then answered.device mid answer)) just
+
+unless_closed : (number : ℕ) (pool : List Entry) (closes : Option Cause) (held : Option (List ℕ)) → (closes ≡ None → HoldsJust number pool held) → IfNone closes (HoldsJust number pool held)
+unless_closed number pool None held just = just refl
+unless_closed number pool (Some cause) held just = tt
+
+pub holds_unless_closed : (number : ℕ) (pool : List Entry) (old new : Talk HostState) (item : WireItem) (answer : Reply) (closes : Option Cause)
+    → ((name : Option (List ℕ)) → answer ≡ reply.AskPool name → ⊥) → HostTakes old item answer new → closes ≡ closing answer → HoldsJust number pool (granted old.state)
+    → IfNone closes (HoldsJust number pool (granted new.state))
+holds_unless_closed number pool old new item answer closes other takes ends just =
+    unless_closed number pool closes (granted new.state)
+    (λ going. subst (HoldsJust number pool) (sym (keeps_granted old new item answer other takes (sym ends ∙ going))) just)
+
+pub unless_closed_then : (number : ℕ) (pool : List Entry) (closes : Option Cause) (held : Option (List ℕ)) → HoldsJust number pool held → IfNone closes (HoldsJust number pool held)
+unless_closed_then number pool closes held just = unless_closed number pool closes held (λ going. just)
+
+-- ---- an item
+
+pub same_others : (number : ℕ) (pool : List Entry) → OthersHold number pool pool
+same_others number pool = λ other lu differs. (λ holds. holds, λ holds. holds)
+
+pub not_record : (item : Item) → ((bytes : Bor (List ℕ)) → item ≡ lent.Record bytes → ⊥) → (bytes : List ℕ) → item_of item ≡ Record bytes → ⊥
+not_record (lent.Record lain) other bytes e = other lain refl
+not_record (lent.Opt verb code) other bytes e = cc
+not_record (lent.Sub lain) other bytes e = cc
+not_record (lent.Other code) other bytes e = cc
+
+for_talk : (pool : Answers) (conn : Conn) (item : WireItem) (step : Step) → ((bytes : List ℕ) → item ≡ Record bytes → ⊥) → Talks pool conn item step → TakesItem pool conn item step
+for_talk pool conn (Record bytes) step other talks = absurd (other bytes refl)
+for_talk pool conn (Opt verb code) step other talks = talks
+for_talk pool conn (Sub bytes) step other talks = talks
+for_talk pool conn (Other code) step other talks = talks
+
+-- all but a record is for the talk
+pub talk_taken : (number : ℕ) (pool left : List Entry) (before old new : Conn) (talk : Talk HostState) (item : WireItem) (said out : Vec ℕ Global) (closes : Option Cause)
+    → ((bytes : List ℕ) → item ≡ Record bytes → ⊥) → before ≡ old → TalkTaken number pool before.talk item said out closes left talk → new ≡ with_talk before talk
+    → ItemTaken number pool old item said out closes left new
+talk_taken number pool left before old new talk item said out closes other same taken is =
+    subst (λ (from : Conn). ItemTaken number pool from item said out closes left new) same
+    (record {
+      step = record { conn = with_talk before talk; sends = taken.sends; grants = taken.grants; closes = closes };
+      takes = for_talk (answer_to pool) before item _ other (taken.talks before refl);
+      conn = is;
+      ends = refl;
+      pool_is = taken.pool_is;
+      sent = taken.sent;
+    })
+
+if_agreed : (state : HostState) (device : Device) (lu bytes : List ℕ) (old : Conn) (step : Step) → state ≡ at.Agreed device lu → TakesRecord old bytes step → TakesRecordIf (is_agreed state) old bytes step
+if_agreed state device lu bytes old step agreed takes = rw agreed takes
+
+before_agreement : (state : HostState) (bytes : List ℕ) (old : Conn) → ((device : Device) (lu : List ℕ) → state ≡ at.Agreed device lu → ⊥) → TakesRecordIf (is_agreed state) old bytes (quiet old)
+before_agreement at.Offered bytes old other = refl
+before_agreement at.Asked bytes old other = refl
+before_agreement (at.Asking device) bytes old other = refl
+before_agreement (at.Named device lu) bytes old other = refl
+before_agreement (at.Countered device lu) bytes old other = refl
+before_agreement (at.Agreed device lu) bytes old other = absurd (other device lu refl)
+before_agreement (at.Closed cause) bytes old other = refl
+
+of_record : (pool : Answers) (conn : Conn) (item : WireItem) (bytes : List ℕ) (step : Step) → item ≡ Record bytes → TakesRecordIf (is_agreed conn.talk.state) conn bytes step → TakesItem pool conn item step
+of_record pool conn item bytes step is takes = rw is takes
+
+none_sent : (bytes : List ℕ) → bytes ≡ bytes ++ sent_bytes []
+none_sent bytes = sym (append-nil bytes)
+
+-- a record that is taken
+pub record_taken : (number : ℕ) (pool : List Entry) (old new : Conn) (item : WireItem) (bytes : List ℕ) (out : Vec ℕ Global) (closes : Option Cause) (device : Device) (lu : List ℕ)
+    → item ≡ Record bytes → old.talk.state ≡ at.Agreed device lu → TakesRecord old bytes (silent new closes) → ItemTaken number pool old item out out closes pool new
+record_taken number pool old new item bytes out closes device lu is agreed takes = record {
+  step = silent new closes;
+  takes = of_record (answer_to pool) old item bytes (silent new closes) is (if_agreed old.talk.state device lu bytes old (silent new closes) agreed takes);
+  conn = refl;
+  ends = refl;
+  pool_is = refl;
+  sent = none_sent out.items;
+}
+
+-- one that is dropped
+pub record_dropped : (number : ℕ) (pool : List Entry) (old : Conn) (item : WireItem) (bytes : List ℕ) (out : Vec ℕ Global)
+    → item ≡ Record bytes → ((device : Device) (lu : List ℕ) → old.talk.state ≡ at.Agreed device lu → ⊥) → ItemTaken number pool old item out out None pool old
+record_dropped number pool old item bytes out is other = record {
+  step = quiet old;
+  takes = of_record (answer_to pool) old item bytes (quiet old) is (before_agreement old.talk.state bytes old other);
+  conn = refl;
+  ends = refl;
+  pool_is = refl;
+  sent = none_sent out.items;
+}
+
+pub same_talk : (number : ℕ) (pool : List Entry) (old new : Conn) → new.talk ≡ old.talk → HoldsJust number pool (granted old.talk.state) → HoldsJust number pool (granted new.talk.state)
+same_talk number pool old new same just = subst (λ (talk : Talk HostState). HoldsJust number pool (granted talk.state)) (sym same) just

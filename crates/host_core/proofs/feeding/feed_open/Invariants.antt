@@ -1,0 +1,15 @@
+use Rattle.std.proofs.Common.{◌≡◌, take, None}
+use Rattle.tn3270e_msg.specs.HostTable.{granted}
+use Rattle.host_core.specs.Bytes.{TakesBytes}
+use Rattle.host_core.specs.Keeps.{IsRunning, OthersHold, counter_of}
+use Rattle.host_core.specs.Sound.{HoldsJust}
+use Rattle.host_core.proofs.feeding.feed_open.Given as goal
+
+abbrev pub invariant-loop-taken : goal.invariant-loop-taken
+invariant-loop-taken l = record {
+  running : IsRunning l.decoder;
+  holder : HoldsJust l.number l.pool (granted l.session.talk.state);
+  others : OthersHold l.number l.initial.pool l.pool;
+  panel : l.session.panel ≡ l.initial.session.panel;
+  taken : TakesBytes l.number (counter_of l.initial.pool l.initial.decoder l.initial.session None l.initial.out) (take l.taken l.bytes) (counter_of l.pool l.decoder l.session None l.out);
+}

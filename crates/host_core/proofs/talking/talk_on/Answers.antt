@@ -1,0 +1,34 @@
+use Rattle.host_core.proofs.TalkSteps.{asks_with_none, awaits_answer, granted_by_pool, holds_unless_closed, none_held, replies, replies_by_pool, same_others, unless_closed_then}
+use Rattle.telnet_wire.specs.Items.{item_of}
+use Rattle.tn3270e_msg.specs.HostTable.{granted}
+use Rattle.host_core.proofs.talking.talk_on.Goals as goal
+
+pub ask-answer-requires : goal.ask-answer-requires
+ask-answer-requires c =
+    none_held c.args.number c.args.pool.now (granted c.args.talk.now.state) c.requires.holder
+    (asks_with_none c.args.talk.now c.take.new.self (item_of c.args.item.now) c.in-AskPool.name c.in-AskPool.ensures)
+
+pub answered-requires : goal.answered-requires
+answered-requires c = awaits_answer c.args.talk.now c.take.new.self (item_of c.args.item.now) c.in-AskPool.name c.in-AskPool.ensures
+
+pub returns-in-AskPool-clause-taken : goal.returns-in-AskPool-clause-taken
+returns-in-AskPool-clause-taken c =
+    replies_by_pool _ _ _ _ c.take.new.self _ _ c.in-AskPool.name c.ask-answer.result c.answered.result _ _ _ c.in-AskPool.ensures c.ask-answer.ensures.answer c.answered.ensures
+    c.ask-answer.ensures.becomes c.send_reply.ensures.closes c.send_reply.ensures.sent
+
+pub returns-in-AskPool-clause-holds : goal.returns-in-AskPool-clause-holds
+returns-in-AskPool-clause-holds c =
+    unless_closed_then c.args.number c.ask-answer.new.pool c.send_reply.result (granted c.answered.new.self.state)
+    (granted_by_pool c.args.number c.ask-answer.new.pool c.take.new.self c.answered.new.self c.ask-answer.result c.answered.result c.answered.ensures c.ask-answer.ensures.holds)
+
+pub returns-in_default-clause-taken : goal.returns-in_default-clause-taken
+returns-in_default-clause-taken c =
+    replies _ _ _ _ _ c.take.result _ _ _ c.in_default.not-AskPool c.take.ensures c.send_reply-in_default.ensures.closes c.send_reply-in_default.ensures.sent
+
+pub returns-in_default-clause-holds : goal.returns-in_default-clause-holds
+returns-in_default-clause-holds c =
+    holds_unless_closed c.args.number c.args.pool.now c.args.talk.now c.take.new.self (item_of c.args.item.now) c.take.result c.send_reply-in_default.result
+    c.in_default.not-AskPool c.take.ensures c.send_reply-in_default.ensures.closes c.requires.holder
+
+pub returns-in_default-clause-others : goal.returns-in_default-clause-others
+returns-in_default-clause-others c = same_others c.args.number c.args.pool.now

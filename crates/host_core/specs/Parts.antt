@@ -1,0 +1,39 @@
+-- Parts of the host's steps as the code takes them (our profile); only private contracts and proofs need it.
+use Rattle.std.specs.Prelude.{◌≡◌, ⊤, ℕ, List, [], ◌++◌, Option, map, Vec}
+use Rattle.std.specs.declared.alloc.Global.{Global}
+use Rattle.datastream.specs.Grammar.{CommandParts}
+use Rattle.lu_pool.specs.Asking.{answer_to}
+use Rattle.lu_pool.specs.Holders.{granted_if}
+use Rattle.lu_pool.specs.declared.entry.Entry.{Entry}
+use Rattle.telnet_wire.specs.Items.{WireItem, sent_bytes}
+use Rattle.tn3270e_msg.specs.Talk.{Talk}
+use Rattle.tn3270e_msg.specs.declared.cause.Cause.{Cause}
+use Rattle.tn3270e_msg.specs.declared.host_talk.HostState.{HostState}
+use Rattle.host_core.specs.Items.{Talks}
+use Rattle.host_core.specs.Keeps.{command_in}
+use Rattle.host_core.specs.Messages.{ToTerminal}
+use Rattle.host_core.specs.Says.{item_sent}
+use Rattle.host_core.specs.Session.{Conn, Pending}
+use Rattle.host_core.specs.Takes.{with_talk}
+
+-- the write that waits for its answer
+abbrev pub write_of : Pending → CommandParts
+write_of Pending.Nothing = command_in []
+write_of (Pending.Writing number command) = command
+write_of (Pending.Reading number) = command_in []
+write_of (Pending.Noting number command) = command
+
+-- a write does
+abbrev pub IsWrite : Pending → Type 0
+IsWrite Pending.Nothing = ⊥
+IsWrite (Pending.Writing number command) = ⊤
+IsWrite (Pending.Reading number) = ⊥
+IsWrite (Pending.Noting number command) = ⊤
+
+-- The talk goes on by an item: what it says is put behind what is there. Where it closes its LU is still held.
+pub record TalkTaken (number : ℕ) (pool : List Entry) (old : Talk HostState) (item : WireItem) (before after : Vec ℕ Global) (closes : Option Cause) (left : List Entry) (new : Talk HostState) : Type 0 where
+  pub sends : List ToTerminal
+  pub grants : Option (List ℕ)
+  pub talks : (conn : Conn) → conn.talk ≡ old → Talks (answer_to pool) conn item (record { conn = with_talk conn new; sends = sends; grants = grants; closes = closes })
+  pub pool_is : left ≡ granted_if number grants pool
+  pub sent : after.items ≡ before.items ++ sent_bytes (map item_sent sends)

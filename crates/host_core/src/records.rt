@@ -1,0 +1,203 @@
+//! What a host makes of the records of a terminal: data and responses.
+ghost use Rattle.std.specs.Prelude.{◌≡◌, true, drop};
+ghost use Rattle.datastream.specs.Grammar.{IsSpelt};
+ghost use Rattle.shadow.specs.Exactness.{is_erase};
+ghost use Rattle.shadow.specs.Stores.{is_plain};
+ghost use Rattle.host_core.specs.Items.{TakesRecord, verdict_of};
+ghost use Rattle.host_core.specs.Keeps.{IsPlainWrite, command_in, silent};
+ghost use Rattle.host_core.specs.Parts.{IsWrite, write_of};
+ghost use Rattle.host_core.specs.Takes.{believed, buffer_came, data_came, form_awaited, hears, key_data_came, once_read, refused, response_came, verdict_came};
+
+use crate::occasion::Occasion;
+use crate::pending::Pending;
+use crate::session::Session;
+use crate::turn::Turn;
+use codes3270::Aid;
+use datastream::{Command, CommandCode, Form, Inbound, read_command, read_inbound};
+use shadow::{Shadow, what_is_believed_can_be_stored};
+use tn3270e_msg::{Cause, DataType, Header, POSITIVE, read_header};
+
+/// The screen of the key that was pressed last was read.
+fn once_read(occasion: Occasion) -> Occasion
+    ensures { result ≡ once_read occasion }
+{
+    match occasion {
+        Occasion::Key(aid, _) => Occasion::Key(aid, true),
+        Occasion::Agreement => Occasion::Agreement,
+        Occasion::Refusal => Occasion::Refusal,
+    }
+}
+
+/// The write that stands in a record behind its header.
+fn write_in(sent: &[u8]) -> Command<'_>
+    requires { IsPlainWrite (drop 5 sent.now) }
+    ensures command { result ≡ command_in (drop 5 sent.now) }
+    ensures plain { is_plain result ≡ true }
+    ensures spelt { IsSpelt result }
+{
+    read_command(&sent[5..]).unwrap()
+}
+
+/// Whether a write clears the screen first.
+fn is_erase(code: CommandCode) -> bool
+    ensures { result ≡ is_erase code }
+{
+    matches!(
+        code,
+        CommandCode::EraseWrite | CommandCode::EraseWriteAlternate
+    )
+}
+
+impl Session {
+    /// Takes a record of a session that is agreed, and answers the cause by which it closes the connection, if it does.
+    pub(crate) fn take_record(&mut self, bytes: &[u8]) -> Option<Cause>
+        ensures taken { TakesRecord self.old bytes.now (silent self.new result) }
+        ensures talk { self.new.talk ≡ self.old.talk }
+        ensures panel { self.new.panel ≡ self.old.panel }
+    {
+        let Ok((header, body)) = read_header(bytes) else {
+            return Some(Cause::BadRecord);
+        };
+        match header.kind {
+            DataType::Data3270 => match read_inbound(body, self.form_awaited()) {
+                Ok(inbound) => self.hear(&inbound),
+                Err(_) => Some(Cause::BadInbound),
+            },
+            DataType::Response => self.take_response(&header),
+            _ => None,
+        }
+    }
+
+    /// The form in which data is read.
+    fn form_awaited(&self) -> Form
+        ensures { result ≡ form_awaited self.now.pending }
+    {
+        match self.pending {
+            Pending::Reading(_) => Form::Buffer,
+            Pending::Nothing | Pending::Writing(_) | Pending::Noting(_) => Form::Modified,
+        }
+    }
+
+    // ---- data
+
+    /// Hears data: the answer to a read, or that of a key in the terminal's turn.
+    fn hear(&mut self, inbound: &Inbound<'_>) -> Option<Cause>
+        ensures came { silent self.new result ≡ data_came inbound.now self.old.turn self.old.pending self.old }
+        ensures talk { self.new.talk ≡ self.old.talk }
+        ensures panel { self.new.panel ≡ self.old.panel }
+    {
+        match self.pending {
+            Pending::Reading(_) => self.hear_buffer(inbound),
+            Pending::Writing(_) => Some(Cause::BadInbound),
+            Pending::Nothing | Pending::Noting(_) => match self.turn {
+                Turn::Host => Some(Cause::BadInbound),
+                Turn::Terminal => self.hear_key(inbound),
+            },
+        }
+    }
+
+    /// Hears the whole screen.
+    fn hear_buffer(&mut self, inbound: &Inbound<'_>) -> Option<Cause>
+        ensures came { silent self.new result ≡ buffer_came inbound.now inbound.now.form self.old }
+        ensures talk { self.new.talk ≡ self.old.talk }
+        ensures panel { self.new.panel ≡ self.old.panel }
+    {
+        let Form::Buffer = inbound.form() else {
+            return Some(Cause::BadInbound);
+        };
+        let cause = self.believe(inbound, once_read(self.occasion));
+        if cause.is_none() {
+            self.pending = Pending::Nothing;
+        }
+        cause
+    }
+
+    /// Hears what a key sends.
+    fn hear_key(&mut self, inbound: &Inbound<'_>) -> Option<Cause>
+        ensures came { silent self.new result ≡ key_data_came inbound.now inbound.now.form self.old }
+        ensures talk { self.new.talk ≡ self.old.talk }
+        ensures panel { self.new.panel ≡ self.old.panel }
+    {
+        let Form::Modified = inbound.form() else {
+            return Some(Cause::BadInbound);
+        };
+        match inbound.aid() {
+            Aid::NoAid => Some(Cause::BadInbound),
+            aid => self.believe(inbound, Occasion::Key(aid, false)),
+        }
+    }
+
+    /// Believes what came, so that the turn is the host's for this reason; what waits for an answer still does.
+    fn believe(&mut self, inbound: &Inbound<'_>, occasion: Occasion) -> Option<Cause>
+        ensures came { silent self.new result ≡ believed occasion self.old.pending self.old (hears inbound.now self.old) }
+        ensures talk { self.new.talk ≡ self.old.talk }
+        ensures panel { self.new.panel ≡ self.old.panel }
+    {
+        // What is sent can be stored, and so what is believed of it.
+        what_is_believed_can_be_stored();
+        let _is_sent = inbound.form();
+        if self.shadow.heard(inbound).is_err() {
+            return Some(Cause::BadInbound);
+        }
+        self.turn = Turn::Host;
+        self.occasion = occasion;
+        None
+    }
+
+    // ---- responses
+
+    /// Takes a response: it has to answer what is pending.
+    fn take_response(&mut self, header: &Header) -> Option<Cause>
+        ensures came { silent self.new result ≡ response_came header.now.seq (verdict_of header.now.flag) self.old.pending self.old }
+        ensures talk { self.new.talk ≡ self.old.talk }
+        ensures panel { self.new.panel ≡ self.old.panel }
+    {
+        match self.pending {
+            Pending::Nothing => Some(Cause::BadResponse),
+            Pending::Writing(number) | Pending::Noting(number) => {
+                if header.seq != number {
+                    return Some(Cause::BadResponse);
+                }
+                self.take_verdict(header.flag)
+            }
+            Pending::Reading(number) => {
+                if header.seq != number || header.flag == POSITIVE {
+                    return Some(Cause::BadResponse);
+                }
+                self.refuse();
+                None
+            }
+        }
+    }
+
+    /// Takes what is said of the write that is pending.
+    fn take_verdict(&mut self, flag: u8) -> Option<Cause>
+        requires { IsWrite self.old.pending }
+        ensures came { silent self.new result ≡ verdict_came (write_of self.old.pending) (verdict_of flag) self.old }
+        ensures talk { self.new.talk ≡ self.old.talk }
+        ensures panel { self.new.panel ≡ self.old.panel }
+    {
+        what_is_believed_can_be_stored();
+        let command = write_in(&self.sent);
+        if flag == POSITIVE {
+            self.shadow.sent_taken(&command);
+            self.pending = Pending::Nothing;
+            return None;
+        }
+        if is_erase(command.code()) {
+            return Some(Cause::Negative);
+        }
+        self.refuse();
+        None
+    }
+
+    /// Forgets what was believed: the command that is pending was refused.
+    fn refuse(&mut self)
+        ensures { self.new ≡ refused self.old }
+    {
+        self.shadow = Shadow::blank();
+        self.turn = Turn::Host;
+        self.pending = Pending::Nothing;
+        self.occasion = Occasion::Refusal;
+    }
+}

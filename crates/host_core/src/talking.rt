@@ -1,0 +1,107 @@
+//! What a host makes of what the stream hands out: the talk's part of it, and records.
+ghost use Rattle.std.specs.Prelude.{◌≡◌, ◌≤◌, ◌++◌, IfNone};
+ghost use Rattle.std.specs.Vec.{vec_capacity};
+ghost use Rattle.lu_pool.specs.Asking.{answer_to};
+ghost use Rattle.lu_pool.specs.Holders.{granted_if};
+ghost use Rattle.lu_pool.specs.Pool.{HoldsNone};
+ghost use Rattle.telnet_wire.specs.Items.{item_of, sent_bytes};
+ghost use Rattle.tn3270e_msg.specs.HostTable.{granted};
+ghost use Rattle.tn3270e_msg.specs.Talk.{closing, items_sent};
+ghost use Rattle.host_core.specs.Keeps.{ItemTaken, OthersHold};
+ghost use Rattle.host_core.specs.Parts.{TalkTaken};
+ghost use Rattle.host_core.specs.Rooms.{HasRoomForReply};
+ghost use Rattle.host_core.specs.Sound.{HoldsJust};
+ghost use Rattle.host_core.specs.Takes.{granted_by};
+
+use crate::session::Session;
+use lu_pool::Pool;
+use telnet_wire::{Item, put_option};
+use tn3270e_msg::{After, Cause, HostState, HostTalk, Lu, Reason, Reply, put_sub_message};
+
+/// Takes what the stream hands out to the connection with this number, and answers the cause by which it closes, if it does; its
+/// LU is still held then.
+pub(crate) fn take_item(
+    pool: &mut Pool,
+    number: usize,
+    session: &mut Session,
+    out: &mut Vec<u8>,
+    item: &Item<'_>,
+) -> Option<Cause>
+    requires room { HasRoomForReply out.old }
+    requires holder { HoldsJust number pool.old (granted session.old.talk.state) }
+    ensures taken { ItemTaken number pool.old session.old (item_of item.now) out.old out.new result pool.new session.new }
+    ensures holds { IfNone result (HoldsJust number pool.new (granted session.new.talk.state)) }
+    ensures others { OthersHold number pool.old pool.new }
+    ensures panel { session.new.panel ≡ session.old.panel }
+    ensures capacity { vec_capacity out.old ≤ vec_capacity out.new }
+{
+    let Item::Record(bytes) = item else {
+        return talk_on(pool, number, &mut session.talk, out, item);
+    };
+    match session.talk.state() {
+        HostState::Agreed(_, _) => session.take_record(bytes),
+        _ => None,
+    }
+}
+
+/// Goes on with the talk by what came, and answers the cause by which it closes, if it does.
+fn talk_on(
+    pool: &mut Pool,
+    number: usize,
+    talk: &mut HostTalk,
+    out: &mut Vec<u8>,
+    item: &Item<'_>,
+) -> Option<Cause>
+    requires room { HasRoomForReply out.old }
+    requires holder { HoldsJust number pool.old (granted talk.old.state) }
+    ensures taken { TalkTaken number pool.old talk.old (item_of item.now) out.old out.new result pool.new talk.new }
+    ensures holds { IfNone result (HoldsJust number pool.new (granted talk.new.state)) }
+    ensures others { OthersHold number pool.old pool.new }
+    ensures capacity { vec_capacity out.old ≤ vec_capacity out.new }
+{
+    match talk.take(item) {
+        Reply::AskPool(name) => {
+            let answer = ask(pool, number, &name);
+            send_reply(&talk.answered(answer), out)
+        }
+        reply => send_reply(&reply, out),
+    }
+}
+
+/// Asks the pool for an LU, of this name if there is one.
+fn ask(pool: &mut Pool, number: usize, name: &Option<Lu>) -> Result<Lu, Reason>
+    requires { HoldsNone pool.old number }
+    ensures answer { result ≡ answer_to pool.old name.now }
+    ensures becomes { pool.new ≡ granted_if number (granted_by result) pool.old }
+    ensures holds { HoldsJust number pool.new (granted_by result) }
+    ensures others { OthersHold number pool.old pool.new }
+{
+    match name {
+        Some(lu) => pool.ask(number, Some(lu.as_bytes())),
+        None => pool.ask(number, None),
+    }
+}
+
+/// Sends what the talk replies, and answers the cause by which the reply closes the connection, if it does.
+fn send_reply(reply: &Reply, out: &mut Vec<u8>) -> Option<Cause>
+    requires { HasRoomForReply out.old }
+    ensures sent { out.new.items ≡ out.old.items ++ sent_bytes (items_sent reply.now) }
+    ensures closes { result ≡ closing reply.now }
+    ensures capacity { vec_capacity out.old ≤ vec_capacity out.new }
+{
+    match reply {
+        Reply::Opt(verb, code) => {
+            put_option(out, *verb, *code).unwrap();
+            None
+        }
+        Reply::Sub(sending, after) => {
+            put_sub_message(out, &sending.message()).unwrap();
+            match after {
+                After::Close(cause) => Some(*cause),
+                After::Going | After::Agreed => None,
+            }
+        }
+        Reply::Close(cause) => Some(*cause),
+        Reply::Nothing | Reply::AskPool(_) | Reply::Agreed | Reply::Refused(_) => None,
+    }
+}
