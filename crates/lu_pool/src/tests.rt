@@ -5,43 +5,33 @@ use std::test::Fail;
 use telnet_wire::{Item, Memory, Verb};
 use tn3270e_msg::{After, Cause, Device, HostTalk, Lu, Reason, Reply, Sending, put_sub_message};
 
-fn texts(alloc: Global, names: &[&str]) -> Result<Vec<String>, AllocError> {
-    let mut texts = Vec::with_capacity(alloc, names.len())?;
+fn add_texts(alloc: Global, texts: &mut Vec<String>, names: &[&str]) -> Result<(), AllocError> {
     for name in names {
-        let mut text = String::new(alloc);
-        text.push_str(name)?;
-        texts.push(text)?;
+        texts.push(String::from_str(alloc, name)?)?;
     }
-    Ok(texts)
+    Ok(())
 }
 
-fn pool_of(alloc: Global, names: &[&str]) -> Result<Pool, Fail> {
-    let texts = texts(alloc, names)?;
-    pool_read(alloc, &texts)
+fn pool_of(alloc: Global, names: &[&str]) -> Result<Pool, PoolFault> {
+    let mut texts = Vec::new(alloc);
+    add_texts(alloc, &mut texts, names)?;
+    Pool::read(alloc, &texts)
 }
 
-fn pool_read(alloc: Global, texts: &[String]) -> Result<Pool, Fail> {
-    match Pool::read(alloc, texts) {
-        Ok(pool) => Ok(pool),
-        Err(_) => Err("no pool".into()),
-    }
-}
-
-// Whether these names are no pool, for the reason that is printed so.
-fn is_refused(alloc: Global, names: &[&str], printed: &str) -> Result<bool, Fail> {
-    let texts = texts(alloc, names)?;
-    let Err(fault) = Pool::read(alloc, &texts) else {
-        return Ok(false);
-    };
-    prints(alloc, fault, printed)
-}
-
-fn prints(alloc: Global, fault: PoolFault, printed: &str) -> Result<bool, Fail> {
+fn prints(alloc: Global, fault: PoolFault, printed: &str) -> Result<bool, AllocError> {
     let text = format!(in alloc; "{fault}")?;
     Ok(text.as_str() == printed)
 }
 
-const LISTS: [(&[&str], &str); 7] = [
+// Whether these names are no pool, for the reason that is printed so.
+fn is_refused(alloc: Global, names: &[&str], printed: &str) -> Result<bool, AllocError> {
+    match pool_of(alloc, names) {
+        Ok(_) => Ok(false),
+        Err(fault) => prints(alloc, fault, printed),
+    }
+}
+
+static LISTS: [(&[&str], &str); 7] = [
     (&[], "lu: BadCount"),
     (&["A", "a"], "lu 1: Twice"),
     (&["A", "B", "C", "B", "B"], "lu 3: Twice"),
@@ -51,38 +41,42 @@ const LISTS: [(&[&str], &str); 7] = [
     (&["ABCDEFGHI"], "lu 0: BadName"),
 ];
 
-#[test]
-fn lists_that_are_no_pool(rt: HostRuntime) -> Result<(), Fail> {
-    for (names, printed) in LISTS {
-        assert!(rt; is_refused(rt.alloc(), names, printed)?, "{printed}");
+// Whether each of these lists is refused, and how, and refused memory is printed too.
+fn each_fault_is_printed(alloc: Global) -> Result<bool, AllocError> {
+    for (names, printed) in &LISTS {
+        if !is_refused(alloc, names, printed)? {
+            return Ok(false);
+        }
     }
-    Ok(())
+    prints(alloc, PoolFault::Memory, "no memory")
 }
 
 #[test]
-fn refused_memory_is_printed(rt: HostRuntime) -> Result<(), Fail> {
-    assert!(rt; prints(rt.alloc(), PoolFault::Memory, "no memory")?);
-    Ok(())
+fn faults_are_printed(rt: HostRuntime) {
+    assert_eq!(rt; each_fault_is_printed(rt.alloc()), Ok(true));
 }
 
-// LU0, LU1 and on, so many.
-fn numbered(alloc: Global, count: usize) -> Result<Vec<String>, Fail> {
-    let mut texts = Vec::new(alloc);
+// Adds LU0, LU1 and on, so many.
+fn add_numbered(alloc: Global, texts: &mut Vec<String>, count: usize) -> Result<(), AllocError> {
     for number in 0..count {
         texts.push(format!(in alloc; "LU{number}")?)?;
     }
-    Ok(texts)
+    Ok(())
+}
+
+// Whether 64 names are a pool, and one more is too many, before any name is looked at.
+fn count_is_limited(alloc: Global, texts: &mut Vec<String>) -> Result<bool, AllocError> {
+    add_numbered(alloc, texts, 64)?;
+    let is_pool = Pool::read(alloc, texts).is_ok();
+    add_texts(alloc, texts, &["9"])?;
+    Ok(is_pool && Pool::read(alloc, texts).err() == Some(PoolFault::BadCount))
 }
 
 #[test]
-fn a_pool_has_64_lus_at_most(rt: HostRuntime) -> Result<(), Fail> {
-    let mut texts = numbered(rt.alloc(), 64)?;
-    let is_pool = Pool::read(rt.alloc(), &texts).is_ok();
-    // One more is too many, before any name is looked at.
-    texts.push(format!(in rt.alloc(); "9")?)?;
-    let fault = Pool::read(rt.alloc(), &texts).err();
-    assert!(rt; is_pool && fault == Some(PoolFault::BadCount));
-    Ok(())
+fn a_pool_has_64_lus_at_most(rt: HostRuntime) {
+    let mut texts = Vec::new(rt.alloc());
+    let is_limited = count_is_limited(rt.alloc(), &mut texts);
+    assert_eq!(rt; is_limited, Ok(true));
 }
 
 // What the pool answers a connection, which must hold none.
@@ -93,23 +87,17 @@ fn ask(pool: &mut Pool, conn: usize, name: Option<&[u8]>) -> Result<Lu, Reason> 
     }
 }
 
-// Whether a connection is granted this LU, which it asks for by name, and holds it then.
-fn grants_named(pool: &mut Pool, first: Lu) -> bool {
+// Whether a connection is granted the first LU, which it asks for by name, and another is refused it, and what isn't
+// in the pool, but granted the second; a third is granted none.
+fn grants_each_once(pool: &mut Pool, first: Lu, second: Lu) -> bool {
     pool.lu_held_by(0).is_none()
         && ask(pool, 0, Some(b"pnl01")) == Ok(first)
         && pool.lu_held_by(0) == Some(first)
-}
-
-// Whether another is refused it, and what isn't in the pool.
-fn refuses_held_and_unknown(pool: &mut Pool) -> bool {
-    ask(pool, 7, Some(b"PNL01")) == Err(Reason::DEVICE_IN_USE)
+        && ask(pool, 7, Some(b"PNL01")) == Err(Reason::DEVICE_IN_USE)
         && ask(pool, 7, Some(b"PNL09")) == Err(Reason::INV_NAME)
         && ask(pool, 7, Some(b"9")) == Err(Reason::INV_NAME)
-}
-
-// Whether it is granted the second, and a third connection none.
-fn grants_what_is_left(pool: &mut Pool, second: Lu) -> bool {
-    ask(pool, 7, None) == Ok(second) && ask(pool, 8, None) == Err(Reason::DEVICE_IN_USE)
+        && ask(pool, 7, None) == Ok(second)
+        && ask(pool, 8, None) == Err(Reason::DEVICE_IN_USE)
 }
 
 // Whether the first is free once it is given back, twice at that, and the second is held still.
@@ -125,19 +113,6 @@ fn frees_one(pool: &mut Pool, first: Lu, second: Lu) -> bool {
 fn frees_all(pool: &mut Pool, first: Lu) -> bool {
     pool.free_all();
     pool.lu_held_by(7).is_none() && ask(pool, 9, None) == Ok(first)
-}
-
-#[test]
-fn an_lu_has_one_holder(rt: HostRuntime) -> Result<(), Fail> {
-    let first = Lu::read(b"PNL01").ok_or("no name")?;
-    let second = Lu::read(b"PNL02").ok_or("no name")?;
-    let mut pool = pool_of(rt.alloc(), &["PNL01", "pnl02"])?;
-    assert!(rt; grants_named(&mut pool, first));
-    assert!(rt; refuses_held_and_unknown(&mut pool));
-    assert!(rt; grants_what_is_left(&mut pool, second));
-    assert!(rt; frees_one(&mut pool, first, second));
-    assert!(rt; frees_all(&mut pool, first));
-    Ok(())
 }
 
 // What a host replies that asks its pool for the LU of this request, if it asks.
@@ -166,28 +141,39 @@ fn sends(alloc: Global, reply: Reply, bytes: &[u8]) -> Result<bool, Memory> {
     Ok(out.as_slice() == bytes)
 }
 
-// The first of these requests to which a host sends other bytes than these.
-fn differs(
-    alloc: Global,
-    host: &mut HostTalk,
-    pool: &mut Pool,
-    turns: &[(&[u8], &[u8])],
-) -> Result<Option<usize>, Memory> {
-    for (place, (request, bytes)) in turns.iter().enumerate() {
-        if !sends(alloc, answered(host, pool, request), bytes)? {
-            return Ok(Some(place));
-        }
-    }
-    Ok(None)
-}
-
-fn asked() -> HostTalk {
-    let mut host = HostTalk::new();
-    let _ = host.take(&Item::Opt {
+// Whether a new host asks for the terminal's type.
+fn asks(host: &mut HostTalk) -> bool {
+    let item = Item::Opt {
         verb: Verb::Will,
         code: 40,
-    });
-    host
+    };
+    host.take(&item) == Reply::Sub(Sending::SendType, After::Going)
+}
+
+/// Requests of model 2, for a held LU, for one that the pool hasn't, and for a free one, and what a host sends.
+static REQUESTS: [(&[u8], &[u8]); 3] = [
+    (
+        b"\x28\x02\x07IBM-3278-2\x01PNL01",
+        b"\xff\xfa\x28\x02\x06\x05\x01\xff\xf0",
+    ),
+    (
+        b"\x28\x02\x07IBM-3278-2\x01PNL09",
+        b"\xff\xfa\x28\x02\x06\x05\x03\xff\xf0",
+    ),
+    (
+        b"\x28\x02\x07IBM-3278-2\x01PNL02",
+        b"\xff\xfa\x28\x02\x04\x49\x42\x4d\x2d\x33\x32\x37\x38\x2d\x32\x01\x50\x4e\x4c\x30\x32\xff\xf0",
+    ),
+];
+
+// Whether a host sends what it is to, at each of these requests.
+fn answers_requests(alloc: Global, host: &mut HostTalk, pool: &mut Pool) -> Result<bool, Memory> {
+    for (request, bytes) in &REQUESTS {
+        if !sends(alloc, answered(host, pool, request), bytes)? {
+            return Ok(false);
+        }
+    }
+    Ok(true)
 }
 
 // Whether a host counters other functions once, and then agrees.
@@ -200,28 +186,47 @@ fn counters(alloc: Global, host: &mut HostTalk) -> Result<bool, Memory> {
     )
 }
 
+// Whether a host asks its pool, of PNL01, which another holds, and PNL02, and holds what it was granted.
+fn asks_its_pool(alloc: Global, host: &mut HostTalk, pool: &mut Pool) -> Result<bool, Memory> {
+    pool.free_all();
+    Ok(
+        ask(pool, 0, Some(b"PNL01")).is_ok()
+            && asks(host)
+            && answers_requests(alloc, host, pool)?
+            && counters(alloc, host)?
+            && host.lu() == pool.lu_held_by(1),
+    )
+}
+
+// Whether all of this is so of a pool of PNL01 and PNL02.
+fn has_one_holder_each(
+    alloc: Global,
+    host: &mut HostTalk,
+    pool: &mut Pool,
+    first: Lu,
+    second: Lu,
+) -> Result<bool, Memory> {
+    Ok(
+        grants_each_once(pool, first, second)
+            && frees_one(pool, first, second)
+            && frees_all(pool, first)
+            && asks_its_pool(alloc, host, pool)?,
+    )
+}
+
 #[test]
-fn a_host_asks_its_pool(rt: HostRuntime) -> Result<(), Fail> {
-    let mut host = asked();
-    let mut pool = pool_of(rt.alloc(), &["PNL01", "PNL02"])?;
-    let is_held = ask(&mut pool, 0, Some(b"PNL01")).is_ok();
-    let turns: [(&[u8], &[u8]); 3] = [
-        (
-            b"\x28\x02\x07IBM-3278-2\x01PNL01",
-            b"\xff\xfa\x28\x02\x06\x05\x01\xff\xf0",
-        ),
-        (
-            b"\x28\x02\x07IBM-3278-2\x01PNL09",
-            b"\xff\xfa\x28\x02\x06\x05\x03\xff\xf0",
-        ),
-        (
-            b"\x28\x02\x07IBM-3278-2\x01PNL02",
-            b"\xff\xfa\x28\x02\x04\x49\x42\x4d\x2d\x33\x32\x37\x38\x2d\x32\x01\x50\x4e\x4c\x30\x32\xff\xf0",
-        ),
-    ];
-    let differs = differs(rt.alloc(), &mut host, &mut pool, &turns)?;
-    assert!(rt; is_held && differs.is_none(), "{differs:?}");
-    assert!(rt; counters(rt.alloc(), &mut host)? && host.lu() == pool.lu_held_by(1));
+fn an_lu_has_one_holder(rt: HostRuntime) -> Result<(), Fail> {
+    let first = Lu::read(b"PNL01").ok_or("no name")?;
+    let second = Lu::read(b"PNL02").ok_or("no name")?;
+    let mut pool = pool_of(rt.alloc(), &["PNL01", "pnl02"])?;
+    let is_held_once = has_one_holder_each(
+        rt.alloc(),
+        &mut HostTalk::new(),
+        &mut pool,
+        first,
+        second,
+    );
+    assert_eq!(rt; is_held_once, Ok(true));
     Ok(())
 }
 
@@ -239,53 +244,77 @@ fn rejects(
     )
 }
 
-// Whether it rejects eight, the last of which closes it.
+// Whether it rejects eight, the last of which closes it, and its pool grants nothing.
 fn rejects_eight(alloc: Global, host: &mut HostTalk, pool: &mut Pool) -> Result<bool, Memory> {
+    let is_asked = asks(host);
     for _ in 0..7 {
         if !rejects(alloc, host, pool, After::Going)? {
             return Ok(false);
         }
     }
-    rejects(alloc, host, pool, After::Close(Cause::TooMany))
+    Ok(
+        is_asked
+            && rejects(alloc, host, pool, After::Close(Cause::TooMany))?
+            && pool.lu_held_by(1).is_none(),
+    )
 }
 
-#[test]
-fn eight_devices_that_are_none(rt: HostRuntime) -> Result<(), Fail> {
-    let mut pool = pool_of(rt.alloc(), &["PNL01"])?;
-    let is_rejected = rejects_eight(rt.alloc(), &mut asked(), &mut pool)?;
-    assert!(rt; is_rejected && pool.lu_held_by(1).is_none());
-    Ok(())
-}
-
-#[test]
-fn the_first_free_lu_is_granted_to_any_model(rt: HostRuntime) -> Result<(), Fail> {
-    let first = Lu::read(b"B").ok_or("no name")?;
-    let mut host = asked();
-    let mut pool = pool_of(rt.alloc(), &["B", "A"])?;
-    let reply = answered(&mut host, &mut pool, b"\x28\x02\x07ibm-3278-5-e");
+// Whether a host grants a model 5 with extensions this LU, the first that is free.
+fn grants_first(host: &mut HostTalk, pool: &mut Pool, first: Lu) -> bool {
     let is = Reply::Sub(Sending::TypeIs(Device::Model5E, first), After::Going);
-    assert!(rt; reply == is && host.device() == Some(Device::Model5E));
+    asks(host)
+        && answered(host, pool, b"\x28\x02\x07ibm-3278-5-e") == is
+        && host.device() == Some(Device::Model5E)
+}
+
+// Whether a host grants what is free, after another rejected what isn't served.
+fn grants_after_rejections(
+    alloc: Global,
+    rejecting: &mut HostTalk,
+    granting: &mut HostTalk,
+    pool: &mut Pool,
+    first: Lu,
+) -> Result<bool, Memory> {
+    Ok(rejects_eight(alloc, rejecting, pool)? && grants_first(granting, pool, first))
+}
+
+#[test]
+fn eight_devices_that_are_none_and_one_that_is(rt: HostRuntime) -> Result<(), Fail> {
+    let first = Lu::read(b"B").ok_or("no name")?;
+    let mut pool = pool_of(rt.alloc(), &["B", "A"])?;
+    let is_granted = grants_after_rejections(
+        rt.alloc(),
+        &mut HostTalk::new(),
+        &mut HostTalk::new(),
+        &mut pool,
+        first,
+    );
+    assert_eq!(rt; is_granted, Ok(true));
     Ok(())
 }
 
 // The pool of these texts, at the second call where the first was refused memory.
-fn made_at_last(alloc: Global, texts: &[String]) -> Result<Pool, Fail> {
+fn made_at_last(alloc: Global, texts: &[String]) -> Result<Pool, PoolFault> {
     match Pool::read(alloc, texts) {
-        Err(PoolFault::Memory) => pool_read(alloc, texts),
-        Err(_) => Err("another fault".into()),
-        Ok(pool) => Ok(pool),
+        Err(PoolFault::Memory) => Pool::read(alloc, texts),
+        made => made,
     }
+}
+
+// Whether a pool of A and B is made at last, and grants, where the texts are had.
+fn is_made_at_last(alloc: Global, texts: &mut Vec<String>) -> Result<bool, PoolFault> {
+    if add_texts(alloc, texts, &["A", "B"]).is_err() {
+        return Ok(true);
+    }
+    let mut pool = made_at_last(alloc, texts)?;
+    Ok(ask(&mut pool, 0, None).is_ok())
 }
 
 // In an ordinary run no growth is refused. `rt try --test --fail-alloc N` refuses the Nth one, and
 // this test passes at every N, whichever growth it meets.
 #[test]
-fn a_refused_growth_makes_no_pool(rt: HostRuntime) -> Result<(), Fail> {
-    let Ok(texts) = texts(rt.alloc(), &["A", "B"]) else {
-        return Ok(());
-    };
-    let mut pool = made_at_last(rt.alloc(), &texts)?;
-    let answer = ask(&mut pool, 0, None);
-    assert!(rt; answer.is_ok());
-    Ok(())
+fn a_refused_growth_makes_no_pool(rt: HostRuntime) {
+    let mut texts = Vec::new(rt.alloc());
+    let is_made = is_made_at_last(rt.alloc(), &mut texts);
+    assert_eq!(rt; is_made, Ok(true));
 }

@@ -8,14 +8,21 @@ const fn option(verb: Verb, code: u8) -> Item<'static> {
     Item::Opt { verb, code }
 }
 
+/// An item, what is replied to it, and the bytes that this sends.
+type Turn<'a> = (Item<'a>, Reply, &'a [u8]);
+
+fn put(out: &mut Vec<u8>, reply: Reply) -> Result<(), Memory> {
+    match reply {
+        Reply::Opt(verb, code) => put_option(out, verb, code),
+        Reply::Sub(sending, _) => put_sub_message(out, &sending.message()),
+        _ => Ok(()),
+    }
+}
+
 // Whether these are the bytes that a reply sends.
 fn sends(alloc: Global, reply: Reply, bytes: &[u8]) -> Result<bool, Memory> {
     let mut out = Vec::new(alloc);
-    match reply {
-        Reply::Opt(verb, code) => put_option(&mut out, verb, code)?,
-        Reply::Sub(sending, _) => put_sub_message(&mut out, &sending.message())?,
-        _ => {}
-    }
+    put(&mut out, reply)?;
     Ok(out.as_slice() == bytes)
 }
 
@@ -28,7 +35,7 @@ fn replies(alloc: Global, said: Reply, reply: Reply, bytes: &[u8]) -> Result<boo
 fn host_differs(
     alloc: Global,
     host: &mut HostTalk,
-    turns: &[(Item, Reply, &[u8])],
+    turns: &[Turn],
 ) -> Result<Option<usize>, Memory> {
     for (place, (item, reply, bytes)) in turns.iter().enumerate() {
         if !replies(alloc, host.take(item), *reply, bytes)? {
@@ -42,7 +49,7 @@ fn host_differs(
 fn terminal_differs(
     alloc: Global,
     terminal: &mut TermTalk,
-    turns: &[(Item, Reply, &[u8])],
+    turns: &[Turn],
 ) -> Result<Option<usize>, Memory> {
     for (place, (item, reply, bytes)) in turns.iter().enumerate() {
         if !replies(alloc, terminal.take(item), *reply, bytes)? {
@@ -72,15 +79,14 @@ fn asked() -> HostTalk {
     host
 }
 
-// A host's talk that has granted this LU to a model 2.
-fn named(lu: Lu) -> Result<HostTalk, Fail> {
-    let mut host = asked();
+// Whether a host asks its pool, which grants this LU to a model 2.
+fn is_named(host: &mut HostTalk, lu: Lu) -> bool {
     let _ = host.take(&Item::Sub(b"\x28\x02\x07IBM-3278-2"));
-    if !host.asking() {
-        return Err("the pool wasn't asked".into());
+    let is_asking = host.asking();
+    if is_asking {
+        let _ = host.answered(Ok(lu));
     }
-    let _ = host.answered(Ok(lu));
-    Ok(host)
+    is_asking
 }
 
 // A terminal's talk that has asked for this LU.
@@ -154,49 +160,69 @@ fn grants(alloc: Global, host: &mut HostTalk, wanted: Lu) -> Result<bool, Memory
     Ok(asked.is_none() && host.device().is_none() && answer_sends(alloc, host, Ok(wanted), grant)?)
 }
 
+// Whether a terminal asks for this LU, and is granted it.
+fn is_granted(alloc: Global, terminal: &mut TermTalk, wanted: Lu) -> Result<bool, Memory> {
+    Ok(
+        asking_differs(alloc, terminal, wanted)?.is_none()
+            && terminal.state() == TermState::Agreed(wanted)
+            && terminal.lu() == Some(wanted),
+    )
+}
+
 #[test]
 fn a_terminal_is_granted_the_lu_that_it_wants(rt: HostRuntime) -> Result<(), Fail> {
     talks_agree();
     let wanted = Lu::read(b"pnl01").ok_or("no name")?;
-    let mut terminal = TermTalk::new(Some(wanted));
-    let differs = asking_differs(rt.alloc(), &mut terminal, wanted)?;
-    assert_eq!(rt; differs, None);
-    assert_eq!(rt; terminal.state(), TermState::Agreed(wanted));
-    assert_eq!(rt; terminal.lu(), Some(wanted));
+    let is_granted = is_granted(rt.alloc(), &mut TermTalk::new(Some(wanted)), wanted);
+    assert_eq!(rt; is_granted, Ok(true));
     Ok(())
+}
+
+// Whether a host that grants this LU agrees to RESPONSES, and holds to what it granted.
+fn agrees(alloc: Global, host: &mut HostTalk, wanted: Lu) -> Result<bool, Memory> {
+    let is = Reply::Sub(Sending::FunIs, After::Agreed);
+    let bytes = b"\xff\xfa\x28\x03\x04\x02\xff\xf0";
+    Ok(
+        grants(alloc, host, wanted)?
+            && replies(alloc, host.take(&Item::Sub(b"\x28\x03\x07\x02")), is, bytes)?
+            && host.lu() == Some(wanted)
+            && host.device() == Some(Device::Model2),
+    )
 }
 
 #[test]
 fn a_host_grants_the_lu_that_is_wanted(rt: HostRuntime) -> Result<(), Fail> {
     let wanted = Lu::read(b"pnl01").ok_or("no name")?;
-    let mut host = HostTalk::new();
-    assert!(rt; grants(rt.alloc(), &mut host, wanted)?);
-    let agreed = host.take(&Item::Sub(b"\x28\x03\x07\x02"));
-    let is = Reply::Sub(Sending::FunIs, After::Agreed);
-    assert!(rt; replies(rt.alloc(), agreed, is, b"\xff\xfa\x28\x03\x04\x02\xff\xf0")?);
-    assert_eq!(rt; host.lu(), Some(wanted));
-    assert_eq!(rt; host.device(), Some(Device::Model2));
+    let is_agreed = agrees(rt.alloc(), &mut HostTalk::new(), wanted);
+    assert_eq!(rt; is_agreed, Ok(true));
     Ok(())
+}
+
+// Whether a host that grants this LU counters other functions once, and then agrees.
+fn counters(alloc: Global, host: &mut HostTalk, lu: Lu) -> Result<bool, Memory> {
+    Ok(
+        is_named(host, lu)
+            && host_differs(
+                alloc,
+                host,
+                &[
+                    (
+                        Item::Sub(b"\x28\x03\x07\x00\x02\x04"),
+                        Reply::Sub(Sending::FunRequest, After::Going),
+                        b"\xff\xfa\x28\x03\x07\x02\xff\xf0",
+                    ),
+                    (Item::Sub(b"\x28\x03\x04\x02"), Reply::Agreed, b""),
+                ],
+            )?
+            .is_none()
+            && host.lu() == Some(lu),
+    )
 }
 
 #[test]
 fn a_usual_client_is_countered_once(rt: HostRuntime) -> Result<(), Fail> {
     let lu = Lu::read(b"PNL01").ok_or("no name")?;
-    let mut host = named(lu)?;
-    let differs = host_differs(
-        rt.alloc(),
-        &mut host,
-        &[
-            (
-                Item::Sub(b"\x28\x03\x07\x00\x02\x04"),
-                Reply::Sub(Sending::FunRequest, After::Going),
-                b"\xff\xfa\x28\x03\x07\x02\xff\xf0",
-            ),
-            (Item::Sub(b"\x28\x03\x04\x02"), Reply::Agreed, b""),
-        ],
-    )?;
-    assert_eq!(rt; differs, None);
-    assert_eq!(rt; host.lu(), Some(lu));
+    assert_eq!(rt; counters(rt.alloc(), &mut asked(), lu), Ok(true));
     Ok(())
 }
 
@@ -229,115 +255,105 @@ fn grants_free(alloc: Global, host: &mut HostTalk, free: Lu) -> Result<bool, Mem
     answer_sends(alloc, host, Ok(free), grant)
 }
 
-#[test]
-fn an_lu_that_is_held_or_unknown_is_refused(rt: HostRuntime) -> Result<(), Fail> {
-    let mut host = asked();
-    let held = Lu::read(b"PNL01").ok_or("no name")?;
-    let free = Lu::read(b"PNL02").ok_or("no name")?;
-    assert!(rt; refuses_held(rt.alloc(), &mut host, held)?);
-    assert!(rt; refuses_unknown(rt.alloc(), &mut host)?);
-    assert!(rt; grants_free(rt.alloc(), &mut host, free)?);
-    Ok(())
-}
-
-const fn rejected(reason: Reason) -> Reply {
-    Reply::Sub(Sending::TypeReject(reason), After::Going)
-}
-
-// The type is judged first.
-#[test]
-fn a_printer_is_refused(rt: HostRuntime) -> Result<(), Fail> {
-    let mut host = asked();
-    let differs = host_differs(
-        rt.alloc(),
-        &mut host,
-        &[
-            (
-                Item::Sub(b"\x28\x02\x07IBM-3278-2\x00PNL01"),
-                rejected(Reason(7)),
-                b"\xff\xfa\x28\x02\x06\x05\x07\xff\xf0",
-            ),
-            (
-                Item::Sub(b"\x28\x02\x07IBM-3287-1\x00PNL01"),
-                rejected(Reason(4)),
-                b"\xff\xfa\x28\x02\x06\x05\x04\xff\xf0",
-            ),
-        ],
-    )?;
-    assert_eq!(rt; differs, None);
-    Ok(())
-}
-
-// Whether a host replies this to each of so many of an item.
-fn host_repeats(
+fn refuses_and_grants(
     alloc: Global,
     host: &mut HostTalk,
-    count: usize,
-    turn: &(Item, Reply, &[u8]),
+    held: Lu,
+    free: Lu,
 ) -> Result<bool, Memory> {
-    let (item, reply, bytes) = turn;
-    for _ in 0..count {
-        if !replies(alloc, host.take(item), *reply, bytes)? {
-            return Ok(false);
-        }
-    }
-    Ok(true)
-}
-
-// Whether a terminal does.
-fn terminal_repeats(
-    alloc: Global,
-    terminal: &mut TermTalk,
-    count: usize,
-    turn: &(Item, Reply, &[u8]),
-) -> Result<bool, Memory> {
-    let (item, reply, bytes) = turn;
-    for _ in 0..count {
-        if !replies(alloc, terminal.take(item), *reply, bytes)? {
-            return Ok(false);
-        }
-    }
-    Ok(true)
+    Ok(
+        refuses_held(alloc, host, held)?
+            && refuses_unknown(alloc, host)?
+            && grants_free(alloc, host, free)?,
+    )
 }
 
 #[test]
-fn the_eighth_rejection_is_the_last(rt: HostRuntime) -> Result<(), Fail> {
-    let mut host = asked();
+fn an_lu_that_is_held_or_unknown_is_refused(rt: HostRuntime) -> Result<(), Fail> {
+    let held = Lu::read(b"PNL01").ok_or("no name")?;
+    let free = Lu::read(b"PNL02").ok_or("no name")?;
+    let is_right = refuses_and_grants(rt.alloc(), &mut asked(), held, free);
+    assert_eq!(rt; is_right, Ok(true));
+    Ok(())
+}
+
+#[test]
+fn a_printer_is_refused(rt: HostRuntime) {
+    // The type is judged first.
+    let turns: [Turn; 2] = [
+        (
+            Item::Sub(b"\x28\x02\x07IBM-3278-2\x00PNL01"),
+            Reply::Sub(Sending::TypeReject(Reason(7)), After::Going),
+            b"\xff\xfa\x28\x02\x06\x05\x07\xff\xf0",
+        ),
+        (
+            Item::Sub(b"\x28\x02\x07IBM-3287-1\x00PNL01"),
+            Reply::Sub(Sending::TypeReject(Reason(4)), After::Going),
+            b"\xff\xfa\x28\x02\x06\x05\x04\xff\xf0",
+        ),
+    ];
+    let differs = host_differs(rt.alloc(), &mut asked(), &turns);
+    assert_eq!(rt; differs, Ok(None));
+}
+
+// Whether a host rejects eight devices that aren't served, and closes with the last.
+fn rejects_eight(alloc: Global, host: &mut HostTalk) -> Result<bool, Memory> {
     let request = Item::Sub(b"\x28\x02\x07X");
-    let bytes = b"\xff\xfa\x28\x02\x06\x05\x04\xff\xf0".as_slice();
-    let last = Reply::Sub(Sending::TypeReject(Reason(4)), After::Close(Cause::TooMany));
-    let first = (request, rejected(Reason(4)), bytes);
-    assert!(rt; host_repeats(rt.alloc(), &mut host, 7, &first)?);
-    let then = [
-        (request, last, bytes),
-        (request, Reply::Close(Cause::TooMany), b""),
-    ];
-    let differs = host_differs(rt.alloc(), &mut host, &then)?;
-    assert_eq!(rt; differs, None);
-    Ok(())
+    let rejection = Sending::TypeReject(Reason(4));
+    let going = Reply::Sub(rejection, After::Going);
+    let last = Reply::Sub(rejection, After::Close(Cause::TooMany));
+    let bytes = b"\xff\xfa\x28\x02\x06\x05\x04\xff\xf0";
+    for _ in 0..7 {
+        if !replies(alloc, host.take(&request), going, bytes)? {
+            return Ok(false);
+        }
+    }
+    Ok(
+        replies(alloc, host.take(&request), last, bytes)?
+            && replies(
+                alloc,
+                host.take(&request),
+                Reply::Close(Cause::TooMany),
+                b"",
+            )?,
+    )
 }
 
 #[test]
-fn the_eighth_counter_request_is_the_last(rt: HostRuntime) -> Result<(), Fail> {
-    let mut terminal = granted();
+fn the_eighth_rejection_is_the_last(rt: HostRuntime) {
+    assert_eq!(rt; rejects_eight(rt.alloc(), &mut asked()), Ok(true));
+}
+
+// Whether a terminal counters other functions eight times, and closes with the last.
+fn counters_eight(alloc: Global, terminal: &mut TermTalk) -> Result<bool, Memory> {
     let request = Item::Sub(b"\x28\x03\x07\x02\x04");
-    let bytes = b"\xff\xfa\x28\x03\x07\x02\xff\xf0".as_slice();
-    let countered = Reply::Sub(Sending::FunRequest, After::Going);
+    let going = Reply::Sub(Sending::FunRequest, After::Going);
     let last = Reply::Sub(Sending::FunRequest, After::Close(Cause::TooMany));
-    let first = (request, countered, bytes);
-    assert!(rt; terminal_repeats(rt.alloc(), &mut terminal, 7, &first)?);
-    let then = [
-        (request, last, bytes),
-        (request, Reply::Close(Cause::TooMany), b""),
-    ];
-    let differs = terminal_differs(rt.alloc(), &mut terminal, &then)?;
-    assert_eq!(rt; differs, None);
-    Ok(())
+    let bytes = b"\xff\xfa\x28\x03\x07\x02\xff\xf0";
+    for _ in 0..7 {
+        if !replies(alloc, terminal.take(&request), going, bytes)? {
+            return Ok(false);
+        }
+    }
+    Ok(
+        replies(alloc, terminal.take(&request), last, bytes)?
+            && replies(
+                alloc,
+                terminal.take(&request),
+                Reply::Close(Cause::TooMany),
+                b"",
+            )?,
+    )
 }
 
 #[test]
-fn other_options_are_refused(rt: HostRuntime) -> Result<(), Fail> {
-    let cases: [(Item, Reply, &[u8]); 7] = [
+fn the_eighth_counter_request_is_the_last(rt: HostRuntime) {
+    assert_eq!(rt; counters_eight(rt.alloc(), &mut granted()), Ok(true));
+}
+
+#[test]
+fn other_options_are_refused(rt: HostRuntime) {
+    let turns: [Turn; 7] = [
         (
             option(Verb::Do, 0x18),
             Reply::Opt(Verb::Wont, 0x18),
@@ -354,11 +370,9 @@ fn other_options_are_refused(rt: HostRuntime) -> Result<(), Fail> {
         (Item::Sub(b"\x29\x00"), Reply::Nothing, b""),
         (Item::Record(b"\x05"), Reply::Nothing, b""),
     ];
-    let host = host_differs(rt.alloc(), &mut HostTalk::new(), &cases)?;
-    assert_eq!(rt; host, None);
-    let terminal = terminal_differs(rt.alloc(), &mut TermTalk::new(None), &cases)?;
-    assert_eq!(rt; terminal, None);
-    Ok(())
+    let host = host_differs(rt.alloc(), &mut HostTalk::new(), &turns);
+    let terminal = terminal_differs(rt.alloc(), &mut TermTalk::new(None), &turns);
+    assert_eq!(rt; (host, terminal), (Ok(None), Ok(None)));
 }
 
 // The first of these verbs for TN3270E to which a host replies otherwise.
@@ -398,27 +412,31 @@ fn a_host_agrees_to_the_option_once(rt: HostRuntime) {
     assert_eq!(rt; differs, None);
 }
 
-#[test]
-fn a_terminal_agrees_to_the_option_once(rt: HostRuntime) {
-    let mut terminal = TermTalk::new(None);
-    assert_eq!(rt; terminal.state(), TermState::Waiting);
-    let differs = terminal_answers(
-        &mut terminal,
-        &[
-            (Verb::Will, Reply::Opt(Verb::Dont, 40)),
-            (Verb::Wont, Reply::Nothing),
-            (Verb::Do, Reply::Opt(Verb::Will, 40)),
-            (Verb::Do, Reply::Nothing),
-            (Verb::Dont, Reply::Close(Cause::NoTn3270e)),
-            (Verb::Do, Reply::Close(Cause::NoTn3270e)),
-        ],
-    );
-    assert_eq!(rt; differs, None);
-    assert_eq!(rt; terminal.state(), TermState::Closed(Cause::NoTn3270e));
+// Whether a terminal waits, agrees to the option once, and is closed then.
+fn agrees_once(terminal: &mut TermTalk) -> bool {
+    terminal.state() == TermState::Waiting
+        && terminal_answers(
+            terminal,
+            &[
+                (Verb::Will, Reply::Opt(Verb::Dont, 40)),
+                (Verb::Wont, Reply::Nothing),
+                (Verb::Do, Reply::Opt(Verb::Will, 40)),
+                (Verb::Do, Reply::Nothing),
+                (Verb::Dont, Reply::Close(Cause::NoTn3270e)),
+                (Verb::Do, Reply::Close(Cause::NoTn3270e)),
+            ],
+        )
+        .is_none()
+        && terminal.state() == TermState::Closed(Cause::NoTn3270e)
 }
 
 #[test]
-fn a_refused_terminal_drops_what_comes(rt: HostRuntime) -> Result<(), Fail> {
+fn a_terminal_agrees_to_the_option_once(rt: HostRuntime) {
+    assert!(rt; agrees_once(&mut TermTalk::new(None)));
+}
+
+#[test]
+fn a_refused_terminal_drops_what_comes(rt: HostRuntime) {
     let mut terminal = requested(Lu::read(b"PNL01"));
     let differs = terminal_differs(
         rt.alloc(),
@@ -432,10 +450,8 @@ fn a_refused_terminal_drops_what_comes(rt: HostRuntime) -> Result<(), Fail> {
             (Item::Sub(b"\x28\x08\x02"), Reply::Nothing, b""),
             (option(Verb::Dont, 40), Reply::Nothing, b""),
         ],
-    )?;
-    assert_eq!(rt; differs, None);
-    assert_eq!(rt; terminal.lu(), None);
-    Ok(())
+    );
+    assert!(rt; differs == Ok(None) && terminal.lu().is_none());
 }
 
 // Whether this closes a terminal that asked for PNL01, as what breaks the talk.
@@ -444,17 +460,25 @@ fn breaks_the_request(bytes: &[u8]) -> bool {
     terminal.take(&Item::Sub(bytes)) == Reply::Close(Cause::BadTalk)
 }
 
+static OTHER_GRANTS: [&[u8]; 4] = [
+    b"\x28\x02\x04IBM-3278-3\x01PNL01",
+    b"\x28\x02\x04IBM-3278-2-E\x01PNL01",
+    b"\x28\x02\x04IBM-3278-2\x01PNL02",
+    b"\x28\x02\x04IBM-3278-2\x019A",
+];
+
+fn other_grants_break() -> bool {
+    for grant in &OTHER_GRANTS {
+        if !breaks_the_request(grant) {
+            return false;
+        }
+    }
+    true
+}
+
 #[test]
 fn grants_that_close_a_terminal(rt: HostRuntime) {
-    let grants: [&[u8]; 4] = [
-        b"\x28\x02\x04IBM-3278-3\x01PNL01",
-        b"\x28\x02\x04IBM-3278-2-E\x01PNL01",
-        b"\x28\x02\x04IBM-3278-2\x01PNL02",
-        b"\x28\x02\x04IBM-3278-2\x019A",
-    ];
-    for grant in grants {
-        assert!(rt; breaks_the_request(grant), "{grant:?}");
-    }
+    assert!(rt; other_grants_break());
 }
 
 // Whether this closes a terminal that asked for RESPONSES, for good.
@@ -470,46 +494,62 @@ fn dont_closes(terminal: &mut TermTalk) -> bool {
         && terminal.take(&option(Verb::Dont, 40)) == Reply::Close(Cause::NoTn3270e)
 }
 
-#[test]
-fn what_closes_a_terminal(rt: HostRuntime) {
-    let causes: [(&[u8], Cause); 4] = [
-        (b"\x28\x03\x04", Cause::NoResponses),
-        (b"\x28\x03\x04\x02\x04", Cause::NoResponses),
-        (b"\x28\x03\x07\x04", Cause::NoResponses),
-        (b"\x28\x08\x02", Cause::BadTalk),
-    ];
-    for (bytes, cause) in causes {
-        assert!(rt; closes_terminal(bytes, cause), "{bytes:?}");
+static TERMINAL_CAUSES: [(&[u8], Cause); 4] = [
+    (b"\x28\x03\x04", Cause::NoResponses),
+    (b"\x28\x03\x04\x02\x04", Cause::NoResponses),
+    (b"\x28\x03\x07\x04", Cause::NoResponses),
+    (b"\x28\x08\x02", Cause::BadTalk),
+];
+
+fn each_closes_a_terminal() -> bool {
+    for (bytes, cause) in &TERMINAL_CAUSES {
+        if !closes_terminal(bytes, *cause) {
+            return false;
+        }
     }
-    assert!(rt; dont_closes(&mut granted()));
+    true
 }
 
-// Whether this closes a host, which has no LU for the terminal any more.
-fn closes_host(host: &mut HostTalk, bytes: &[u8], cause: Cause) -> bool {
-    host.take(&Item::Sub(bytes)) == Reply::Close(cause)
+#[test]
+fn what_closes_a_terminal(rt: HostRuntime) {
+    assert!(rt; each_closes_a_terminal() && dont_closes(&mut granted()));
+}
+
+// Whether this closes a host that granted this LU, which has none for the terminal any more.
+fn closes_host(host: &mut HostTalk, lu: Lu, bytes: &[u8], cause: Cause) -> bool {
+    is_named(host, lu)
+        && host.take(&Item::Sub(bytes)) == Reply::Close(cause)
         && host.lu().is_none()
         && host.device().is_none()
 }
 
 // Whether WONT closes a host that agreed, and WILL doesn't.
-fn wont_closes(host: &mut HostTalk) -> bool {
-    host.take(&Item::Sub(b"\x28\x03\x07\x02")) == Reply::Sub(Sending::FunIs, After::Agreed)
+fn wont_closes(host: &mut HostTalk, lu: Lu) -> bool {
+    is_named(host, lu)
+        && host.take(&Item::Sub(b"\x28\x03\x07\x02")) == Reply::Sub(Sending::FunIs, After::Agreed)
         && host.take(&option(Verb::Will, 40)) == Reply::Nothing
         && host.take(&option(Verb::Wont, 40)) == Reply::Close(Cause::NoTn3270e)
+}
+
+static HOST_CAUSES: [(&[u8], Cause); 4] = [
+    (b"\x28\x03\x07\x00\x04", Cause::NoResponses),
+    (b"\x28\x03\x04\x02", Cause::BadTalk),
+    (b"\x28\x02\x07IBM-3278-2", Cause::BadTalk),
+    (b"\x28\x02", Cause::BadTalk),
+];
+
+fn each_closes_a_host(lu: Lu) -> bool {
+    for (bytes, cause) in &HOST_CAUSES {
+        if !closes_host(&mut asked(), lu, bytes, *cause) {
+            return false;
+        }
+    }
+    true
 }
 
 #[test]
 fn what_closes_a_host(rt: HostRuntime) -> Result<(), Fail> {
     let lu = Lu::read(b"PNL01").ok_or("no name")?;
-    let causes: [(&[u8], Cause); 4] = [
-        (b"\x28\x03\x07\x00\x04", Cause::NoResponses),
-        (b"\x28\x03\x04\x02", Cause::BadTalk),
-        (b"\x28\x02\x07IBM-3278-2", Cause::BadTalk),
-        (b"\x28\x02", Cause::BadTalk),
-    ];
-    for (bytes, cause) in causes {
-        assert!(rt; closes_host(&mut named(lu)?, bytes, cause), "{bytes:?}");
-    }
-    assert!(rt; wont_closes(&mut named(lu)?));
+    assert!(rt; each_closes_a_host(lu) && wont_closes(&mut asked(), lu));
     Ok(())
 }
