@@ -1,5 +1,5 @@
 -- A byte and bytes, as the code takes them.
-use Rattle.std.proofs.Common.{◌≡◌, ◌≢◌, ℕ, ◌+◌, ◌<◌, true, false, List, [], ◌∷◌, ◌++◌, length, take, get_or, map, sym, ◌∙◌, ap, subst, refl, Option, None, Some, Vec}
+use Rattle.std.proofs.Common.{◌≡◌, ◌≢◌, ℕ, ◌+◌, ◌<◌, true, false, List, [], ◌∷◌, ◌++◌, length, take, get_or, sym, ◌∙◌, ap, subst, refl, Option, None, Some, Vec}
 use Rattle.std.specs.Prelude.{◌↔◌, IfNone}
 use Rattle.std.specs.Option.{is_some}
 use Rattle.std.specs.declared.alloc.Global.{Global}
@@ -9,18 +9,16 @@ use Rattle.lu_pool.specs.Pool.{Holds}
 use Rattle.lu_pool.specs.declared.entry.Entry.{Entry}
 use Rattle.telnet_wire.proofs.Running.{goes_wrong, delivers_none, delivers_item, still_running}
 use Rattle.telnet_wire.specs.Held.{Held, Takes, Refuses, step_of}
-use Rattle.telnet_wire.specs.Items.{WireItem, sent_bytes}
-use Rattle.telnet_wire.specs.Reading.{Rest}
+use Rattle.telnet_wire.specs.Items.{WireItem}
 use Rattle.telnet_wire.specs.declared.wire.Step.TheVariants.{More}
 use Rattle.telnet_wire.specs.declared.wire.WireFault.{WireFault}
 use Rattle.tn3270e_msg.specs.Header.{record_limit}
 use Rattle.tn3270e_msg.specs.HostTable.{granted}
 use Rattle.tn3270e_msg.specs.declared.cause.Cause.{Cause}
 use Rattle.tn3270e_msg.specs.declared.cause.Cause.TheVariants.{Wire}
-use Rattle.host_core.specs.Bytes.{Counter, TakesByte, TakesBytes, service_after, stepped}
+use Rattle.host_core.specs.Bytes.{Counter, TakesByte, TakesBytes, service_after}
 use Rattle.host_core.specs.Keeps.{IsLeft, IsRunning, ItemTaken, OthersHold, claim, counter_of}
 use Rattle.host_core.specs.Sound.{HoldsJust}
-use Rattle.host_core.specs.Says.{item_sent}
 use Rattle.host_core.specs.Session.{Conn}
 use Rattle.host_core.specs.State.{Service}
 use Rattle.host_core.specs.Takes.{Step, freed_if}

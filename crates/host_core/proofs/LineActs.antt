@@ -5,8 +5,8 @@ use Rattle.telnet_wire.specs.Reading.{Rest}
 use Rattle.tn3270e_msg.specs.HostTable.{granted}
 use Rattle.host_core.specs.Acts.{Act, Sent, acted, act_on, done, may_act}
 use Rattle.host_core.specs.Application.{Application}
-use Rattle.host_core.specs.Does.{Does, sent_on}
-use Rattle.host_core.specs.Keeps.{DoesOn, IsSentOn}
+use Rattle.host_core.specs.Does.{Does}
+use Rattle.host_core.specs.Keeps.{DoesOn}
 use Rattle.host_core.specs.Lines.{service_of}
 use Rattle.host_core.specs.Notes.{noted, noted_as, may_note}
 use Rattle.host_core.specs.Session.{Conn, is_agreed}
@@ -68,7 +68,7 @@ module _ (now : Line) (service : Kept) (box : Box Connection Global) (old : Conn
   pub act_holds : (app : Application) → DoesOn (acted app old.session) old.session before answered new after → granted new.talk.state ≡ lu_of now.service
   act_holds app does =
       same_claim (keeps (may_act old.session.turn old.session.pending (is_agreed old.session.talk.state)) (done app old.session (act_on app old.session old.session.occasion)) old.session new before after answered
-          (done_keeps app old.session (act_on app old.session old.session.occasion)) does)
+      (done_keeps app old.session (act_on app old.session old.session.occasion)) does)
 
   pub note_holds : (text : List ℕ) → DoesOn (noted text old.session) old.session before answered new after → granted new.talk.state ≡ lu_of now.service
   note_holds text does =

@@ -1,12 +1,11 @@
 -- What a record, an item, a byte and bytes make of a host is determined.
-use Rattle.std.proofs.Common.{◌≡◌, ℕ, Bool, true, false, List, [], ◌∷◌, ◌++◌, sym, ◌∙◌, ap, subst, refl, Ok, Err}
+use Rattle.std.proofs.Common.{◌≡◌, ℕ, Bool, true, false, List, [], ◌∷◌, sym, ◌∙◌, ap, subst, refl, Ok}
 use Rattle.datastream.proofs.InboundData.{first_inbound_fault}
 use Rattle.datastream.specs.InboundText.{InboundParts, IsInbound, IsNoInbound}
 use Rattle.datastream.specs.Laws.{OneInbound}
 use Rattle.datastream.specs.declared.inbound_part.Form.{Form}
 use Rattle.datastream.specs.declared.inbound_part.InboundFault.{InboundFault}
 use Rattle.lu_pool.specs.Asking.{answer_to}
-use Rattle.lu_pool.specs.Holders.{given_back}
 use Rattle.telnet_wire.specs.Items.{WireItem, Record, Opt, Sub, Other}
 use Rattle.telnet_wire.specs.Laws.{OneDelivery, WrongIsFinal}
 use Rattle.telnet_wire.specs.Reading.{Rest, Delivers, GoesWrong}

@@ -1,11 +1,11 @@
 -- What an item makes of the talk, of the pool and of what is sent, as the code takes it.
-use Rattle.std.proofs.Common.{◌≡◌, ◌≢◌, ◌==◌, ◌-◌, ℕ, Bool, true, false, List, [], ◌∷◌, ◌++◌, map, refl, ap, sym, ◌∙◌, subst, Option, Some, None, Result, Ok, Err, Vec, if◌then◌else◌, ◌⊎◌, inl, inr}
-use Rattle.std.specs.Prelude.{◌↔◌, ⊤, IfOk, OnErr, IfNone}
+use Rattle.std.proofs.Common.{◌≡◌, ◌==◌, ◌-◌, ℕ, Bool, true, false, List, [], ◌++◌, map, refl, ap, sym, ◌∙◌, subst, Option, Some, None, Result, Ok, Err, Vec, if◌then◌else◌, ◌⊎◌, inl, inr}
+use Rattle.std.specs.Prelude.{◌↔◌, ⊤, IfNone}
 use Rattle.std.specs.Borrow.{Bor}
 use Rattle.std.proofs.lemmas.List.{append-nil}
 use Rattle.std.specs.declared.alloc.Global.{Global}
 use Rattle.lu_pool.specs.Asking.{answer_to}
-use Rattle.lu_pool.specs.Holders.{granted_if, granted_to, given_back}
+use Rattle.lu_pool.specs.Holders.{granted_if}
 use Rattle.lu_pool.specs.Pool.{Holds, HoldsNone}
 use Rattle.lu_pool.specs.declared.entry.Entry.{Entry}
 use Rattle.telnet_wire.specs.Items.{WireItem, Record, Opt, Sub, Other, item_of, sent_bytes}
@@ -15,7 +15,7 @@ use Rattle.tn3270e_msg.specs.Device.{device_of}
 use Rattle.tn3270e_msg.specs.HostTable.{host_line, named_line, request_line, answer_line, granted, IsAsking, HostTakes, HostAnswered}
 use Rattle.tn3270e_msg.specs.Lu.{lu_of}
 use Rattle.tn3270e_msg.specs.Message.{Name, Connect, Associate}
-use Rattle.tn3270e_msg.specs.Talk.{Talk, Comes, Hears, Saying, follow, sayings, items_sent, closing}
+use Rattle.tn3270e_msg.specs.Talk.{Talk, Comes, follow, sayings, items_sent, closing}
 use Rattle.tn3270e_msg.specs.declared.cause.Cause.{Cause}
 use Rattle.tn3270e_msg.specs.declared.cause.Cause.TheVariants.{TooMany}
 use Rattle.tn3270e_msg.specs.declared.reply.After.TheVariants.{Close as CloseAfter, Going}
@@ -28,7 +28,6 @@ use Rattle.tn3270e_msg.specs.declared.host_talk.HostState.TheVariants as at
 use Rattle.tn3270e_msg.specs.declared.reply.Reason.{Reason}
 use Rattle.tn3270e_msg.specs.declared.reply.Reply.{Reply}
 use Rattle.tn3270e_msg.specs.declared.reply.Reply.TheVariants as reply
-use Rattle.tn3270e_msg.specs.declared.reply.Sending.{Sending}
 use Rattle.tn3270e_msg.specs.declared.reply.Sending.TheVariants as sent
 use Rattle.host_core.specs.Items.{TakesItem, TakesRecord, TakesRecordIf, Talks}
 use Rattle.host_core.specs.Keeps.{ItemTaken, OthersHold, silent}

@@ -1,12 +1,11 @@
 -- A turn of serving a connection: one read, what the host makes of it, one act, and one write (our profile).
 use Rattle.std.specs.Prelude.{◌≡◌, ◌≢◌, ◌<◌, ◌≤◌, ◌+◌, ◌⊎◌, ⊤, ℕ, Bool, true, false, Option, Some, None, List, [], take, drop, length}
-use Rattle.tn3270e_msg.specs.declared.cause.Cause.{Cause}
 use Rattle.tn3270e_msg.specs.declared.cause.Fed.{Fed}
 use Rattle.tn3270e_msg.specs.declared.cause.Stop.TheVariants.{Memory as FeedMemory}
 use Rattle.host_core.specs.Application.{application_of}
 use Rattle.host_core.specs.Does.{Does, acted_by}
 use Rattle.host_core.specs.Feeds.{Feeds, counter_at, with_counter}
-use Rattle.host_core.specs.State.{Host, Line, line_at, service_at, with_line, phase_of}
+use Rattle.host_core.specs.State.{Host, line_at, service_at, with_line}
 use Rattle.host_core.specs.declared.acted.Acted.{Acted}
 use Rattle.host_core.specs.declared.acted.Acted.TheVariants.{Memory as ActMemory}
 use Rattle.host_core.specs.declared.links.LinkRead.{LinkRead}
@@ -16,7 +15,7 @@ use Rattle.host_core.specs.declared.links.LinkWrite.TheVariants as write
 use Rattle.host_core.specs.declared.phase.Phase.{Phase}
 use Rattle.host_core.specs.declared.phase.Phase.TheVariants as phase
 use Rattle.host_core.specs.declared.serving.Served.{Served}
-use Rattle.host_core.specs.declared.serving.Served.TheVariants.{Going, Lost, Memory}
+use Rattle.host_core.specs.declared.serving.Served.TheVariants.{Lost, Memory}
 
 -- ---- reads and writes
 

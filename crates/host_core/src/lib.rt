@@ -10,33 +10,32 @@ mod acting;
 mod feeding;
 mod host;
 mod laws;
+mod learning;
 mod line;
 mod links;
-mod learning;
 mod noting;
 mod occasion;
 mod pending;
 mod phase;
 mod records;
 mod room;
-mod serving;
 mod sending;
+mod serving;
 mod session;
 mod talking;
 mod turn;
 
 pub use acted::Acted;
+use datastream::{kept_since_the_write, written_is_read};
 pub use host::{Host, MOST_CONNECTIONS};
-pub use links::{LinkRead, LinkWrite, Links};
 pub use laws::one_machine;
+pub use links::{LinkRead, LinkWrite, Links};
 pub use occasion::Occasion;
+use panels::{kept_fields_are_whole, the_last_row_is_for_messages};
 pub use phase::Phase;
 pub use serving::{Served, serve_turn};
-pub use turn::Turn;
-
-use datastream::{kept_since_the_write, written_is_read};
-use panels::{kept_fields_are_whole, the_last_row_is_for_messages};
 use shadow::what_a_note_leaves;
+pub use turn::Turn;
 
 /// Does nothing: its contract says that whatever a host does, it paints what fits its belief.
 pub fn what_is_shown_fits()

@@ -12,10 +12,10 @@ ghost use Rattle.host_core.specs.State.Service.{Free};
 ghost use Rattle.host_core.specs.State.{opened, unused, lu_of, phase_of, turn_of, pending_of};
 
 use crate::acted::Acted;
+use crate::feeding::feed_open;
 use crate::phase::Phase;
 use crate::room::COMMAND_ROOM;
 use crate::session::Session;
-use crate::feeding::feed_open;
 use crate::turn::Turn;
 use lu_pool::Pool;
 use panels::PanelSet;

@@ -36,8 +36,11 @@ pub trait Links {
     ghost use Rattle.host_core.specs.declared.links.LinkWrite.{LinkWrite};
 
     ghost ends: { Self → ℕ → ℕ };
+
     ghost failures: { Self → ℕ → ℕ };
+
     ghost gave: { Self → ℕ → List ℕ → LinkRead → Self → Type 0 };
+
     ghost took: { Self → ℕ → List ℕ → LinkWrite → Self → Type 0 };
 
     /// Reads once.

@@ -45,16 +45,16 @@ impl Model for Session {
     ghost Value = { Conn };
 
     ghost view = { λ s. record {
-        talk = s.talk;
-        shape = model_2;
-        turn = s.turn;
-        pending = pending_in s.pending s.sent.items;
-        number = s.number;
-        shadow = s.shadow;
-        panel = s.panel;
-        message = s.message;
-        values = s.values;
-        occasion = s.occasion;
+      talk = s.talk;
+      shape = model_2;
+      turn = s.turn;
+      pending = pending_in s.pending s.sent.items;
+      number = s.number;
+      shadow = s.shadow;
+      panel = s.panel;
+      message = s.message;
+      values = s.values;
+      occasion = s.occasion;
     } };
 
     ghost invariant = { λ s. IsKept s.pending s.sent.items × (record_room ≤ vec_capacity s.sent) × CanBeStored s.shadow };

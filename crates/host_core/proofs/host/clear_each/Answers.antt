@@ -1,4 +1,4 @@
-use Rattle.std.proofs.Common.{arith, length}
+use Rattle.std.proofs.Common.{arith}
 use Rattle.host_core.proofs.Hosts.{one_more_unused}
 use Rattle.host_core.proofs.host.clear_each.Goals as goal
 

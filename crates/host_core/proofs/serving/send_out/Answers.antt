@@ -1,4 +1,4 @@
-use Rattle.std.proofs.Common.{subst, ap}
+use Rattle.std.proofs.Common.{subst}
 use Rattle.host_core.specs.Serves.{SendsOut}
 use Rattle.host_core.specs.declared.links.LinkWrite.TheVariants as write
 use Rattle.host_core.proofs.Turns.{none_sent}

@@ -1,5 +1,5 @@
-use Rattle.std.proofs.Common.{refl, sym, subst, true, false}
-use Rattle.host_core.specs.Serves.{Serves, Responds}
+use Rattle.std.proofs.Common.{refl}
+use Rattle.host_core.specs.Serves.{Serves}
 use Rattle.host_core.proofs.serving.serve_turn.Goals as goal
 
 pub returns-in_default-clause-serves : goal.returns-in_default-clause-serves
