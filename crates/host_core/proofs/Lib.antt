@@ -8,7 +8,6 @@ pub mod KeptWhole
 pub mod Hosts
 pub mod LineActs
 pub mod Turns
-pub mod Lengths
 pub mod Commands
 pub mod Wanting
 pub mod Paintings
@@ -17,6 +16,5 @@ pub mod Doings
 pub mod NoteBytes
 pub mod RecordsTaken
 pub mod TalkSteps
-pub mod ReplyLengths
 pub mod ByteSteps
 pub mod Outcomes

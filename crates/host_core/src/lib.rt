@@ -1,10 +1,6 @@
 //! The host: what it makes of what terminals send, and what it does in its turn.
 #![tactic(auto)]
 
-ghost use Rattle.host_core.specs.Answering.{BelievesNoSooner, BelievesNotesNoSooner, CommandsAreNumbered, NotesAreNumbered, OnlyItsResponse};
-ghost use Rattle.host_core.specs.Laws.{ActsFit, PanelsAreShown, PanelsAskForScreens, ScreensAreWanted};
-ghost use Rattle.host_core.specs.NoteLaws.{HeldTakesNotes, NotesAreNotes, NotesAreOverCharacters, NotesOverwrite, NotesWriteProtected, PaintsTakeNotes, SameAttributesTakeNotes};
-
 mod acted;
 mod acting;
 mod feeding;
@@ -26,59 +22,12 @@ mod talking;
 mod turn;
 
 pub use acted::Acted;
-use datastream::{kept_since_the_write, written_is_read};
 pub use host::{Host, MOST_CONNECTIONS};
-pub use laws::one_machine;
+pub use laws::{
+    notes_are_written, one_machine, panels_are_shown, what_is_shown_fits, what_is_shown_is_answered,
+};
 pub use links::{LinkRead, LinkWrite, Links};
 pub use occasion::Occasion;
-use panels::{kept_fields_are_whole, the_last_row_is_for_messages};
 pub use phase::Phase;
 pub use serving::{Served, serve_turn};
-use shadow::what_a_note_leaves;
 pub use turn::Turn;
-
-/// Does nothing: its contract says that whatever a host does, it paints what fits its belief.
-pub fn what_is_shown_fits()
-    ensures { ActsFit }
-{}
-
-/// Does nothing: its contract says that panels whose cursors are on the screen, and no two of whose items share a cell, are an
-/// application: each screen that they ask for has the model 2's shape, with its last row for messages, keeps whole fields or
-/// none, and is the one of its panel cell by cell. Where panels and values
-/// have characters alone that a cell can hold, so have the screens.
-pub fn panels_are_shown()
-    ensures application { PanelsAreShown }
-    ensures wanted { ScreensAreWanted }
-    ensures screens { PanelsAskForScreens }
-{
-    the_last_row_is_for_messages();
-    kept_fields_are_whole();
-}
-
-/// Does nothing: its contract says that what a host shows changes its belief no sooner than it is answered; that a command
-/// carries the connection's number, by which its response is awaited, and the next command the number behind it; and that a
-/// response with another number than the pending command's closes the connection.
-pub fn what_is_shown_is_answered()
-    ensures no_sooner { BelievesNoSooner }
-    ensures notes_no_sooner { BelievesNotesNoSooner }
-    ensures numbered { CommandsAreNumbered }
-    ensures notes_numbered { NotesAreNumbered }
-    ensures only_its { OnlyItsResponse }
-{}
-
-/// Does nothing: its contract says which screens a note may be written on: those whose last row is for messages, as on each
-/// screen that is painted and on what keys leave of it; and those without fields. There it writes over characters of that
-/// protected field, or of none.
-pub fn notes_are_written()
-    ensures notes { NotesAreNotes }
-    ensures overwrites { NotesOverwrite }
-    ensures over_characters { NotesAreOverCharacters }
-    ensures protected { NotesWriteProtected }
-    ensures painted { PaintsTakeNotes }
-    ensures held { HeldTakesNotes }
-    ensures same_attributes { SameAttributesTakeNotes }
-{
-    written_is_read();
-    kept_since_the_write();
-    what_a_note_leaves();
-}

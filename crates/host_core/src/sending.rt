@@ -15,10 +15,10 @@ ghost use Rattle.host_core.specs.Keeps.{IsSentOn};
 ghost use Rattle.host_core.specs.Rooms.{HasRoomForCommand, record_room};
 ghost use Rattle.host_core.specs.Says.{command_header, read_buffer_command, written};
 
+use crate::laws::{panels_are_shown, what_is_shown_fits};
 use crate::pending::Pending;
 use crate::session::Session;
 use crate::turn::Turn;
-use crate::{panels_are_shown, what_is_shown_fits};
 use codes3270::Wcc;
 use datastream::{CommandCode, CommandWriter, Wanted};
 use panels::{Message, Panel, PanelSet, Values};

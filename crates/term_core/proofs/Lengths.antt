@@ -17,23 +17,6 @@ use Rattle.telnet_wire.specs.Token.{Sub, escaped, spelling, text}
 use Rattle.telnet_wire.specs.Items.{record_tokens}
 use Rattle.term_core.specs.Room.{longest_reading}
 
--- ---- on the wire
-
-pub escaped_fits : (byte : ℕ) → length (escaped byte) ≤ 2
-escaped_fits byte = elim (byte == 255) as (λ v. length (if v then 255 ∷ 255 ∷ [] else byte ∷ []) ≤ 2) [ true ↦ omega arith | false ↦ omega arith ]
-
-pub escaped_all_fit : (bytes : List ℕ) → length (flat_map escaped bytes) ≤ 2 * length bytes
-escaped_all_fit [] = omega arith
-escaped_all_fit (byte ∷ bytes) = simp length-append (omega (arith, escaped_fits byte, escaped_all_fit bytes))
-
-pub sub_fits : (bytes : List ℕ) → length (spelling (Sub bytes)) ≤ 2 * length bytes + 4
-sub_fits bytes = simp length-append (omega (arith, escaped_all_fit bytes))
-
--- a record takes at most two bytes for each of its own, and its end
-pub record_fits : (bytes : List ℕ) → length (text (record_tokens bytes)) ≤ 2 * length bytes + 2
-record_fits [] = omega arith
-record_fits (byte ∷ bytes) = simp length-append (omega (arith, escaped_fits byte, record_fits bytes))
-
 -- ---- what a read gets
 
 pub fewer : (bytes : List ℕ) → length (without_nulls bytes) ≤ length bytes
@@ -133,8 +116,3 @@ read_modified_fits ascend listed whole screen size all =
 
 pub read_buffer_fits : (screen : Screen) → length screen.cells ≡ cell_count → length (read_buffer screen) ≤ longest_reading
 read_buffer_fits screen size = omega (arith, cells_fit screen.cells, size)
-
--- a call that is refused only where there is no room succeeds where there is
-pub ok_with_room : (result : Result (Unit {0}) AllocError) (capacity needed : ℕ) → OnErr result (capacity < needed) → needed ≤ capacity → IsOk result
-ok_with_room (Ok answer) capacity needed full fits = search rules
-ok_with_room (Err fault) capacity needed full fits = absurd (omega arith)

@@ -1,7 +1,7 @@
 use Rattle.std.proofs.Common.{List, ℕ, ◌++◌, ap, length, arith, ◌∙◌}
 use Rattle.std.specs.Vec.{vec_capacity}
 use Rattle.datastream.proofs.Written.{orders_bytes-chars}
-use Rattle.host_core.proofs.Lengths.{ok_with_room}
+use Rattle.telnet_wire.proofs.Lengths.{ok_with_room}
 use Rattle.host_core.proofs.noting.put_text.Goals as goal
 
 pub unwrap-requires : goal.unwrap-requires

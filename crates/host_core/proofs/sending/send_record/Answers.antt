@@ -1,5 +1,5 @@
 use Rattle.std.proofs.Common.{arith}
-use Rattle.host_core.proofs.Lengths.{record_fits}
+use Rattle.telnet_wire.proofs.Lengths.{record_fits}
 use Rattle.host_core.proofs.sending.send_record.Goals as goal
 
 pub unwrap-requires : goal.unwrap-requires

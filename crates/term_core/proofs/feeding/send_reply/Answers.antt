@@ -1,6 +1,6 @@
 use Rattle.std.proofs.Common.{ℕ, arith, ap, length, length-append}
 use Rattle.tn3270e_msg.specs.Lent.{payload}
-use Rattle.term_core.proofs.Lengths.{sub_fits}
+use Rattle.telnet_wire.proofs.Lengths.{sub_fits}
 use Rattle.term_core.proofs.feeding.send_reply.Goals as goal
 
 pub unwrap-requires-in-Sub : goal.unwrap-requires-in-Sub

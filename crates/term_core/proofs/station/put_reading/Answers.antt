@@ -1,7 +1,7 @@
 use Rattle.std.proofs.Common.{◌+◌, arith, length, true, false, vec_len}
 use Rattle.std.specs.Vec.{vec_capacity}
 use Rattle.datastream.specs.Inbound.{read_modified}
-use Rattle.term_core.proofs.Lengths.{ok_with_room}
+use Rattle.telnet_wire.proofs.Lengths.{ok_with_room}
 use Rattle.term_core.proofs.station.put_reading.Goals as goal
 
 pub unwrap-requires : goal.unwrap-requires

@@ -1,5 +1,5 @@
 use Rattle.std.proofs.Common.{ℕ, arith, length, ap, length-append}
-use Rattle.term_core.proofs.Lengths.{record_fits}
+use Rattle.telnet_wire.proofs.Lengths.{record_fits}
 use Rattle.term_core.proofs.station.Station.send.Goals as goal
 
 pub unwrap-requires-2 : goal.unwrap-requires-2

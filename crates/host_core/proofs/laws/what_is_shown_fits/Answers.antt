@@ -1,5 +1,5 @@
 use Rattle.host_core.proofs.Fitting.{acts_fit}
-use Rattle.host_core.proofs.what_is_shown_fits.Goals as goal
+use Rattle.host_core.proofs.laws.what_is_shown_fits.Goals as goal
 
 pub returns : goal.returns
 returns c = acts_fit

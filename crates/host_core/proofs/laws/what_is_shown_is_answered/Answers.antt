@@ -1,5 +1,5 @@
 use Rattle.host_core.proofs.Answering.{believes_no_sooner, believes_notes_no_sooner, commands_are_numbered, notes_are_numbered, only_its_response}
-use Rattle.host_core.proofs.what_is_shown_is_answered.Goals as goal
+use Rattle.host_core.proofs.laws.what_is_shown_is_answered.Goals as goal
 
 pub returns-clause-no_sooner : goal.returns-clause-no_sooner
 returns-clause-no_sooner c = believes_no_sooner

@@ -1,6 +1,6 @@
 use Rattle.host_core.proofs.MessageRows.{paints_take_notes, held_takes_notes, same_attributes_take_notes}
 use Rattle.host_core.proofs.Notes.{notes_are_notes, notes_overwrite, notes_are_over_characters, notes_write_protected}
-use Rattle.host_core.proofs.notes_are_written.Goals as goal
+use Rattle.host_core.proofs.laws.notes_are_written.Goals as goal
 
 pub returns : goal.returns
 returns c = record {
