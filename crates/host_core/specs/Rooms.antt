@@ -1,5 +1,4 @@
--- How much room the largest reply and the largest command take (our profile), so that it can be made before a byte is taken or a
--- command sent.
+-- How much room the largest command takes (our profile), so that it can be made before one is sent.
 use Rattle.std.specs.Prelude.{ℕ, ◌+◌, ◌*◌, ◌≤◌, vec_len, Vec}
 use Rattle.std.specs.Vec.{vec_capacity}
 use Rattle.std.specs.declared.alloc.Global.{Global}
@@ -13,14 +12,6 @@ record_room = 5 + (6 + 5 * cell_count)
 abbrev pub command_room : ℕ
 command_room = 2 * record_room + 2
 
--- a subnegotiation of 256 bytes, each doubled, with its begin and end
-abbrev pub reply_room : ℕ
-reply_room = 2 * 256 + 4
-
 -- a command fits behind what is there
 abbrev pub HasRoomForCommand : Vec ℕ Global → Type 0
 HasRoomForCommand out = vec_len out + command_room ≤ vec_capacity out
-
--- a reply does
-abbrev pub HasRoomForReply : Vec ℕ Global → Type 0
-HasRoomForReply out = vec_len out + reply_room ≤ vec_capacity out

@@ -4,15 +4,14 @@ ghost use Rattle.tn3270e_msg.specs.HostTable.{granted};
 ghost use Rattle.host_core.specs.Bytes.{TakesByte};
 ghost use Rattle.host_core.specs.Feeds.{Feeds};
 ghost use Rattle.host_core.specs.Keeps.{IsLeft, IsRunning, OthersHold, cause_of, claim, counter_of};
-ghost use Rattle.host_core.specs.Rooms.{HasRoomForReply};
+ghost use Rattle.tn3270e_msg.specs.Writing.{HasRoomForReply};
 ghost use Rattle.host_core.specs.Sound.{HoldsJust};
 
-use crate::room::REPLY_ROOM;
 use crate::session::Session;
 use crate::talking::take_item;
 use lu_pool::Pool;
 use telnet_wire::{Decoder, Step};
-use tn3270e_msg::{Cause, Fed, Stop};
+use tn3270e_msg::{Cause, Fed, REPLY_ROOM, Stop};
 
 /// Takes bytes as long as the connection with this number is open and there is room for a reply. Where it closes its LU is free
 /// at once.

@@ -1,22 +1,21 @@
 //! What a host makes of what the stream hands out: the talk's part of it, and records.
-ghost use Rattle.std.specs.Prelude.{◌≡◌, ◌≤◌, ◌++◌, IfNone};
+ghost use Rattle.std.specs.Prelude.{◌≡◌, ◌≤◌, IfNone};
 ghost use Rattle.std.specs.Vec.{vec_capacity};
 ghost use Rattle.lu_pool.specs.Asking.{answer_to};
 ghost use Rattle.lu_pool.specs.Holders.{granted_if};
 ghost use Rattle.lu_pool.specs.Pool.{HoldsNone};
-ghost use Rattle.telnet_wire.specs.Items.{item_of, sent_bytes};
+ghost use Rattle.telnet_wire.specs.Items.{item_of};
 ghost use Rattle.tn3270e_msg.specs.HostTable.{granted};
-ghost use Rattle.tn3270e_msg.specs.Talk.{closing, items_sent};
+ghost use Rattle.tn3270e_msg.specs.Writing.{HasRoomForReply};
 ghost use Rattle.host_core.specs.Keeps.{ItemTaken, OthersHold};
 ghost use Rattle.host_core.specs.Parts.{TalkTaken};
-ghost use Rattle.host_core.specs.Rooms.{HasRoomForReply};
 ghost use Rattle.host_core.specs.Sound.{HoldsJust};
 ghost use Rattle.host_core.specs.Takes.{granted_by};
 
 use crate::session::Session;
 use lu_pool::Pool;
-use telnet_wire::{Item, put_option};
-use tn3270e_msg::{After, Cause, HostState, HostTalk, Lu, Reason, Reply, put_sub_message};
+use telnet_wire::Item;
+use tn3270e_msg::{Cause, HostState, HostTalk, Lu, Reason, Reply, put_reply};
 
 /// Takes what the stream hands out to the connection with this number, and answers the cause by which it closes, if it does; its
 /// LU is still held then.
@@ -62,9 +61,9 @@ fn talk_on(
     match talk.take(item) {
         Reply::AskPool(name) => {
             let answer = ask(pool, number, &name);
-            send_reply(&talk.answered(answer), out)
+            put_reply(out, &talk.answered(answer))
         }
-        reply => send_reply(&reply, out),
+        reply => put_reply(out, &reply),
     }
 }
 
@@ -79,29 +78,5 @@ fn ask(pool: &mut Pool, number: usize, name: &Option<Lu>) -> Result<Lu, Reason>
     match name {
         Some(lu) => pool.ask(number, Some(lu.as_bytes())),
         None => pool.ask(number, None),
-    }
-}
-
-/// Sends what the talk replies, and answers the cause by which the reply closes the connection, if it does.
-fn send_reply(reply: &Reply, out: &mut Vec<u8>) -> Option<Cause>
-    requires { HasRoomForReply out.old }
-    ensures sent { out.new.items ≡ out.old.items ++ sent_bytes (items_sent reply.now) }
-    ensures closes { result ≡ closing reply.now }
-    ensures capacity { vec_capacity out.old ≤ vec_capacity out.new }
-{
-    match reply {
-        Reply::Opt(verb, code) => {
-            put_option(out, *verb, *code).unwrap();
-            None
-        }
-        Reply::Sub(sending, after) => {
-            put_sub_message(out, &sending.message()).unwrap();
-            match after {
-                After::Close(cause) => Some(*cause),
-                After::Going | After::Agreed => None,
-            }
-        }
-        Reply::Close(cause) => Some(*cause),
-        Reply::Nothing | Reply::AskPool(_) | Reply::Agreed | Reply::Refused(_) => None,
     }
 }

@@ -10,8 +10,8 @@ ghost use Rattle.term_core.specs.Over.{ItemTaken, IsRunning, IsLeft, terminal_of
 
 use crate::room::REPLY_ROOM;
 use crate::station::Station;
-use telnet_wire::{Decoder, Item, Step, put_option};
-use tn3270e_msg::{After, Cause, Fed, Reply, Stop, TermState, TermTalk, put_sub_message};
+use telnet_wire::{Decoder, Item, Step};
+use tn3270e_msg::{Cause, Fed, Stop, TermState, TermTalk, put_reply};
 
 /// Takes bytes as long as the connection is open and there is room for a reply.
 pub(crate) fn feed_attached(
@@ -79,31 +79,8 @@ fn take_item(
     match item {
         Item::Record(bytes) => match talk.state() {
             TermState::Agreed(_) => station.take_record(bytes, out),
-            _ => send_reply(&talk.take(item), out),
+            _ => put_reply(out, &talk.take(item)),
         },
-        _ => send_reply(&talk.take(item), out),
-    }
-}
-
-/// Sends what the talk replies, and answers the cause by which the reply closes the connection, if it does.
-fn send_reply(reply: &Reply, out: &mut Vec<u8>) -> Option<Cause>
-    requires { HasRoom out.old }
-    ensures sent { out.new.items ≡ out.old.items ++ sent_bytes (items_sent reply.now) }
-    ensures closes { result ≡ closing reply.now }
-{
-    match reply {
-        Reply::Opt(verb, code) => {
-            put_option(out, *verb, *code).unwrap();
-            None
-        }
-        Reply::Sub(sending, after) => {
-            put_sub_message(out, &sending.message()).unwrap();
-            match after {
-                After::Close(cause) => Some(*cause),
-                After::Going | After::Agreed => None,
-            }
-        }
-        Reply::Close(cause) => Some(*cause),
-        Reply::Nothing | Reply::AskPool(_) | Reply::Agreed | Reply::Refused(_) => None,
+        _ => put_reply(out, &talk.take(item)),
     }
 }

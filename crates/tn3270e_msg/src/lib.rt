@@ -52,7 +52,7 @@ pub use message::{Name, SubFault, SubMessage};
 pub use reading::read_sub;
 pub use reply::{After, Reason, Reply, Sending};
 pub use term_talk::{TermState, TermTalk};
-pub use writing::put_sub_message;
+pub use writing::{REPLY_ROOM, put_reply, put_sub_message};
 
 /// Law: a host's talk and a terminal's with each other never close, whatever the pool answers and
 /// however their items are delivered. After eight events at most they have ended: agreed on the LU

@@ -1,16 +1,21 @@
 //! Messages as bytes, added at the end of a vector.
-ghost use Rattle.std.specs.Prelude.{◌≡◌, ◌∷◌, ◌++◌};
+ghost use Rattle.std.specs.Prelude.{◌≡◌, ◌≤◌, ◌∷◌, ◌++◌};
+ghost use Rattle.std.specs.Vec.{vec_capacity};
+ghost use Rattle.telnet_wire.specs.Items.{sent_bytes};
 ghost use Rattle.telnet_wire.specs.Token.{spelling, Sub};
 ghost use Rattle.telnet_wire.specs.Writing.{Appends};
-ghost use Rattle.tn3270e_msg.specs.Writing.{PutsMessage};
+ghost use Rattle.tn3270e_msg.specs.Talk.{closing, items_sent};
+ghost use Rattle.tn3270e_msg.specs.Writing.{HasRoomForReply, PutsMessage};
 ghost use Rattle.tn3270e_msg.specs.Message.{IsMessage, Says, name_part};
 ghost use Rattle.tn3270e_msg.specs.Lent.{message_of, name_of, payload};
 
+use crate::cause::Cause;
 use crate::codes::{
     ASSOCIATE, CONNECT, DEVICE_TYPE, FUNCTIONS, IS, REASON, REJECT, REQUEST, SEND, TN3270E,
 };
 use crate::message::{Name, SubMessage};
-use telnet_wire::{Memory, put_sub, put_sub_parts};
+use crate::reply::{After, Reply};
+use telnet_wire::{Memory, put_option, put_sub, put_sub_parts};
 
 /// Adds a message as a subnegotiation, of the very texts and lists that it lends (RFC 1647, section 3).
 ///
@@ -48,5 +53,33 @@ fn put_type_request(out: &mut Vec<u8>, device: &[u8], name: Option<Name<'_>>) ->
         None => put_sub_parts(out, &[&request, device]),
         Some(Name::Connect(name)) => put_sub_parts(out, &[&request, device, &[CONNECT], name]),
         Some(Name::Associate(name)) => put_sub_parts(out, &[&request, device, &[ASSOCIATE], name]),
+    }
+}
+
+/// The most bytes that [`put_reply`] adds: a subnegotiation of 256 bytes, each doubled, with its begin and end.
+pub const REPLY_ROOM: usize = 2 * 256 + 4;
+
+/// Adds what a talk replies, where it says something, and answers the cause by which the reply closes the connection, if it
+/// does. The vector must have room for a reply.
+pub fn put_reply(out: &mut Vec<u8>, reply: &Reply) -> Option<Cause>
+    requires { HasRoomForReply out.old }
+    ensures sent { out.new.items ≡ out.old.items ++ sent_bytes (items_sent reply.now) }
+    ensures closes { result ≡ closing reply.now }
+    ensures capacity { vec_capacity out.old ≤ vec_capacity out.new }
+{
+    match reply {
+        Reply::Opt(verb, code) => {
+            put_option(out, *verb, *code).unwrap();
+            None
+        }
+        Reply::Sub(sending, after) => {
+            put_sub_message(out, &sending.message()).unwrap();
+            match after {
+                After::Close(cause) => Some(*cause),
+                After::Going | After::Agreed => None,
+            }
+        }
+        Reply::Close(cause) => Some(*cause),
+        Reply::Nothing | Reply::AskPool(_) | Reply::Agreed | Reply::Refused(_) => None,
     }
 }

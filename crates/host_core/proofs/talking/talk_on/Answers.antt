@@ -14,21 +14,21 @@ answered-requires c = awaits_answer c.args.talk.now c.take.new.self (item_of c.a
 pub returns-in-AskPool-clause-taken : goal.returns-in-AskPool-clause-taken
 returns-in-AskPool-clause-taken c =
     replies_by_pool _ _ _ _ c.take.new.self _ _ c.in-AskPool.name c.ask-answer.result c.answered.result _ _ _ c.in-AskPool.ensures c.ask-answer.ensures.answer c.answered.ensures
-    c.ask-answer.ensures.becomes c.send_reply.ensures.closes c.send_reply.ensures.sent
+    c.ask-answer.ensures.becomes c.put_reply.ensures.closes c.put_reply.ensures.sent
 
 pub returns-in-AskPool-clause-holds : goal.returns-in-AskPool-clause-holds
 returns-in-AskPool-clause-holds c =
-    unless_closed_then c.args.number c.ask-answer.new.pool c.send_reply.result (granted c.answered.new.self.state)
+    unless_closed_then c.args.number c.ask-answer.new.pool c.put_reply.result (granted c.answered.new.self.state)
     (granted_by_pool c.args.number c.ask-answer.new.pool c.take.new.self c.answered.new.self c.ask-answer.result c.answered.result c.answered.ensures c.ask-answer.ensures.holds)
 
 pub returns-in_default-clause-taken : goal.returns-in_default-clause-taken
 returns-in_default-clause-taken c =
-    replies _ _ _ _ _ c.take.result _ _ _ c.in_default.not-AskPool c.take.ensures c.send_reply-in_default.ensures.closes c.send_reply-in_default.ensures.sent
+    replies _ _ _ _ _ c.take.result _ _ _ c.in_default.not-AskPool c.take.ensures c.put_reply-in_default.ensures.closes c.put_reply-in_default.ensures.sent
 
 pub returns-in_default-clause-holds : goal.returns-in_default-clause-holds
 returns-in_default-clause-holds c =
-    holds_unless_closed c.args.number c.args.pool.now c.args.talk.now c.take.new.self (item_of c.args.item.now) c.take.result c.send_reply-in_default.result
-    c.in_default.not-AskPool c.take.ensures c.send_reply-in_default.ensures.closes c.requires.holder
+    holds_unless_closed c.args.number c.args.pool.now c.args.talk.now c.take.new.self (item_of c.args.item.now) c.take.result c.put_reply-in_default.result
+    c.in_default.not-AskPool c.take.ensures c.put_reply-in_default.ensures.closes c.requires.holder
 
 pub returns-in_default-clause-others : goal.returns-in_default-clause-others
 returns-in_default-clause-others c = same_others c.args.number c.args.pool.now

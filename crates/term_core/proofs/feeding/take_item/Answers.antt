@@ -9,4 +9,4 @@ returns-in-Agreed c =
 
 pub returns-in_default : goal.returns-in_default
 returns-in_default c =
-    for_talk _ _ _ _ c.take-in_default.result _ _ _ (not_record c.args.item.now c.in_default.not-Record) c.take-in_default.ensures c.send_reply-in_default.ensures.closes c.send_reply-in_default.ensures.sent
+    for_talk _ _ _ _ c.take-in_default.result _ _ _ (not_record c.args.item.now c.in_default.not-Record) c.take-in_default.ensures c.put_reply-in_default.ensures.closes c.put_reply-in_default.ensures.sent

@@ -1,7 +1,7 @@
 use Rattle.std.proofs.Common.{ℕ, arith, ap, length, length-append}
 use Rattle.tn3270e_msg.specs.Lent.{payload}
 use Rattle.telnet_wire.proofs.Lengths.{sub_fits}
-use Rattle.host_core.proofs.talking.send_reply.Goals as goal
+use Rattle.tn3270e_msg.proofs.writing.put_reply.Goals as goal
 
 pub unwrap-requires-in-Sub : goal.unwrap-requires-in-Sub
 unwrap-requires-in-Sub c =
