@@ -1,24 +1,28 @@
-//! Worked dialogues, byte for byte. Standard input is a script of dialogues (`stdin` is the repository's own): what a host
-//! sends, what an operator presses, and what has to come of it. For each dialogue a line is printed: `ok`, or the first of
-//! its lines that came otherwise. The exit status is 1 if one did.
+//! Worked dialogues, byte for byte. Standard input is a script of dialogues (`stdin` is the repository's own), each with a
+//! terminal or with a host: what the other end sends, what an operator presses, when a host acts, and what has to come of it.
+//! For each dialogue a line is printed: `ok`, or the first of its lines that came otherwise. The exit status is 1 if one did.
 //!
-//! `script` says how a script is read and `terminal` which lines a dialogue with a terminal has. What the script expects is
-//! taken from the standards, and never from what this program printed.
+//! `script` says how a script is read, `terminal` which lines a dialogue with a terminal has, and `host` which one with a
+//! host. What the script expects is taken from the standards, and never from what this program printed.
 //!
-//! Run with each allocation refused in turn (`rt try --fail-alloc N < stdin`) it prints the same: a terminal is asked again
-//! in the midst of its dialogue, so that it has to stand as before the refusal, and a dialogue that this program has no
-//! memory for is held again. Only memory for the script itself is asked for once; its want is told.
+//! Run with each allocation refused in turn (`rt try --fail-alloc N < stdin`) it prints the same: a terminal or a host is
+//! asked again in the midst of its dialogue, so that it has to stand as before the refusal, and a dialogue that this program
+//! has no memory for is held again. Only memory for the script itself is asked for once; its want is told.
 #![tactic(auto)]
 
 mod bytes;
 mod fault;
+mod host;
 mod script;
 mod subject;
 mod terminal;
+mod words;
 
 use anyhow::{Context, Result, ensure};
 use fault::Failure;
-use script::{Line, Numbered, body_of, dialogue_count, read_script};
+use host::Switchboard;
+use script::{Line, Numbered, With, body_of, dialogue_count, read_script};
+use std::alloc::Global;
 use std::io;
 use subject::hold;
 use terminal::Desk;
@@ -41,12 +45,20 @@ fn tell(
     }
 }
 
+/// Holds a dialogue with its subject.
+fn hold_with(alloc: Global, with: With, body: &[Numbered<'_>]) -> std::result::Result<(), Failure> {
+    match with {
+        With::Terminal => hold::<Desk>(alloc, body),
+        With::Host => hold::<Switchboard>(alloc, body),
+    }
+}
+
 /// Holds the dialogues of a script one after another, and answers whether all came as expected.
 fn hold_all(rt: &(impl Print + AllocGlobal), script: &[Numbered<'_>]) -> io::Result<bool> {
     let mut all = true;
     for (index, numbered) in script.iter().enumerate() {
-        if let Line::Dialogue(name) = numbered.line {
-            let outcome = hold::<Desk>(rt.alloc(), body_of(&script[index + 1..]));
+        if let Line::Dialogue(with, name) = numbered.line {
+            let outcome = hold_with(rt.alloc(), with, body_of(&script[index + 1..]));
             all = tell(rt, name, outcome)? && all;
         }
     }

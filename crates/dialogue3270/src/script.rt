@@ -2,22 +2,31 @@
 //!
 //! ```text
 //! # A comment; blank lines are passed over, and blanks around a line.
-//! passage NAME     begins lines that are played by their name
-//! dialogue NAME    begins a dialogue with a fresh terminal
-//! play NAME        stands for the lines of a passage further up
+//! terminal-passage NAME    begins lines for a terminal that are played by their name
+//! host-passage NAME        begins such lines for a host
+//! terminal-dialogue NAME   begins a dialogue with a fresh terminal
+//! host-dialogue NAME       begins a dialogue with a fresh host
+//! play NAME                stands for the lines of a passage further up, for the same subject
 //! ```
 ghost use Rattle.std.specs.Prelude.{◌≤◌, length};
 
 use crate::fault::{Failure, Fault};
 use std::alloc::Global;
 
+/// With whom a dialogue or a passage is.
+#[derive(Clone, Copy, PartialEq, Eq)]
+pub enum With {
+    Terminal,
+    Host,
+}
+
 /// A line of a script, where `play` is replaced by what it stands for.
 #[derive(Clone, Copy)]
 pub enum Line<'a> {
     /// Begins the dialogue with this name.
-    Dialogue(&'a str),
+    Dialogue(With, &'a str),
     /// Begins the passage with this name.
-    Passage(&'a str),
+    Passage(With, &'a str),
     /// Is for the subject.
     Command(&'a str),
 }
@@ -30,14 +39,22 @@ pub struct Numbered<'a> {
 }
 
 impl Numbered<'_> {
-    fn is_heading(&self) -> bool {
-        matches!(self.line, Line::Dialogue(_) | Line::Passage(_))
+    /// With whom the lines behind this heading are.
+    fn begins(&self) -> Option<With> {
+        match self.line {
+            Line::Dialogue(with, _) | Line::Passage(with, _) => Some(with),
+            Line::Command(_) => None,
+        }
     }
 
-    fn begins_passage(&self, name: &str) -> bool {
+    fn is_heading(&self) -> bool {
+        self.begins().is_some()
+    }
+
+    fn begins_passage(&self, with: With, name: &str) -> bool {
         match self.line {
-            Line::Passage(own) => own == name,
-            Line::Dialogue(_) | Line::Command(_) => false,
+            Line::Passage(own, own_name) => own == with && own_name == name,
+            Line::Dialogue(_, _) | Line::Command(_) => false,
         }
     }
 }
@@ -46,7 +63,7 @@ impl Numbered<'_> {
 pub fn dialogue_count(script: &[Numbered<'_>]) -> usize {
     script
         .iter()
-        .filter(|line| matches!(line.line, Line::Dialogue(_)))
+        .filter(|line| matches!(line.line, Line::Dialogue(_, _)))
         .count()
 }
 
@@ -95,19 +112,31 @@ fn put_line<'a>(script: &mut Vec<Numbered<'a>>, number: usize, text: &'a str) ->
 }
 
 fn line_of<'a>(text: &'a str) -> Line<'a> {
-    if let Some(name) = text.strip_prefix("dialogue ") {
-        return Line::Dialogue(name);
+    let (word, name) = text.split_once(' ').unwrap_or((text, ""));
+    match word {
+        "terminal-dialogue" => Line::Dialogue(With::Terminal, name),
+        "host-dialogue" => Line::Dialogue(With::Host, name),
+        "terminal-passage" => Line::Passage(With::Terminal, name),
+        "host-passage" => Line::Passage(With::Host, name),
+        _ => Line::Command(text),
     }
-    match text.strip_prefix("passage ") {
-        Some(name) => Line::Passage(name),
-        None => Line::Command(text),
-    }
+}
+
+/// With whom the last lines of a script are.
+fn present_subject(script: &[Numbered<'_>]) -> Option<With> {
+    script.iter().rev().find_map(|line| line.begins())
 }
 
 /// Adds the lines of a passage.
 fn put_passage(script: &mut Vec<Numbered<'_>>, name: &str) -> Result<(), Fault> {
-    let Some(heading) = script.iter().position(|line| line.begins_passage(name)) else {
-        return Err(Fault::Needs("a passage that stands further up"));
+    let Some(with) = present_subject(script.as_slice()) else {
+        return Err(Fault::Needs("a heading above it"));
+    };
+    let Some(heading) = script
+        .iter()
+        .position(|line| line.begins_passage(with, name))
+    else {
+        return Err(Fault::Needs("a passage for the same subject that stands further up"));
     };
     let start = heading + 1;
     let count = body_of(&script.as_slice()[start..]).len();

@@ -5,38 +5,38 @@ use std::alloc::{AllocError, Global};
 
 /// What a dialogue is held with. It obeys a dialogue's lines in turn, until one doesn't hold.
 pub trait Subject: Sized + Drop {
-    /// A fresh one. Lines that cut bytes in two do so behind the `cut`th.
-    fn fresh(alloc: Global, cut: usize) -> Result<Self, AllocError>;
+    /// A fresh one, for a dialogue that is held for this time, counted from 1.
+    fn fresh(alloc: Global, holding: usize) -> Result<Self, AllocError>;
 
     /// Does what a line says, or sees whether it holds.
     fn obey(&mut self, line: &str) -> Result<(), Fault>;
 
-    /// At how many places the lines so far can be cut.
-    fn cuts(&self) -> usize;
+    /// How often a dialogue with the lines so far is to be held.
+    fn holdings(&self) -> usize;
 }
 
-/// Holds a dialogue; where its lines cut bytes in two, once for each place.
+/// Holds a dialogue, as often as its subject wants.
 pub fn hold<S: Subject>(alloc: Global, body: &[Numbered<'_>]) -> Result<(), Failure> {
-    let cuts = hold_cut::<S>(alloc, body, 1)?;
-    for cut in 2..=cuts {
-        hold_cut::<S>(alloc, body, cut)?;
+    let holdings = hold_again::<S>(alloc, body, 1)?;
+    for holding in 2..=holdings {
+        hold_again::<S>(alloc, body, holding)?;
     }
     Ok(())
 }
 
-/// Holds a dialogue, and once more if memory is refused. Answers at how many places it can be cut.
-fn hold_cut<S: Subject>(
+/// Holds a dialogue, and again if memory is refused. Answers how often it is to be held.
+fn hold_again<S: Subject>(
     alloc: Global,
     body: &[Numbered<'_>],
-    cut: usize,
+    holding: usize,
 ) -> Result<usize, Failure> {
-    match hold_once::<S>(alloc, body, cut) {
+    match hold_once::<S>(alloc, body, holding) {
         Err(
             Failure {
                 fault: Fault::NoMemory(_),
                 ..
             },
-        ) => hold_once::<S>(alloc, body, cut),
+        ) => hold_once::<S>(alloc, body, holding),
         outcome => outcome,
     }
 }
@@ -44,12 +44,12 @@ fn hold_cut<S: Subject>(
 fn hold_once<S: Subject>(
     alloc: Global,
     body: &[Numbered<'_>],
-    cut: usize,
+    holding: usize,
 ) -> Result<usize, Failure> {
-    match S::fresh(alloc, cut) {
+    match S::fresh(alloc, holding) {
         Ok(mut subject) => {
             obey_all(&mut subject, body)?;
-            Ok(subject.cuts())
+            Ok(subject.holdings())
         }
         Err(refused) => Err(Failure {
             line: 0,

@@ -47,7 +47,9 @@ pub struct Desk {
     fed: Fed,
     /// What is behind the cut.
     behind: Vec<u8>,
+    /// Where this holding of the dialogue cuts bytes in two.
     cut: usize,
+    /// At how many places the lines so far can be cut: for each the dialogue is held once.
     cuts: usize,
 }
 
@@ -177,7 +179,7 @@ impl Desk {
 }
 
 impl Subject for Desk {
-    fn fresh(alloc: Global, cut: usize) -> Result<Desk, AllocError> {
+    fn fresh(alloc: Global, holding: usize) -> Result<Desk, AllocError> {
         Ok(Desk {
             alloc,
             terminal: Terminal::new(alloc)?,
@@ -186,7 +188,7 @@ impl Subject for Desk {
                 stop: Stop::Going,
             },
             behind: Vec::new(alloc),
-            cut,
+            cut: holding,
             cuts: 0,
         })
     }
@@ -196,7 +198,7 @@ impl Subject for Desk {
         self.obey_command(&command)
     }
 
-    fn cuts(&self) -> usize {
+    fn holdings(&self) -> usize {
         self.cuts
     }
 }

@@ -1,8 +1,9 @@
 //! What is to be seen of a terminal, in words.
+use crate::words::{bound_seen, closed_seen, stop_seen};
 use codes3270::{Addr, Cell, aid_byte, attr_code};
 use std::alloc::{AllocError, Global};
 use term_core::{TermPhase, Terminal, screen_lines};
-use tn3270e_msg::{Cause, Fed, Lu, Stop};
+use tn3270e_msg::Fed;
 
 /// What is to be seen.
 #[derive(Clone, Copy)]
@@ -76,14 +77,6 @@ fn yes_or_no(answer: bool) -> &'static str {
     if answer { "yes" } else { "no" }
 }
 
-fn stop_seen(alloc: Global, stop: Stop) -> Result<String, AllocError> {
-    match stop {
-        Stop::Going => String::from_str(alloc, "going"),
-        Stop::Memory => String::from_str(alloc, "no memory"),
-        Stop::Closed(cause) => closed_seen(alloc, cause),
-    }
-}
-
 fn phase_seen(alloc: Global, phase: TermPhase) -> Result<String, AllocError> {
     match phase {
         TermPhase::Idle => String::from_str(alloc, "idle"),
@@ -94,33 +87,6 @@ fn phase_seen(alloc: Global, phase: TermPhase) -> Result<String, AllocError> {
             format!(in alloc; "refused {code:02X}")
         }
         TermPhase::Closed(cause) => closed_seen(alloc, cause),
-    }
-}
-
-fn bound_seen(alloc: Global, lu: &Lu) -> Result<String, AllocError> {
-    let mut text = String::from_str(alloc, "bound ")?;
-    for letter in lu.as_bytes() {
-        text.push(char::from(*letter))?;
-    }
-    Ok(text)
-}
-
-fn closed_seen(alloc: Global, cause: Cause) -> Result<String, AllocError> {
-    let word = cause_word(cause);
-    format!(in alloc; "closed {word}")
-}
-
-fn cause_word(cause: Cause) -> &'static str {
-    match cause {
-        Cause::NoTn3270e => "no-tn3270e",
-        Cause::NoResponses => "no-responses",
-        Cause::BadTalk => "bad-talk",
-        Cause::TooMany => "too-many",
-        Cause::Wire => "wire",
-        Cause::BadRecord => "bad-record",
-        Cause::BadInbound => "bad-inbound",
-        Cause::BadResponse => "bad-response",
-        Cause::Negative => "negative",
     }
 }
 
