@@ -32,6 +32,16 @@ ghost use Rattle.world3270.specs.StandsLinks.{
   WhatComesMayCome,
 };
 
+mod event;
+mod moving;
+mod note_text;
+mod seat;
+mod way;
+
+pub use event::{Event, Stepped};
+pub use moving::World;
+pub use note_text::NoteText;
+
 use datastream::{fields_both_ways, kept_since_the_write, sent_is_read, what_a_note_keeps};
 use host_core::{notes_are_written, what_is_shown_fits};
 use keyboard::{keys_keep_what_was_left, what_keys_leave_can_be_sent};
