@@ -9,7 +9,7 @@ use Rattle.host_core.specs.declared.phase.Phase.TheVariants as phase
 use Rattle.host_core.specs.declared.acted.Acted.{Acted}
 use Rattle.host_core.specs.declared.acted.Acted.TheVariants as acted
 use Rattle.world3270.specs.ByteWorld.{ByteWorld, host_there, is_there, terminal_there, with_host}
-use Rattle.world3270.specs.ByteSteps.{ActsHost, Steps, Happens, HappensIf, has_place, answer_acted, is_link, is_held, free_from}
+use Rattle.world3270.specs.ByteSteps.{ActsHost, Steps, Happens, HappensIf, has_place, answer_acted, is_link, is_held, free_from, host_gone_below, host_gone_if_there}
 use Rattle.world3270.specs.declared.event.Event.{Event}
 use Rattle.world3270.specs.declared.event.Stepped.{Stepped}
 use Rattle.world3270.specs.declared.event.Stepped.TheVariants as stepped
@@ -82,3 +82,19 @@ free_there (Service.Closed cause) e = absurd (cc)
 pub is_free_there : (number : ℕ) (world : ByteWorld) → is_held number world ≡ false → phase_of (service_at number world.host) ≡ phase.Free
 is_free_there number world e =
     free_there (service_at number world.host) (not_either (host_there number world) (terminal_there number world) e)
+
+-- ---- the host leaves all
+
+pub gone_none : (world : ByteWorld) → world ≡ host_gone_below 0 world
+unfolding host_gone_below
+gone_none world = refl
+
+next_gone : (index : ℕ) (world : ByteWorld) → host_gone_if_there index (host_gone_below index world) ≡ host_gone_below (suc index) world
+unfolding host_gone_below
+next_gone index world = refl
+
+pub one_more_gone : (index : ℕ) (world now next : ByteWorld) → now ≡ host_gone_below index world → next ≡ host_gone_if_there index now
+    → next ≡ host_gone_below (index + 1) world
+one_more_gone index world now next so_far is =
+    let count : suc index ≡ index + 1 = omega arith in
+    is ∙ ap (λ (w : ByteWorld). host_gone_if_there index w) so_far ∙ next_gone index world ∙ ap (λ (n : ℕ). host_gone_below n world) count

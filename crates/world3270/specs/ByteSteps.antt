@@ -212,12 +212,13 @@ abbrev pub terminal_anew : ℕ → Option ℕ → ByteWorld → ByteWorld
 terminal_anew terminal None world = with_sitting terminal new_sitting world
 terminal_anew terminal (Some number) world = terminal_gone new_sitting terminal number world
 
+abbrev pub host_gone_if_there : ℕ → ByteWorld → ByteWorld
+host_gone_if_there number world = if host_there number world then host_gone number world else world
+
 -- the host leaves each of the first connections, as many as this
-abbrev pub host_gone_below : ℕ → ByteWorld → ByteWorld
+unfoldable pub host_gone_below : ℕ → ByteWorld → ByteWorld
 host_gone_below zero world = world
-host_gone_below (suc number) world =
-    let rest = host_gone_below number world in
-    if host_there number rest then host_gone number rest else rest
+host_gone_below (suc number) world = host_gone_if_there number (host_gone_below number world)
 
 abbrev pub host_anew : ByteWorld → ByteWorld
 host_anew world = with_host (new_host world.host.panels world.host.pool) world

@@ -1,14 +1,16 @@
 //! The world: a host, the connections that it serves, and terminals, and the bytes that move between them.
-ghost use Rattle.std.specs.Prelude.{◌≡◌, ◌<◌, None, true, false, length, IfOk, IfSome, replicate};
+ghost use Rattle.std.specs.Prelude.{◌≡◌, ◌<◌, None, true, false, length, IfOk, IfSome, replicate, take};
+ghost use Rattle.host_core.specs.Feeds.{Feeds, counter_at, with_counter};
 ghost use Rattle.host_core.specs.State.{most_connections};
-ghost use Rattle.world3270.specs.ByteSteps.{Connects, Steps, free_number, has_place, host_gone, is_held, is_link, is_up, lost_ways, terminal_gone, answer_pressed, answer_acted};
-ghost use Rattle.world3270.specs.ByteWorld.{alone, down_of, host_there, new_byte_world, new_sitting, sitting_at, terminal_at, terminal_out, terminal_there, unused_ways, up_of, with_ways};
+ghost use Rattle.world3270.specs.ByteSteps.{Connects, Steps, free_number, has_place, host_gone, host_gone_below, host_gone_if_there, is_held, is_link, is_up, lost_ways, terminal_gone, answer_pressed, answer_acted};
+ghost use Rattle.world3270.specs.ByteWorld.{alone, down_of, host_there, new_byte_world, new_sitting, sitting_at, terminal_at, terminal_out, terminal_there, unused_ways, up_of, with_host, with_ways};
+ghost use Rattle.world3270.specs.Flows.{out_among};
 ghost use Rattle.world3270.specs.declared.event.Event.TheVariants as event;
 
 use crate::event::{Event, Stepped};
 use crate::note_text::NoteText;
 use crate::seat::Chair;
-use crate::way::Cable;
+use crate::way::{Cable, first};
 use host_core::{Acted, Host, MOST_CONNECTIONS, Phase};
 use keyboard::{Key, Pressed};
 use lu_pool::Pool;
@@ -17,7 +19,7 @@ use std::alloc::Global;
 use std::marker::Model;
 use telnet_wire::Memory;
 use term_core::Terminal;
-use tn3270e_msg::Lu;
+use tn3270e_msg::{Fed, Lu};
 
 /// A host, the connections that it serves, and terminals. What an end has to send is under way: the world has no other queue.
 #[derive(Drop)]
@@ -67,6 +69,16 @@ fn terminal_at(seats: &[Chair], conn: usize) -> Option<usize>
     ensures below { IfSome result (λ terminal. terminal < length seats.now) }
 {
     seats.iter().position(|chair| chair.is_at(conn))
+}
+
+/// What the terminal at a connection has to send: nothing where none is.
+fn out_at(seats: &[Chair], conn: usize) -> &[u8]
+    ensures { result.now ≡ out_among (terminal_at conn seats.now) seats.now }
+{
+    match terminal_at(seats, conn) {
+        Some(terminal) => seats[terminal].out(),
+        None => &[],
+    }
 }
 
 /// What becomes of a key, by what the keyboard answers.
@@ -369,5 +381,44 @@ impl World {
                 None => Stepped::Skipped,
             },
         }
+    }
+
+    /// The host leaves a connection, if it holds an end of it.
+    fn host_leaves_if_there(&mut self, conn: usize)
+        requires { conn < most_connections }
+        ensures { self.new ≡ host_gone_if_there conn self.old }
+    {
+        if self.host_there(conn) {
+            self.host_leaves(conn);
+        }
+    }
+
+    /// The host leaves all its connections.
+    fn host_leaves_all(&mut self)
+        ensures { self.new ≡ host_gone_below most_connections self.old }
+    {
+        for conn in 0..MOST_CONNECTIONS {
+            self.host_leaves_if_there(conn);
+        }
+    }
+
+    /// The host begins anew; its connections are lost.
+    pub fn restart_host(&mut self) -> Stepped
+        ensures { Steps event.RestartHost self.old result self.new }
+    {
+        self.host_leaves_all();
+        self.host.restart();
+        Stepped::Done
+    }
+
+    /// The host takes bytes that are under way to it: so many of them, or all.
+    fn feed_host(&mut self, conn: usize, count: usize) -> Fed
+        requires { conn < most_connections }
+        ensures fed { Feeds conn (counter_at conn self.old.host) (take count (up_of conn self.old)) result (counter_at conn self.new.host) }
+        ensures others { self.new ≡ with_host (with_counter conn (counter_at conn self.new.host) self.old.host) self.old }
+    {
+        let out = out_at(&self.seats, conn);
+        let bytes = first(self.links[conn].up.under_way(out), count);
+        self.host.feed(conn, bytes)
     }
 }
