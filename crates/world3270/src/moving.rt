@@ -1,9 +1,9 @@
 //! The world: a host, the connections that it serves, and terminals, and the bytes that move between them.
-ghost use Rattle.std.specs.Prelude.{◌≡◌, ◌<◌, None, true, false, length, IfOk, IfSome, replicate, take};
+ghost use Rattle.std.specs.Prelude.{◌≡◌, ◌<◌, ◌≤◌, None, true, false, length, IfOk, IfSome, replicate, take};
 ghost use Rattle.host_core.specs.Feeds.{Feeds, counter_at, with_counter};
 ghost use Rattle.host_core.specs.State.{most_connections};
-ghost use Rattle.world3270.specs.ByteSteps.{Connects, Steps, free_number, has_place, host_gone, host_gone_below, host_gone_if_there, is_held, is_link, is_up, lost_ways, terminal_gone, answer_pressed, answer_acted};
-ghost use Rattle.world3270.specs.ByteWorld.{alone, down_of, host_there, new_byte_world, new_sitting, sitting_at, terminal_at, terminal_out, terminal_there, unused_ways, up_of, with_host, with_ways};
+ghost use Rattle.world3270.specs.ByteSteps.{Connects, Steps, answer_fed, down_came, host_told, free_number, has_place, host_gone, host_gone_below, host_gone_if_there, is_held, is_link, is_up, lost_ways, terminal_gone, answer_pressed, answer_acted};
+ghost use Rattle.world3270.specs.ByteWorld.{alone, down_of, host_out, host_there, is_senders, ways_at, new_byte_world, new_sitting, sitting_at, terminal_at, terminal_out, terminal_there, unused_ways, up_of, with_host, with_ways};
 ghost use Rattle.world3270.specs.Flows.{out_among};
 ghost use Rattle.world3270.specs.declared.event.Event.TheVariants as event;
 
@@ -19,7 +19,7 @@ use std::alloc::Global;
 use std::marker::Model;
 use telnet_wire::Memory;
 use term_core::Terminal;
-use tn3270e_msg::{Fed, Lu};
+use tn3270e_msg::{Fed, Lu, Stop};
 
 /// A host, the connections that it serves, and terminals. What an end has to send is under way: the world has no other queue.
 #[derive(Drop)]
@@ -100,6 +100,20 @@ fn acted_as(acted: Acted) -> Stepped
         Acted::Sent => Stepped::Done,
         Acted::Nothing => Stepped::Skipped,
         Acted::Memory => Stepped::Memory,
+    }
+}
+
+/// What becomes of a delivery.
+fn fed_as(fed: Fed) -> Stepped
+    ensures { result ≡ answer_fed fed.stop fed.taken }
+{
+    match fed.stop {
+        Stop::Going => Stepped::Done,
+        Stop::Closed(_) => Stepped::Done,
+        Stop::Memory => match fed.taken {
+            0 => Stepped::Memory,
+            taken => Stepped::Part(taken),
+        },
     }
 }
 
@@ -420,5 +434,27 @@ impl World {
         let out = out_at(&self.seats, conn);
         let bytes = first(self.links[conn].up.under_way(out), count);
         self.host.feed(conn, bytes)
+    }
+
+    /// The host's first bytes are sent, where what comes is the host's.
+    fn tell_host(&mut self, is_its: bool, conn: usize, count: usize)
+        requires number { conn < most_connections }
+        requires count { is_its ≡ true → count ≤ length (host_out conn self.old) }
+        ensures { self.new ≡ host_told is_its count conn self.old }
+    {
+        if is_its {
+            self.host.sent(conn, count);
+        }
+    }
+
+    /// So many bytes came down.
+    fn came_down(&mut self, conn: usize, count: usize)
+        requires number { conn < most_connections }
+        requires count { is_senders (ways_at conn self.old).down ≡ true → count ≤ length (host_out conn self.old) }
+        ensures { self.new ≡ down_came count conn self.old }
+    {
+        let is_its = self.links[conn].down.is_senders();
+        self.tell_host(is_its, conn, count);
+        self.links[conn].came_down(count);
     }
 }

@@ -203,4 +203,18 @@ impl Cable {
     {
         self.down.is_live()
     }
+
+    /// So many bytes came down.
+    pub(crate) fn came_down(&mut self, count: usize)
+        ensures { self.new ≡ record self.old { down = came count self.old.down } }
+    {
+        self.down.came(count);
+    }
+
+    /// So many bytes came up.
+    pub(crate) fn came_up(&mut self, count: usize)
+        ensures { self.new ≡ record self.old { up = came count self.old.up } }
+    {
+        self.up.came(count);
+    }
 }
