@@ -34,3 +34,5 @@ pub mod HostSteps
 pub mod Everywhere
 pub mod Numbers
 pub mod Sendable
+pub mod Sittings
+pub mod Steps

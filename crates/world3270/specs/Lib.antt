@@ -32,3 +32,7 @@ pub mod Losses
 pub mod Forms
 pub mod Numbers
 pub mod Sendable
+pub mod ByteWorld
+pub mod Flows
+pub mod NoteTexts
+pub mod ByteSteps

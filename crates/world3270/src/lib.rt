@@ -32,10 +32,19 @@ ghost use Rattle.world3270.specs.StandsLinks.{
   WhatComesMayCome,
 };
 
+mod event;
+mod moving;
+mod note_text;
+mod seat;
+mod way;
+
 use datastream::{fields_both_ways, kept_since_the_write, sent_is_read, what_a_note_keeps};
+pub use event::{Event, Stepped};
 use host_core::{notes_are_written, what_is_shown_fits};
 use keyboard::{keys_keep_what_was_left, what_keys_leave_can_be_sent};
 use lu_pool::the_pool_is_a_map;
+pub use moving::World;
+pub use note_text::NoteText;
 use shadow::{
     what_a_note_leaves, what_is_exact_is_so, what_is_known_is_exact, what_is_protected_is_exact,
     what_is_read_is_heard, what_is_sent_is_heard, what_is_wanted_is_painted,

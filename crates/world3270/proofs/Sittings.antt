@@ -1,0 +1,78 @@
+-- A terminal at its place takes bytes, and its history follows.
+use Rattle.std.proofs.Common.{◌≡◌, ◌⊎◌, inl, inr, ◌<◌, ◌≤◌, ◌+◌, ◌++◌, take, ℕ, zero, suc, Bool, false, List, [], ◌∷◌, Option, Some, None, length, get_or, refl, ap, sym, subst, ◌∙◌, arith}
+use Rattle.std.proofs.lemmas.List.{take_more}
+use Rattle.codes3270.specs.Size.{cell_count, cells_in, model_2}
+use Rattle.datastream.specs.Screen.{Screen, blank_screen}
+use Rattle.term_core.specs.Bytes.{TakesByte, TakesBytes}
+use Rattle.term_core.specs.Feeds.{Feeds, StopsFor, IsAttached}
+use Rattle.term_core.specs.State.{Terminal, Link, Closed, Detached}
+use Rattle.tn3270e_msg.specs.declared.cause.Cause.{Cause}
+use Rattle.tn3270e_msg.specs.declared.cause.Fed.{Fed}
+use Rattle.tn3270e_msg.specs.declared.cause.Stop.{Stop}
+use Rattle.tn3270e_msg.specs.declared.cause.Stop.TheVariants as stop
+use Rattle.world3270.specs.ByteWorld.{Sitting}
+use Rattle.world3270.specs.Seats.{Seat, History, SeatTakes, SeatTakesByte, marked}
+
+sizes : cell_count ≡ cells_in model_2
+sizes = refl
+
+abbrev begins_as : Terminal → Screen → Option ℕ → Sitting
+begins_as terminal screen at = record { seat = record { terminal = terminal; history = record { left = screen; erased = false } }; at = at }
+
+pub begun : (terminal begins : Terminal) (screen : Screen) (at : Option ℕ) → terminal ≡ begins → screen ≡ blank_screen cell_count
+    → begins_as terminal screen at ≡ begins_as begins (blank_screen (cells_in model_2)) at
+begun terminal begins screen at same blank =
+    ap (λ (t : Terminal). begins_as t screen at) same ∙ ap (λ (s : Screen). begins_as begins s at) (blank ∙ ap blank_screen sizes)
+
+-- ---- a byte
+
+one_taken : (old new : Terminal) (byte taken : ℕ) → taken ≡ 1 → TakesBytes old (take taken (byte ∷ [])) new → TakesByte old byte new
+one_taken old new byte taken one takes =
+    let it : TakesBytes old (byte ∷ []) new = subst (λ (n : ℕ). TakesBytes old (take n (byte ∷ [])) new) one takes in
+    subst (λ (t : Terminal). TakesByte old byte t) (sym it.2) it.1
+
+not_closed : (link : Link) (cause : Cause) → IsAttached link → link ≡ Closed cause → ⊥
+not_closed link cause attached closed = subst IsAttached closed attached
+
+not_detached : (link : Link) → IsAttached link → link ≡ Detached → ⊥
+not_detached link attached detached = subst IsAttached detached attached
+
+went_on : (old new : Terminal) (byte taken : ℕ) → IsAttached old.link → TakesBytes old (take taken (byte ∷ [])) new
+    → StopsFor stop.Going old (byte ∷ []) taken new → TakesByte old byte new × IsAttached new.link
+went_on old new byte taken attached takes (inl all) = (one_taken old new byte taken all.0 takes, all.1)
+went_on old new byte taken attached takes (inr none) = absurd (not_detached old.link attached none.1)
+
+closed_by : (old new : Terminal) (byte taken : ℕ) (cause : Cause) → IsAttached old.link → taken ≤ 1 → TakesBytes old (take taken (byte ∷ [])) new
+    → new.link ≡ Closed cause → TakesByte old byte new
+closed_by old new byte zero cause attached few takes closed =
+    absurd (not_closed old.link cause attached (sym (ap (λ (t : Terminal). t.link) takes) ∙ closed))
+closed_by old new byte (suc zero) cause attached few takes closed = one_taken old new byte 1 refl takes
+closed_by old new byte (suc (suc taken)) cause attached few takes closed = absurd (omega arith)
+
+pub byte_went_on : (old : Seat) (terminal : Terminal) (byte : ℕ) (fed : Fed) (new : Seat) → IsAttached old.terminal.link
+    → Feeds old.terminal (byte ∷ []) fed terminal → fed.stop ≡ stop.Going
+    → new ≡ record { terminal = terminal; history = marked terminal.station old.history } → SeatTakesByte old byte new × IsAttached new.terminal.link
+byte_went_on old terminal byte fed new attached feeds going is =
+    let stops = subst (λ (s : Stop). StopsFor s old.terminal (byte ∷ []) fed.taken terminal) going feeds.stops in
+    let went = went_on old.terminal terminal byte fed.taken attached feeds.takes stops in
+    subst (λ (s : Seat). SeatTakesByte old byte s × IsAttached s.terminal.link) (sym is) (record { takes = went.0; history = refl }, went.1)
+
+pub byte_closed : (old : Seat) (terminal : Terminal) (byte : ℕ) (cause : Cause) (fed : Fed) (new : Seat) → IsAttached old.terminal.link
+    → Feeds old.terminal (byte ∷ []) fed terminal → fed.stop ≡ stop.Closed cause
+    → new ≡ record { terminal = terminal; history = marked terminal.station old.history } → SeatTakesByte old byte new × (new.terminal.link ≡ Closed cause)
+byte_closed old terminal byte cause fed new attached feeds closed is =
+    let stops = subst (λ (s : Stop). StopsFor s old.terminal (byte ∷ []) fed.taken terminal) closed feeds.stops in
+    let took = closed_by old.terminal terminal byte fed.taken cause attached feeds.few feeds.takes stops in
+    subst (λ (s : Seat). SeatTakesByte old byte s × (s.terminal.link ≡ Closed cause)) (sym is) (record { takes = took; history = refl }, stops)
+
+-- ---- bytes
+
+pub takes_more : (old : Seat) (bytes : List ℕ) (mid : Seat) (byte : ℕ) (new : Seat) → SeatTakes old bytes mid → SeatTakesByte mid byte new
+    → SeatTakes old (bytes ++ byte ∷ []) new
+takes_more old [] mid byte new none one = (new, subst (λ (s : Seat). SeatTakesByte s byte new) none one, refl)
+takes_more old (first ∷ bytes) mid byte new takes one = (takes.0, takes.1, takes_more takes.0 bytes mid byte new takes.2 one)
+
+pub one_more : (old : Seat) (bytes : List ℕ) (index d : ℕ) (mid new : Seat) → index < length bytes
+    → SeatTakes old (take index bytes) mid → SeatTakesByte mid (get_or bytes index d) new → SeatTakes old (take (index + 1) bytes) new
+one_more old bytes index d mid new below takes one =
+    subst (λ (bs : List ℕ). SeatTakes old bs new) (sym (take_more bytes index d below)) (takes_more old (take index bytes) mid (get_or bytes index d) new takes one)

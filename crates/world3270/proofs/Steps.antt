@@ -1,0 +1,100 @@
+-- An event happens where it has a place, and is skipped elsewhere.
+use Rattle.std.proofs.Common.{◌≡◌, ◌<◌, ◌&&◌, ◌||◌, ◌+◌, ◌-◌, ℕ, zero, suc, Bool, true, false, Option, Some, None, is_some, nat_lt, refl, ap, sym, subst, ◌∙◌, arith, if◌then◌else◌}
+use Rattle.std.proofs.lemmas.Bool.{ltb-true, lt-ltb}
+use Rattle.std.proofs.lemmas.List.{set-get_or}
+use Rattle.host_core.specs.Acts.{Sent}
+use Rattle.host_core.specs.Does.{Does as HostDoes}
+use Rattle.host_core.specs.State.{Host, Line, Service, unused, line_at, with_line, most_connections, phase_of, service_at}
+use Rattle.host_core.specs.declared.phase.Phase.TheVariants as phase
+use Rattle.host_core.specs.declared.acted.Acted.{Acted}
+use Rattle.host_core.specs.declared.acted.Acted.TheVariants as acted
+use Rattle.world3270.specs.ByteWorld.{ByteWorld, host_there, is_there, terminal_there, with_host}
+use Rattle.world3270.specs.ByteSteps.{ActsHost, Steps, Happens, HappensIf, has_place, answer_acted, is_link, is_held, free_from, host_gone_below, host_gone_if_there}
+use Rattle.world3270.specs.declared.event.Event.{Event}
+use Rattle.world3270.specs.declared.event.Stepped.{Stepped}
+use Rattle.world3270.specs.declared.event.Stepped.TheVariants as stepped
+
+pub it_happens : (event : Event) (old : ByteWorld) (answer : Stepped) (new : ByteWorld) → has_place event old ≡ true
+    → Happens event old answer new → Steps event old answer new
+it_happens event old answer new is happens = subst (λ (b : Bool). HappensIf b event old answer new) (sym is) happens
+
+pub it_is_skipped : (event : Event) (old : ByteWorld) (answer : Stepped) (new : ByteWorld) → has_place event old ≡ false → answer ≡ stepped.Skipped → new ≡ old
+    → Steps event old answer new
+it_is_skipped event old answer new is skips same = subst (λ (b : Bool). HappensIf b event old answer new) (sym is) (skips, same)
+
+-- ---- the host acts
+
+both : (linked place : Bool) → linked ≡ true → place ≡ true → (linked && place) ≡ true
+both linked place one two = ap (λ (b : Bool). b && place) one ∙ two
+
+neither : (linked : Bool) → (linked && false) ≡ false
+neither true = refl
+neither false = refl
+
+same_host : (number : ℕ) (old host : Host) → line_at number host ≡ line_at number old → host ≡ with_line number (line_at number host) old → host ≡ old
+same_host number old host line others =
+    others ∙ ap (λ (l : Line). with_line number l old) line ∙ ap (λ ls. record old { lines = ls }) (set-get_or old.lines number unused)
+
+pub host_acted : (event : Event) (does : Option Sent) (number : ℕ) (old : ByteWorld) (act : Acted) (answer : Stepped) (host : Host)
+    → number < most_connections → HostDoes does (line_at number old.host) act (line_at number host) → host ≡ with_line number (line_at number host) old.host
+    → answer ≡ answer_acted act → has_place event old ≡ (is_link number && is_some does)
+    → (ActsHost does number old answer (with_host host old) → Happens event old answer (with_host host old))
+    → Steps event old answer (with_host host old)
+host_acted event None number old act answer host below acts others answers place happens =
+    it_is_skipped event old answer (with_host host old) (place ∙ neither (is_link number)) (answers ∙ ap answer_acted acts.0)
+    (ap (λ (h : Host). with_host h old) (same_host number old.host host acts.1 others))
+host_acted event (Some sent) number old act answer host below acts others answers place happens =
+    it_happens event old answer (with_host host old) (place ∙ both (is_link number) true (lt-ltb number most_connections below) refl)
+    (happens (record { act = act; host = host; acts = acts; others = others; answers = answers; leaves = refl }))
+
+-- ---- the least number that is free
+
+pub free_on : (most index : ℕ) (world : ByteWorld) → index < most → is_held index world ≡ true
+    → free_from (most - index) index world ≡ free_from (most - (index + 1)) (index + 1) world
+unfolding free_from
+free_on most index world below held =
+    let next : most - index ≡ suc (most - (index + 1)) = omega arith in
+    ap (λ (n : ℕ). free_from n index world) next
+    ∙ ap (λ (b : Bool). if b then free_from (most - (index + 1)) (index + 1) world else Some index) held
+
+pub free_here : (most index : ℕ) (world : ByteWorld) → index < most → is_held index world ≡ false → free_from (most - index) index world ≡ Some index
+unfolding free_from
+free_here most index world below free =
+    let next : most - index ≡ suc (most - (index + 1)) = omega arith in
+    ap (λ (n : ℕ). free_from n index world) next
+    ∙ ap (λ (b : Bool). if b then free_from (most - (index + 1)) (index + 1) world else Some index) free
+
+pub none_from : (number : ℕ) (world : ByteWorld) → free_from 0 number world ≡ None
+unfolding free_from
+none_from number world = refl
+
+-- ---- a number that nobody holds
+
+not_either : (one other : Bool) → (one || other) ≡ false → one ≡ false
+not_either true other e = absurd (cc)
+not_either false other e = refl
+
+free_there : (service : Service) → is_there service ≡ false → phase_of service ≡ phase.Free
+free_there Service.Free e = refl
+free_there (Service.Open rest conn) e = absurd (cc)
+free_there (Service.Closed cause) e = absurd (cc)
+
+pub is_free_there : (number : ℕ) (world : ByteWorld) → is_held number world ≡ false → phase_of (service_at number world.host) ≡ phase.Free
+is_free_there number world e =
+    free_there (service_at number world.host) (not_either (host_there number world) (terminal_there number world) e)
+
+-- ---- the host leaves all
+
+pub gone_none : (world : ByteWorld) → world ≡ host_gone_below 0 world
+unfolding host_gone_below
+gone_none world = refl
+
+next_gone : (index : ℕ) (world : ByteWorld) → host_gone_if_there index (host_gone_below index world) ≡ host_gone_below (suc index) world
+unfolding host_gone_below
+next_gone index world = refl
+
+pub one_more_gone : (index : ℕ) (world now next : ByteWorld) → now ≡ host_gone_below index world → next ≡ host_gone_if_there index now
+    → next ≡ host_gone_below (index + 1) world
+one_more_gone index world now next so_far is =
+    let count : suc index ≡ index + 1 = omega arith in
+    is ∙ ap (λ (w : ByteWorld). host_gone_if_there index w) so_far ∙ next_gone index world ∙ ap (λ (n : ℕ). host_gone_below n world) count

@@ -1,0 +1,251 @@
+-- What an event makes of the world over bytes (our profile). What the ends make of bytes, keys and acts is host_core's and term_core's.
+use Rattle.std.specs.Prelude.{◌≡◌, ◌≤◌, ◌+◌, ◌&&◌, ◌||◌, not, nat_lt, ℕ, zero, suc, Bool, true, false, List, [], ◌∷◌, Option, Some, None, is_some, if◌then◌else◌, drop, length, take}
+use Rattle.keyboard.specs.declared.key.Key.{Key}
+use Rattle.keyboard.specs.declared.key.Pressed.{Pressed}
+use Rattle.keyboard.specs.declared.key.Pressed.TheVariants as pressed
+use Rattle.tn3270e_msg.specs.declared.cause.Fed.{Fed}
+use Rattle.tn3270e_msg.specs.declared.cause.Stop.{Stop}
+use Rattle.tn3270e_msg.specs.declared.cause.Stop.TheVariants as stop
+use Rattle.host_core.specs.Acts.{Sent}
+use Rattle.host_core.specs.Application.{application_of}
+use Rattle.host_core.specs.Bytes.{Counter}
+use Rattle.host_core.specs.Does.{Does as HostDoes, acted_by, noted_by}
+use Rattle.host_core.specs.Feeds.{Feeds, counter_at, with_counter}
+use Rattle.host_core.specs.State.{Host, line_at, service_at, with_line, new_host, most_connections, given_up}
+use Rattle.host_core.specs.declared.acted.Acted.{Acted}
+use Rattle.host_core.specs.declared.acted.Acted.TheVariants as acted
+use Rattle.host_core.specs.State.{opened}
+use Rattle.term_core.specs.Feeds.{StopsFor}
+use Rattle.term_core.specs.Presses.{answer_to_key}
+use Rattle.world3270.specs.ByteWorld.{ByteWorld, Under, Ways, Sitting, alone, begun_ways, came, cut, left, is_live, is_senders, new_sitting, sits, ways_at, sitting_at, with_ways, with_sitting, with_host, host_there, terminal_there, terminal_at, host_out, terminal_out, down_of, up_of}
+use Rattle.world3270.specs.Placed.{is_queued}
+use Rattle.world3270.specs.Seats.{Seat, SeatTakes, seat_after_key}
+use Rattle.world3270.specs.declared.event.Event.{Event}
+use Rattle.world3270.specs.declared.event.Event.TheVariants as event
+use Rattle.world3270.specs.declared.event.Stepped.{Stepped}
+use Rattle.world3270.specs.declared.event.Stepped.TheVariants as stepped
+
+-- ---- which events have something to happen to
+
+abbrev pub is_link : ℕ → Bool
+is_link number = nat_lt number most_connections
+
+abbrev pub is_terminal : ℕ → ByteWorld → Bool
+is_terminal terminal world = nat_lt terminal (length world.sittings)
+
+abbrev pub is_lost : ℕ → ByteWorld → Bool
+is_lost number world = not (is_live (ways_at number world).down)
+
+-- an end is held
+abbrev pub is_held : ℕ → ByteWorld → Bool
+is_held number world = host_there number world || terminal_there number world
+
+-- an end is held, and the connection isn't lost
+abbrev pub is_up : ℕ → ByteWorld → Bool
+is_up number world = is_live (ways_at number world).down && is_held number world
+
+abbrev pub sees_loss : Option ℕ → ByteWorld → Bool
+sees_loss None world = false
+sees_loss (Some number) world = is_lost number world
+
+-- of so many numbers, from this one on, the least that neither end holds
+unfoldable pub free_from : ℕ → ℕ → ByteWorld → Option ℕ
+free_from zero number world = None
+free_from (suc count) number world = if is_held number world then free_from count (number + 1) world else Some number
+
+abbrev pub free_number : ByteWorld → Option ℕ
+free_number world = free_from most_connections 0 world
+
+-- a terminal that is alone connects while a number is free
+abbrev pub may_connect : Option ℕ → ByteWorld → Bool
+may_connect None world = is_some (free_number world)
+may_connect (Some number) world = false
+
+abbrev pub has_place : Event → ByteWorld → Bool
+has_place (event.Key terminal key) world = is_terminal terminal world
+has_place (event.Up number count) world = is_link number && (host_there number world && is_queued (take count (up_of number world)))
+has_place (event.Down number count) world = is_link number && (terminal_there number world && is_queued (take count (down_of number world)))
+has_place (event.Act number) world = is_link number && is_some (acted_by (application_of world.host.panels) (service_at number world.host))
+has_place (event.Note number text) world = is_link number && is_some (noted_by text (service_at number world.host))
+has_place (event.Lose number) world = is_link number && is_up number world
+has_place (event.HostSees number) world = is_link number && (is_lost number world && host_there number world)
+has_place (event.TermSees terminal) world = is_terminal terminal world && sees_loss (sitting_at terminal world).at world
+has_place (event.Connect terminal wanted) world = is_terminal terminal world && may_connect (sitting_at terminal world).at world
+has_place (event.RestartTerm terminal) world = is_terminal terminal world
+has_place event.RestartHost world = true
+
+-- ---- bytes come
+
+-- A terminal is fed bytes: it took so many of them, one after another, and its history follows.
+pub record SeatFeeds (old : Seat) (bytes : List ℕ) (fed : Fed) (new : Seat) : Type 0 where
+  pub few : fed.taken ≤ length bytes
+  pub takes : SeatTakes old (take fed.taken bytes) new
+  pub stops : StopsFor fed.stop old.terminal bytes fed.taken new.terminal
+
+-- memory was refused behind so many bytes
+abbrev pub refused_behind : ℕ → Stepped
+refused_behind zero = stepped.Memory
+refused_behind (suc count) = stepped.Part (suc count)
+
+abbrev pub answer_fed : Stop → ℕ → Stepped
+answer_fed stop.Going taken = stepped.Done
+answer_fed stop.Memory taken = refused_behind taken
+answer_fed (stop.Closed cause) taken = stepped.Done
+
+-- of what a terminal has to send, so many bytes are sent
+abbrev pub sent_of : ℕ → Sitting → Sitting
+sent_of count old = record old { seat = record old.seat { terminal = record old.seat.terminal { out = drop count old.seat.terminal.out } } }
+
+abbrev pub terminal_told : Bool → ℕ → Option ℕ → ByteWorld → ByteWorld
+terminal_told true count (Some terminal) world = with_sitting terminal (sent_of count (sitting_at terminal world)) world
+terminal_told true count None world = world
+terminal_told false count at world = world
+
+abbrev pub host_told : Bool → ℕ → ℕ → ByteWorld → ByteWorld
+host_told true count number world =
+    with_host (with_line number (record (line_at number world.host) { out = drop count (line_at number world.host).out }) world.host) world
+host_told false count number world = world
+
+-- so many bytes came up, or down
+abbrev pub up_came : ℕ → ℕ → ByteWorld → ByteWorld
+up_came count number world =
+    let ways = ways_at number world in
+    with_ways number (record ways { up = came count ways.up }) (terminal_told (is_senders ways.up) count (terminal_at number world.sittings) world)
+
+abbrev pub down_came : ℕ → ℕ → ByteWorld → ByteWorld
+down_came count number world =
+    let ways = ways_at number world in
+    with_ways number (record ways { down = came count ways.down }) (host_told (is_senders ways.down) count number world)
+
+-- ---- an end leaves, and the connection is lost
+
+abbrev pub lost_ways : ℕ → ByteWorld → Ways
+lost_ways number world =
+    record { down = cut (length (host_out number world)) (ways_at number world).down; up = cut (length (terminal_out number world)) (ways_at number world).up }
+
+abbrev pub host_gone : ℕ → ByteWorld → ByteWorld
+host_gone number world =
+    with_ways number (record (lost_ways number world) { down = left (host_out number world) (ways_at number world).down }) (with_host (given_up number world.host) world)
+
+-- what is before the operator then stays, but for what this makes of it
+abbrev pub terminal_gone : Sitting → ℕ → ℕ → ByteWorld → ByteWorld
+terminal_gone sitting terminal number world =
+    with_ways number (record (lost_ways number world) { up = left (sitting_at terminal world).seat.terminal.out (ways_at number world).up })
+    (with_sitting terminal sitting world)
+
+abbrev pub host_gone_if : Stop → ℕ → ByteWorld → ByteWorld
+host_gone_if stop.Going number world = world
+host_gone_if stop.Memory number world = world
+host_gone_if (stop.Closed cause) number world = host_gone number world
+
+abbrev pub terminal_gone_if : Stop → ℕ → ℕ → ByteWorld → ByteWorld
+terminal_gone_if stop.Going terminal number world = world
+terminal_gone_if stop.Memory terminal number world = world
+terminal_gone_if (stop.Closed cause) terminal number world = terminal_gone (alone (sitting_at terminal world)) terminal number world
+
+-- ---- deliveries
+
+pub record ComesUp (number : ℕ) (bytes : List ℕ) (old : ByteWorld) (answer : Stepped) (new : ByteWorld) : Type 0 where
+  pub fed : Fed
+  pub counter : Counter
+  pub feeds : Feeds number (counter_at number old.host) bytes fed counter
+  pub answers : answer ≡ answer_fed fed.stop fed.taken
+  pub leaves : new ≡ host_gone_if fed.stop number (up_came fed.taken number (with_host (with_counter number counter old.host) old))
+
+pub record ComesDown (terminal number : ℕ) (bytes : List ℕ) (old : ByteWorld) (answer : Stepped) (new : ByteWorld) : Type 0 where
+  pub fed : Fed
+  pub seat : Seat
+  pub feeds : SeatFeeds (sitting_at terminal old).seat bytes fed seat
+  pub answers : answer ≡ answer_fed fed.stop fed.taken
+  pub leaves : new ≡ terminal_gone_if fed.stop terminal number (down_came fed.taken number (with_sitting terminal (record (sitting_at terminal old) { seat = seat }) old))
+
+abbrev pub GoesDown : Option ℕ → ℕ → List ℕ → ByteWorld → Stepped → ByteWorld → Type 0
+GoesDown None number bytes old answer new = ⊥
+GoesDown (Some terminal) number bytes old answer new = ComesDown terminal number bytes old answer new
+
+-- ---- keys and acts
+
+abbrev pub answer_pressed : Pressed → Stepped
+answer_pressed pressed.Done = stepped.Done
+answer_pressed (pressed.Refused why) = stepped.Refused why
+answer_pressed (pressed.Send aid) = stepped.Done
+
+-- memory is refused and nothing changed, or the key is pressed
+pub data Presses (terminal : ℕ) (key : Key) (old : ByteWorld) (answer : Stepped) (new : ByteWorld) : Type 0 where
+  refused : answer ≡ stepped.Memory → new ≡ old → Presses terminal key old answer new
+  done : answer ≡ answer_pressed (answer_to_key key (sitting_at terminal old).seat.terminal)
+      → new ≡ with_sitting terminal (record (sitting_at terminal old) { seat = seat_after_key key (sitting_at terminal old).seat }) old
+      → Presses terminal key old answer new
+
+abbrev pub answer_acted : Acted → Stepped
+answer_acted acted.Sent = stepped.Done
+answer_acted acted.Nothing = stepped.Skipped
+answer_acted acted.Memory = stepped.Memory
+
+-- the host does this, if something, on a connection; nobody else changes
+pub record ActsHost (does : Option Sent) (number : ℕ) (old : ByteWorld) (answer : Stepped) (new : ByteWorld) : Type 0 where
+  pub act : Acted
+  pub host : Host
+  pub acts : HostDoes does (line_at number old.host) act (line_at number host)
+  pub others : host ≡ with_line number (line_at number host) old.host
+  pub answers : answer ≡ answer_acted act
+  pub leaves : new ≡ with_host host old
+
+-- ---- connecting, and beginning anew
+
+-- memory is refused and nothing changed, or the connection begins
+pub data Connects (terminal : ℕ) (wanted : Option (List ℕ)) (number : ℕ) (old : ByteWorld) (answer : Stepped) (new : ByteWorld) : Type 0 where
+  refused : answer ≡ stepped.Memory → new ≡ old → Connects terminal wanted number old answer new
+  done : answer ≡ stepped.Done
+      → new ≡ with_ways number begun_ways (with_sitting terminal (sits wanted number) (with_host (with_line number opened old.host) old))
+      → Connects terminal wanted number old answer new
+
+abbrev pub ConnectsIf : ℕ → Option (List ℕ) → Option ℕ → ByteWorld → Stepped → ByteWorld → Type 0
+ConnectsIf terminal wanted None old answer new = ⊥
+ConnectsIf terminal wanted (Some number) old answer new = Connects terminal wanted number old answer new
+
+abbrev pub saw_loss : ℕ → Option ℕ → ByteWorld → ByteWorld
+saw_loss terminal None world = world
+saw_loss terminal (Some number) world = terminal_gone (alone (sitting_at terminal world)) terminal number world
+
+abbrev pub terminal_anew : ℕ → Option ℕ → ByteWorld → ByteWorld
+terminal_anew terminal None world = with_sitting terminal new_sitting world
+terminal_anew terminal (Some number) world = terminal_gone new_sitting terminal number world
+
+abbrev pub host_gone_if_there : ℕ → ByteWorld → ByteWorld
+host_gone_if_there number world = if host_there number world then host_gone number world else world
+
+-- the host leaves each of the first connections, as many as this
+unfoldable pub host_gone_below : ℕ → ByteWorld → ByteWorld
+host_gone_below zero world = world
+host_gone_below (suc number) world = host_gone_if_there number (host_gone_below number world)
+
+abbrev pub host_anew : ByteWorld → ByteWorld
+host_anew world = with_host (new_host world.host.panels world.host.pool) world
+
+-- ---- events
+
+abbrev pub Is : ByteWorld → Stepped → ByteWorld → Type 0
+Is made answer new = (answer ≡ stepped.Done) × (new ≡ made)
+
+-- what an event makes of the world, where it has something to happen to
+abbrev pub Happens : Event → ByteWorld → Stepped → ByteWorld → Type 0
+Happens (event.Key terminal key) old answer new = Presses terminal key old answer new
+Happens (event.Up number count) old answer new = ComesUp number (take count (up_of number old)) old answer new
+Happens (event.Down number count) old answer new = GoesDown (terminal_at number old.sittings) number (take count (down_of number old)) old answer new
+Happens (event.Act number) old answer new = ActsHost (acted_by (application_of old.host.panels) (service_at number old.host)) number old answer new
+Happens (event.Note number text) old answer new = ActsHost (noted_by text (service_at number old.host)) number old answer new
+Happens (event.Lose number) old answer new = Is (with_ways number (lost_ways number old) old) answer new
+Happens (event.HostSees number) old answer new = Is (host_gone number old) answer new
+Happens (event.TermSees terminal) old answer new = Is (saw_loss terminal (sitting_at terminal old).at old) answer new
+Happens (event.Connect terminal wanted) old answer new = ConnectsIf terminal wanted (free_number old) old answer new
+Happens (event.RestartTerm terminal) old answer new = Is (terminal_anew terminal (sitting_at terminal old).at old) answer new
+Happens event.RestartHost old answer new = Is (host_anew (host_gone_below most_connections old)) answer new
+
+-- an event that has no place is skipped, and changes nothing
+abbrev pub HappensIf : Bool → Event → ByteWorld → Stepped → ByteWorld → Type 0
+HappensIf true event old answer new = Happens event old answer new
+HappensIf false event old answer new = (answer ≡ stepped.Skipped) × (new ≡ old)
+
+abbrev pub Steps : Event → ByteWorld → Stepped → ByteWorld → Type 0
+Steps event old answer new = HappensIf (has_place event old) event old answer new

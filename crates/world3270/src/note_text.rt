@@ -1,0 +1,74 @@
+//! The text of a note.
+ghost use Rattle.std.specs.Prelude.{◌≡◌};
+ghost use Rattle.std.specs.List.{list_all};
+ghost use Rattle.host_core.specs.Notes.{IsNoteText, is_graphic};
+ghost use Rattle.world3270.specs.NoteTexts.{is_note_text, note_text};
+
+use std::marker::Model;
+
+/// The longest text that a note may have.
+const LONGEST: usize = 131;
+
+/// The text of a note: at most 131 characters of code page 037. Contracts see it as the list of these.
+#[derive(Drop)]
+pub struct NoteText {
+    text: [u8; LONGEST],
+    size: usize,
+}
+
+impl Model for NoteText {
+    ghost use Rattle.std.specs.Prelude.{ℕ, List, take};
+    ghost use Rattle.world3270.specs.NoteTexts.{IsKept};
+
+    ghost Value = { List ℕ };
+
+    ghost view = { λ note. take note.size note.text };
+
+    ghost invariant = { λ note. IsKept note.text note.size };
+}
+
+/// Whether it is a character of code page 037.
+fn is_graphic(byte: u8) -> bool
+    ensures { result ≡ is_graphic byte }
+{
+    byte >= 0x40 && byte < 0xFF
+}
+
+/// Whether all are such characters.
+fn are_graphic(text: &[u8]) -> bool
+    ensures { result ≡ list_all is_graphic text.now }
+{
+    text.iter().all(|byte| is_graphic(*byte))
+}
+
+/// Whether a note may have this text.
+fn is_note_text(text: &[u8]) -> bool
+    ensures { result ≡ is_note_text text.now }
+{
+    text.len() <= LONGEST && are_graphic(text)
+}
+
+impl NoteText {
+    /// A text: None where it is longer than a note may be, or has something else than characters of code page 037.
+    pub fn new(text: &[u8]) -> Option<NoteText>
+        ensures { result ≡ note_text text.now }
+    {
+        if !is_note_text(text) {
+            return None;
+        }
+        let mut kept = [0; LONGEST];
+        kept[..text.len()].copy_from_slice(text);
+        Some(NoteText {
+            text: kept,
+            size: text.len(),
+        })
+    }
+
+    /// Its characters.
+    pub(crate) fn text(&self) -> &[u8]
+        ensures text { result.now ≡ self.now }
+        ensures note { IsNoteText self.now }
+    {
+        &self.text[..self.size]
+    }
+}
