@@ -6,9 +6,9 @@
 //! For each kind of case a line is printed: that all came as expected, or the first that didn't. The exit status is 1 if
 //! one did not. What is expected is taken from the standards and the panels, and never from what this program printed.
 //!
-//! Run with each allocation refused in turn (`rt try --fail-alloc N -- last`) it prints the same: a call that is refused
-//! memory leaves the host as it was and is made again, a turn of serving goes on with the next, and a case that this
-//! program has no memory for is tried again. With a word on the command line, as here, only the last case of each kind is
+//! Run with each allocation refused in turn (`rt try --fail-alloc N -- last`) it prints the same, but for numbers of reads
+//! and writes: a call that is refused memory leaves the host as it was and is made again, a turn of serving goes on with
+//! the next, and a case that this program has no memory for is tried again. With a word on the command line, as here, only the last case of each kind is
 //! tried, since an interpreter runs it.
 #![tactic(auto)]
 
