@@ -108,6 +108,13 @@ impl Pool {
         free_each(&mut self.entries);
     }
 
+    /// Does nothing: its contract says that a pool has 1 to 64 LUs, each listed once, and that no connection holds two of them.
+    pub fn lus_are_listed_once(&self)
+        ensures { IsPool self.now }
+    {
+        let _entries = &self.entries;
+    }
+
     /// The LU that a connection holds, if it holds one.
     pub fn lu_held_by(&self, conn: usize) -> Option<Lu>
         ensures held { IfSome result (Holds self.now conn) }

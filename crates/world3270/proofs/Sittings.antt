@@ -1,5 +1,5 @@
 -- A terminal at its place takes bytes, and its history follows.
-use Rattle.std.proofs.Common.{◌≡◌, ◌⊎◌, inl, inr, ◌<◌, ◌≤◌, ◌+◌, ◌++◌, take, ℕ, zero, suc, Bool, false, List, [], ◌∷◌, Option, Some, None, length, get_or, refl, ap, sym, subst, ◌∙◌, arith}
+use Rattle.std.proofs.Common.{◌≡◌, inl, inr, ◌<◌, ◌≤◌, ◌+◌, ◌++◌, take, ℕ, zero, suc, false, List, [], ◌∷◌, Option, length, get_or, refl, ap, sym, subst, ◌∙◌, arith}
 use Rattle.std.proofs.lemmas.List.{take_more}
 use Rattle.codes3270.specs.Size.{cell_count, cells_in, model_2}
 use Rattle.datastream.specs.Screen.{Screen, blank_screen}
@@ -11,7 +11,7 @@ use Rattle.tn3270e_msg.specs.declared.cause.Fed.{Fed}
 use Rattle.tn3270e_msg.specs.declared.cause.Stop.{Stop}
 use Rattle.tn3270e_msg.specs.declared.cause.Stop.TheVariants as stop
 use Rattle.world3270.specs.ByteWorld.{Sitting}
-use Rattle.world3270.specs.Seats.{Seat, History, SeatTakes, SeatTakesByte, marked}
+use Rattle.world3270.specs.Seats.{Seat, SeatTakes, SeatTakesByte, marked}
 
 sizes : cell_count ≡ cells_in model_2
 sizes = refl

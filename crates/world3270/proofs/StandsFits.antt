@@ -207,7 +207,7 @@ type_fits device.Model4E = omega arith
 type_fits device.Model5 = omega arith
 type_fits device.Model5E = omega arith
 
-payload_fits : (sending : Sending) → IsSending sending → length (payload_sent sending) ≤ 256
+pub payload_fits : (sending : Sending) → IsSending sending → length (payload_sent sending) ≤ 256
 payload_fits sent.SendType h = omega arith
 payload_fits (sent.TypeRequest None) h = omega arith
 payload_fits (sent.TypeRequest (Some lu)) h = simp length-append (omega (arith, name_fits lu h))

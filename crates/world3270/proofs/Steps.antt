@@ -1,13 +1,12 @@
 -- An event happens where it has a place, and is skipped elsewhere.
-use Rattle.std.proofs.Common.{◌≡◌, ◌<◌, ◌&&◌, ◌||◌, ◌+◌, ◌-◌, ℕ, zero, suc, Bool, true, false, Option, Some, None, is_some, nat_lt, refl, ap, sym, subst, ◌∙◌, arith, if◌then◌else◌}
-use Rattle.std.proofs.lemmas.Bool.{ltb-true, lt-ltb}
+use Rattle.std.proofs.Common.{◌≡◌, ◌<◌, ◌&&◌, ◌||◌, ◌+◌, ◌-◌, ℕ, suc, Bool, true, false, Option, Some, None, is_some, refl, ap, sym, subst, ◌∙◌, arith, if◌then◌else◌}
+use Rattle.std.proofs.lemmas.Bool.{lt-ltb}
 use Rattle.std.proofs.lemmas.List.{set-get_or}
 use Rattle.host_core.specs.Acts.{Sent}
 use Rattle.host_core.specs.Does.{Does as HostDoes}
 use Rattle.host_core.specs.State.{Host, Line, Service, unused, line_at, with_line, most_connections, phase_of, service_at}
 use Rattle.host_core.specs.declared.phase.Phase.TheVariants as phase
 use Rattle.host_core.specs.declared.acted.Acted.{Acted}
-use Rattle.host_core.specs.declared.acted.Acted.TheVariants as acted
 use Rattle.world3270.specs.ByteWorld.{ByteWorld, host_there, is_there, terminal_there, with_host}
 use Rattle.world3270.specs.ByteSteps.{ActsHost, Steps, Happens, HappensIf, has_place, answer_acted, is_link, is_held, free_from, host_gone_below, host_gone_if_there}
 use Rattle.world3270.specs.declared.event.Event.{Event}

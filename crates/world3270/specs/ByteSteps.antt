@@ -1,5 +1,5 @@
 -- What an event makes of the world over bytes (our profile). What the ends make of bytes, keys and acts is host_core's and term_core's.
-use Rattle.std.specs.Prelude.{◌≡◌, ◌≤◌, ◌+◌, ◌&&◌, ◌||◌, not, nat_lt, ℕ, zero, suc, Bool, true, false, List, [], ◌∷◌, Option, Some, None, is_some, if◌then◌else◌, drop, length, take}
+use Rattle.std.specs.Prelude.{◌≡◌, ◌≤◌, ◌+◌, ◌&&◌, ◌||◌, not, nat_lt, ℕ, zero, suc, Bool, true, false, List, Option, Some, None, is_some, if◌then◌else◌, drop, length, take}
 use Rattle.keyboard.specs.declared.key.Key.{Key}
 use Rattle.keyboard.specs.declared.key.Pressed.{Pressed}
 use Rattle.keyboard.specs.declared.key.Pressed.TheVariants as pressed
@@ -17,7 +17,7 @@ use Rattle.host_core.specs.declared.acted.Acted.TheVariants as acted
 use Rattle.host_core.specs.State.{opened}
 use Rattle.term_core.specs.Feeds.{StopsFor}
 use Rattle.term_core.specs.Presses.{answer_to_key}
-use Rattle.world3270.specs.ByteWorld.{ByteWorld, Under, Ways, Sitting, alone, begun_ways, came, cut, left, is_live, is_senders, new_sitting, sits, ways_at, sitting_at, with_ways, with_sitting, with_host, host_there, terminal_there, terminal_at, host_out, terminal_out, down_of, up_of}
+use Rattle.world3270.specs.ByteWorld.{ByteWorld, Ways, Sitting, alone, begun_ways, came, cut, left, is_live, is_senders, new_sitting, sits, ways_at, sitting_at, with_ways, with_sitting, with_host, host_there, terminal_there, terminal_at, host_out, terminal_out, down_of, up_of}
 use Rattle.world3270.specs.Placed.{is_queued}
 use Rattle.world3270.specs.Seats.{Seat, SeatTakes, seat_after_key}
 use Rattle.world3270.specs.declared.event.Event.{Event}

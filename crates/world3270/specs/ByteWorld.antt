@@ -1,9 +1,9 @@
 -- The world over bytes (our profile): a host, what is under way on each connection, and terminals, each with the history of its screen.
 -- What an end has to send is under way: there is no other queue.
-use Rattle.std.specs.Prelude.{◌==◌, ◌-◌, not, nat_lt, ◌&&◌, ℕ, Bool, true, false, List, [], ◌∷◌, Option, Some, None, is_some, if◌then◌else◌, drop, length, position, replicate, slice_index_or, slice_set, take}
+use Rattle.std.specs.Prelude.{◌==◌, ◌≤◌, ◌-◌, ℕ, Bool, true, false, List, [], Option, Some, None, is_some, drop, position, replicate, slice_index_or, slice_set, take}
 use Rattle.lu_pool.specs.declared.entry.Entry.{Entry}
 use Rattle.panels.specs.Panel.{Panels}
-use Rattle.host_core.specs.State.{Host, Service, line_at, service_at, with_line, new_host, most_connections, given_up}
+use Rattle.host_core.specs.State.{Host, Service, line_at, service_at, new_host, most_connections}
 use Rattle.codes3270.specs.Size.{cells_in, model_2}
 use Rattle.datastream.specs.Screen.{blank_screen}
 use Rattle.term_core.specs.State.{new_terminal, lost}
@@ -156,3 +156,8 @@ new_byte_world panels pool terminals = record {
   links = replicate most_connections unused_ways;
   sittings = replicate terminals new_sitting;
 }
+
+-- a world has 1 to 16 terminals
+pub record IsTerminalCount (count : ℕ) : Type 0 where
+  pub some : 1 ≤ count
+  pub few : count ≤ 16

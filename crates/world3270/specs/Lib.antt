@@ -36,3 +36,8 @@ pub mod ByteWorld
 pub mod Flows
 pub mod NoteTexts
 pub mod ByteSteps
+pub mod Standing
+pub mod Refines
+pub mod SeenBytes
+pub mod ByteRuns
+pub mod Known

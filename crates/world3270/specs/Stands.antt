@@ -1,13 +1,12 @@
 -- When bytes stand for messages: what is under way in each direction spells them, one item each, and nothing besides (RFC 1647,
 -- sections 8.1 and 10.4; what is sent when is our profile).
-use Rattle.std.specs.Prelude.{◌≡◌, ◌≢◌, ◌<◌, ◌^◌, ℕ, Bool, true, List, [], length, Option, Some, None}
+use Rattle.std.specs.Prelude.{◌≡◌, ◌≢◌, ◌<◌, ◌^◌, ℕ, Bool, true, List, [], length, Option, Some}
 use Rattle.codes3270.specs.Size.{model_2}
 use Rattle.datastream.specs.Grammar.{CommandParts, IsCommand}
 use Rattle.datastream.specs.InboundText.{IsInbound}
 use Rattle.datastream.specs.Meaning.{after_command}
 use Rattle.datastream.specs.Screen.{Screen}
 use Rattle.datastream.specs.Wanted.{WantedScreen}
-use Rattle.datastream.specs.declared.command_code.CommandCode.TheVariants.{ReadBuffer as ReadBufferCode}
 use Rattle.shadow.specs.Belief.{Shadow}
 use Rattle.shadow.specs.Meets.{Meets}
 use Rattle.shadow.specs.Painted.{plainly_painted}
@@ -16,8 +15,6 @@ use Rattle.telnet_wire.specs.Items.{WireItem, Record}
 use Rattle.telnet_wire.specs.Reading.{Rest, IsRest, nothing, Delivers}
 use Rattle.tn3270e_msg.specs.Header.{Begins, record_limit, error_response, always_response}
 use Rattle.tn3270e_msg.specs.TermTable.{Term}
-use Rattle.tn3270e_msg.specs.declared.header.Header.{Header}
-use Rattle.tn3270e_msg.specs.declared.header.DataType.TheVariants.{Data3270}
 use Rattle.term_core.specs.Records.{is_restoring_write}
 use Rattle.term_core.specs.Says.{response, data_record}
 use Rattle.term_core.specs.State.{Attached}

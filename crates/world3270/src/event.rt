@@ -1,6 +1,9 @@
 //! What may happen to the world, and what becomes of it.
+ghost use Rattle.tn3270e_msg.specs.Talk.{IsLuIfSome};
+ghost use Rattle.world3270.specs.Refines.{IsReal};
+
 use crate::note_text::NoteText;
-use keyboard::{Key, Refusal};
+use keyboard::{Key, Refusal, keys_are_real};
 use tn3270e_msg::Lu;
 
 /// An event, at a terminal or on a connection, by its number. Bytes come up to the host and down to the terminal, so many.
@@ -43,4 +46,43 @@ pub enum Stepped {
     Part(usize),
     /// Memory was refused; nothing has changed.
     Memory,
+}
+
+/// How far a list of events went.
+#[derive(Clone, Copy, Debug, PartialEq, Eq)]
+pub struct Ran {
+    /// So many events happened whole.
+    pub whole: usize,
+    /// Of the next, a delivery, so many bytes were taken before memory was refused; 0 where there is none.
+    pub part: usize,
+}
+
+/// Does nothing: its contract says that an event's key, name or text is one of those that there are.
+pub(crate) fn events_are_real(event: &Event)
+    ensures { IsReal event.now }
+{
+    match event {
+        Event::Key(_, key) => keys_are_real(key),
+        Event::Up(_, _) => {}
+        Event::Down(_, _) => {}
+        Event::Act(_) => {}
+        Event::Note(_, text) => {
+            let _text = text.text();
+        }
+        Event::Lose(_) => {}
+        Event::HostSees(_) => {}
+        Event::TermSees(_) => {}
+        Event::Connect(_, wanted) => names_are_lus(wanted),
+        Event::RestartTerm(_) => {}
+        Event::RestartHost => {}
+    }
+}
+
+/// Does nothing: its contract says that what a terminal wants is named as LUs are.
+fn names_are_lus(wanted: &Option<Lu>)
+    ensures { IsLuIfSome wanted.now }
+{
+    if let Some(lu) = wanted {
+        let _name = lu.as_bytes();
+    }
 }

@@ -7,10 +7,12 @@ ghost use Rattle.world3270.specs.Forms.{FormsAreAwaited};
 ghost use Rattle.world3270.specs.Given.{Given};
 ghost use Rattle.world3270.specs.Happens.{RunsCompose};
 ghost use Rattle.world3270.specs.History.{HostsHistoryIsKept, TerminalsHistoryIsKept};
+ghost use Rattle.world3270.specs.Known.{Known};
 ghost use Rattle.world3270.specs.Losses.{LostTakesNothing};
 ghost use Rattle.world3270.specs.Numbers.{NumbersFit};
 ghost use Rattle.world3270.specs.Occasions.{ActsOnTheKey, KnowsTheCleared, LeavesNothingOpen};
 ghost use Rattle.world3270.specs.Places.{EndsAgree, UpIsHeld, HoldersAreHere, LinksStay, HoldersStay, PoolIsSound};
+ghost use Rattle.world3270.specs.Refines.{BeginIsReached, HeadlineIsSeen, RunsGoOn, SkipsAreThose, StepsGoOn};
 ghost use Rattle.world3270.specs.Seats.{HistoryFollows};
 ghost use Rattle.world3270.specs.Sendable.{AlwaysTyped, DataCanBeSpelt, PaintsAreScreens, PaintsAreSpelt, ScreensAreSendable, ScreensKeepTheirShape, ValuesAreTexts};
 ghost use Rattle.world3270.specs.Skipped.{SkippedChangesNothing};
@@ -33,17 +35,17 @@ ghost use Rattle.world3270.specs.StandsLinks.{
 };
 
 mod event;
-mod moving;
+mod network;
 mod note_text;
 mod seat;
 mod way;
+mod world;
 
 use datastream::{fields_both_ways, kept_since_the_write, sent_is_read, what_a_note_keeps};
-pub use event::{Event, Stepped};
-use host_core::{notes_are_written, what_is_shown_fits};
+pub use event::{Event, Ran, Stepped};
+use host_core::{notes_are_written, panels_are_shown, what_is_shown_fits};
 use keyboard::{keys_keep_what_was_left, what_keys_leave_can_be_sent};
 use lu_pool::the_pool_is_a_map;
-pub use moving::World;
 pub use note_text::NoteText;
 use shadow::{
     what_a_note_leaves, what_is_exact_is_so, what_is_known_is_exact, what_is_protected_is_exact,
@@ -51,6 +53,7 @@ use shadow::{
     what_is_written_is_taken, what_leaves_nothing_open,
 };
 use tn3270e_msg::one_reading;
+pub use world::World;
 
 /// Does nothing: its contract is what the crates below promise, by their own laws.
 fn what_is_given()
@@ -223,4 +226,38 @@ pub fn bytes_stand_for_messages()
     fields_both_ways();
     one_reading();
     telnet_wire::one_reading();
+}
+
+/// Does nothing: its contract is what the laws above, and those of the crates below, promise of worlds, of connections over bytes, and
+/// of what is read of bytes.
+fn what_is_known()
+    ensures { Known }
+{
+    what_is_given();
+    the_headline_holds();
+    nobody_refuses();
+    the_ends_agree();
+    what_comes_is_awaited();
+    numbers_have_15_bits();
+    screens_can_be_sent();
+    bytes_stand_for_messages();
+    panels_are_shown();
+    what_is_wanted_is_painted();
+    telnet_wire::one_reading();
+    one_reading();
+    datastream::one_reading();
+}
+
+/// Does nothing: its contract says how the world over bytes follows the world over messages. A world that begins stands for one
+/// that begins. After each event it stands for the world after more events: single deliveries, as many as there were messages whose
+/// last byte came, or that one event. An event is skipped exactly where that over messages is. And the headline holds of
+/// what is seen of each such world.
+pub fn bytes_follow_messages()
+    ensures begin { BeginIsReached }
+    ensures steps { StepsGoOn }
+    ensures runs { RunsGoOn }
+    ensures skipped { SkipsAreThose }
+    ensures headline { HeadlineIsSeen }
+{
+    what_is_known();
 }

@@ -1,5 +1,5 @@
-use Rattle.std.proofs.Common.{◌≡◌, ap, sym, subst, ◌∙◌, ◌∷◌, []}
-use Rattle.term_core.specs.Feeds.{Feeds, IsAttached}
+use Rattle.std.proofs.Common.{◌≡◌, ap, sym, subst}
+use Rattle.term_core.specs.Feeds.{IsAttached}
 use Rattle.world3270.specs.ByteWorld.{Sitting}
 use Rattle.world3270.specs.Seats.{Seat}
 use Rattle.world3270.specs.Flows.{TookByte}

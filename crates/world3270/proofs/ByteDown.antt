@@ -1,0 +1,405 @@
+-- Bytes come down to a terminal: what that comes to over messages.
+use Rattle.std.proofs.Common.{◌≡◌, ◌≢◌, ◌<◌, ◌≤◌, ◌-◌, ◌&&◌, ◌++◌, ℕ, zero, suc, Bool, true, false, Option, None, Some, is_some, List, [], ◌∷◌, length, take, drop, replicate, slice_index_or, refl, ap, sym, subst, ◌∙◌, arith, append_assoc, le_of_suc-le-suc, not-suc-le-zero, length-drop, length-set, if◌then◌else◌}
+use Rattle.std.proofs.lemmas.Bool.{and_parts, ltb-true}
+use Rattle.std.proofs.lemmas.List.{append-nil}
+use Rattle.std.proofs.lemmas.List.Elements.{All-replicate}
+use Rattle.std.proofs.lemmas.List.Quantifiers.{position-Some}
+use Rattle.std.specs.Prelude.{All}
+use Rattle.datastream.specs.InboundFields.{IsSendable}
+use Rattle.host_core.specs.Application.{Application, application_of}
+use Rattle.host_core.specs.Messages.{ToTerminal}
+use Rattle.host_core.specs.State.{Line, line_at, most_connections}
+use Rattle.telnet_wire.specs.Items.{sent_bytes}
+use Rattle.telnet_wire.specs.Reading.{Rest}
+use Rattle.term_core.specs.Bytes.{TakesByte, before_byte}
+use Rattle.term_core.specs.Feeds.{StopsFor}
+use Rattle.term_core.specs.State.{Terminal, Attached, Closed}
+use Rattle.tn3270e_msg.specs.TermTable.{Term}
+use Rattle.tn3270e_msg.specs.declared.cause.Cause.{Cause}
+use Rattle.tn3270e_msg.specs.declared.cause.Cause.TheVariants.{Wire}
+use Rattle.tn3270e_msg.specs.declared.cause.Stop.{Stop}
+use Rattle.tn3270e_msg.specs.declared.cause.Stop.TheVariants as stop
+use Rattle.world3270.specs.Known.{Known}
+use Rattle.world3270.specs.ByteSteps.{ComesDown, GoesDown, down_came, host_told, terminal_gone_if}
+use Rattle.world3270.specs.ByteWorld.{ByteWorld, Under, Ways, Sitting, came, sits_at, terminal_there, down_of, is_live, is_senders, is_there, new_sitting, sitting_at, terminal_at, unused_ways, ways_at, with_sitting}
+use Rattle.world3270.specs.Happens.{closed_if, came_down, done, happens, place_after, run, said, term_took_it, went_down}
+use Rattle.world3270.specs.Link.{Link, sent, term_left_if, term_stepped}
+use Rattle.world3270.specs.Placed.{comes_down, is_link, is_queued}
+use Rattle.world3270.specs.Refines.{Begin, IsBegin, Reached, GoesOn, after}
+use Rattle.world3270.specs.Seats.{Seat, SeatTakes}
+use Rattle.world3270.specs.Sendable.{IsTyped, display_at}
+use Rattle.world3270.specs.Standing.{WorldStands, AreWays, IsFlow, with_out, link_with}
+use Rattle.world3270.specs.Stands.{ByteLink, LinkStands}
+use Rattle.world3270.specs.StandsLinks.{IsReady, NoneCloses, took_down}
+use Rattle.world3270.specs.Terminal.{TermEnd, TermStep, took as term_took}
+use Rattle.world3270.specs.World.{Place, World, Event as MessageEvent, AreEvents, with_at}
+use Rattle.world3270.specs.declared.event.Event.TheVariants as event
+use Rattle.world3270.specs.declared.event.Stepped.{Stepped}
+use Rattle.world3270.proofs.ByteKeys.{facts_then}
+use Rattle.world3270.proofs.ByteTerms.{made_of, AreFlows, BytesWent, GoesOnHere, TermWent, flows_go_on, link_goes_on, term_went_stands, with_other, with_same}
+use Rattle.world3270.proofs.Frames.{came_under_way, found_sits, line_other, line_same, sitting_other, sitting_same, ways_other, ways_same, who_is_there}
+use Rattle.world3270.proofs.Known.{Facts, Goes, facts, reached_more}
+
+-- ---- what a terminal makes of bytes doesn't hang on what it has to send
+
+record ByteQuietly (old : Terminal) (byte : ℕ) (new : Terminal) : Type 0 where
+  pub said : List ℕ
+  pub out_is : new.out ≡ old.out ++ said
+  pub takes : (before : List ℕ) → TakesByte (record old { out = before }) byte (record new { out = before ++ said })
+
+-- with a byte to which it says nothing
+says_nothing : (before : List ℕ) (new plain : Terminal) → new ≡ plain → record new { out = before ++ [] } ≡ record plain { out = before }
+says_nothing before new plain is =
+    ap (λ (t : Terminal). record t { out = before ++ [] }) is ∙ ap (λ (o : List ℕ). record plain { out = o }) (append-nil before)
+
+quiet_byte : (old : Terminal) (byte : ℕ) (new : Terminal) → TakesByte old byte new → ByteQuietly old byte new
+quiet_byte old byte new (TakesByte.goes_on rest to talk at delivers is) = record {
+  said = [];
+  out_is = ap (λ (t : Terminal). t.out) is ∙ sym (append-nil old.out);
+  takes = λ before. TakesByte.goes_on rest to talk at delivers (says_nothing before new (record { link = Attached to talk; station = before_byte old.station; out = old.out }) is);
+}
+quiet_byte old byte new (TakesByte.completes rest to talk after item says closes station at delivers taken is) = record {
+  said = sent_bytes says;
+  out_is = ap (λ (t : Terminal). t.out) is;
+  takes = λ before. TakesByte.completes rest to talk after item says closes station at delivers taken (ap (λ (t : Terminal). record t { out = before ++ sent_bytes says }) is);
+}
+quiet_byte old byte new (TakesByte.breaks rest talk fault at wrong is) = record {
+  said = [];
+  out_is = ap (λ (t : Terminal). t.out) is ∙ sym (append-nil old.out);
+  takes = λ before. TakesByte.breaks rest talk fault at wrong (says_nothing before new (record { link = Closed Wire; station = before_byte old.station; out = old.out }) is);
+}
+
+-- bytes come, one after another
+pub record TakesQuietly (old : Seat) (bytes : List ℕ) (new : Seat) : Type 0 where
+  pub said : List ℕ
+  pub out_is : new.terminal.out ≡ old.terminal.out ++ said
+  pub takes : (before : List ℕ) → SeatTakes (with_out before old) bytes (with_out (before ++ said) new)
+
+-- With other bytes to send before, the same comes of it, and what it says stands behind these.
+pub quiet_takes : (old : Seat) (bytes : List ℕ) (new : Seat) → SeatTakes old bytes new → TakesQuietly old bytes new
+quiet_takes old [] new taken = record {
+  said = [];
+  out_is = ap (λ (s : Seat). s.terminal.out) taken ∙ sym (append-nil old.terminal.out);
+  takes = λ before. ap (λ (s : Seat). with_out (before ++ []) s) taken ∙ ap (λ (o : List ℕ). with_out o old) (append-nil before);
+}
+quiet_takes old (byte ∷ bytes) new taken =
+    let mid : Seat = taken.0 in
+    let one = quiet_byte old.terminal byte mid.terminal taken.1.takes in
+    let others = quiet_takes mid bytes new taken.2 in
+    record {
+      said = one.said ++ others.said;
+      out_is = others.out_is ∙ ap (λ (o : List ℕ). o ++ others.said) one.out_is ∙ append_assoc old.terminal.out one.said others.said;
+      takes = λ before. (
+        with_out (before ++ one.said) mid,
+        record { takes = one.takes before; history = taken.1.history },
+        subst (λ (o : List ℕ). SeatTakes (with_out (before ++ one.said) mid) bytes (with_out o new)) (append_assoc before one.said others.said)
+            (others.takes (before ++ one.said)),
+      );
+    }
+
+-- ---- messages come down, over messages
+
+-- the connection after one that closes nothing
+abbrev stayed : TermStep → List ToTerminal → Link → Link
+stayed step rest link = record link { down = rest; term = step.end; up = sent link.lost link.up step.sends }
+
+-- what one makes of the world, by the cause by which it closes the connection, if it does
+abbrev made_by : Option Cause → ℕ → ℕ → TermStep → List ToTerminal → World → World
+made_by closes number terminal step rest world =
+    closed_if closes (said step.sends (record world {
+      link = with_at number (term_left_if closes (stayed step rest (world.link number))) world.link;
+      place = with_at terminal (place_after closes number step.end.display) world.place;
+    }))
+
+-- the terminal goes on at its connection
+one_went : (number terminal : ℕ) (step : TermStep) (rest : List ToTerminal) (world : World) → step.closes ≡ None → (world.link number).term_here ≡ Some terminal
+    → TermWent number terminal (term_stepped step rest (world.link number)) world (term_took_it number terminal step rest world)
+one_went number terminal step rest world closes here =
+    let next : Link = stayed step rest (world.link number) in
+    subst (λ (c : Option Cause). TermWent number terminal (term_left_if c next) world (made_by c number terminal step rest world)) (sym closes)
+    (record {
+      link_is = with_same number next world.link;
+      here = here;
+      place_is = with_same terminal (Place.At number) world.place;
+      other_links = λ other differs. with_other number other next world.link differs;
+      other_places = λ other differs. with_other terminal other (Place.At number) world.place differs;
+      terminals = refl;
+      pool = refl;
+    })
+
+-- the next message comes
+comes_now : (app : Application) (number terminal : ℕ) (message : ToTerminal) (rest : List ToTerminal) (world : World) → is_link number ≡ true
+    → (world.link number).term_here ≡ Some terminal → (world.link number).down ≡ message ∷ rest
+    → happens app (MessageEvent.Down number) world ≡ term_took_it number terminal (term_took (world.link number).term message) rest world
+comes_now app number terminal message rest world linked here down =
+    let link : Link = world.link number in
+    let place : (is_link number && comes_down link) ≡ true =
+    ap (λ (b : Bool). b && comes_down link) linked ∙ ap (λ (h : Option ℕ). is_some h && is_queued link.down) here ∙ ap (λ (d : List ToTerminal). is_queued d) down in
+    ap (λ (b : Bool). if b then done app (MessageEvent.Down number) world else world) place
+    ∙ ap (λ (h : Option ℕ). went_down number h world) here
+    ∙ ap (λ (d : List ToTerminal). came_down number terminal d world) down
+
+-- one after the other
+went_on : (number terminal : ℕ) (one other : Link) (was mid now : World) → TermWent number terminal one was mid → TermWent number terminal other mid now
+    → TermWent number terminal other was now
+went_on number terminal one other was mid now first second = record {
+  link_is = second.link_is;
+  here = second.here;
+  place_is = second.place_is;
+  other_links = λ n differs. second.other_links n differs ∙ first.other_links n differs;
+  other_places = λ t differs. second.other_places t differs ∙ first.other_places t differs;
+  terminals = second.terminals ∙ first.terminals;
+  pool = second.pool ∙ first.pool;
+}
+
+-- Messages come down, one by one: none of them closes the connection.
+pub all_came : (app : Application) (number terminal : ℕ) → is_link number ≡ true → (taken others : List ToTerminal) (world : World)
+    → (world.link number).term_here ≡ Some terminal → world.place terminal ≡ Place.At number → (world.link number).down ≡ taken ++ others
+    → NoneCloses (world.link number).term (taken ++ others)
+    → TermWent number terminal (took_down taken others (world.link number)) world (run app (replicate (length taken) (MessageEvent.Down number)) world)
+all_came app number terminal linked [] others world here place down none = record {
+  link_is = refl;
+  here = here;
+  place_is = place;
+  other_links = λ other differs. refl;
+  other_places = λ other differs. refl;
+  terminals = refl;
+  pool = refl;
+}
+all_came app number terminal linked (message ∷ taken) others world here place down none =
+    let link : Link = world.link number in
+    let step : TermStep = term_took link.term message in
+    let now : World = happens app (MessageEvent.Down number) world in
+    let next : Link = stayed step (taken ++ others) link in
+    let stepped : Link = term_stepped step (taken ++ others) link in
+    let went : TermWent number terminal stepped world now =
+    subst (λ (w : World). TermWent number terminal stepped world w) (sym (comes_now app number terminal message (taken ++ others) world linked here down))
+    (one_went number terminal step (taken ++ others) world none.0 here) in
+    let goes_on : now.link number ≡ next = went.link_is ∙ ap (λ (c : Option Cause). term_left_if c next) none.0 in
+    let more = all_came app number terminal linked taken others now (ap (λ (l : Link). l.term_here) goes_on ∙ here) went.place_is (ap (λ (l : Link). l.down) goes_on)
+    (subst (λ (e : TermEnd). NoneCloses e (taken ++ others)) (sym (ap (λ (l : Link). l.term) goes_on)) none.1) in
+    went_on number terminal stepped (took_down taken others stepped) world now (run app (replicate (length taken) (MessageEvent.Down number)) now) went
+    (subst (λ (l : Link). TermWent number terminal (took_down taken others l) now (run app (replicate (length taken) (MessageEvent.Down number)) now)) went.link_is more)
+
+-- they are events
+are_deliveries : (number count : ℕ) → AreEvents (replicate count (MessageEvent.Down number))
+are_deliveries number zero = tt
+are_deliveries number (suc count) = (tt, are_deliveries number count)
+
+-- ---- bytes come down, over bytes
+
+-- of the first bytes some are taken, and the others stay behind them
+taken_off : (taken count : ℕ) (bytes : List ℕ) → taken ≤ length (take count bytes) → bytes ≡ take taken (take count bytes) ++ drop taken bytes
+taken_off zero count bytes few = refl
+taken_off (suc taken) zero bytes few = absurd (not-suc-le-zero few)
+taken_off (suc taken) (suc count) [] few = refl
+taken_off (suc taken) (suc count) (byte ∷ bytes) few = ap (λ (b : List ℕ). byte ∷ b) (taken_off taken count bytes (le_of_suc-le-suc few))
+
+-- a connection is lost as before
+came_live : (count : ℕ) (under : Under) → is_live (came count under) ≡ is_live under
+came_live count Under.Live = refl
+came_live count (Under.Cut kept) = refl
+came_live count (Under.Left bytes) = refl
+
+-- what the host has to send then
+abbrev out_then : Bool → ℕ → List ℕ → List ℕ
+out_then senders count out = if senders then drop count out else out
+
+-- and what was cut is no more than the host has to send
+nothing_then : (is_its : Bool) (count : ℕ) (out : List ℕ) → out ≡ [] → out_then is_its count out ≡ []
+nothing_then true zero out none = none
+nothing_then true (suc count) out none = ap (λ (o : List ℕ). drop (suc count) o) none
+nothing_then false count out none = none
+
+came_flow : (there : Bool) (count : ℕ) (out : List ℕ) (under : Under) → IsFlow there out under → IsFlow there (out_then (is_senders under) count out) (came count under)
+came_flow there count out Under.Live flow = tt
+came_flow there count out (Under.Cut kept) flow = fewer kept flow
+  where
+    fewer : (kept : ℕ) → kept ≤ length out → kept - count ≤ length (drop count out)
+    fewer kept few = omega (arith, length-drop count out, few)
+came_flow there count out (Under.Left bytes) flow = flow
+
+-- the host is told
+record IsTold (number : ℕ) (line : Line) (old new : ByteWorld) : Type 0 where
+  pub line_is : line_at number new.host ≡ line
+  pub other_lines : (other : ℕ) → other ≢ number → line_at other new.host ≡ line_at other old.host
+  pub line_count : length new.host.lines ≡ length old.host.lines
+  pub pool : new.host.pool ≡ old.host.pool
+  pub panels : new.host.panels ≡ old.host.panels
+  pub links : new.links ≡ old.links
+  pub sittings : new.sittings ≡ old.sittings
+
+-- where what came was its own, as many bytes fewer are left to send
+told : (senders : Bool) (count number : ℕ) (world : ByteWorld) → number < length world.host.lines
+    → IsTold number (record (line_at number world.host) { out = out_then senders count (line_at number world.host).out }) world (host_told senders count number world)
+told true count number world below =
+    let line : Line = record (line_at number world.host) { out = drop count (line_at number world.host).out } in
+    record {
+      line_is = line_same number line world.host below;
+      other_lines = λ other differs. line_other number other line world.host differs;
+      line_count = length-set world.host.lines number line;
+      pool = refl;
+      panels = refl;
+      links = refl;
+      sittings = refl;
+    }
+told false count number world below = record {
+  line_is = refl;
+  other_lines = λ other differs. refl;
+  line_count = refl;
+  pool = refl;
+  panels = refl;
+  links = refl;
+  sittings = refl;
+}
+
+-- what the delivery leaves
+bytes_went : (number terminal count : ℕ) (seat : Seat) (old : ByteWorld) → number < length old.host.lines → number < length old.links → terminal < length old.sittings
+    → BytesWent number terminal (record (line_at number old.host) { out = out_then (is_senders (ways_at number old).down) count (line_at number old.host).out })
+    (record (ways_at number old) { down = came count (ways_at number old).down }) (record (sitting_at terminal old) { seat = seat })
+    old (down_came count number (with_sitting terminal (record (sitting_at terminal old) { seat = seat }) old))
+bytes_went number terminal count seat old line_below way_below below =
+    let sitting : Sitting = record (sitting_at terminal old) { seat = seat } in
+    let ways : Ways = record (ways_at number old) { down = came count (ways_at number old).down } in
+    let mid : ByteWorld = with_sitting terminal sitting old in
+    let senders : Bool = is_senders (ways_at number old).down in
+    let is = told senders count number mid line_below in
+    let next : ByteWorld = host_told senders count number mid in
+    record {
+      line_is = is.line_is;
+      ways_are = ways_same number ways next (subst (λ (l : List Ways). number < length l) (sym is.links) way_below);
+      sitting_is = ap (λ (s : List Sitting). slice_index_or s terminal new_sitting) is.sittings ∙ sitting_same terminal sitting old below;
+      other_lines = is.other_lines;
+      other_ways = λ other differs. ways_other number other ways next differs ∙ ap (λ (l : List Ways). slice_index_or l other unused_ways) is.links;
+      other_sittings = λ other differs. ap (λ (s : List Sitting). slice_index_or s other new_sitting) is.sittings ∙ sitting_other terminal other sitting old differs;
+      line_count = is.line_count;
+      way_count = length-set next.links number ways ∙ ap (λ (l : List Ways). length l) is.links;
+      sitting_count = ap (λ (s : List Sitting). length s) is.sittings ∙ length-set old.sittings terminal sitting;
+      pool = is.pool;
+      panels = is.panels;
+    }
+
+-- a terminal that is still attached hasn't closed
+not_gone : (why : Stop) (old new : Terminal) (bytes : List ℕ) (taken terminal number : ℕ) (world : ByteWorld) (rest : Rest) (talk : Term)
+    → StopsFor why old bytes taken new → new.link ≡ Attached rest talk → terminal_gone_if why terminal number world ≡ world
+not_gone stop.Going old new bytes taken terminal number world rest talk stops attached = refl
+not_gone stop.Memory old new bytes taken terminal number world rest talk stops attached = refl
+not_gone (stop.Closed cause) old new bytes taken terminal number world rest talk stops attached =
+    let both : Closed cause ≡ Attached rest talk = sym stops ∙ attached in
+    absurd (cc)
+
+-- a terminal that is found is one of those that there are
+is_below : (number terminal : ℕ) (world : ByteWorld) → terminal_at number world.sittings ≡ Some terminal → terminal < length world.sittings
+is_below number terminal world found = (position-Some (λ sitting. sits_at number sitting.at) world.sittings terminal new_sitting found).0
+
+-- ---- the delivery
+
+module _ (known : Known) (begin : Begin) (events : List MessageEvent) (number count terminal : ℕ) (old : ByteWorld) (answer : Stepped) (new : ByteWorld)
+    (is : IsBegin begin) (reached : Reached begin events old) (linked : is_link number ≡ true) (found : terminal_at number old.sittings ≡ Some terminal)
+    (comes : ComesDown terminal number (take count (down_of number old)) old answer new) where
+  abbrev world : World
+  world = after begin events
+
+  abbrev link : Link
+  link = world.link number
+
+  abbrev line : Line
+  line = line_at number old.host
+
+  abbrev ways : Ways
+  ways = ways_at number old
+
+  abbrev sitting : Sitting
+  sitting = sitting_at terminal old
+
+  abbrev taken_bytes : ℕ
+  taken_bytes = comes.fed.taken
+
+  abbrev bytes_behind : List ℕ
+  bytes_behind = drop taken_bytes (down_of number old)
+
+  world_facts : Facts world
+  world_facts = facts known.worlds begin is events reached.are_events reached.typed
+
+  here : link.term_here ≡ Some terminal
+  here = sym (who_is_there old world number world_facts.agree reached.stands.places) ∙ found
+
+  place : world.place terminal ≡ Place.At number
+  place = (world_facts.agree terminal number).1 here
+
+  stood : LinkStands (made_of terminal line ways sitting) link
+  stood = subst (λ (h : Option ℕ). LinkStands (link_with h number old) link) found (reached.stands.links number)
+
+  flows : AreFlows line ways sitting
+  flows = let are : AreWays (Some terminal) number old = subst (λ (h : Option ℕ). AreWays h number old) found (reached.stands.flows number) in
+      record { together = are.together; down = are.down; up = are.up }
+
+  ready : IsReady (made_of terminal line ways sitting) link
+  ready = record {
+    stands = stood;
+    terminal = terminal;
+    here = here;
+    may = (world_facts.may number).0;
+    none = (world_facts.may number).1;
+    sendable = subst (λ (p : Place). IsSendable (display_at world p).screen) place (world_facts.sendable terminal);
+  }
+
+  goes_on : GoesOn begin events (event.Down number count) answer new
+  goes_on =
+      let quiet = quiet_takes sitting.seat (take taken_bytes (take count (down_of number old))) comes.seat comes.feeds.takes in
+      let bytes : ByteLink = made_of terminal line ways sitting in
+      let down = known.links.down bytes link (take taken_bytes (take count (down_of number old))) bytes_behind (with_out quiet.said comes.seat) ready
+      (taken_off taken_bytes count (down_of number old) comes.feeds.few) (quiet.takes []) in
+      let more : List MessageEvent = replicate (length down.taken) (MessageEvent.Down number) in
+      let typed : All IsTyped more = All-replicate IsTyped (length down.taken) (MessageEvent.Down number) tt in
+      let app : Application = application_of begin.panels in
+      let now : World = run app more world in
+      let next : Link = took_down down.taken down.others link in
+      let none : NoneCloses link.term (down.taken ++ down.others) = subst (λ (m : List ToTerminal). NoneCloses link.term m) down.whole (world_facts.may number).1 in
+      let went : TermWent number terminal next world now = all_came app number terminal linked down.taken down.others world here place down.whole none in
+      let holds = (down.stands.term terminal went.here).holds in
+      let left : Under = came taken_bytes ways.down in
+      let out : List ℕ = out_then (is_senders ways.down) taken_bytes line.out in
+      let goes : GoesOnHere line out ways left sitting comes.seat quiet.said bytes_behind = record {
+        live = came_live taken_bytes ways.down;
+        flow = came_flow (is_there line.service) taken_bytes line.out ways.down flows.down;
+        behind_is = came_under_way taken_bytes ways.down line.out;
+        out_is = quiet.out_is;
+      } in
+      let below : number < most_connections = ltb-true number most_connections linked in
+      let after_it : ByteWorld = down_came taken_bytes number (with_sitting terminal (record sitting { seat = comes.seat }) old) in
+      let went_bytes = bytes_went number terminal taken_bytes comes.seat old (subst (λ (n : ℕ). number < n) (sym reached.stands.lines) below)
+      (subst (λ (n : ℕ). number < n) (sym reached.stands.ways) below) (is_below number terminal old found) in
+      let made : new ≡ after_it = comes.leaves
+      ∙ not_gone comes.fed.stop sitting.seat.terminal comes.seat.terminal (take count (down_of number old)) taken_bytes terminal number after_it
+      (down.stands.term terminal went.here).rest holds.talk comes.feeds.stops holds.attached in
+      let next_facts = facts_then known begin events more old is reached (are_deliveries number (length down.taken)) typed in
+      let stands : WorldStands after_it now = term_went_stands number terminal (record line { out = out }) (record ways { down = left })
+      (record sitting { seat = comes.seat }) old after_it next world now went_bytes went
+      (record {
+        none_closed = reached.stands.none_closed number;
+        settled = λ free. nothing_then (is_senders ways.down) taken_bytes line.out (reached.stands.settled number free);
+        flows = flows_go_on terminal line out ways left sitting comes.seat quiet.said bytes_behind flows goes;
+        at = found_sits number terminal old found;
+        stands = subst (λ (b : ByteLink). LinkStands b next) (sym (link_goes_on terminal line out ways left sitting comes.seat quiet.said bytes_behind flows goes)) down.stands;
+      })
+      reached.stands world_facts.agree next_facts.agree place in
+      record {
+        more = more;
+        comes_to = (length down.taken, refl);
+        reached = reached_more begin events more old new reached (are_deliveries number (length down.taken)) typed
+            (ap (λ (w : ByteWorld). w.host.panels) made ∙ went_bytes.panels) (subst (λ (w : ByteWorld). WorldStands w now) (sym made) stands);
+      }
+
+module _ (known : Known) where
+  -- A delivery of bytes down comes to as many single deliveries as messages were completed.
+  pub down_goes : (number count : ℕ) → Goes (event.Down number count)
+  down_goes number count begin events old answer new is reached real place happens = by_here (terminal_at number old.sittings) refl happens
+    where
+      linked : is_link number ≡ true
+      linked = (and_parts (is_link number) (terminal_there number old && is_queued (take count (down_of number old))) place).0
+
+      by_here : (here : Option ℕ) → terminal_at number old.sittings ≡ here → GoesDown here number (take count (down_of number old)) old answer new
+          → GoesOn begin events (event.Down number count) answer new
+      by_here None found comes = absurd comes
+      by_here (Some terminal) found comes = goes_on known begin events number count terminal old answer new is reached linked found comes

@@ -1,0 +1,219 @@
+-- What connections that are lost, ends that leave, and ends that begin come to, over bytes as over messages.
+use Rattle.std.proofs.Common.{◌≡◌, ◌<◌, ◌++◌, ◌&&◌, ℕ, Bool, true, Option, None, Some, List, [], ◌∷◌, length, append-nil, refl, ap, sym, subst, ◌∙◌}
+use Rattle.std.specs.Prelude.{All}
+use Rattle.std.proofs.lemmas.Bool.{and_parts, ltb-true}
+use Rattle.std.proofs.lemmas.List.Elements.{All-append, All-cons, All-nil}
+use Rattle.codes3270.specs.Size.{model_2}
+use Rattle.host_core.specs.Application.{application_of}
+use Rattle.host_core.specs.State.{most_connections}
+use Rattle.world3270.specs.Known.{Known}
+use Rattle.world3270.specs.ByteSteps.{Connects, ConnectsIf, has_place, is_link, is_terminal, is_lost, is_up, sees_loss, may_connect, free_number, lost_ways, host_gone, saw_loss, terminal_anew, host_anew, host_gone_below}
+use Rattle.world3270.specs.ByteWorld.{ByteWorld, Sitting, alone, new_sitting, host_there, sitting_at, with_ways}
+use Rattle.world3270.specs.Happens.{done, left_alone, joined, term_saw, term_anew}
+use Rattle.world3270.specs.Placed.{has_place as has_place_over_messages, free_number as free_over_messages}
+use Rattle.world3270.specs.Places.{EndsAgree, UpIsHeld}
+use Rattle.world3270.specs.Refines.{Begin, IsBegin, Reached, IsReal, IsCounted, GoesOn, ComesTo, SkipsAreThose, BeginIsReached, message_event, once, after}
+use Rattle.world3270.specs.Sendable.{IsTyped}
+use Rattle.world3270.specs.Standing.{WorldStands, IsAt, link_with}
+use Rattle.world3270.specs.Stands.{LinkStands}
+use Rattle.world3270.specs.StandsLinks.{TermLeaves}
+use Rattle.world3270.specs.Terminal.{new_display}
+use Rattle.world3270.specs.World.{Place, World, Event as MessageEvent, IsEvent, AreEvents}
+use Rattle.world3270.specs.declared.event.Event.{Event}
+use Rattle.world3270.specs.declared.event.Event.TheVariants as event
+use Rattle.world3270.specs.declared.event.Stepped.{Stepped}
+use Rattle.world3270.proofs.HostAnew.{host_anew_stands, panels_stay}
+use Rattle.world3270.proofs.Joinings.{anew_alone, begin_stands, connected, connected_stands, found_below, new_is_alone, same_free}
+use Rattle.world3270.proofs.Known.{Facts, Goes, facts, after_more, are_more, happened, reached_one}
+use Rattle.world3270.proofs.Partings.{host_gone_stands, link_there, lost_stands, parted_stands}
+
+-- ---- a terminal leaves its connection
+
+at_number : (sitting : Sitting) (number other : ℕ) → sitting.at ≡ Some number → sitting.at ≡ Some other → other ≡ number
+at_number sitting number other one another = let same : Some number ≡ Some other = sym one ∙ another in cc
+
+-- what was before the operator stays, with a keyboard that waits
+left_is_alone : (terminal number : ℕ) (old : ByteWorld) (was : World) → EndsAgree was → WorldStands old was → was.place terminal ≡ Place.At number
+    → IsAt (alone (sitting_at terminal old)) (Place.Alone (left_alone (was.link number).term.display))
+left_is_alone terminal number old was agree stands at =
+    let holds : (was.link number).term_here ≡ Some terminal = (agree terminal number).0 at in
+    let link : LinkStands (link_with (Some terminal) number old) (was.link number) =
+    subst (λ (h : Option ℕ). LinkStands (link_with h number old) (was.link number)) holds (link_there number old was agree stands) in
+    let end = (link.term terminal holds).holds.is_end in (
+      refl,
+      record {
+        detached = refl;
+        silent = refl;
+        shape = end.shape_is;
+        screen = end.screen_is;
+        keyboard = refl;
+        left = end.left_is;
+        erased = end.erased_is;
+      },
+    )
+
+module _ (leaves : TermLeaves) (terminal : ℕ) (old : ByteWorld) (was : World) (agree : EndsAgree was) (held : UpIsHeld was) (stands : WorldStands old was)
+    (there : terminal < length old.sittings) where
+  at_place : (place : Place) → was.place terminal ≡ place → IsAt (sitting_at terminal old) place
+  at_place place is = subst (λ (p : Place). IsAt (sitting_at terminal old) p) is (stands.places terminal)
+
+  saw_stands : (at : Option ℕ) (place : Place) → (sitting_at terminal old).at ≡ at → was.place terminal ≡ place
+      → EndsAgree (term_saw terminal place was) → WorldStands (saw_loss terminal at old) (term_saw terminal place was)
+  saw_stands None (Place.At number) at is agrees = let here = at_place (Place.At number) is in absurd (cc)
+  saw_stands None (Place.Alone display) at is agrees = stands
+  saw_stands (Some number) (Place.At other) at is agrees =
+      let same : other ≡ number = at_number (sitting_at terminal old) number other at (at_place (Place.At other) is) in
+      subst (λ (n : ℕ). WorldStands (saw_loss terminal (Some n) old) (term_saw terminal (Place.At other) was)) same
+      (parted_stands other old was agree stands held leaves terminal (alone (sitting_at terminal old)) (left_alone (was.link other).term.display) there is
+      (left_is_alone terminal other old was agree stands is) agrees)
+  saw_stands (Some number) (Place.Alone display) at is agrees = let none = (at_place (Place.Alone display) is).0 in absurd (cc)
+
+  anew_stands : (at : Option ℕ) (place : Place) → (sitting_at terminal old).at ≡ at → was.place terminal ≡ place
+      → (begin : Begin) → EndsAgree (term_anew (application_of begin.panels) terminal place was)
+      → WorldStands (terminal_anew terminal at old) (term_anew (application_of begin.panels) terminal place was)
+  anew_stands None (Place.At number) at is begin agrees = let here = at_place (Place.At number) is in absurd (cc)
+  anew_stands None (Place.Alone display) at is begin agrees = anew_alone terminal old was agree stands there at agrees
+  anew_stands (Some number) (Place.At other) at is begin agrees =
+      let same : other ≡ number = at_number (sitting_at terminal old) number other at (at_place (Place.At other) is) in
+      subst (λ (n : ℕ). WorldStands (terminal_anew terminal (Some n) old) (term_anew (application_of begin.panels) terminal (Place.At other) was)) same
+      (parted_stands other old was agree stands held leaves terminal new_sitting (new_display model_2) there is new_is_alone agrees)
+  anew_stands (Some number) (Place.Alone display) at is begin agrees = let none = (at_place (Place.Alone display) is).0 in absurd (cc)
+
+saw_panels : (terminal : ℕ) (at : Option ℕ) (old : ByteWorld) → (saw_loss terminal at old).host.panels ≡ old.host.panels
+saw_panels terminal None old = refl
+saw_panels terminal (Some number) old = refl
+
+anew_panels : (terminal : ℕ) (at : Option ℕ) (old : ByteWorld) → (terminal_anew terminal at old).host.panels ≡ old.host.panels
+anew_panels terminal None old = refl
+anew_panels terminal (Some number) old = refl
+
+is_alone : (at : Option ℕ) (world : ByteWorld) → may_connect at world ≡ true → at ≡ None
+is_alone None world may = refl
+is_alone (Some number) world may = absurd (cc)
+
+-- ---- the begin
+
+pub begin_is_reached : Known → BeginIsReached
+begin_is_reached known begin is = record {
+  are_events = tt;
+  typed = All-nil IsTyped;
+  panels = refl;
+  stands = begin_stands begin.panels begin.pool begin.terminals;
+}
+
+-- ---- one event
+
+module _ (known : Known) (skips : SkipsAreThose) where
+  -- both ends agree behind one more
+  agrees_after : (begin : Begin) (events : List MessageEvent) (message : MessageEvent) → IsBegin begin → AreEvents events → All IsTyped events
+      → IsEvent message → IsTyped message → has_place_over_messages (application_of begin.panels) message (after begin events) ≡ true
+      → EndsAgree (done (application_of begin.panels) message (after begin events))
+  agrees_after begin events message is are typed is_event is_typed place =
+      subst (λ (w : World). EndsAgree w) (after_more begin events (message ∷ []) ∙ happened begin message (after begin events) place)
+      (facts known.worlds begin is (events ++ message ∷ []) (are_more events (message ∷ []) are (is_event, tt))
+      (All-append IsTyped events (message ∷ []) typed (All-cons IsTyped message [] is_typed (All-nil IsTyped)))).agree
+
+  -- it happens once, over bytes as over messages
+  goes_once : (it : Event) (begin : Begin) (events : List MessageEvent) (old : ByteWorld) (answer : Stepped) (new : ByteWorld)
+      → IsBegin begin → Reached begin events old → IsReal it → IsCounted it → has_place it old ≡ true
+      → ComesTo it answer (message_event it ∷ []) → new.host.panels ≡ old.host.panels
+      → (EndsAgree (done (application_of begin.panels) (message_event it) (after begin events))
+      → WorldStands new (done (application_of begin.panels) (message_event it) (after begin events)))
+      → GoesOn begin events it answer new
+  goes_once it begin events old answer new is reached real counted place comes panels stands =
+      let there = sym (skips begin events it old is reached counted) ∙ place in
+      record {
+        more = message_event it ∷ [];
+        comes_to = comes;
+        reached = reached_one begin events (message_event it) old new reached real.0 real.1 there panels
+            (stands (agrees_after begin events (message_event it) is reached.are_events reached.typed real.0 real.1 there));
+      }
+
+  facts_now : (begin : Begin) (events : List MessageEvent) (old : ByteWorld) → IsBegin begin → Reached begin events old → Facts (after begin events)
+  facts_now begin events old is reached = facts known.worlds begin is events reached.are_events reached.typed
+
+  -- ---- a connection is lost
+
+  within : (number : ℕ) (other : Bool) (old : ByteWorld) (was : World) → WorldStands old was → (is_link number && other) ≡ true → number < length old.links
+  within number other old was stands place =
+      subst (λ (n : ℕ). number < n) (sym stands.ways) (ltb-true number most_connections (and_parts (is_link number) other place).0)
+
+  pub lose_goes : (number : ℕ) → Goes (event.Lose number)
+  lose_goes number begin events old answer new is reached real place happens =
+      let f = facts_now begin events old is reached in
+      let below = within number (is_up number old) old (after begin events) reached.stands place in
+      let made : ByteWorld = with_ways number (lost_ways number old) old in
+      subst (λ (w : ByteWorld). GoesOn begin events (event.Lose number) answer w) (sym happens.1)
+      (goes_once (event.Lose number) begin events old answer made is reached real tt place
+      (ap (λ (a : Stepped). once (MessageEvent.Lose number) a) (sym happens.0)) refl
+      (lost_stands number old (after begin events) f.agree reached.stands f.up_held known.links.loss below))
+
+  -- ---- an end sees that
+
+  pub host_sees_goes : (number : ℕ) → Goes (event.HostSees number)
+  host_sees_goes number begin events old answer new is reached real place happens =
+      let f = facts_now begin events old is reached in
+      let below = within number (is_lost number old && host_there number old) old (after begin events) reached.stands place in
+      subst (λ (w : ByteWorld). GoesOn begin events (event.HostSees number) answer w) (sym happens.1)
+      (goes_once (event.HostSees number) begin events old answer (host_gone number old) is reached real tt place
+      (ap (λ (a : Stepped). once (MessageEvent.HostSees number) a) (sym happens.0)) refl
+      (host_gone_stands number old (after begin events) f.agree reached.stands f.up_held known.links.host_leaves below))
+
+  pub term_sees_goes : (terminal : ℕ) → Goes (event.TermSees terminal)
+  term_sees_goes terminal begin events old answer new is reached real place happens =
+      let f = facts_now begin events old is reached in
+      let at : Option ℕ = (sitting_at terminal old).at in
+      let there = ltb-true terminal (length old.sittings) (and_parts (is_terminal terminal old) (sees_loss at old) place).0 in
+      subst (λ (w : ByteWorld). GoesOn begin events (event.TermSees terminal) answer w) (sym happens.1)
+      (goes_once (event.TermSees terminal) begin events old answer (saw_loss terminal at old) is reached real tt place
+      (ap (λ (a : Stepped). once (MessageEvent.TermSees terminal) a) (sym happens.0)) (saw_panels terminal at old)
+      (saw_stands known.links.term_leaves terminal old (after begin events) f.agree f.up_held reached.stands there at ((after begin events).place terminal) refl refl))
+
+  -- ---- an end begins anew
+
+  pub restart_term_goes : (terminal : ℕ) → Goes (event.RestartTerm terminal)
+  restart_term_goes terminal begin events old answer new is reached real place happens =
+      let f = facts_now begin events old is reached in
+      let at : Option ℕ = (sitting_at terminal old).at in
+      subst (λ (w : ByteWorld). GoesOn begin events (event.RestartTerm terminal) answer w) (sym happens.1)
+      (goes_once (event.RestartTerm terminal) begin events old answer (terminal_anew terminal at old) is reached real tt place
+      (ap (λ (a : Stepped). once (MessageEvent.RestartTerm terminal) a) (sym happens.0)) (anew_panels terminal at old)
+      (anew_stands known.links.term_leaves terminal old (after begin events) f.agree f.up_held reached.stands (ltb-true terminal (length old.sittings) place) at
+      ((after begin events).place terminal) refl refl begin))
+
+  pub restart_host_goes : Goes event.RestartHost
+  restart_host_goes begin events old answer new is reached real place happens =
+      let f = facts_now begin events old is reached in
+      let made : ByteWorld = host_anew (host_gone_below most_connections old) in
+      subst (λ (w : ByteWorld). GoesOn begin events event.RestartHost answer w) (sym happens.1)
+      (goes_once event.RestartHost begin events old answer made is reached real tt place
+      (ap (λ (a : Stepped). once MessageEvent.RestartHost a) (sym happens.0))
+      (panels_stay known.links.host_leaves old (after begin events) f.agree f.up_held reached.stands)
+      (λ agrees. host_anew_stands known.links.host_leaves old (after begin events) f.agree f.up_held reached.stands))
+
+  -- ---- a terminal connects
+
+  pub connect_goes : (terminal : ℕ) (wanted : Option (List ℕ)) → Goes (event.Connect terminal wanted)
+  connect_goes terminal wanted begin events old answer new is reached real place happens = by_found (free_number old) refl happens
+    where
+      by_found : (found : Option ℕ) → free_number old ≡ found → ConnectsIf terminal wanted found old answer new → GoesOn begin events (event.Connect terminal wanted) answer new
+      by_found None free connects = absurd connects
+      by_found (Some number) free (Connects.refused memory same) = record {
+        more = [];
+        comes_to = ap (λ (a : Stepped). once (MessageEvent.Connect terminal wanted) a) (sym memory);
+        reached = subst (λ (e : List MessageEvent). Reached begin e new) (sym (append-nil events)) (subst (λ (w : ByteWorld). Reached begin events w) (sym same) reached);
+      }
+      by_found (Some number) free (Connects.done answers made) =
+          let f = facts_now begin events old is reached in
+          let app = application_of begin.panels in
+          let both = and_parts (is_terminal terminal old) (may_connect (sitting_at terminal old).at old) place in
+          let there = ltb-true terminal (length old.sittings) both.0 in
+          let lonely = is_alone (sitting_at terminal old).at old both.1 in
+          let below : number < length old.links = subst (λ (n : ℕ). number < n) (sym reached.stands.ways) (found_below most_connections 0 number old free) in
+          let same : free_over_messages (after begin events).link ≡ Some number = sym (same_free old (after begin events) f.agree reached.stands) ∙ free in
+          subst (λ (w : ByteWorld). GoesOn begin events (event.Connect terminal wanted) answer w) (sym made)
+          (goes_once (event.Connect terminal wanted) begin events old answer (connected number terminal wanted old) is reached real tt place
+          (ap (λ (a : Stepped). once (MessageEvent.Connect terminal wanted) a) (sym answers)) refl
+          (λ agrees. subst (λ (n : Option ℕ). WorldStands (connected number terminal wanted old) (joined app terminal wanted n (after begin events))) (sym same)
+          (connected_stands number terminal wanted old (after begin events) known.links.begin f.agree reached.stands below there lonely
+          (subst (λ (n : Option ℕ). EndsAgree (joined app terminal wanted n (after begin events))) same agrees))))

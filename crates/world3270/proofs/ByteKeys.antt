@@ -1,0 +1,190 @@
+-- A key is pressed at a terminal: what that comes to over messages.
+use Rattle.std.proofs.Common.{◌≡◌, ◌<◌, ◌||◌, ◌++◌, ℕ, Bool, true, false, Option, None, Some, List, [], ◌∷◌, length, refl, ap, sym, subst, ◌∙◌, nat_lt, length-set}
+use Rattle.std.proofs.lemmas.Bool.{ltb-true}
+use Rattle.std.proofs.lemmas.List.{append-nil}
+use Rattle.std.proofs.lemmas.List.Elements.{All-append, All-cons, All-nil}
+use Rattle.std.specs.Prelude.{All}
+use Rattle.codes3270.specs.Size.{Shape, model_2}
+use Rattle.datastream.specs.InboundFields.{IsSendable}
+use Rattle.datastream.specs.Screen.{Screen}
+use Rattle.host_core.specs.Application.{application_of}
+use Rattle.host_core.specs.State.{Line, line_at}
+use Rattle.keyboard.specs.Keys.{Outcome, pressed}
+use Rattle.keyboard.specs.State.{Keyboard}
+use Rattle.keyboard.specs.declared.key.Key.{Key}
+use Rattle.keyboard.specs.declared.key.Pressed.{Pressed}
+use Rattle.keyboard.specs.declared.key.Pressed.TheVariants as pressed_as
+use Rattle.telnet_wire.specs.Items.{sent_bytes}
+use Rattle.term_core.specs.Presses.{data_pressed, key_outcome, says_of_key, answer_to_key}
+use Rattle.term_core.specs.Records.{data_sent}
+use Rattle.term_core.specs.State.{Link as TermLink, Station, phase_of, is_bound}
+use Rattle.world3270.specs.Known.{Known}
+use Rattle.world3270.specs.ByteSteps.{Presses, answer_pressed}
+use Rattle.world3270.specs.ByteWorld.{ByteWorld, Ways, Sitting, ways_at, sitting_at, with_sitting, terminal_at}
+use Rattle.world3270.specs.Happens.{run, key_went, done}
+use Rattle.world3270.specs.Link.{Link, term_stepped}
+use Rattle.world3270.specs.Places.{EndsAgree}
+use Rattle.world3270.specs.Refines.{Begin, IsBegin, Reached, IsReal, GoesOn, SkipsAreThose, after, once}
+use Rattle.world3270.specs.Seats.{Seat, seat_after_key}
+use Rattle.world3270.specs.Sendable.{IsTyped, ScreensAreSendable, display_at}
+use Rattle.world3270.specs.Standing.{WorldStands, IsAlone, IsAt, AreWays, with_out, link_with}
+use Rattle.world3270.specs.Stands.{ByteLink, LinkStands}
+use Rattle.world3270.specs.Terminal.{Display, after_key, erases_if, key_came, outcome_of}
+use Rattle.world3270.specs.World.{Place, World, Event as MessageEvent, AreEvents}
+use Rattle.world3270.specs.declared.event.Event.TheVariants as event
+use Rattle.world3270.specs.declared.event.Stepped.{Stepped}
+use Rattle.world3270.proofs.ByteTerms.{made_of, AreFlows, GoesOnHere, alone_stands, flows_go_on, link_goes_on, term_went_stands, with_other, with_same}
+use Rattle.world3270.proofs.Frames.{sitting_other, sitting_same, who_is_there}
+use Rattle.world3270.proofs.Known.{Facts, Goes, after_more, are_more, facts, happened, reached_more, reached_one}
+
+-- ---- more happened over messages
+
+-- what is known of the world then
+pub facts_then : (known : Known) (begin : Begin) (events more : List MessageEvent) (bytes : ByteWorld) → IsBegin begin → Reached begin events bytes
+    → AreEvents more → All IsTyped more → Facts (run (application_of begin.panels) more (after begin events))
+facts_then known begin events more bytes is reached are typed =
+    subst (λ (w : World). Facts w) (after_more begin events more)
+    (facts known.worlds begin is (events ++ more) (are_more events more reached.are_events are) (All-append IsTyped events more reached.typed typed))
+
+-- ---- what a key makes of a terminal
+
+-- a key does over bytes what it does over messages, where screen and keyboard are the same
+outcome_is : (key : Key) (station : Station) (display : Display) → display.shape ≡ model_2 → station.keyboard ≡ display.keyboard → station.screen ≡ display.screen
+    → key_outcome key station ≡ outcome_of key display
+outcome_is key station display shape keyboard screen =
+    ap (λ (k : Keyboard). pressed model_2.columns key k station.screen) keyboard ∙ ap (λ (s : Screen). pressed model_2.columns key display.keyboard s) screen
+    ∙ ap (λ (s : Shape). pressed s.columns key display.keyboard display.screen) (sym shape)
+
+-- a terminal that isn't bound sends nothing
+nothing_sent : (answer : Pressed) (screen : Screen) → data_pressed false answer screen ≡ None
+nothing_sent pressed_as.Done screen = refl
+nothing_sent (pressed_as.Refused why) screen = refl
+nothing_sent (pressed_as.Send aid) screen = refl
+
+stays_alone : (key : Key) (seat : Seat) (display : Display) → IsAlone seat display → IsAlone (seat_after_key key seat) (after_key key display)
+stays_alone key seat display is =
+    let station : Station = seat.terminal.station in
+    let outcome : Outcome = key_outcome key station in
+    let same = outcome_is key station display is.shape is.keyboard is.screen in
+    record {
+      detached = is.detached;
+      silent = ap (λ (l : TermLink). seat.terminal.out ++ sent_bytes (says_of_key key (is_bound (phase_of l)) station)) is.detached
+          ∙ ap (λ (d : Option (List ℕ)). seat.terminal.out ++ sent_bytes (data_sent station.number d)) (nothing_sent outcome.answer outcome.screen)
+          ∙ append-nil seat.terminal.out ∙ is.silent;
+      shape = is.shape;
+      screen = ap (λ (o : Outcome). o.screen) same;
+      keyboard = ap (λ (o : Outcome). o.keyboard) same;
+      left = is.left;
+      erased = ap (λ (b : Bool). b || erases_if (answer_to_key key seat.terminal) key) is.erased
+          ∙ ap (λ (o : Outcome). display.erased || erases_if o.answer key) same;
+    }
+
+-- ---- the key is pressed
+
+-- memory wasn't refused, so it happened once
+happens_once : (event : MessageEvent) (answer : Stepped) (pressed : Pressed) → answer ≡ answer_pressed pressed → event ∷ [] ≡ once event answer
+happens_once event answer pressed is = by_answer pressed ∙ ap (once event) (sym is)
+  where
+    by_answer : (p : Pressed) → event ∷ [] ≡ once event (answer_pressed p)
+    by_answer pressed_as.Done = refl
+    by_answer (pressed_as.Refused why) = refl
+    by_answer (pressed_as.Send aid) = refl
+
+module _ (known : Known) (key : Key) (terminal : ℕ) (old : ByteWorld) (world : World) (now_facts : Facts world) (stands : WorldStands old world)
+    (below : terminal < length old.sittings) where
+  abbrev pressed_at : Sitting
+  pressed_at = record (sitting_at terminal old) { seat = seat_after_key key (sitting_at terminal old).seat }
+
+  abbrev went : Place → World
+  went place = key_went terminal key place world
+
+  -- Wherever the terminal is, the world stands for that after the key.
+  key_stands : (place : Place) → world.place terminal ≡ place → EndsAgree (went place) → ScreensAreSendable (went place)
+      → WorldStands (with_sitting terminal pressed_at old) (went place)
+  key_stands (Place.Alone display) is agrees sendable =
+      let at = subst (λ (p : Place). IsAt (sitting_at terminal old) p) is (stands.places terminal) in
+      alone_stands terminal (seat_after_key key (sitting_at terminal old).seat) display (after_key key display) old world stands now_facts.agree is below
+      (stays_alone key (sitting_at terminal old).seat display at.1) at.0 agrees
+  key_stands (Place.At number) is agrees sendable =
+      let link : Link = world.link number in
+      let here : link.term_here ≡ Some terminal = (now_facts.agree terminal number).0 is in
+      let there : terminal_at number old.sittings ≡ Some terminal = who_is_there old world number now_facts.agree stands.places ∙ here in
+      let at : (sitting_at terminal old).at ≡ Some number = subst (λ (p : Place). IsAt (sitting_at terminal old) p) is (stands.places terminal) in
+      let line : Line = line_at number old.host in
+      let ways : Ways = ways_at number old in
+      let sitting : Sitting = sitting_at terminal old in
+      let seat : Seat = seat_after_key key sitting.seat in
+      let stood : LinkStands (made_of terminal line ways sitting) link = subst (λ (h : Option ℕ). LinkStands (link_with h number old) link) there (stands.links number) in
+      let are : AreWays (Some terminal) number old = subst (λ (h : Option ℕ). AreWays h number old) there (stands.flows number) in
+      let next : Link = term_stepped (key_came key link.term) link.down link in
+      let is_end = ((stood.term terminal here).holds).is_end in
+      let same = outcome_is key sitting.seat.terminal.station link.term.display is_end.shape_is is_end.keyboard_is is_end.screen_is in
+      let screen : IsSendable (outcome_of key link.term.display).screen =
+      subst (λ (l : Link). IsSendable l.term.display.screen) (with_same number next world.link)
+      (subst (λ (p : Place). IsSendable (display_at (went (Place.At number)) p).screen) is (sendable terminal)) in
+      let stays = known.links.press key (made_of terminal line ways sitting) link terminal stood here
+      (subst (λ (o : Outcome). IsSendable o.screen) (sym same) screen) in
+      let flows : AreFlows line ways sitting = record { together = are.together; down = are.down; up = are.up } in
+      let said : List ℕ = (seat_after_key key (with_out [] sitting.seat)).terminal.out in
+      let down : List ℕ = (made_of terminal line ways sitting).down in
+      let goes : GoesOnHere line line.out ways ways.down sitting seat said down = record { live = refl; flow = are.down; behind_is = refl; out_is = refl } in
+      term_went_stands number terminal line ways pressed_at old (with_sitting terminal pressed_at old) next world (went (Place.At number))
+      (record {
+        line_is = refl;
+        ways_are = refl;
+        sitting_is = sitting_same terminal pressed_at old below;
+        other_lines = λ other differs. refl;
+        other_ways = λ other differs. refl;
+        other_sittings = λ other differs. sitting_other terminal other pressed_at old differs;
+        line_count = refl;
+        way_count = refl;
+        sitting_count = length-set old.sittings terminal pressed_at;
+        pool = refl;
+        panels = refl;
+      })
+      (record {
+        link_is = with_same number next world.link;
+        here = here;
+        place_is = is;
+        other_links = λ other differs. with_other number other next world.link differs;
+        other_places = λ other differs. refl;
+        terminals = refl;
+        pool = refl;
+      })
+      (record {
+        none_closed = stands.none_closed number;
+        settled = stands.settled number;
+        flows = flows_go_on terminal line line.out ways ways.down sitting seat said down flows goes;
+        at = at;
+        stands = subst (λ (b : ByteLink). LinkStands b next) (sym (link_goes_on terminal line line.out ways ways.down sitting seat said down flows goes)) stays;
+      })
+      stands now_facts.agree agrees is
+
+module _ (known : Known) (skips : SkipsAreThose) where
+  pressed_on : (terminal : ℕ) (key : Key) (begin : Begin) (events : List MessageEvent) (old : ByteWorld) (answer : Stepped) (new : ByteWorld)
+      → IsBegin begin → Reached begin events old → IsReal (event.Key terminal key) → nat_lt terminal (length old.sittings) ≡ true
+      → Presses terminal key old answer new → GoesOn begin events (event.Key terminal key) answer new
+  pressed_on terminal key begin events old answer new is reached real place (Presses.refused memory same) = record {
+    more = [];
+    comes_to = ap (once (MessageEvent.Press terminal key)) (sym memory);
+    reached = reached_more begin events [] old new reached tt (All-nil IsTyped) (ap (λ (w : ByteWorld). w.host.panels) same)
+        (subst (λ (w : ByteWorld). WorldStands w (after begin events)) (sym same) reached.stands);
+  }
+  pressed_on terminal key begin events old answer new is reached real place (Presses.done answers made) =
+      let press : MessageEvent = MessageEvent.Press terminal key in
+      let world : World = after begin events in
+      let has = sym (skips begin events (event.Key terminal key) old is reached tt) ∙ place in
+      let next_facts = subst (λ (w : World). Facts w) (happened begin press world has)
+      (facts_then known begin events (press ∷ []) old is reached (real.0, tt) (All-cons IsTyped press [] real.1 (All-nil IsTyped))) in
+      let stands = key_stands known key terminal old world (facts known.worlds begin is events reached.are_events reached.typed) reached.stands
+      (ltb-true terminal (length old.sittings) place) (world.place terminal) refl next_facts.agree next_facts.sendable in
+      record {
+        more = press ∷ [];
+        comes_to = happens_once press answer (answer_to_key key (sitting_at terminal old).seat.terminal) answers;
+        reached = reached_one begin events press old new reached real.0 real.1 has (ap (λ (w : ByteWorld). w.host.panels) made)
+            (subst (λ (w : ByteWorld). WorldStands w (done (application_of begin.panels) press world)) (sym made) stands);
+      }
+
+  -- A key comes to itself, or to nothing where memory was refused.
+  pub key_goes : (terminal : ℕ) (key : Key) → Goes (event.Key terminal key)
+  key_goes terminal key begin events old answer new is reached real place happens = pressed_on terminal key begin events old answer new is reached real place happens

@@ -1,0 +1,449 @@
+-- Bytes that come up to a host: the world over bytes stands for the one behind as many single deliveries as there were messages completed.
+use Rattle.std.proofs.Common.{◌≡◌, ◌<◌, ◌+◌, ◌==◌, ◌&&◌, nat_lt, ℕ, suc, Bool, true, false, Option, None, Some, List, [], ◌∷◌, ◌++◌, drop, take, length, map, replicate, refl, ap, sym, subst, ◌∙◌, append_assoc, if◌then◌else◌}
+use Rattle.std.specs.List.{AllByRecursion}
+use Rattle.std.proofs.lemmas.Bool.{and_parts, ltb-true, lt-ltb, ne_eqb}
+use Rattle.std.proofs.lemmas.Bool.Decides.{Decides-eqb}
+use Rattle.std.proofs.lemmas.List.{append-nil, length-take-le, replicate-append-replicate, take-append-drop}
+use Rattle.std.proofs.lemmas.List.Elements.{All-append, All-cons, All-nil}
+use Rattle.lu_pool.specs.Asking.{answer_to}
+use Rattle.lu_pool.specs.Holders.{granted_if}
+use Rattle.lu_pool.specs.declared.entry.Entry.{Entry}
+use Rattle.shadow.specs.Pairs.{Pairwise}
+use Rattle.telnet_wire.specs.Items.{WireItem, CanCome, sent_bytes}
+use Rattle.telnet_wire.specs.Reading.{Rest, nothing, Delivers, GoesWrong}
+use Rattle.telnet_wire.specs.declared.wire.WireFault.{WireFault}
+use Rattle.tn3270e_msg.specs.Header.{record_limit}
+use Rattle.tn3270e_msg.specs.Talk.{Saying, item_of}
+use Rattle.tn3270e_msg.specs.declared.cause.Cause.{Cause}
+use Rattle.tn3270e_msg.specs.declared.cause.Stop.{Stop}
+use Rattle.tn3270e_msg.specs.declared.cause.Stop.TheVariants.{Going, Memory, Closed as ClosedStop}
+use Rattle.host_core.specs.Application.{application_of}
+use Rattle.host_core.specs.Bytes.{Counter, TakesByte, TakesBytes, service_after, stepped}
+use Rattle.host_core.specs.Feeds.{IsOpen, StopsFor, counter_at}
+use Rattle.host_core.specs.Items.{TakesItem}
+use Rattle.host_core.specs.Messages.{ToTerminal, ToHost}
+use Rattle.host_core.specs.Says.{item_sent}
+use Rattle.host_core.specs.Session.{Conn}
+use Rattle.host_core.specs.State.{Host, Service, most_connections, service_at}
+use Rattle.host_core.specs.Takes.{Step, freed_if, took as host_took}
+use Rattle.world3270.specs.Known.{Known}
+use Rattle.world3270.specs.ByteSteps.{is_link, host_gone_if}
+use Rattle.world3270.specs.ByteWorld.{ByteWorld, is_there, host_there, terminal_at, down_of, up_of}
+use Rattle.world3270.specs.Forms.{FormsAreAwaited}
+use Rattle.world3270.specs.Happens.{closed_if, host_took_it, came_up}
+use Rattle.world3270.specs.Link.{Link, sent, host_left_if}
+use Rattle.world3270.specs.Placed.{is_queued, has_place as has_place_over_messages}
+use Rattle.world3270.specs.Places.{EndsAgree}
+use Rattle.world3270.specs.Refines.{Begin, IsBegin, Reached, Repeats, after}
+use Rattle.world3270.specs.Sendable.{IsTyped}
+use Rattle.world3270.specs.Standing.{WorldStands, IsNotClosed, conn_of, rest_of, link_of}
+use Rattle.world3270.specs.Stands.{StandsDown, StandsUp, BytesUp, ByteLink, LinkStands}
+use Rattle.world3270.specs.StandsEnds.{IsSaid}
+use Rattle.world3270.specs.StandsLinks.{MayComeAll, WhatComesMayCome, HostSends, said_down, sent_down}
+use Rattle.world3270.specs.Terminal.{TermEnd, took as term_took}
+use Rattle.world3270.specs.World.{World, Event as MessageEvent, with_at}
+use Rattle.world3270.specs.declared.event.Event.TheVariants as event
+use Rattle.world3270.proofs.HostItems.{IsSaidUp, IsAwaited, host_takes}
+use Rattle.world3270.proofs.HostSteps.{just_talks}
+use Rattle.world3270.proofs.Known.{Facts, Goes, facts, after_more, are_more, reached_more, happened, reached_one}
+use Rattle.world3270.proofs.SaidUp.{all_said_up}
+use Rattle.world3270.proofs.StandsFits.{payload_fits}
+use Rattle.world3270.proofs.UpCame.{Taken, heard, one_stood, host_is, counter_is, took_up, took_none, took_next}
+
+-- ---- what a host says to a message
+
+-- it is nothing but talk, each of its items stands for its saying, and may come where the sayings may
+talk_stands : (talk : List Saying) → Pairwise StandsDown (map item_sent (map ToTerminal.TalksDown talk)) (map ToTerminal.TalksDown talk)
+talk_stands [] = tt
+talk_stands (saying ∷ talk) = (refl, talk_stands talk)
+
+saying_comes : (saying : Saying) → IsSaid saying → CanCome record_limit (item_of saying)
+saying_comes (Saying.Opt verb code) is = tt
+saying_comes (Saying.Sub sending) is = payload_fits sending is
+
+talk_comes : (talk : List Saying) (end : TermEnd) → MayComeAll end (map ToTerminal.TalksDown talk)
+    → AllByRecursion (CanCome record_limit) (map item_sent (map ToTerminal.TalksDown talk))
+talk_comes [] end may = tt
+talk_comes (saying ∷ talk) end may = (saying_comes saying may.0.0, talk_comes talk (term_took end (ToTerminal.TalksDown saying)).end may.1)
+
+-- what may come behind others may come once these came
+may_behind : (front back : List ToTerminal) (end : TermEnd) → MayComeAll end (front ++ back) → (other : TermEnd) × MayComeAll other back
+may_behind [] back end may = (end, may)
+may_behind (message ∷ front) back end may = may_behind front back (term_took end message).end may.1
+
+vanish : {X : Type 0} (lost : Bool) (queue some others : List X) → lost ≡ true → sent lost queue some ≡ sent lost queue others
+vanish true queue some others is = refl
+vanish false queue some others is = absurd (cc)
+
+sends_stand : HostSends → (bytes : ByteLink) (link : Link) (conn : Conn) (sends : List ToTerminal) (talk : List Saying) → sends ≡ map ToTerminal.TalksDown talk
+    → LinkStands bytes link → MayComeAll link.term (sent link.lost link.down sends)
+    → LinkStands (said_down conn (map item_sent sends) bytes) (sent_down conn sends link)
+sends_stand host_sends bytes link conn sends talk says stands may = by_lost link.lost refl
+  where
+    by_lost : (lost : Bool) → link.lost ≡ lost → LinkStands (said_down conn (map item_sent sends) bytes) (sent_down conn sends link)
+    by_lost true e =
+        subst (λ (d : List ℕ). LinkStands (record bytes { host = conn; down = d }) (sent_down conn sends link))
+        (vanish bytes.lost bytes.down (sent_bytes []) (sent_bytes (map item_sent sends)) (stands.lost ∙ e))
+        (subst (λ (d : List ToTerminal). LinkStands (said_down conn [] bytes) (record link { host = conn; down = d }))
+        (vanish link.lost link.down [] sends e) (host_sends bytes link conn [] [] stands tt tt))
+    by_lost false e =
+        let all = may_behind link.down sends link.term (subst (λ (l : Bool). MayComeAll link.term (sent l link.down sends)) e may) in
+        host_sends bytes link conn (map item_sent sends) sends stands
+        (subst (λ (m : List ToTerminal). AllByRecursion (CanCome record_limit) (map item_sent m)) (sym says)
+        (talk_comes talk all.0 (subst (λ (m : List ToTerminal). MayComeAll all.0 m) says all.1)))
+        (subst (λ (m : List ToTerminal). Pairwise StandsDown (map item_sent m) m) (sym says) (talk_stands talk))
+
+-- ---- the world over messages, behind one delivery
+
+-- the connection, and the world, once the host took a message and goes on
+abbrev link_behind : Step → List ToHost → Link → Link
+link_behind step others link = record link { up = others; host = step.conn; down = sent link.lost link.down step.sends }
+
+abbrev world_behind : ℕ → Step → List ToHost → World → World
+world_behind number step others world = record world {
+  pool = granted_if number step.grants world.pool;
+  link = with_at number (link_behind step others (world.link number)) world.link;
+}
+
+is_behind : (number : ℕ) (step : Step) (others : List ToHost) (world : World) → step.closes ≡ None
+    → host_took_it number step others world ≡ world_behind number step others world
+is_behind number step others world none =
+    ap (λ (c : Option Cause). closed_if c (record world {
+      pool = freed_if number c (granted_if number step.grants world.pool);
+      link = with_at number (host_left_if c (link_behind step others (world.link number))) world.link;
+    })) none
+
+no_more : (causes : List Cause) (cause : Cause) → causes ++ cause ∷ [] ≡ [] → ⊥
+no_more [] cause e = absurd (cc)
+no_more (first ∷ causes) cause e = absurd (cc)
+
+closes_none : (cause : Option Cause) (world : World) → (closed_if cause world).causes ≡ [] → cause ≡ None
+closes_none None world e = refl
+closes_none (Some cause) world e = absurd (no_more world.causes cause e)
+
+same_number : (number : ℕ) → (number == number) ≡ true
+same_number number = (Decides-eqb number number).1 refl
+
+all_three : (one two three : Bool) → one ≡ true → two ≡ true → three ≡ true → (one && (two && three)) ≡ true
+all_three one two three a b c = ap (λ (x : Bool). x && (two && three)) a ∙ ap (λ (x : Bool). x && three) b ∙ c
+
+-- ---- one byte
+
+-- the world over bytes stands for the one behind a delivery, or none; the host goes on, and the bytes behind are under way
+record OneByte (begin : Begin) (events : List MessageEvent) (number : ℕ) (counter : Counter) (old : ByteWorld) : Type 0 where
+  some : List MessageEvent
+  repeats : Repeats (MessageEvent.Up number) some
+  reached : Reached begin (events ++ some) (took_up 1 number counter old)
+  is_open : IsOpen counter.line.service
+  there : terminal_at number (took_up 1 number counter old).sittings ≡ terminal_at number old.sittings
+  queue : up_of number (took_up 1 number counter old) ≡ drop 1 (up_of number old)
+
+none_for_none : (taken : List ToHost) → Pairwise StandsUp [] taken → taken ≡ []
+none_for_none [] stand = refl
+none_for_none (message ∷ taken) stand = absurd stand
+
+nothing_said : (lost : Bool) (queue : List ℕ) → queue ≡ sent lost queue []
+nothing_said true queue = refl
+nothing_said false queue = sym (append-nil queue)
+
+awaited : (world : World) (number : ℕ) (message : ToHost) (others : List ToHost) → FormsAreAwaited world → (world.link number).up ≡ message ∷ others
+    → IsAwaited (world.link number).host message
+awaited world number (ToHost.TalksUp saying) others forms e = tt
+awaited world number (ToHost.Data parts) others forms e = forms number parts others e
+awaited world number (ToHost.Response answers verdict) others forms e = tt
+
+module _ (known : Known) (begin : Begin) (is : IsBegin begin) (events : List MessageEvent) (old : ByteWorld) (reached : Reached begin events old)
+    (number : ℕ) (below : number < most_connections) (there : host_there number old ≡ true) where
+  abbrev world : World
+  world = after begin events
+
+  abbrev link : Link
+  link = world.link number
+
+  stands : WorldStands old world
+  stands = reached.stands
+
+  known_here : Facts world
+  known_here = facts known.worlds begin is events reached.are_events reached.typed
+
+  linked : number < length old.links
+  linked = subst (λ (n : ℕ). number < n) (sym stands.ways) below
+
+  lined : number < length old.host.lines
+  lined = subst (λ (n : ℕ). number < n) (sym stands.lines) below
+
+  host_here : link.host_here ≡ true
+  host_here = sym (stands.links number).host_here ∙ there
+
+  conn_is : conn_of (service_at number old.host) ≡ link.host
+  conn_is = ((stands.links number).host host_here).host
+
+  panels_are : (counter : Counter) → (took_up 1 number counter old).host.panels ≡ old.host.panels
+  panels_are counter = ap (λ (h : Host). h.panels) (host_is number counter old linked lined)
+
+  -- ---- no item is complete with it
+
+  nothing_completes : (byte : ℕ) (behind : List ℕ) (counter : Counter) (rest to : Rest) (conn : Conn) → up_of number old ≡ byte ∷ behind
+      → service_at number old.host ≡ Service.Open rest conn → Delivers record_limit rest (byte ∷ []) [] to
+      → counter ≡ record { pool = old.host.pool; line = record { service = Service.Open to conn; out = (counter_at number old.host).line.out } }
+      → OneByte begin events number counter old
+  nothing_completes byte behind counter rest to conn queue held delivers is_counter =
+      let came = known.links.up (link_of number old) link (byte ∷ []) behind [] to (stands.links number) host_here queue
+      (subst (λ (r : Rest). Delivers record_limit r (byte ∷ []) [] to) (sym (ap rest_of held)) delivers) in
+      let others : came.others ≡ link.up = sym (came.whole ∙ ap (λ (m : List ToHost). m ++ came.others) (none_for_none came.taken came.each)) in
+      let bytes_behind : behind ≡ drop 1 (up_of number old) = sym (ap (drop 1) queue) in
+      let taken : Taken number counter old world world = record {
+        rest = to;
+        conn = conn_of (service_at number old.host);
+        more = [];
+        link = link;
+        below = below;
+        host_here = there;
+        service = ap (λ (c : Counter). c.line.service) is_counter ∙ ap (Service.Open to) (sym (ap conn_of held));
+        out = ap (λ (c : Counter). c.line.out) is_counter ∙ sym (append-nil (counter_at number old.host).line.out);
+        pool = ap (λ (c : Counter). c.pool) is_counter ∙ stands.pool;
+        is_link = refl;
+        others = λ other differs. refl;
+        term_here = refl;
+        places = refl;
+        terminals = refl;
+        stands = subst (λ (d : List ℕ). LinkStands (record (link_of number old) { host_rest = to; up = drop 1 (up_of number old); down = d }) link)
+            (nothing_said (link_of number old).lost (down_of number old))
+            (subst (λ (u : List ℕ). LinkStands (record (link_of number old) { host_rest = to; up = u }) link) bytes_behind
+            (subst (λ (m : List ToHost). LinkStands (record (link_of number old) { host_rest = to; up = behind }) (record link { up = m })) others came.stands));
+      } in
+      let stood = one_stood number counter old world world taken known_here.agree known_here.agree stands in
+      record {
+        some = [];
+        repeats = (0, refl);
+        reached = reached_more begin events [] old (took_up 1 number counter old) reached tt (All-nil IsTyped) (panels_are counter) stood.stands;
+        is_open = subst IsOpen (sym taken.service) tt;
+        there = stood.there;
+        queue = stood.queue;
+      }
+
+  -- ---- it completes an item
+
+  module _ (message : ToHost) (others : List ToHost) (e : link.up ≡ message ∷ others) where
+    abbrev step : Step
+    step = host_took (answer_to world.pool) link.host message
+
+    abbrev now : World
+    now = world_behind number step others world
+
+    abbrev delivery : MessageEvent
+    delivery = MessageEvent.Up number
+
+    has_its_place : has_place_over_messages (application_of begin.panels) delivery world ≡ true
+    has_its_place = all_three (nat_lt number most_connections) link.host_here (is_queued link.up) (lt-ltb number most_connections below) host_here (ap is_queued e)
+
+    took_it : came_up number link.up world ≡ host_took_it number step others world
+    took_it = ap (λ (u : List ToHost). came_up number u world) e
+
+    known_then : Facts (after begin (events ++ delivery ∷ []))
+    known_then =
+        facts known.worlds begin is (events ++ delivery ∷ []) (are_more events (delivery ∷ []) reached.are_events (tt, tt))
+        (All-append IsTyped events (delivery ∷ []) reached.typed (All-cons IsTyped delivery [] tt (All-nil IsTyped)))
+
+    world_then : after begin (events ++ delivery ∷ []) ≡ host_took_it number step others world
+    world_then = after_more begin events (delivery ∷ []) ∙ happened begin delivery world has_its_place ∙ took_it
+
+    stays : step.closes ≡ None
+    stays =
+        closes_none step.closes (record world {
+          pool = freed_if number step.closes (granted_if number step.grants world.pool);
+          link = with_at number (host_left_if step.closes (link_behind step others link)) world.link;
+        })
+        (ap (λ (w : World). w.causes) (sym world_then) ∙ known_then.nobody_refuses.none_closed)
+
+    world_now : after begin (events ++ delivery ∷ []) ≡ now
+    world_now = world_then ∙ is_behind number step others world stays
+
+    link_now : now.link number ≡ link_behind step others link
+    link_now = ap (λ (b : Bool). if b then link_behind step others link else link) (same_number number)
+
+    may_come : MayComeAll link.term (sent link.lost link.down step.sends)
+    may_come =
+        subst (λ (l : Link). MayComeAll l.term l.down) link_now ((subst WhatComesMayCome world_now known_then.may) number).0
+
+    step_is : (item : WireItem) (done : Step) → StandsUp item message → TakesItem (answer_to old.host.pool) (conn_of (service_at number old.host)) item done → done ≡ step
+    step_is item done stand taken =
+        let said = subst (λ (m : List ToHost). AllByRecursion IsSaidUp m) e
+        (all_said_up (application_of begin.panels) begin.pool begin.terminals events reached.are_events number) in
+        let waited = subst (λ (c : Conn). IsAwaited c message) (sym conn_is) (awaited world number message others known_here.forms e) in
+        host_takes known.links.one_header known.links.fault_or_header known.links.one_inbound (answer_to old.host.pool) (conn_of (service_at number old.host))
+        item message done stand said.0 waited taken
+        ∙ ap (λ (c : Conn). host_took (answer_to old.host.pool) c message) conn_is
+        ∙ ap (λ (p : List Entry). host_took (answer_to p) link.host message) stands.pool
+
+    item_completes : (item : WireItem) (done : Step) (byte : ℕ) (behind : List ℕ) (to : Rest) (counter : Counter) → up_of number old ≡ byte ∷ behind
+        → StandsUp item message → TakesItem (answer_to old.host.pool) (conn_of (service_at number old.host)) item done
+        → LinkStands (record (link_of number old) { host_rest = to; up = behind }) (record link { up = others })
+        → counter ≡ stepped number to done (counter_at number old.host)
+        → OneByte begin events number counter old
+    item_completes item done byte behind to counter queue stand item_taken stood_up is_counter =
+        let counter_now : counter ≡ stepped number to step (counter_at number old.host) =
+        is_counter ∙ ap (λ (s : Step). stepped number to s (counter_at number old.host)) (step_is item done stand item_taken) in
+        let just = just_talks (answer_to world.pool) link.host message in
+        let bytes_behind : behind ≡ drop 1 (up_of number old) = sym (ap (drop 1) queue) in
+        let said = sends_stand known.links.sends (record (link_of number old) { host_rest = to; up = behind }) (record link { up = others })
+        step.conn step.sends just.talk just.says stood_up may_come in
+        let taken : Taken number counter old world now = record {
+          rest = to;
+          conn = step.conn;
+          more = sent_bytes (map item_sent step.sends);
+          link = link_behind step others link;
+          below = below;
+          host_here = there;
+          service = ap (λ (c : Counter). c.line.service) counter_now ∙ ap (service_after to step.conn) stays;
+          out = ap (λ (c : Counter). c.line.out) counter_now;
+          pool = ap (λ (c : Counter). c.pool) counter_now
+              ∙ ap (λ (c : Option Cause). freed_if number c (granted_if number step.grants old.host.pool)) stays
+              ∙ ap (granted_if number step.grants) stands.pool;
+          is_link = link_now;
+          others = λ other differs. ap (λ (b : Bool). if b then link_behind step others link else world.link other) (ne_eqb other number differs);
+          term_here = refl;
+          places = refl;
+          terminals = refl;
+          stands = subst (λ (u : List ℕ). LinkStands (record (heard number to step.conn (sent_bytes (map item_sent step.sends)) old) { up = u }) (link_behind step others link))
+              bytes_behind said;
+        } in
+        let stood = one_stood number counter old world now taken known_here.agree (subst EndsAgree world_now known_then.agree) stands in
+        let new : ByteWorld = took_up 1 number counter old in
+        record {
+          some = delivery ∷ [];
+          repeats = (1, refl);
+          reached = reached_one begin events delivery old new reached tt tt has_its_place (panels_are counter)
+              (subst (λ (w : World). WorldStands new w) (sym (took_it ∙ is_behind number step others world stays)) stood.stands);
+          is_open = subst IsOpen (sym taken.service) tt;
+          there = stood.there;
+          queue = stood.queue;
+        }
+
+  -- the item stands for the first message, and the bytes behind for the others
+  something_completes : (byte : ℕ) (behind : List ℕ) (counter : Counter) (rest to : Rest) (conn : Conn) (item : WireItem) (done : Step) → up_of number old ≡ byte ∷ behind
+      → service_at number old.host ≡ Service.Open rest conn → Delivers record_limit rest (byte ∷ []) (item ∷ []) to
+      → TakesItem (answer_to old.host.pool) conn item done → counter ≡ stepped number to done (counter_at number old.host)
+      → OneByte begin events number counter old
+  something_completes byte behind counter rest to conn item done queue held delivers item_taken is_counter =
+      let came = known.links.up (link_of number old) link (byte ∷ []) behind (item ∷ []) to (stands.links number) host_here queue
+      (subst (λ (r : Rest). Delivers record_limit r (byte ∷ []) (item ∷ []) to) (sym (ap rest_of held)) delivers) in
+      by_taken came.taken came.others came.whole came.each came.stands
+    where
+      by_taken : (taken others : List ToHost) → link.up ≡ taken ++ others → Pairwise StandsUp (item ∷ []) taken
+          → LinkStands (record (link_of number old) { host_rest = to; up = behind }) (record link { up = others }) → OneByte begin events number counter old
+      by_taken [] others whole each stood = absurd each
+      by_taken (message ∷ []) others whole each stood =
+          item_completes message others whole item done byte behind to counter queue each.0
+          (subst (λ (c : Conn). TakesItem (answer_to old.host.pool) c item done) (sym (ap conn_of held)) item_taken) stood is_counter
+      by_taken (message ∷ other ∷ more) others whole each stood = absurd each.1
+
+  -- ---- any byte
+
+  -- bytes under way are read without fault
+  not_wrong : (byte : ℕ) (behind : List ℕ) (rest : Rest) (conn : Conn) (fault : WireFault) → up_of number old ≡ byte ∷ behind
+      → service_at number old.host ≡ Service.Open rest conn → GoesWrong record_limit rest (byte ∷ []) fault → ⊥
+  not_wrong byte behind rest conn fault queue held wrong =
+      let up = ((stands.links number).host host_here).up in
+      let spelt : BytesUp rest (byte ∷ behind) link.up =
+      subst (λ (r : Rest). BytesUp r (byte ∷ behind) link.up) (ap rest_of held)
+      (subst (λ (b : List ℕ). BytesUp (rest_of (service_at number old.host)) b link.up) queue up) in
+      known.links.wrong_is_final record_limit rest (byte ∷ []) behind fault spelt.delivers.tokens nothing wrong spelt.delivers.reads spelt.delivers.is_rest
+
+  one_byte : (byte : ℕ) (behind : List ℕ) (counter : Counter) → up_of number old ≡ byte ∷ behind → TakesByte number (counter_at number old.host) byte counter
+      → OneByte begin events number counter old
+  one_byte byte behind counter queue (TakesByte.goes_on rest to conn held delivers is_counter) =
+      nothing_completes byte behind counter rest to conn queue held delivers is_counter
+  one_byte byte behind counter queue (TakesByte.completes rest to conn item done held delivers item_taken is_counter) =
+      something_completes byte behind counter rest to conn item done queue held delivers item_taken is_counter
+  one_byte byte behind counter queue (TakesByte.breaks rest conn fault held wrong is_counter) = absurd (not_wrong byte behind rest conn fault queue held wrong)
+
+-- ---- bytes, one after another
+
+record ManyBytes (begin : Begin) (events : List MessageEvent) (number count : ℕ) (counter : Counter) (old : ByteWorld) : Type 0 where
+  more : List MessageEvent
+  repeats : Repeats (MessageEvent.Up number) more
+  reached : Reached begin (events ++ more) (took_up count number counter old)
+  is_open : IsOpen counter.line.service
+
+open_there : (service : Service) → IsOpen service → is_there service ≡ true
+open_there Service.Free is = absurd is
+open_there (Service.Open rest conn) is = refl
+open_there (Service.Closed cause) is = absurd is
+
+there_open : (service : Service) → IsNotClosed service → is_there service ≡ true → IsOpen service
+there_open Service.Free is e = absurd (cc)
+there_open (Service.Open rest conn) is e = tt
+there_open (Service.Closed cause) is e = absurd is
+
+repeats_more : (delivery : MessageEvent) (some more : List MessageEvent) → Repeats delivery some → Repeats delivery more → Repeats delivery (some ++ more)
+repeats_more delivery some more one two = (
+  one.0 + two.0,
+  ap (λ (s : List MessageEvent). s ++ more) one.1 ∙ ap (λ (m : List MessageEvent). replicate one.0 delivery ++ m) two.1
+      ∙ replicate-append-replicate one.0 two.0 delivery,
+)
+
+many_bytes : Known → (begin : Begin) → IsBegin begin → (number : ℕ) → number < most_connections → (front behind : List ℕ) (events : List MessageEvent) (old : ByteWorld)
+    (counter : Counter) → Reached begin events old → host_there number old ≡ true → up_of number old ≡ front ++ behind
+    → TakesBytes number (counter_at number old.host) front counter → ManyBytes begin events number (length front) counter old
+many_bytes known begin is number below [] behind events old counter reached there queue same = record {
+  more = [];
+  repeats = (0, refl);
+  reached = subst (λ (c : Counter). Reached begin (events ++ []) (took_up 0 number c old)) (sym same)
+      (subst (λ (w : ByteWorld). Reached begin (events ++ []) w) (sym (took_none number old))
+      (subst (λ (m : List MessageEvent). Reached begin m old) (sym (append-nil events)) reached));
+  is_open = subst (λ (c : Counter). IsOpen c.line.service) (sym same) (there_open (service_at number old.host) (reached.stands.none_closed number) there);
+}
+many_bytes known begin is number below (byte ∷ front) behind events old counter reached there queue taken =
+    let first : Counter = taken.0 in
+    let linked : number < length old.links = subst (λ (n : ℕ). number < n) (sym reached.stands.ways) below in
+    let lined : number < length old.host.lines = subst (λ (n : ℕ). number < n) (sym reached.stands.lines) below in
+    let one = one_byte known begin is events old reached number below there byte (front ++ behind) first queue taken.1 in
+    let mid : ByteWorld = took_up 1 number first old in
+    let counter_mid : counter_at number mid.host ≡ first = counter_is number first old linked lined in
+    let there_mid : host_there number mid ≡ true =
+    ap (λ (c : Counter). is_there c.line.service) counter_mid ∙ open_there first.line.service one.is_open in
+    let others = many_bytes known begin is number below front behind (events ++ one.some) mid counter one.reached there_mid (one.queue ∙ ap (drop 1) queue)
+    (subst (λ (c : Counter). TakesBytes number c front counter) (sym counter_mid) taken.2) in
+    record {
+      more = one.some ++ others.more;
+      repeats = repeats_more (MessageEvent.Up number) one.some others.more one.repeats others.repeats;
+      reached = subst (λ (m : List MessageEvent). Reached begin m (took_up (suc (length front)) number counter old)) (append_assoc events one.some others.more)
+          (subst (λ (w : ByteWorld). Reached begin ((events ++ one.some) ++ others.more) w) (took_next number first old linked lined (length front) counter one.there)
+          others.reached);
+      is_open = others.is_open;
+    }
+
+-- ---- a delivery
+
+-- the host goes on: it leaves nothing
+stops_open : (stop : Stop) (old : Counter) (bytes : List ℕ) (taken number : ℕ) (counter : Counter) (behind : ByteWorld) → IsOpen counter.line.service
+    → StopsFor stop old bytes taken counter → host_gone_if stop number behind ≡ behind
+stops_open Going old bytes taken number counter behind is stops = refl
+stops_open Memory old bytes taken number counter behind is stops = refl
+stops_open (ClosedStop cause) old bytes taken number counter behind is stops = absurd (subst IsOpen stops is)
+
+in_pieces : (taken count : ℕ) (queue : List ℕ) → queue ≡ take taken (take count queue) ++ (drop taken (take count queue) ++ drop count queue)
+in_pieces taken count queue =
+    sym (take-append-drop count queue)
+    ∙ ap (λ (b : List ℕ). b ++ drop count queue) (sym (take-append-drop taken (take count queue)))
+    ∙ append_assoc (take taken (take count queue)) (drop taken (take count queue)) (drop count queue)
+
+module _ (known : Known) where
+  pub up_goes : (number count : ℕ) → Goes (event.Up number count)
+  up_goes number count begin events old answer new is reached real place happens =
+      let bytes : List ℕ = take count (up_of number old) in
+      let parts = and_parts (is_link number) (host_there number old && is_queued bytes) place in
+      let below : number < most_connections = ltb-true number most_connections parts.0 in
+      let there : host_there number old ≡ true = (and_parts (host_there number old) (is_queued bytes) parts.1).0 in
+      let taken : ℕ = happens.fed.taken in
+      let many = many_bytes known begin is number below (take taken bytes) (drop taken bytes ++ drop count (up_of number old)) events old happens.counter reached there
+      (in_pieces taken count (up_of number old)) happens.feeds.takes in
+      let world : ByteWorld = took_up taken number happens.counter old in
+      record {
+        more = many.more;
+        comes_to = many.repeats;
+        reached = subst (λ (w : ByteWorld). Reached begin (events ++ many.more) w)
+            (sym (happens.leaves ∙ stops_open happens.fed.stop (counter_at number old.host) bytes taken number happens.counter world many.is_open happens.feeds.stops))
+            (subst (λ (n : ℕ). Reached begin (events ++ many.more) (took_up n number happens.counter old)) (length-take-le taken bytes happens.feeds.few) many.reached);
+      }

@@ -1,0 +1,193 @@
+-- The world over bytes follows the world over messages, whatever happens.
+use Rattle.std.proofs.Common.{◌≡◌, ℕ, zero, suc, Bool, true, false, Option, List, [], ◌∷◌, ◌++◌, drop, take, append_assoc, refl, ap, sym, subst, ◌∙◌, if◌then◌else◌}
+use Rattle.std.proofs.lemmas.List.Elements.{All-cons, All-nil}
+use Rattle.keyboard.specs.declared.key.Key.{Key}
+use Rattle.host_core.specs.Application.{application_of}
+use Rattle.world3270.specs.ByteRuns.{AllHappen, StopsAt}
+use Rattle.world3270.specs.ByteSteps.{HappensIf, Steps, has_place}
+use Rattle.world3270.specs.ByteWorld.{ByteWorld}
+use Rattle.world3270.specs.Happens.{done, happens}
+use Rattle.world3270.specs.Placed.{has_place as has_place_over_messages}
+use Rattle.world3270.specs.Refines.{Begin, IsBegin, Reached, IsReached, IsReal, GoesOn, StepsGoOn, SkipsAreThose, ComeTo, NextComesTo, RunsGoOn, AreReal, after, message_event, once}
+use Rattle.world3270.specs.Sendable.{IsTyped}
+use Rattle.world3270.specs.Standing.{WorldStands}
+use Rattle.world3270.specs.World.{World, Event as MessageEvent}
+use Rattle.world3270.specs.declared.event.Event.{Event}
+use Rattle.world3270.specs.declared.event.Event.TheVariants as event
+use Rattle.world3270.specs.declared.event.Stepped.{Stepped}
+use Rattle.world3270.specs.declared.event.Stepped.TheVariants as stepped
+use Rattle.world3270.proofs.Known.{Goes, reached_more}
+
+-- what each event comes to, where it has a place
+pub record EventsGo : Type 0 where
+  pub key : (terminal : ℕ) (key : Key) → Goes (event.Key terminal key)
+  pub up : (number count : ℕ) → Goes (event.Up number count)
+  pub down : (number count : ℕ) → Goes (event.Down number count)
+  pub act : (number : ℕ) → Goes (event.Act number)
+  pub note : (number : ℕ) (text : List ℕ) → Goes (event.Note number text)
+  pub lose : (number : ℕ) → Goes (event.Lose number)
+  pub host_sees : (number : ℕ) → Goes (event.HostSees number)
+  pub term_sees : (terminal : ℕ) → Goes (event.TermSees terminal)
+  pub connect : (terminal : ℕ) (wanted : Option (List ℕ)) → Goes (event.Connect terminal wanted)
+  pub restart_term : (terminal : ℕ) → Goes (event.RestartTerm terminal)
+  pub restart_host : Goes event.RestartHost
+
+goes : EventsGo → (event : Event) → Goes event
+goes go (event.Key terminal key) = go.key terminal key
+goes go (event.Up number count) = go.up number count
+goes go (event.Down number count) = go.down number count
+goes go (event.Act number) = go.act number
+goes go (event.Note number text) = go.note number text
+goes go (event.Lose number) = go.lose number
+goes go (event.HostSees number) = go.host_sees number
+goes go (event.TermSees terminal) = go.term_sees terminal
+goes go (event.Connect terminal wanted) = go.connect terminal wanted
+goes go (event.RestartTerm terminal) = go.restart_term terminal
+goes go event.RestartHost = go.restart_host
+
+-- ---- an event that has no place
+
+module _ (begin : Begin) (events : List MessageEvent) (old new : ByteWorld) (reached : Reached begin events old) (same : new ≡ old) where
+  still_stands : WorldStands new (after begin events)
+  still_stands = subst (λ (b : ByteWorld). WorldStands b (after begin events)) (sym same) reached.stands
+
+  -- nothing happens over messages
+  nothing : Reached begin (events ++ []) new
+  nothing = reached_more begin events [] old new reached tt (All-nil IsTyped) (ap (λ (b : ByteWorld). b.host.panels) same) still_stands
+
+  -- what happens over messages is skipped too
+  skipped : (event : Event) → IsReal event → has_place_over_messages (application_of begin.panels) (message_event event) (after begin events) ≡ false
+      → Reached begin (events ++ message_event event ∷ []) new
+  skipped event real place =
+      let app = application_of begin.panels in
+      let world : World = after begin events in
+      let stays : happens app (message_event event) world ≡ world =
+      ap (λ (b : Bool). if b then done app (message_event event) world else world) place in
+      reached_more begin events (message_event event ∷ []) old new reached (real.0, tt) (All-cons IsTyped (message_event event) [] real.1 (All-nil IsTyped))
+      (ap (λ (b : ByteWorld). b.host.panels) same)
+      (subst (λ (w : World). WorldStands new w) (sym stays) still_stands)
+
+module _ (skips : SkipsAreThose) (begin : Begin) (events : List MessageEvent) (old : ByteWorld) (answer : Stepped) (new : ByteWorld)
+    (is : IsBegin begin) (reached : Reached begin events old) (skip : answer ≡ stepped.Skipped) (same : new ≡ old) where
+  is_once : (event : MessageEvent) → event ∷ [] ≡ once event answer
+  is_once event = sym (ap (once event) skip)
+
+  skips_go : (event : Event) → IsReal event → has_place event old ≡ false → GoesOn begin events event answer new
+  skips_go (event.Up number count) real place = record { more = []; comes_to = (0, refl); reached = nothing begin events old new reached same }
+  skips_go (event.Down number count) real place = record { more = []; comes_to = (0, refl); reached = nothing begin events old new reached same }
+  skips_go (event.Key terminal key) real place = record {
+    more = MessageEvent.Press terminal key ∷ [];
+    comes_to = is_once (MessageEvent.Press terminal key);
+    reached = skipped begin events old new reached same (event.Key terminal key) real (sym (skips begin events (event.Key terminal key) old is reached tt) ∙ place);
+  }
+  skips_go (event.Act number) real place = record {
+    more = MessageEvent.Act number ∷ [];
+    comes_to = is_once (MessageEvent.Act number);
+    reached = skipped begin events old new reached same (event.Act number) real (sym (skips begin events (event.Act number) old is reached tt) ∙ place);
+  }
+  skips_go (event.Note number text) real place = record {
+    more = MessageEvent.Note number text ∷ [];
+    comes_to = is_once (MessageEvent.Note number text);
+    reached = skipped begin events old new reached same (event.Note number text) real (sym (skips begin events (event.Note number text) old is reached tt) ∙ place);
+  }
+  skips_go (event.Lose number) real place = record {
+    more = MessageEvent.Lose number ∷ [];
+    comes_to = is_once (MessageEvent.Lose number);
+    reached = skipped begin events old new reached same (event.Lose number) real (sym (skips begin events (event.Lose number) old is reached tt) ∙ place);
+  }
+  skips_go (event.HostSees number) real place = record {
+    more = MessageEvent.HostSees number ∷ [];
+    comes_to = is_once (MessageEvent.HostSees number);
+    reached = skipped begin events old new reached same (event.HostSees number) real (sym (skips begin events (event.HostSees number) old is reached tt) ∙ place);
+  }
+  skips_go (event.TermSees terminal) real place = record {
+    more = MessageEvent.TermSees terminal ∷ [];
+    comes_to = is_once (MessageEvent.TermSees terminal);
+    reached = skipped begin events old new reached same (event.TermSees terminal) real (sym (skips begin events (event.TermSees terminal) old is reached tt) ∙ place);
+  }
+  skips_go (event.Connect terminal wanted) real place = record {
+    more = MessageEvent.Connect terminal wanted ∷ [];
+    comes_to = is_once (MessageEvent.Connect terminal wanted);
+    reached = skipped begin events old new reached same (event.Connect terminal wanted) real (sym (skips begin events (event.Connect terminal wanted) old is reached tt) ∙ place);
+  }
+  skips_go (event.RestartTerm terminal) real place = record {
+    more = MessageEvent.RestartTerm terminal ∷ [];
+    comes_to = is_once (MessageEvent.RestartTerm terminal);
+    reached = skipped begin events old new reached same (event.RestartTerm terminal) real (sym (skips begin events (event.RestartTerm terminal) old is reached tt) ∙ place);
+  }
+  skips_go event.RestartHost real place = absurd (cc)
+
+-- ---- each event
+
+pub steps_go_on : EventsGo → SkipsAreThose → StepsGoOn
+steps_go_on go skips begin events event old answer new is reached real steps = by_place (has_place event old) refl steps
+  where
+    by_place : (b : Bool) → has_place event old ≡ b → HappensIf b event old answer new → GoesOn begin events event answer new
+    by_place true place happens = goes go event begin events old answer new is reached real place happens
+    by_place false place nothing = skips_go skips begin events old answer new is reached nothing.0 nothing.1 event real place
+
+-- So a world that was reached is still one that is.
+pub step_reaches : StepsGoOn → (event : Event) (old : ByteWorld) (answer : Stepped) (new : ByteWorld) → IsReal event → Steps event old answer new → IsReached old → IsReached new
+step_reaches go event old answer new real steps is =
+    let goes_on = go is.begin is.events event old answer new is.is_begin is.reached real steps in
+    record { begin = is.begin; is_begin = is.is_begin; events = is.events ++ goes_on.more; reached = goes_on.reached }
+
+-- ---- many events
+
+-- what events that happened come to
+record HaveGone (begin : Begin) (before : List MessageEvent) (events : List Event) (new : ByteWorld) : Type 0 where
+  more : List MessageEvent
+  come : ComeTo events more
+  reached : Reached begin (before ++ more) new
+
+grouped : (begin : Begin) (before first others : List MessageEvent) (new : ByteWorld) → Reached begin ((before ++ first) ++ others) new → Reached begin (before ++ (first ++ others)) new
+grouped begin before first others new reached = subst (λ (es : List MessageEvent). Reached begin es new) (append_assoc before first others) reached
+
+all_gone : StepsGoOn → (begin : Begin) (before : List MessageEvent) (events : List Event) (old new : ByteWorld)
+    → IsBegin begin → Reached begin before old → AreReal events → AllHappen events old new → HaveGone begin before events new
+all_gone go begin before [] old new is reached real none =
+    record { more = []; come = refl; reached = nothing begin before old new reached none }
+all_gone go begin before (event ∷ events) old new is reached real all =
+    let one = go begin before event old all.0 all.1 is reached real.0 all.2 in
+    let others = all_gone go begin (before ++ one.more) events all.1 new is one.reached real.1 all.4 in
+    record {
+      more = one.more ++ others.more;
+      come = (all.0, one.more, others.more, refl, one.comes_to, others.come);
+      reached = grouped begin before one.more others.more new others.reached;
+    }
+
+-- the next of the events
+record HasStopped (begin : Begin) (before : List MessageEvent) (events : List Event) (new : ByteWorld) : Type 0 where
+  more : List MessageEvent
+  comes : NextComesTo events more
+  reached : Reached begin (before ++ more) new
+
+stopped : StepsGoOn → (begin : Begin) (before : List MessageEvent) (events : List Event) (part : ℕ) (old new : ByteWorld)
+    → IsBegin begin → Reached begin before old → AreReal events → StopsAt events part old new → HasStopped begin before events new
+stopped go begin before [] part old new is reached real stops =
+    record { more = []; comes = refl; reached = nothing begin before old new reached stops.1 }
+stopped go begin before (event ∷ events) part old new is reached real stops =
+    let one = go begin before event old stops.0 new is reached real.0 stops.1 in
+    record { more = one.more; comes = (stops.0, one.comes_to); reached = one.reached }
+
+real_first : (count : ℕ) (events : List Event) → AreReal events → AreReal (take count events)
+real_first zero events real = tt
+real_first (suc count) [] real = tt
+real_first (suc count) (event ∷ events) real = (real.0, real_first count events real.1)
+
+real_others : (count : ℕ) (events : List Event) → AreReal events → AreReal (drop count events)
+real_others zero events real = real
+real_others (suc count) [] real = tt
+real_others (suc count) (event ∷ events) real = real_others count events real.1
+
+pub runs_go_on : StepsGoOn → RunsGoOn
+runs_go_on go begin before events old ran new is reached real runs =
+    let whole = all_gone go begin before (take ran.whole events) old runs.mid is reached (real_first ran.whole events real) runs.whole in
+    let next = stopped go begin (before ++ whole.more) (drop ran.whole events) ran.part runs.mid new is whole.reached (real_others ran.whole events real) runs.rest in
+    record {
+      first = whole.more;
+      last = next.more;
+      whole = whole.come;
+      next = next.comes;
+      reached = grouped begin before whole.more next.more new next.reached;
+    }

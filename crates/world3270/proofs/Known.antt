@@ -1,0 +1,96 @@
+-- What is known of one world over messages that a list of events leads to, and what one step makes of it.
+use Rattle.std.proofs.Common.{◌≡◌, Bool, true, List, [], ◌∷◌, ◌++◌, ap, sym, subst, ◌∙◌, if◌then◌else◌}
+use Rattle.std.proofs.lemmas.List.Elements.{All-append, All-cons, All-nil}
+use Rattle.std.specs.Prelude.{All}
+use Rattle.host_core.specs.Application.{IsApplication, AsksForScreens, application_of}
+use Rattle.world3270.specs.Always.{HeadlineHolds, NobodyRefuses}
+use Rattle.world3270.specs.ByteSteps.{Happens, has_place}
+use Rattle.world3270.specs.ByteWorld.{ByteWorld}
+use Rattle.world3270.specs.Forms.{FormsAreAwaited}
+use Rattle.world3270.specs.Happens.{done, happens, run}
+use Rattle.world3270.specs.Known.{KnownWorlds}
+use Rattle.world3270.specs.Numbers.{NumbersFit}
+use Rattle.world3270.specs.Placed.{has_place as has_place_over_messages}
+use Rattle.world3270.specs.Places.{EndsAgree, UpIsHeld}
+use Rattle.world3270.specs.Refines.{Begin, IsBegin, Reached, IsReal, GoesOn, after}
+use Rattle.world3270.specs.Sendable.{IsTyped, ScreensAreSendable, PaintsAreScreens, PaintsAreSpelt}
+use Rattle.world3270.specs.Standing.{WorldStands}
+use Rattle.world3270.specs.StandsLinks.{WhatComesMayCome}
+use Rattle.world3270.specs.World.{World, Event, IsEvent, AreEvents, new_world}
+use Rattle.world3270.specs.declared.event.Event.{Event as ByteEvent}
+use Rattle.world3270.specs.declared.event.Stepped.{Stepped}
+use Rattle.world3270.proofs.Worlds.{run-append}
+
+-- ---- of one world
+
+pub record Facts (world : World) : Type 0 where
+  pub headline : HeadlineHolds world
+  pub nobody_refuses : NobodyRefuses world
+  pub agree : EndsAgree world
+  pub up_held : UpIsHeld world
+  pub forms : FormsAreAwaited world
+  pub numbers : NumbersFit world
+  pub may : WhatComesMayCome world
+  pub sendable : ScreensAreSendable world
+  pub paints : PaintsAreScreens world
+  pub spelt : PaintsAreSpelt world
+
+pub is_application : KnownWorlds → (begin : Begin) → IsBegin begin → IsApplication (application_of begin.panels)
+is_application known begin is = known.application begin.panels is.panels.cursors is.panels.apart
+
+pub asks_for_screens : KnownWorlds → (begin : Begin) → IsBegin begin → AsksForScreens (application_of begin.panels)
+asks_for_screens known begin is = known.screens begin.panels is.panels.cursors is.panels.characters
+
+pub facts : KnownWorlds → (begin : Begin) → IsBegin begin → (events : List Event) → AreEvents events → All IsTyped events → Facts (after begin events)
+facts known begin is events are typed =
+    let app = is_application known begin is in
+    let asks = asks_for_screens known begin is in
+    record {
+      headline = known.headline (application_of begin.panels) begin.pool begin.terminals events app is.pool is.few are;
+      nobody_refuses = known.nobody_refuses (application_of begin.panels) begin.pool begin.terminals events app is.pool is.few are;
+      agree = known.agree (application_of begin.panels) begin.pool begin.terminals events app is.pool is.few are;
+      up_held = known.up_held (application_of begin.panels) begin.pool begin.terminals events app is.pool is.few are;
+      forms = known.forms (application_of begin.panels) begin.pool begin.terminals events app is.pool is.few are;
+      numbers = known.numbers (application_of begin.panels) begin.pool begin.terminals events app is.pool is.few are;
+      may = known.may (application_of begin.panels) begin.pool begin.terminals events app is.pool is.few are;
+      sendable = known.sendable (application_of begin.panels) begin.pool begin.terminals events app asks is.pool is.few are typed;
+      paints = known.paints (application_of begin.panels) begin.pool begin.terminals events app asks is.pool is.few are typed;
+      spelt = known.spelt (application_of begin.panels) begin.pool begin.terminals events app asks is.pool is.few are typed;
+    }
+
+-- ---- one step
+
+-- what an event comes to, where it has something to happen to
+abbrev pub Goes : ByteEvent → Type 0
+Goes event = (begin : Begin) (events : List Event) (old : ByteWorld) (answer : Stepped) (new : ByteWorld)
+    → IsBegin begin → Reached begin events old → IsReal event → has_place event old ≡ true → Happens event old answer new
+    → GoesOn begin events event answer new
+
+pub after_more : (begin : Begin) (events more : List Event) → after begin (events ++ more) ≡ run (application_of begin.panels) more (after begin events)
+after_more begin events more = run-append (application_of begin.panels) events more (new_world (application_of begin.panels) begin.pool begin.terminals)
+
+pub are_more : (events more : List Event) → AreEvents events → AreEvents more → AreEvents (events ++ more)
+are_more [] more are others = others
+are_more (event ∷ events) more are others = (are.0, are_more events more are.1 others)
+
+-- the events went on, and the world over messages with them
+pub reached_more : (begin : Begin) (events more : List Event) (old new : ByteWorld) → Reached begin events old → AreEvents more → All IsTyped more
+    → new.host.panels ≡ old.host.panels → WorldStands new (run (application_of begin.panels) more (after begin events)) → Reached begin (events ++ more) new
+reached_more begin events more old new reached are typed panels stands = record {
+  are_events = are_more events more reached.are_events are;
+  typed = All-append IsTyped events more reached.typed typed;
+  panels = panels ∙ reached.panels;
+  stands = subst (λ (w : World). WorldStands new w) (sym (after_more begin events more)) stands;
+}
+
+-- one event happened
+pub happened : (begin : Begin) (event : Event) (world : World) → has_place_over_messages (application_of begin.panels) event world ≡ true
+    → happens (application_of begin.panels) event world ≡ done (application_of begin.panels) event world
+happened begin event world is = ap (λ (b : Bool). if b then done (application_of begin.panels) event world else world) is
+
+pub reached_one : (begin : Begin) (events : List Event) (event : Event) (old new : ByteWorld) → Reached begin events old → IsEvent event → IsTyped event
+    → has_place_over_messages (application_of begin.panels) event (after begin events) ≡ true
+    → new.host.panels ≡ old.host.panels → WorldStands new (done (application_of begin.panels) event (after begin events)) → Reached begin (events ++ event ∷ []) new
+reached_one begin events event old new reached is typed place panels stands =
+    reached_more begin events (event ∷ []) old new reached (is, tt) (All-cons IsTyped event [] typed (All-nil IsTyped)) panels
+    (subst (λ (w : World). WorldStands new w) (sym (happened begin event (after begin events) place)) stands)

@@ -1,0 +1,316 @@
+-- Where a connection over bytes is lost, or an end leaves it, it stands for one over messages of which that holds.
+use Rattle.std.proofs.Common.{◌≡◌, ◌≢◌, ◌⊎◌, inl, inr, ◌<◌, ◌≤◌, not, ℕ, Bool, true, false, Option, None, Some, is_some, List, [], length, slice_index_or, eq-eqb, ne_eqb, le_refl, refl, ap, sym, subst, ◌∙◌, arith, if◌then◌else◌}
+use Rattle.std.proofs.lemmas.Bool.{cases_lt}
+use Rattle.std.proofs.lemmas.List.{get_or_past, length-set}
+use Rattle.lu_pool.specs.Holders.{given_back}
+use Rattle.telnet_wire.specs.Reading.{Rest}
+use Rattle.host_core.specs.State.{Host, Line, unused, line_at, service_at}
+use Rattle.world3270.specs.ByteSteps.{lost_ways, host_gone, terminal_gone}
+use Rattle.world3270.specs.ByteWorld.{ByteWorld, Under, Ways, Sitting, under_way, cut, left, is_live, is_there, unused_ways, new_sitting, ways_at, sitting_at, with_ways, with_sitting, terminal_at, host_there, host_out, out_of}
+use Rattle.world3270.specs.Happens.{host_parted, parted}
+use Rattle.world3270.specs.Link.{Link, cut as link_cut, host_left, term_left}
+use Rattle.world3270.specs.Places.{EndsAgree, UpIsHeld}
+use Rattle.world3270.specs.Seats.{Seat}
+use Rattle.world3270.specs.Standing.{WorldStands, IsFlow, IsAt, IsNotClosed, IsSettled, AreWays, conn_of, rest_of, with_out, seat_of, link_with}
+use Rattle.world3270.specs.Stands.{BytesUp, BytesDown, ByteLink, Holds, LinkStands}
+use Rattle.world3270.specs.StandsLinks.{LossStands, HostLeaves, TermLeaves}
+use Rattle.world3270.specs.Terminal.{Display}
+use Rattle.world3270.specs.World.{Place, World, with_at, with_link}
+use Rattle.world3270.proofs.Frames.{ways_same, ways_other, sitting_same, sitting_other, line_same, line_other, cut_under_way, who_is_there, IsHere, changed_stands}
+
+-- ---- one of many, over messages
+
+pub with_same : {X : Type 0} (number : ℕ) (x : X) (old : ℕ → X) → with_at number x old number ≡ x
+with_same {X} number x old = ap (λ (b : Bool). if b then x else old number) (eq-eqb number number refl)
+
+pub with_other : {X : Type 0} (number other : ℕ) (x : X) (old : ℕ → X) → other ≢ number → with_at number x old other ≡ old other
+with_other {X} number other x old differs = ap (λ (b : Bool). if b then x else old other) (ne_eqb other number differs)
+
+-- ---- what is looked at
+
+-- Of an end that isn't there nothing is looked at.
+pub record Alike (old new : ByteLink) (link : Link) : Type 0 where
+  pub lost : new.lost ≡ old.lost
+  pub host_here : new.host_here ≡ old.host_here
+  pub term_here : new.term_here ≡ old.term_here
+  pub down : new.down ≡ old.down
+  pub up : new.up ≡ old.up
+  pub host : link.host_here ≡ true → (new.host ≡ old.host) × (new.host_rest ≡ old.host_rest)
+  pub seat : (terminal : ℕ) → link.term_here ≡ Some terminal → new.seat ≡ old.seat
+
+pub like_stands : (old new : ByteLink) (link : Link) → Alike old new link → LinkStands old link → LinkStands new link
+like_stands old new link like stands = record {
+  lost = like.lost ∙ stands.lost;
+  host_here = like.host_here ∙ stands.host_here;
+  term_here = like.term_here ∙ stands.term_here;
+  host = λ here. let host = stands.host here in let same = like.host here in record {
+    host = same.0 ∙ host.host;
+    up = subst (λ (r : Rest). BytesUp r new.up link.up) (sym same.1) (subst (λ (b : List ℕ). BytesUp old.host_rest b link.up) (sym like.up) host.up);
+  };
+  term = λ terminal here. let term = stands.term terminal here in let same = like.seat terminal here in record {
+    rest = term.rest;
+    holds = subst (λ (s : Seat). Holds term.rest s link.term) (sym same) term.holds;
+    silent = ap (λ (s : Seat). s.terminal.out) same ∙ term.silent;
+    down = subst (λ (b : List ℕ). BytesDown term.rest b link.down) (sym like.down) term.down;
+  };
+}
+
+-- where the terminals are as they were, so is what each has to send
+pub sits_same : (here : Option ℕ) (old new : ByteWorld) → new.sittings ≡ old.sittings → (out_of here new ≡ out_of here old) × (seat_of here new ≡ seat_of here old)
+sits_same None old new same = (refl, refl)
+sits_same (Some terminal) old new same = (
+  ap (λ (s : List Sitting). (slice_index_or s terminal new_sitting).seat.terminal.out) same,
+  ap (λ (s : List Sitting). with_out [] (slice_index_or s terminal new_sitting).seat) same,
+)
+
+-- ---- one direction of a lost connection
+
+-- it is lost, what was under way still is, and it fits its sender
+pub record Passes (out : List ℕ) (under : Under) (there : Bool) (now_out : List ℕ) (now : Under) : Type 0 where
+  pub lost : is_live now ≡ false
+  pub same : under_way now now_out ≡ under_way under out
+  pub flow : IsFlow there now_out now
+
+pub cut_passes : (there : Bool) (out : List ℕ) (under : Under) → (is_live under ≡ true → there ≡ true) → IsFlow there out under
+    → Passes out under there out (cut (length out) under)
+cut_passes there out Under.Live lives flow = record { lost = refl; same = cut_under_way Under.Live out; flow = le_refl (length out) }
+cut_passes there out (Under.Cut kept) lives flow = record { lost = refl; same = refl; flow = flow }
+cut_passes there out (Under.Left bytes) lives flow = record { lost = refl; same = refl; flow = flow }
+
+pub left_passes : (out : List ℕ) (under : Under) → Passes out under false [] (left out under)
+left_passes out Under.Live = record { lost = refl; same = refl; flow = refl }
+left_passes out (Under.Cut kept) = record { lost = refl; same = refl; flow = refl }
+left_passes out (Under.Left bytes) = record { lost = refl; same = refl; flow = refl }
+
+-- ---- both directions
+
+-- what is lost: the ways, the host's line, who is there, and what a terminal there has to send, as they are then
+pub record Gone (number : ℕ) (old new : ByteWorld) (was here : Option ℕ) (line : Line) (ways : Ways) (out : List ℕ) : Type 0 where
+  pub ways_are : ways_at number new ≡ ways
+  pub line_is : line_at number new.host ≡ line
+  pub out_is : out_of here new ≡ out
+  pub down : Passes (host_out number old) (ways_at number old).down (is_there line.service) line.out ways.down
+  pub up : Passes (out_of was old) (ways_at number old).up (is_some here) out ways.up
+
+module _ (number : ℕ) (old new : ByteWorld) (was here : Option ℕ) (line : Line) (ways : Ways) (out : List ℕ) (gone : Gone number old new was here line ways out) where
+  pub gone_flow : AreWays here number new
+  gone_flow = record {
+    together = ap (λ (w : Ways). is_live w.up) gone.ways_are ∙ gone.up.lost ∙ sym gone.down.lost ∙ sym (ap (λ (w : Ways). is_live w.down) gone.ways_are);
+    down = subst (λ (w : Ways). IsFlow (host_there number new) (host_out number new) w.down) (sym gone.ways_are)
+        (subst (λ (l : Line). IsFlow (is_there l.service) l.out ways.down) (sym gone.line_is) gone.down.flow);
+    up = subst (λ (w : Ways). IsFlow (is_some here) (out_of here new) w.up) (sym gone.ways_are)
+        (subst (λ (o : List ℕ). IsFlow (is_some here) o ways.up) (sym gone.out_is) gone.up.flow);
+  }
+
+  pub gone_stands : (link : Link) → (link.host_here ≡ true → line.service ≡ service_at number old.host)
+      → ((terminal : ℕ) → link.term_here ≡ Some terminal → seat_of here new ≡ seat_of was old)
+      → LinkStands (record (link_with was number old) { lost = true; host_here = is_there line.service; term_here = here }) link
+      → LinkStands (link_with here number new) link
+  gone_stands link host seat stands =
+      like_stands (record (link_with was number old) { lost = true; host_here = is_there line.service; term_here = here }) (link_with here number new) link
+      (record {
+        lost = ap (λ (w : Ways). not (is_live w.down)) gone.ways_are ∙ ap not gone.down.lost;
+        host_here = ap (λ (l : Line). is_there l.service) gone.line_is;
+        term_here = refl;
+        down = ap (λ (w : Ways). under_way w.down (host_out number new)) gone.ways_are ∙ ap (λ (l : Line). under_way ways.down l.out) gone.line_is ∙ gone.down.same;
+        up = ap (λ (w : Ways). under_way w.up (out_of here new)) gone.ways_are ∙ ap (λ (o : List ℕ). under_way ways.up o) gone.out_is ∙ gone.up.same;
+        host = λ e. let same = ap (λ (l : Line). l.service) gone.line_is ∙ host e in (ap conn_of same, ap rest_of same);
+        seat = seat;
+      })
+      stands
+
+-- ---- a world whose connection is lost
+
+-- a number beyond all isn't a terminal's: nobody is there
+pub alone_there : (sitting : Sitting) (place : Place) (number : ℕ) → sitting.at ≡ None → IsAt sitting place → IsHere number place
+alone_there sitting (Place.At at) number none is = absurd (cc)
+alone_there sitting (Place.Alone display) number none is = tt
+
+pub beyond_is_alone : (number terminal : ℕ) (old : ByteWorld) (was : World) → WorldStands old was → length old.sittings ≤ terminal → IsHere number (was.place terminal)
+beyond_is_alone number terminal old was stands past =
+    let nobody : sitting_at terminal old ≡ new_sitting = get_or_past old.sittings terminal new_sitting past in
+    alone_there (sitting_at terminal old) (was.place terminal) number (ap (λ (s : Sitting). s.at) nobody) (stands.places terminal)
+
+module _ (number : ℕ) (old : ByteWorld) (was : World) (agree : EndsAgree was) (stands : WorldStands old was) where
+  abbrev here : Option ℕ
+  here = (was.link number).term_here
+
+  there : terminal_at number old.sittings ≡ here
+  there = who_is_there old was number agree stands.places
+
+  pub flow_there : AreWays here number old
+  flow_there = subst (λ (h : Option ℕ). AreWays h number old) there (stands.flows number)
+
+  pub link_there : LinkStands (link_with here number old) (was.link number)
+  link_there = subst (λ (h : Option ℕ). LinkStands (link_with h number old) (was.link number)) there (stands.links number)
+
+  -- who holds an end is at one of the connections that there are
+  pub is_within : (terminal : ℕ) → here ≡ Some terminal → number < length old.links
+  is_within terminal held = by_order (cases_lt number (length old.links))
+    where
+      by_order : (number < length old.links) ⊎ (length old.links ≤ number) → number < length old.links
+      by_order (inl below) = below
+      by_order (inr past) =
+          let none : is_some here ≡ false = subst (λ (w : Ways). IsFlow (is_some here) (out_of here old) w.up) (get_or_past old.links number unused_ways past) flow_there.up in
+          let some : is_some here ≡ true = ap (λ (h : Option ℕ). is_some h) held in
+          absurd (cc)
+
+  pub none_beyond : length old.links ≤ number → here ≡ None
+  none_beyond past = by_here here refl
+    where
+      by_here : (h : Option ℕ) → here ≡ h → h ≡ None
+      by_here None holds = refl
+      by_here (Some terminal) holds = let below = is_within terminal holds in absurd (omega arith)
+
+  module _ (held : UpIsHeld was) where
+    pub lives : is_live (ways_at number old).down ≡ true → (was.link number).lost ≡ false
+    lives live = sym link_there.lost ∙ ap not live
+
+    lost_down : Passes (host_out number old) (ways_at number old).down (host_there number old) (host_out number old) (lost_ways number old).down
+    lost_down = cut_passes (host_there number old) (host_out number old) (ways_at number old).down
+        (λ live. link_there.host_here ∙ (held number (lives live)).host) flow_there.down
+
+    pub lost_up : Passes (out_of here old) (ways_at number old).up (is_some here) (out_of here old) (lost_ways number old).up
+    lost_up = subst (λ (h : Option ℕ). Passes (out_of here old) (ways_at number old).up (is_some here) (out_of here old) (cut (length (out_of h old)) (ways_at number old).up)) (sym there)
+        (cut_passes (is_some here) (out_of here old) (ways_at number old).up
+        (λ live. (held number (lives (sym flow_there.together ∙ live))).terminal) flow_there.up)
+
+    -- ---- it is lost, or the host leaves it
+
+    pub lost_stands : LossStands → number < length old.links → EndsAgree (with_link number (link_cut (was.link number)) was)
+        → WorldStands (with_ways number (lost_ways number old) old) (with_link number (link_cut (was.link number)) was)
+    lost_stands loss below agrees =
+        let new : ByteWorld = with_ways number (lost_ways number old) old in
+        let now : World = with_link number (link_cut (was.link number)) was in
+        let nobody : ℕ = length old.sittings in
+        let same = sits_same here old new refl in
+        let is : now.link number ≡ link_cut (was.link number) = with_same number (link_cut (was.link number)) was.link in
+        let gone : Gone number old new here here (line_at number old.host) (lost_ways number old) (out_of here old) = record {
+          ways_are = ways_same number (lost_ways number old) old below;
+          line_is = refl;
+          out_is = same.0;
+          down = lost_down;
+          up = lost_up;
+        } in
+        changed_stands number nobody old new was now
+        (record {
+          lines = λ other differs. refl;
+          ways = λ other differs. ways_other number other (lost_ways number old) old differs;
+          sittings = λ other differs. refl;
+          links = λ other differs. with_other number other (link_cut (was.link number)) was.link differs;
+          places = λ other differs. refl;
+          line_count = refl;
+          way_count = length-set old.links number (lost_ways number old);
+          sitting_count = refl;
+          terminals = refl;
+          pool = stands.pool;
+          before = beyond_is_alone number nobody old was stands (le_refl nobody);
+          behind = beyond_is_alone number nobody old was stands (le_refl nobody);
+          none_closed = stands.none_closed number;
+          settled = stands.settled number;
+          flow = subst (λ (l : Link). AreWays l.term_here number new) (sym is)
+              (gone_flow number old new here here (line_at number old.host) (lost_ways number old) (out_of here old) gone);
+          link = subst (λ (l : Link). LinkStands (link_with l.term_here number new) l) (sym is)
+              (gone_stands number old new here here (line_at number old.host) (lost_ways number old) (out_of here old) gone (link_cut (was.link number))
+              (λ e. refl) (λ terminal e. same.1) (loss (link_with here number old) (was.link number) link_there));
+          place = stands.places nobody;
+        })
+        agree stands agrees
+
+    -- the ways of a connection that the host leaves
+    abbrev host_ways : Ways
+    host_ways = record (lost_ways number old) { down = left (host_out number old) (ways_at number old).down }
+
+    pub host_gone_stands : HostLeaves → number < length old.links → EndsAgree (host_parted number was)
+        → WorldStands (host_gone number old) (host_parted number was)
+    host_gone_stands leaves below agrees =
+        let new : ByteWorld = host_gone number old in
+        let now : World = host_parted number was in
+        let nobody : ℕ = length old.sittings in
+        let same = sits_same here old new refl in
+        let given : Host = record old.host { pool = given_back number old.host.pool } in
+        let is : now.link number ≡ host_left (was.link number) = with_same number (host_left (was.link number)) was.link in
+        let within : number < length old.host.lines = subst (λ (n : ℕ). number < n) (stands.ways ∙ sym stands.lines) below in
+        let line : line_at number new.host ≡ unused = line_same number unused given within in
+        let gone : Gone number old new here here unused host_ways (out_of here old) = record {
+          ways_are = ways_same number host_ways old below;
+          line_is = line;
+          out_is = same.0;
+          down = left_passes (host_out number old) (ways_at number old).down;
+          up = lost_up;
+        } in
+        changed_stands number nobody old new was now
+        (record {
+          lines = λ other differs. line_other number other unused given differs;
+          ways = λ other differs. ways_other number other host_ways old differs;
+          sittings = λ other differs. refl;
+          links = λ other differs. with_other number other (host_left (was.link number)) was.link differs;
+          places = λ other differs. refl;
+          line_count = length-set old.host.lines number unused;
+          way_count = length-set old.links number host_ways;
+          sitting_count = refl;
+          terminals = refl;
+          pool = ap (given_back number) stands.pool;
+          before = beyond_is_alone number nobody old was stands (le_refl nobody);
+          behind = beyond_is_alone number nobody old was stands (le_refl nobody);
+          none_closed = subst (λ (l : Line). IsNotClosed l.service) (sym line) tt;
+          settled = subst (λ (l : Line). IsSettled l) (sym line) (λ free. refl);
+          flow = subst (λ (l : Link). AreWays l.term_here number new) (sym is)
+              (gone_flow number old new here here unused host_ways (out_of here old) gone);
+          link = subst (λ (l : Link). LinkStands (link_with l.term_here number new) l) (sym is)
+              (gone_stands number old new here here unused host_ways (out_of here old) gone (host_left (was.link number))
+              (λ e. absurd (cc)) (λ terminal e. same.1) (leaves (link_with here number old) (was.link number) link_there));
+          place = stands.places nobody;
+        })
+        agree stands agrees
+
+    -- ---- a terminal leaves it
+
+    -- the ways of a connection that this terminal leaves
+    abbrev terminal_ways : ℕ → Ways
+    terminal_ways terminal = record (lost_ways number old) { up = left (sitting_at terminal old).seat.terminal.out (ways_at number old).up }
+
+    pub parted_stands : TermLeaves → (terminal : ℕ) (sitting : Sitting) (display : Display) → terminal < length old.sittings
+        → was.place terminal ≡ Place.At number → IsAt sitting (Place.Alone display) → EndsAgree (parted terminal number display was)
+        → WorldStands (terminal_gone sitting terminal number old) (parted terminal number display was)
+    parted_stands leaves terminal sitting display there_is at alone agrees =
+        let new : ByteWorld = terminal_gone sitting terminal number old in
+        let now : World = parted terminal number display was in
+        let holds : here ≡ Some terminal = (agree terminal number).0 at in
+        let below : number < length old.links = is_within terminal holds in
+        let line : Line = line_at number old.host in
+        let is : now.link number ≡ term_left (was.link number) = with_same number (term_left (was.link number)) was.link in
+        let goes : now.place terminal ≡ Place.Alone display = with_same terminal (Place.Alone display) was.place in
+        let gone : Gone number old new here None line (terminal_ways terminal) [] = record {
+          ways_are = ways_same number (terminal_ways terminal) (with_sitting terminal sitting old) below;
+          line_is = refl;
+          out_is = refl;
+          down = lost_down;
+          up = subst (λ (h : Option ℕ). Passes (out_of h old) (ways_at number old).up false [] (left (sitting_at terminal old).seat.terminal.out (ways_at number old).up)) (sym holds)
+              (left_passes (sitting_at terminal old).seat.terminal.out (ways_at number old).up);
+        } in
+        changed_stands number terminal old new was now
+        (record {
+          lines = λ other differs. refl;
+          ways = λ other differs. ways_other number other (terminal_ways terminal) (with_sitting terminal sitting old) differs;
+          sittings = λ other differs. sitting_other terminal other sitting old differs;
+          links = λ other differs. with_other number other (term_left (was.link number)) was.link differs;
+          places = λ other differs. with_other terminal other (Place.Alone display) was.place differs;
+          line_count = refl;
+          way_count = length-set old.links number (terminal_ways terminal);
+          sitting_count = length-set old.sittings terminal sitting;
+          terminals = refl;
+          pool = stands.pool;
+          before = subst (λ (p : Place). IsHere number p) (sym at) refl;
+          behind = subst (λ (p : Place). IsHere number p) (sym goes) tt;
+          none_closed = stands.none_closed number;
+          settled = stands.settled number;
+          flow = subst (λ (l : Link). AreWays l.term_here number new) (sym is)
+              (gone_flow number old new here None line (terminal_ways terminal) [] gone);
+          link = subst (λ (l : Link). LinkStands (link_with l.term_here number new) l) (sym is)
+              (gone_stands number old new here None line (terminal_ways terminal) [] gone (term_left (was.link number))
+              (λ e. refl) (λ who e. absurd (cc)) (leaves (link_with here number old) (was.link number) link_there));
+          place = subst (λ (s : Sitting). IsAt s (now.place terminal)) (sym (sitting_same terminal sitting old there_is))
+              (subst (λ (p : Place). IsAt sitting p) (sym goes) alone);
+        })
+        agree stands agrees

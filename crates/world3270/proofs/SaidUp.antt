@@ -1,0 +1,388 @@
+-- What a terminal says of LUs is their names, after any list of events.
+use Rattle.std.proofs.Common.{◌≡◌, ◌-◌, ◌==◌, ℕ, Bool, true, false, Option, None, Some, List, [], ◌∷◌, ◌++◌, map, refl, subst, if◌then◌else◌}
+use Rattle.std.specs.List.{AllByRecursion}
+use Rattle.std.specs.Str.{bytes_eq}
+use Rattle.keyboard.specs.declared.key.Key.{Key}
+use Rattle.keyboard.specs.declared.key.Pressed.{Pressed}
+use Rattle.keyboard.specs.declared.key.Pressed.TheVariants.{Done, Refused, Send}
+use Rattle.datastream.specs.Screen.{Screen}
+use Rattle.lu_pool.specs.Asking.{answer_to}
+use Rattle.lu_pool.specs.declared.entry.Entry.{Entry}
+use Rattle.tn3270e_msg.specs.Device.{device_of}
+use Rattle.tn3270e_msg.specs.Lu.{lu_of}
+use Rattle.tn3270e_msg.specs.Talk.{Comes, Will, Wont, Do, Dont, OtherWill, OtherDo, SendsType, RequestsType, IsType, RejectsType, RequestsFunctions, IsFunctions, BreaksForm, NoTalk, Talk, follow, IsLuIfSome, IsSending, says, sayings}
+use Rattle.tn3270e_msg.specs.TermTable.{term_line, grant_line}
+use Rattle.tn3270e_msg.specs.declared.cause.Cause.{Cause}
+use Rattle.tn3270e_msg.specs.declared.cause.Cause.TheVariants as cause
+use Rattle.tn3270e_msg.specs.declared.device.Device.{Device}
+use Rattle.tn3270e_msg.specs.declared.device.Device.TheVariants as device
+use Rattle.tn3270e_msg.specs.declared.functions.Wants.TheVariants.{ResponsesAlone, ResponsesAndMore, NoResponses}
+use Rattle.tn3270e_msg.specs.declared.hearing.Line.{Line}
+use Rattle.tn3270e_msg.specs.declared.hearing.Line.TheVariants as line
+use Rattle.tn3270e_msg.specs.declared.reply.After.TheVariants as behind
+use Rattle.tn3270e_msg.specs.declared.reply.Reply.{Reply}
+use Rattle.tn3270e_msg.specs.declared.reply.Reply.TheVariants as reply
+use Rattle.tn3270e_msg.specs.declared.reply.Sending.{Sending}
+use Rattle.tn3270e_msg.specs.declared.reply.Sending.TheVariants as sent
+use Rattle.tn3270e_msg.specs.declared.term_talk.TermState.{TermState}
+use Rattle.tn3270e_msg.specs.declared.term_talk.TermState.TheVariants as at
+use Rattle.host_core.specs.Acts.{Sent, acted}
+use Rattle.host_core.specs.Application.{Application}
+use Rattle.host_core.specs.Messages.{ToTerminal, ToHost}
+use Rattle.host_core.specs.Notes.{noted}
+use Rattle.host_core.specs.Takes.{Step, pool_after, took as host_took}
+use Rattle.world3270.specs.Happens.{closed_if, said, came_up, place_after, came_down, went_down, key_went, term_saw, joined, term_anew, host_left_from, done, happens, run}
+use Rattle.world3270.specs.Link.{Link, sent as sent_on, host_left, host_left_if, host_stepped, host_sent, term_left, term_left_if, term_stepped, begun}
+use Rattle.world3270.specs.Placed.{has_place, free_number}
+use Rattle.world3270.specs.Terminal.{TermEnd, TermStep, is_bound, once_bound, outcome_of, data_of, key_came, took as term_took}
+use Rattle.world3270.specs.World.{Place, World, Event, IsEvent, AreEvents, new_world, with_at}
+use Rattle.world3270.proofs.HostItems.{IsSaidUp}
+use Rattle.world3270.proofs.OneOfMany.{all_with}
+
+-- ---- what a terminal's talk sends of LUs, where it wants one by its name or any
+
+abbrev Names : Reply → Type 0
+Names (reply.Sub sending after) = IsSending sending
+Names _ = Unit {0}
+
+abbrev LineNames : Line TermState → Type 0
+LineNames (line.Stays answer) = Names answer
+LineNames (line.Goes state answer) = Names answer
+LineNames (line.Refuses state sending) = IsSending sending
+LineNames (line.Closes cause) = Unit {0}
+
+granted_names : (same : Bool) (lu : List ℕ) → LineNames (if same then line.Goes (at.FunctionsAsked lu) (reply.Sub sent.FunRequest behind.Going) else line.Closes cause.BadTalk)
+granted_names true lu = tt
+granted_names false lu = tt
+
+grant_names : (wanted : Option (List ℕ)) (type : Option Device) (lu : Option (List ℕ)) → LineNames (grant_line wanted type lu)
+grant_names None None lu = tt
+grant_names (Some name) None lu = tt
+grant_names None (Some device.Model2) None = tt
+grant_names None (Some device.Model2) (Some lu) = tt
+grant_names None (Some device.Model2E) None = tt
+grant_names None (Some device.Model2E) (Some lu) = tt
+grant_names None (Some device.Model3) None = tt
+grant_names None (Some device.Model3) (Some lu) = tt
+grant_names None (Some device.Model3E) None = tt
+grant_names None (Some device.Model3E) (Some lu) = tt
+grant_names None (Some device.Model4) None = tt
+grant_names None (Some device.Model4) (Some lu) = tt
+grant_names None (Some device.Model4E) None = tt
+grant_names None (Some device.Model4E) (Some lu) = tt
+grant_names None (Some device.Model5) None = tt
+grant_names None (Some device.Model5) (Some lu) = tt
+grant_names None (Some device.Model5E) None = tt
+grant_names None (Some device.Model5E) (Some lu) = tt
+grant_names (Some name) (Some device.Model2) None = tt
+grant_names (Some name) (Some device.Model2) (Some lu) = granted_names (bytes_eq lu name) lu
+grant_names (Some name) (Some device.Model2E) None = tt
+grant_names (Some name) (Some device.Model2E) (Some lu) = tt
+grant_names (Some name) (Some device.Model3) None = tt
+grant_names (Some name) (Some device.Model3) (Some lu) = tt
+grant_names (Some name) (Some device.Model3E) None = tt
+grant_names (Some name) (Some device.Model3E) (Some lu) = tt
+grant_names (Some name) (Some device.Model4) None = tt
+grant_names (Some name) (Some device.Model4) (Some lu) = tt
+grant_names (Some name) (Some device.Model4E) None = tt
+grant_names (Some name) (Some device.Model4E) (Some lu) = tt
+grant_names (Some name) (Some device.Model5) None = tt
+grant_names (Some name) (Some device.Model5) (Some lu) = tt
+grant_names (Some name) (Some device.Model5E) None = tt
+grant_names (Some name) (Some device.Model5E) (Some lu) = tt
+
+line_names : (wanted : Option (List ℕ)) (state : TermState) → IsLuIfSome wanted → (comes : Comes) → LineNames (term_line wanted state comes)
+line_names wanted (at.Closed cause) h comes = tt
+line_names wanted (at.Refused reason) h comes = tt
+line_names wanted at.Waiting h Will = tt
+line_names wanted at.Waiting h Wont = tt
+line_names wanted at.Waiting h Do = tt
+line_names wanted at.Waiting h Dont = tt
+line_names wanted at.Waiting h (OtherWill code) = tt
+line_names wanted at.Waiting h (OtherDo code) = tt
+line_names wanted at.Waiting h SendsType = tt
+line_names wanted at.Waiting h (RequestsType type name) = tt
+line_names wanted at.Waiting h (IsType type name) = tt
+line_names wanted at.Waiting h (RejectsType reason) = tt
+line_names wanted at.Waiting h (RequestsFunctions ResponsesAlone) = tt
+line_names wanted at.Waiting h (RequestsFunctions ResponsesAndMore) = tt
+line_names wanted at.Waiting h (RequestsFunctions NoResponses) = tt
+line_names wanted at.Waiting h (IsFunctions ResponsesAlone) = tt
+line_names wanted at.Waiting h (IsFunctions ResponsesAndMore) = tt
+line_names wanted at.Waiting h (IsFunctions NoResponses) = tt
+line_names wanted at.Waiting h BreaksForm = tt
+line_names wanted at.Waiting h NoTalk = tt
+line_names wanted at.Willing h Will = tt
+line_names wanted at.Willing h Wont = tt
+line_names wanted at.Willing h Do = tt
+line_names wanted at.Willing h Dont = tt
+line_names wanted at.Willing h (OtherWill code) = tt
+line_names wanted at.Willing h (OtherDo code) = tt
+line_names wanted at.Willing h SendsType = h
+line_names wanted at.Willing h (RequestsType type name) = tt
+line_names wanted at.Willing h (IsType type name) = tt
+line_names wanted at.Willing h (RejectsType reason) = tt
+line_names wanted at.Willing h (RequestsFunctions ResponsesAlone) = tt
+line_names wanted at.Willing h (RequestsFunctions ResponsesAndMore) = tt
+line_names wanted at.Willing h (RequestsFunctions NoResponses) = tt
+line_names wanted at.Willing h (IsFunctions ResponsesAlone) = tt
+line_names wanted at.Willing h (IsFunctions ResponsesAndMore) = tt
+line_names wanted at.Willing h (IsFunctions NoResponses) = tt
+line_names wanted at.Willing h BreaksForm = tt
+line_names wanted at.Willing h NoTalk = tt
+line_names wanted at.TypeAsked h Will = tt
+line_names wanted at.TypeAsked h Wont = tt
+line_names wanted at.TypeAsked h Do = tt
+line_names wanted at.TypeAsked h Dont = tt
+line_names wanted at.TypeAsked h (OtherWill code) = tt
+line_names wanted at.TypeAsked h (OtherDo code) = tt
+line_names wanted at.TypeAsked h SendsType = tt
+line_names wanted at.TypeAsked h (RequestsType type name) = tt
+line_names wanted at.TypeAsked h (IsType type name) = grant_names wanted (device_of type) (lu_of name)
+line_names wanted at.TypeAsked h (RejectsType reason) = tt
+line_names wanted at.TypeAsked h (RequestsFunctions ResponsesAlone) = tt
+line_names wanted at.TypeAsked h (RequestsFunctions ResponsesAndMore) = tt
+line_names wanted at.TypeAsked h (RequestsFunctions NoResponses) = tt
+line_names wanted at.TypeAsked h (IsFunctions ResponsesAlone) = tt
+line_names wanted at.TypeAsked h (IsFunctions ResponsesAndMore) = tt
+line_names wanted at.TypeAsked h (IsFunctions NoResponses) = tt
+line_names wanted at.TypeAsked h BreaksForm = tt
+line_names wanted at.TypeAsked h NoTalk = tt
+line_names wanted (at.FunctionsAsked lu) h Will = tt
+line_names wanted (at.FunctionsAsked lu) h Wont = tt
+line_names wanted (at.FunctionsAsked lu) h Do = tt
+line_names wanted (at.FunctionsAsked lu) h Dont = tt
+line_names wanted (at.FunctionsAsked lu) h (OtherWill code) = tt
+line_names wanted (at.FunctionsAsked lu) h (OtherDo code) = tt
+line_names wanted (at.FunctionsAsked lu) h SendsType = tt
+line_names wanted (at.FunctionsAsked lu) h (RequestsType type name) = tt
+line_names wanted (at.FunctionsAsked lu) h (IsType type name) = tt
+line_names wanted (at.FunctionsAsked lu) h (RejectsType reason) = tt
+line_names wanted (at.FunctionsAsked lu) h (RequestsFunctions ResponsesAlone) = tt
+line_names wanted (at.FunctionsAsked lu) h (RequestsFunctions ResponsesAndMore) = tt
+line_names wanted (at.FunctionsAsked lu) h (RequestsFunctions NoResponses) = tt
+line_names wanted (at.FunctionsAsked lu) h (IsFunctions ResponsesAlone) = tt
+line_names wanted (at.FunctionsAsked lu) h (IsFunctions ResponsesAndMore) = tt
+line_names wanted (at.FunctionsAsked lu) h (IsFunctions NoResponses) = tt
+line_names wanted (at.FunctionsAsked lu) h BreaksForm = tt
+line_names wanted (at.FunctionsAsked lu) h NoTalk = tt
+line_names wanted (at.Agreed lu) h Will = tt
+line_names wanted (at.Agreed lu) h Wont = tt
+line_names wanted (at.Agreed lu) h Do = tt
+line_names wanted (at.Agreed lu) h Dont = tt
+line_names wanted (at.Agreed lu) h (OtherWill code) = tt
+line_names wanted (at.Agreed lu) h (OtherDo code) = tt
+line_names wanted (at.Agreed lu) h SendsType = tt
+line_names wanted (at.Agreed lu) h (RequestsType type name) = tt
+line_names wanted (at.Agreed lu) h (IsType type name) = tt
+line_names wanted (at.Agreed lu) h (RejectsType reason) = tt
+line_names wanted (at.Agreed lu) h (RequestsFunctions ResponsesAlone) = tt
+line_names wanted (at.Agreed lu) h (RequestsFunctions ResponsesAndMore) = tt
+line_names wanted (at.Agreed lu) h (RequestsFunctions NoResponses) = tt
+line_names wanted (at.Agreed lu) h (IsFunctions ResponsesAlone) = tt
+line_names wanted (at.Agreed lu) h (IsFunctions ResponsesAndMore) = tt
+line_names wanted (at.Agreed lu) h (IsFunctions NoResponses) = tt
+line_names wanted (at.Agreed lu) h BreaksForm = tt
+line_names wanted (at.Agreed lu) h NoTalk = tt
+
+abbrev AnswerNames : Talk TermState × Reply → Type 0
+AnswerNames answer = Names answer.1
+
+refused_names : (last : Bool) (talk : Talk TermState) (state : TermState) (sending : Sending) → IsSending sending
+    → AnswerNames
+    (if last then (record { state = at.Closed cause.TooMany; refusals_left = 0 }, reply.Sub sending (behind.Close cause.TooMany))
+    else (record { state = state; refusals_left = talk.refusals_left - 1 }, reply.Sub sending behind.Going))
+refused_names true talk state sending h = h
+refused_names false talk state sending h = h
+
+follow_names : (talk : Talk TermState) (next : Line TermState) → LineNames next → AnswerNames (follow at.Closed talk next)
+follow_names talk (line.Stays answer) h = h
+follow_names talk (line.Goes state answer) h = h
+follow_names talk (line.Refuses state sending) h = refused_names (talk.refusals_left - 1 == 0) talk state sending h
+follow_names talk (line.Closes cause) h = tt
+
+replies_said : (answer : Reply) → Names answer → AllByRecursion IsSaidUp (map ToHost.TalksUp (sayings answer))
+replies_said reply.Nothing h = tt
+replies_said (reply.Opt verb code) h = (tt, tt)
+replies_said (reply.Sub sending after) h = (h, tt)
+replies_said (reply.AskPool name) h = tt
+replies_said reply.Agreed h = tt
+replies_said (reply.Refused reason) h = tt
+replies_said (reply.Close cause) h = tt
+
+-- ---- a terminal's end
+
+once_bound_said : (bound : Bool) (end new : TermEnd) (message : ToHost) → IsSaidUp message
+    → AllByRecursion IsSaidUp (once_bound bound (record { end = new; sends = message ∷ []; closes = None }) end).sends
+once_bound_said true end new message is = (is, tt)
+once_bound_said false end new message is = tt
+
+once_bound_wanted : (bound : Bool) (end new : TermEnd) (sends : List ToHost) → IsLuIfSome end.talk.wanted → IsLuIfSome new.talk.wanted
+    → IsLuIfSome (once_bound bound (record { end = new; sends = sends; closes = None }) end).end.talk.wanted
+once_bound_wanted true end new sends is goes = goes
+once_bound_wanted false end new sends is goes = is
+
+record StepSaid (step : TermStep) : Type 0 where
+  wanted : IsLuIfSome step.end.talk.wanted
+  sends : AllByRecursion IsSaidUp step.sends
+
+took_said : (end : TermEnd) (message : ToTerminal) → IsLuIfSome end.talk.wanted → StepSaid (term_took end message)
+took_said end (ToTerminal.TalksDown saying) is = record {
+  wanted = is;
+  sends = replies_said (follow at.Closed end.talk.talk (term_line end.talk.wanted end.talk.talk.state (says saying))).1
+      (follow_names end.talk.talk (term_line end.talk.wanted end.talk.talk.state (says saying)) (line_names end.talk.wanted end.talk.talk.state is (says saying)));
+}
+took_said end (ToTerminal.Paint number wanted over) is =
+    record { wanted = once_bound_wanted (is_bound end) end _ _ is is; sends = once_bound_said (is_bound end) end _ _ tt }
+took_said end (ToTerminal.ReadBuffer number) is =
+    record { wanted = once_bound_wanted (is_bound end) end _ _ is is; sends = once_bound_said (is_bound end) end _ _ tt }
+took_said end (ToTerminal.Note number command) is =
+    record { wanted = once_bound_wanted (is_bound end) end _ _ is is; sends = once_bound_said (is_bound end) end _ _ tt }
+
+data_said : (bound : Bool) (answer : Pressed) (screen : Screen) → AllByRecursion IsSaidUp (data_of bound answer screen)
+data_said true (Send aid) screen = (tt, tt)
+data_said false (Send aid) screen = tt
+data_said true Done screen = tt
+data_said false Done screen = tt
+data_said true (Refused why) screen = tt
+data_said false (Refused why) screen = tt
+
+-- ---- a connection
+
+-- its terminal wants an LU by its name, or any, and what it said is said so
+record IsNamed (link : Link) : Type 0 where
+  wanted : IsLuIfSome link.term.talk.wanted
+  up : AllByRecursion IsSaidUp link.up
+
+both_said : (some others : List ToHost) → AllByRecursion IsSaidUp some → AllByRecursion IsSaidUp others → AllByRecursion IsSaidUp (some ++ others)
+both_said [] others h k = k
+both_said (message ∷ some) others h k = (h.0, both_said some others h.1 k)
+
+sent_said : (lost : Bool) (queue messages : List ToHost) → AllByRecursion IsSaidUp queue → AllByRecursion IsSaidUp messages
+    → AllByRecursion IsSaidUp (sent_on lost queue messages)
+sent_said true queue messages h k = h
+sent_said false queue messages h k = both_said queue messages h k
+
+term_left_named : (cause : Option Cause) (link : Link) → IsNamed link → IsNamed (term_left_if cause link)
+term_left_named None link h = h
+term_left_named (Some cause) link h = record { wanted = h.wanted; up = h.up }
+
+host_left_named : (cause : Option Cause) (link : Link) → IsNamed link → IsNamed (host_left_if cause link)
+host_left_named None link h = h
+host_left_named (Some cause) link h = record { wanted = h.wanted; up = h.up }
+
+-- the terminal's step
+stepped_named : (step : TermStep) (rest : List ToTerminal) (link : Link) → StepSaid step → IsNamed link → IsNamed (term_stepped step rest link)
+stepped_named step rest link says_it h =
+    term_left_named step.closes (record link { down = rest; term = step.end; up = sent_on link.lost link.up step.sends })
+    (record { wanted = says_it.wanted; up = sent_said link.lost link.up step.sends h.up says_it.sends })
+
+sent_named : (sending : Option Sent) (link : Link) → IsNamed link → IsNamed (host_sent sending link)
+sent_named None link h = h
+sent_named (Some sending) link h = record { wanted = h.wanted; up = h.up }
+
+left_named : (link : Link) → IsNamed link → IsNamed (host_left_from link)
+left_named link h = by_here link.host_here
+  where
+    by_here : (b : Bool) → IsNamed (if b then host_left link else link)
+    by_here true = record { wanted = h.wanted; up = h.up }
+    by_here false = h
+
+-- ---- the world
+
+abbrev AreNamed : (ℕ → Link) → Type 0
+AreNamed link = (number : ℕ) → IsNamed (link number)
+
+changed : (number : ℕ) (new : Link) (link : ℕ → Link) → IsNamed new → AreNamed link → AreNamed (with_at number new link)
+changed number new link h others = all_with (λ (n : ℕ) (x : Link). IsNamed x) number new link h others
+
+closed_named : (cause : Option Cause) (world : World) → AreNamed world.link → AreNamed (closed_if cause world).link
+closed_named None world h = h
+closed_named (Some cause) world h = h
+
+up_named : (world : World) (number : ℕ) (up : List ToHost) → (world.link number).up ≡ up → AreNamed world.link → AreNamed (came_up number up world).link
+up_named world number [] e h = h
+up_named world number (message ∷ rest) e h =
+    let link : Link = world.link number in
+    let step : Step = host_took (answer_to world.pool) link.host message in
+    let said_all = subst (λ (m : List ToHost). AllByRecursion IsSaidUp m) e (h number).up in
+    closed_named step.closes (record world { pool = pool_after number step world.pool; link = with_at number (host_stepped step rest link) world.link })
+    (changed number (host_stepped step rest link) world.link
+    (host_left_named step.closes (record link { up = rest; host = step.conn; down = sent_on link.lost link.down step.sends })
+    (record { wanted = (h number).wanted; up = said_all.1 })) h)
+
+down_named : (world : World) (number terminal : ℕ) (down : List ToTerminal) → AreNamed world.link → AreNamed (came_down number terminal down world).link
+down_named world number terminal [] h = h
+down_named world number terminal (message ∷ rest) h =
+    let link : Link = world.link number in
+    let step : TermStep = term_took link.term message in
+    closed_named step.closes (said step.sends (record world {
+      link = with_at number (term_stepped step rest link) world.link;
+      place = with_at terminal (place_after step.closes number step.end.display) world.place;
+    }))
+    (changed number (term_stepped step rest link) world.link (stepped_named step rest link (took_said link.term message (h number).wanted) (h number)) h)
+
+went_named : (world : World) (number : ℕ) (here : Option ℕ) → AreNamed world.link → AreNamed (went_down number here world).link
+went_named world number None h = h
+went_named world number (Some terminal) h = down_named world number terminal (world.link number).down h
+
+key_named : (world : World) (terminal : ℕ) (key : Key) (place : Place) → AreNamed world.link → AreNamed (key_went terminal key place world).link
+key_named world terminal key (Place.At number) h =
+    let link : Link = world.link number in
+    let outcome = outcome_of key link.term.display in
+    changed number (term_stepped (key_came key link.term) link.down link) world.link
+    (stepped_named (key_came key link.term) link.down link
+    (record { wanted = (h number).wanted; sends = data_said (is_bound link.term) outcome.answer outcome.screen }) (h number)) h
+key_named world terminal key (Place.Alone display) h = h
+
+parted_named : (world : World) (number : ℕ) → AreNamed world.link → AreNamed (with_at number (term_left (world.link number)) world.link)
+parted_named world number h = changed number (term_left (world.link number)) world.link (record { wanted = (h number).wanted; up = (h number).up }) h
+
+saw_named : (world : World) (terminal : ℕ) (place : Place) → AreNamed world.link → AreNamed (term_saw terminal place world).link
+saw_named world terminal (Place.At number) h = parted_named world number h
+saw_named world terminal (Place.Alone display) h = h
+
+anew_named : (app : Application) (world : World) (terminal : ℕ) (place : Place) → AreNamed world.link → AreNamed (term_anew app terminal place world).link
+anew_named app world terminal (Place.At number) h = parted_named world number h
+anew_named app world terminal (Place.Alone display) h = h
+
+joined_named : (app : Application) (world : World) (terminal : ℕ) (wanted : Option (List ℕ)) (free : Option ℕ) → IsLuIfSome wanted → AreNamed world.link
+    → AreNamed (joined app terminal wanted free world).link
+joined_named app world terminal wanted None is h = h
+joined_named app world terminal wanted (Some number) is h = changed number (begun app.begins terminal wanted) world.link (record { wanted = is; up = tt }) h
+
+done_named : (app : Application) (event : Event) (world : World) → IsEvent event → AreNamed world.link → AreNamed (done app event world).link
+done_named app (Event.Press terminal key) world is h = key_named world terminal key (world.place terminal) h
+done_named app (Event.Up number) world is h = up_named world number (world.link number).up refl h
+done_named app (Event.Down number) world is h = went_named world number (world.link number).term_here h
+done_named app (Event.Act number) world is h =
+    let link : Link = world.link number in
+    changed number (host_sent (acted app link.host) link) world.link (sent_named (acted app link.host) link (h number)) h
+done_named app (Event.Note number text) world is h =
+    let link : Link = world.link number in
+    changed number (host_sent (noted text link.host) link) world.link (sent_named (noted text link.host) link (h number)) h
+done_named app (Event.Lose number) world is h =
+    changed number (record (world.link number) { lost = true }) world.link (record { wanted = (h number).wanted; up = (h number).up }) h
+done_named app (Event.HostSees number) world is h =
+    changed number (host_left (world.link number)) world.link (record { wanted = (h number).wanted; up = (h number).up }) h
+done_named app (Event.TermSees terminal) world is h = saw_named world terminal (world.place terminal) h
+done_named app (Event.Connect terminal wanted) world is h = joined_named app world terminal wanted (free_number world.link) is h
+done_named app (Event.RestartTerm terminal) world is h = anew_named app world terminal (world.place terminal) h
+done_named app Event.RestartHost world is h = λ number. left_named (world.link number) (h number)
+
+happens_named : (app : Application) (event : Event) (world : World) → IsEvent event → AreNamed world.link → AreNamed (happens app event world).link
+happens_named app event world is h = by_test (has_place app event world)
+  where
+    by_test : (b : Bool) → AreNamed (if b then done app event world else world).link
+    by_test true = done_named app event world is h
+    by_test false = h
+
+run_named : (app : Application) (events : List Event) (world : World) → AreEvents events → AreNamed world.link → AreNamed (run app events world).link
+run_named app [] world are h = h
+run_named app (event ∷ events) world are h = run_named app events (happens app event world) are.1 (happens_named app event world are.0 h)
+
+-- Whatever comes up is said so, in any world that a list of events leads to.
+pub all_said_up : (app : Application) (pool : List Entry) (terminals : ℕ) (events : List Event) → AreEvents events
+    → (number : ℕ) → AllByRecursion IsSaidUp ((run app events (new_world app pool terminals)).link number).up
+all_said_up app pool terminals events are number =
+    (run_named app events (new_world app pool terminals) are (λ other. record { wanted = tt; up = tt }) number).up

@@ -1,0 +1,53 @@
+-- The laws of this crate and of those below that the world over bytes rests on, as one record for proofs.
+use Rattle.datastream.specs.Laws.{OneInbound}
+use Rattle.host_core.specs.Laws.{PanelsAreShown, PanelsAskForScreens}
+use Rattle.shadow.specs.Laws.{PaintIsBounded}
+use Rattle.telnet_wire.specs.Laws.{OneDelivery, ReadingNothing, WrongIsFinal}
+use Rattle.tn3270e_msg.specs.Laws.{OneHeader, FaultIsNoHeader}
+use Rattle.world3270.specs.Always.{Always, HeadlineHolds, NobodyRefuses}
+use Rattle.world3270.specs.Forms.{FormsAreAwaited}
+use Rattle.world3270.specs.Given.{Given}
+use Rattle.world3270.specs.Numbers.{NumbersFit}
+use Rattle.world3270.specs.Places.{EndsAgree, UpIsHeld}
+use Rattle.world3270.specs.Sendable.{AlwaysTyped, ScreensAreSendable, PaintsAreScreens, PaintsAreSpelt}
+use Rattle.world3270.specs.StandsEnds.{PaintStands}
+use Rattle.world3270.specs.StandsLinks.{BeginStands, PressStands, WhatComesMayCome, DownStands, HostSends, UpStands, LossStands, HostLeaves, TermLeaves}
+
+-- the laws of worlds over messages
+pub record KnownWorlds : Type 0 where
+  pub given : Given
+  pub application : PanelsAreShown
+  pub screens : PanelsAskForScreens
+  pub headline : Always HeadlineHolds
+  pub nobody_refuses : Always NobodyRefuses
+  pub agree : Always EndsAgree
+  pub up_held : Always UpIsHeld
+  pub forms : Always FormsAreAwaited
+  pub numbers : Always NumbersFit
+  pub may : Always WhatComesMayCome
+  pub sendable : AlwaysTyped ScreensAreSendable
+  pub paints : AlwaysTyped PaintsAreScreens
+  pub spelt : AlwaysTyped PaintsAreSpelt
+
+-- the laws of connections over bytes, and of what is read of bytes
+pub record KnownLinks : Type 0 where
+  pub begin : BeginStands
+  pub press : PressStands
+  pub down : DownStands
+  pub sends : HostSends
+  pub up : UpStands
+  pub loss : LossStands
+  pub host_leaves : HostLeaves
+  pub term_leaves : TermLeaves
+  pub paint : PaintStands
+  pub bounded : PaintIsBounded
+  pub wrong_is_final : WrongIsFinal
+  pub one_delivery : OneDelivery
+  pub no_bytes : ReadingNothing
+  pub one_header : OneHeader
+  pub fault_or_header : FaultIsNoHeader
+  pub one_inbound : OneInbound
+
+pub record Known : Type 0 where
+  pub worlds : KnownWorlds
+  pub links : KnownLinks

@@ -1,0 +1,597 @@
+//! What a world is made of: a host, the connections that it serves, and terminals; and how bytes move between them.
+ghost use Rattle.std.specs.Prelude.{◌≡◌, ◌<◌, ◌≤◌, None, Some, true, false, is_some, length, IfOk, IfSome, replicate, take};
+ghost use Rattle.host_core.specs.Feeds.{Feeds, counter_at, with_counter};
+ghost use Rattle.host_core.specs.State.{most_connections};
+ghost use Rattle.world3270.specs.ByteSteps.{Connects, SeatFeeds, Steps, answer_acted, answer_fed, answer_pressed, down_came, free_number, has_place, host_gone, host_gone_below, host_gone_if, host_gone_if_there, host_told, is_held, is_link, is_up, lost_ways, terminal_gone, terminal_gone_if, terminal_told, up_came};
+ghost use Rattle.world3270.specs.ByteWorld.{alone, down_of, host_out, host_there, is_senders, ways_at, new_byte_world, new_sitting, sitting_at, terminal_at, terminal_out, terminal_there, unused_ways, up_of, with_host, with_sitting, with_ways};
+ghost use Rattle.world3270.specs.Flows.{out_among};
+ghost use Rattle.world3270.specs.Placed.{is_queued};
+ghost use Rattle.world3270.specs.declared.event.Event.TheVariants as event;
+
+use crate::event::{Event, Stepped};
+use crate::note_text::NoteText;
+use crate::seat::Chair;
+use crate::way::{Cable, first};
+use host_core::{Acted, Host, MOST_CONNECTIONS, Phase};
+use keyboard::{Key, Pressed};
+use lu_pool::Pool;
+use panels::PanelSet;
+use std::alloc::Global;
+use std::marker::Model;
+use telnet_wire::Memory;
+use term_core::Terminal;
+use tn3270e_msg::{Fed, Lu, Stop};
+
+/// A host, the connections that it serves, and terminals. What an end has to send is under way: there is no other queue.
+#[derive(Drop)]
+pub(crate) struct Network {
+    host: Host,
+    links: Vec<Cable>,
+    seats: Vec<Chair>,
+}
+
+impl Model for Network {
+    ghost use Rattle.std.specs.Prelude.{◌≡◌, length};
+    ghost use Rattle.host_core.specs.State.{most_connections};
+    ghost use Rattle.world3270.specs.ByteWorld.{ByteWorld};
+
+    ghost Value = { ByteWorld };
+
+    ghost view = { λ network. record { host = network.host; links = network.links.items; sittings = network.seats.items } };
+
+    ghost invariant = { λ network. length network.links.items ≡ most_connections };
+}
+
+/// So many connections, never used.
+fn unused_links(alloc: Global) -> Result<Vec<Cable>, Memory>
+    ensures { IfOk result (λ links. links.items ≡ replicate most_connections unused_ways) }
+{
+    let mut links = Vec::with_capacity(alloc, MOST_CONNECTIONS)?;
+    for _ in 0..MOST_CONNECTIONS {
+        links.push(Cable::unused(alloc))?;
+    }
+    Ok(links)
+}
+
+/// So many terminals, that begin.
+fn new_seats(alloc: Global, terminals: usize) -> Result<Vec<Chair>, Memory>
+    ensures { IfOk result (λ seats. seats.items ≡ replicate terminals new_sitting) }
+{
+    let mut seats = Vec::with_capacity(alloc, terminals)?;
+    for _ in 0..terminals {
+        seats.push(Chair::new(alloc)?)?;
+    }
+    Ok(seats)
+}
+
+/// The terminal that holds an end of a connection, if one does.
+fn terminal_at(seats: &[Chair], conn: usize) -> Option<usize>
+    ensures found { result ≡ terminal_at conn seats.now }
+    ensures below { IfSome result (λ terminal. terminal < length seats.now) }
+{
+    seats.iter().position(|chair| chair.is_at(conn))
+}
+
+/// What the terminal at a connection has to send: nothing where none is.
+fn out_at(seats: &[Chair], conn: usize) -> &[u8]
+    ensures { result.now ≡ out_among (terminal_at conn seats.now) seats.now }
+{
+    match terminal_at(seats, conn) {
+        Some(terminal) => seats[terminal].out(),
+        None => &[],
+    }
+}
+
+/// What becomes of a key, by what the keyboard answers.
+fn pressed_as(pressed: Pressed) -> Stepped
+    ensures { result ≡ answer_pressed pressed }
+{
+    match pressed {
+        Pressed::Done => Stepped::Done,
+        Pressed::Refused(why) => Stepped::Refused(why),
+        Pressed::Send(_) => Stepped::Done,
+    }
+}
+
+/// What becomes of an act, or of a note.
+fn acted_as(acted: Acted) -> Stepped
+    ensures { result ≡ answer_acted acted }
+{
+    match acted {
+        Acted::Sent => Stepped::Done,
+        Acted::Nothing => Stepped::Skipped,
+        Acted::Memory => Stepped::Memory,
+    }
+}
+
+/// What becomes of a delivery.
+fn fed_as(fed: Fed) -> Stepped
+    ensures { result ≡ answer_fed fed.stop fed.taken }
+{
+    match fed.stop {
+        Stop::Going => Stepped::Done,
+        Stop::Closed(_) => Stepped::Done,
+        Stop::Memory => match fed.taken {
+            0 => Stepped::Memory,
+            taken => Stepped::Part(taken),
+        },
+    }
+}
+
+/// Whether there are bytes among the first of these: so many, or all.
+fn are_queued(bytes: &[u8], count: usize) -> bool
+    ensures { result ≡ is_queued (take count bytes.now) }
+{
+    match first(bytes, count) {
+        [] => false,
+        [_, ..] => true,
+    }
+}
+
+impl Network {
+    /// As it begins, with so many terminals: nobody holds an LU, and no connection was ever used.
+    pub(crate) fn new(
+        alloc: Global,
+        panels: PanelSet,
+        pool: Pool,
+        terminals: usize,
+    ) -> Result<Network, Memory>
+        ensures { IfOk result (λ network. network ≡ new_byte_world panels pool terminals) }
+    {
+        let links = unused_links(alloc)?;
+        let seats = new_seats(alloc, terminals)?;
+        let host = Host::new(alloc, panels, pool)?;
+        Ok(Network { host, links, seats })
+    }
+
+    /// The host.
+    pub(crate) fn host(&self) -> &Host
+        ensures { result.now ≡ self.now.host }
+    {
+        &self.host
+    }
+
+    /// A terminal, by its number.
+    pub(crate) fn terminal(&self, terminal: usize) -> &Terminal
+        requires { terminal < length self.now.sittings }
+        ensures { result.now ≡ (sitting_at terminal self.now).seat.terminal }
+    {
+        self.seats[terminal].terminal()
+    }
+
+    /// What the terminal at a connection has to send: nothing where none is.
+    fn terminal_out(&self, conn: usize) -> &[u8]
+        ensures { result.now ≡ terminal_out conn self.now }
+    {
+        out_at(&self.seats, conn)
+    }
+
+    /// What is under way to the host.
+    pub(crate) fn queued_up(&self, conn: usize) -> &[u8]
+        requires { conn < most_connections }
+        ensures { result.now ≡ up_of conn self.now }
+    {
+        self.links[conn].up.under_way(self.terminal_out(conn))
+    }
+
+    /// What is under way to the terminal.
+    pub(crate) fn queued_down(&self, conn: usize) -> &[u8]
+        requires { conn < most_connections }
+        ensures { result.now ≡ down_of conn self.now }
+    {
+        self.links[conn].down.under_way(self.host.out(conn))
+    }
+
+    /// Whether the host holds an end of a connection.
+    fn host_there(&self, conn: usize) -> bool
+        requires { conn < most_connections }
+        ensures { result ≡ host_there conn self.now }
+    {
+        match self.host.phase(conn) {
+            Phase::Free => false,
+            Phase::Talking => true,
+            Phase::Bound(_) => true,
+            Phase::Closed(_) => true,
+        }
+    }
+
+    /// Whether an end of a connection is held.
+    fn is_held(&self, conn: usize) -> bool
+        requires { conn < most_connections }
+        ensures { result ≡ is_held conn self.now }
+    {
+        self.host_there(conn) || terminal_at(&self.seats, conn).is_some()
+    }
+
+    /// A connection is lost.
+    fn cut(&mut self, conn: usize)
+        requires { conn < most_connections }
+        ensures { self.new ≡ with_ways conn (lost_ways conn self.old) self.old }
+    {
+        let down = self.host.out(conn).len();
+        let up = self.terminal_out(conn).len();
+        self.links[conn].cut(down, up);
+    }
+
+    /// The host leaves a connection, which is lost.
+    fn host_leaves(&mut self, conn: usize)
+        requires { conn < most_connections }
+        ensures { self.new ≡ host_gone conn self.old }
+    {
+        let up = self.terminal_out(conn).len();
+        let unsent = self.host.closed(conn);
+        self.links[conn].host_leaves(unsent, up);
+    }
+
+    /// A terminal leaves its connection, which is lost.
+    fn terminal_leaves(&mut self, terminal: usize, conn: usize)
+        requires terminal { terminal < length self.old.sittings }
+        requires number { conn < most_connections }
+        ensures { self.new ≡ terminal_gone (alone (sitting_at terminal self.old)) terminal conn self.old }
+    {
+        let down = self.host.out(conn).len();
+        let unsent = self.seats[terminal].leave();
+        self.links[conn].terminal_leaves(down, unsent);
+    }
+
+    /// A terminal leaves its connection, which is lost, and begins anew.
+    fn terminal_leaves_anew(&mut self, terminal: usize, conn: usize)
+        requires terminal { terminal < length self.old.sittings }
+        requires number { conn < most_connections }
+        ensures { self.new ≡ terminal_gone new_sitting terminal conn self.old }
+    {
+        let down = self.host.out(conn).len();
+        let unsent = self.seats[terminal].leave_anew();
+        self.links[conn].terminal_leaves(down, unsent);
+    }
+
+    /// Whether a connection is up.
+    fn is_up(&self, conn: usize) -> bool
+        ensures place { result ≡ has_place (event.Lose conn) self.now }
+        ensures number { result ≡ true → conn < most_connections }
+    {
+        conn < MOST_CONNECTIONS && self.links[conn].is_live() && self.is_held(conn)
+    }
+
+    /// A connection is lost. Skipped unless it is up.
+    pub(crate) fn lose(&mut self, conn: usize) -> Stepped
+        ensures { Steps (event.Lose conn) self.old result self.new }
+    {
+        if self.is_up(conn) {
+            self.cut(conn);
+            Stepped::Done
+        } else {
+            Stepped::Skipped
+        }
+    }
+
+    /// A key is pressed.
+    pub(crate) fn press(&mut self, terminal: usize, key: Key) -> Stepped
+        ensures { Steps (event.Key terminal key) self.old result self.new }
+    {
+        if terminal < self.seats.len() {
+            match self.seats[terminal].press(key) {
+                Ok(pressed) => pressed_as(pressed),
+                Err(_) => Stepped::Memory,
+            }
+        } else {
+            Stepped::Skipped
+        }
+    }
+
+    /// The host acts.
+    pub(crate) fn act(&mut self, conn: usize) -> Stepped
+        ensures { Steps (event.Act conn) self.old result self.new }
+    {
+        if conn < MOST_CONNECTIONS {
+            acted_as(self.host.act(conn))
+        } else {
+            Stepped::Skipped
+        }
+    }
+
+    /// Whether the host may see that a connection is lost.
+    fn host_may_see(&self, conn: usize) -> bool
+        ensures place { result ≡ has_place (event.HostSees conn) self.now }
+        ensures number { result ≡ true → conn < most_connections }
+    {
+        conn < MOST_CONNECTIONS && !self.links[conn].is_live() && self.host_there(conn)
+    }
+
+    /// The host sees that a connection is lost, and leaves it.
+    pub(crate) fn host_sees(&mut self, conn: usize) -> Stepped
+        ensures { Steps (event.HostSees conn) self.old result self.new }
+    {
+        if self.host_may_see(conn) {
+            self.host_leaves(conn);
+            Stepped::Done
+        } else {
+            Stepped::Skipped
+        }
+    }
+
+    /// The host sends a note.
+    pub(crate) fn note(&mut self, conn: usize, text: &NoteText) -> Stepped
+        ensures { Steps (event.Note conn text.now) self.old result self.new }
+    {
+        if conn < MOST_CONNECTIONS {
+            acted_as(self.host.note(conn, text.text()))
+        } else {
+            Stepped::Skipped
+        }
+    }
+
+    /// A terminal sees that its connection is lost, and leaves it.
+    pub(crate) fn term_sees(&mut self, terminal: usize) -> Stepped
+        ensures { Steps (event.TermSees terminal) self.old result self.new }
+    {
+        if terminal >= self.seats.len() {
+            return Stepped::Skipped;
+        }
+        let Some(conn) = self.seats[terminal].at() else {
+            return Stepped::Skipped;
+        };
+        if self.links[conn].is_live() {
+            return Stepped::Skipped;
+        }
+        self.terminal_leaves(terminal, conn);
+        Stepped::Done
+    }
+
+    /// A terminal begins anew; its connection, if it is at one, is lost.
+    pub(crate) fn restart_term(&mut self, terminal: usize) -> Stepped
+        ensures { Steps (event.RestartTerm terminal) self.old result self.new }
+    {
+        if terminal >= self.seats.len() {
+            return Stepped::Skipped;
+        }
+        match self.seats[terminal].at() {
+            Some(conn) => {
+                self.terminal_leaves_anew(terminal, conn);
+                Stepped::Done
+            }
+            None => {
+                self.seats[terminal].restart();
+                Stepped::Done
+            }
+        }
+    }
+
+    /// The least number that neither end holds.
+    fn free_number(&self) -> Option<usize>
+        ensures found { result ≡ free_number self.now }
+        ensures below { IfSome result (λ conn. conn < most_connections) }
+        ensures free { IfSome result (λ conn. is_held conn self.now ≡ false) }
+    {
+        for conn in 0..MOST_CONNECTIONS {
+            if !self.is_held(conn) {
+                return Some(conn);
+            }
+        }
+        None
+    }
+
+    /// A terminal that is alone begins a connection on a number that nobody holds.
+    fn begin(&mut self, terminal: usize, conn: usize, wanted: Option<Lu>) -> Stepped
+        requires terminal { terminal < length self.old.sittings }
+        requires number { conn < most_connections }
+        requires alone { (sitting_at terminal self.old).at ≡ None }
+        requires free { is_held conn self.old ≡ false }
+        ensures { Connects terminal wanted conn self.old result self.new }
+    {
+        match self.host.open(conn) {
+            Ok(()) => {
+                self.seats[terminal].sit(conn, wanted);
+                self.links[conn].begin();
+                Stepped::Done
+            }
+            Err(_) => Stepped::Memory,
+        }
+    }
+
+    /// A terminal connects, and wants an LU, if one. Skipped unless it is alone and a number is free.
+    pub(crate) fn connect(&mut self, terminal: usize, wanted: Option<Lu>) -> Stepped
+        ensures { Steps (event.Connect terminal wanted) self.old result self.new }
+    {
+        if terminal >= self.seats.len() {
+            return Stepped::Skipped;
+        }
+        match self.seats[terminal].at() {
+            Some(_) => Stepped::Skipped,
+            None => match self.free_number() {
+                Some(conn) => self.begin(terminal, conn, wanted),
+                None => Stepped::Skipped,
+            },
+        }
+    }
+
+    /// The host leaves a connection, if it holds an end of it.
+    fn host_leaves_if_there(&mut self, conn: usize)
+        requires { conn < most_connections }
+        ensures { self.new ≡ host_gone_if_there conn self.old }
+    {
+        if self.host_there(conn) {
+            self.host_leaves(conn);
+        }
+    }
+
+    /// The host leaves all its connections.
+    fn host_leaves_all(&mut self)
+        ensures { self.new ≡ host_gone_below most_connections self.old }
+    {
+        for conn in 0..MOST_CONNECTIONS {
+            self.host_leaves_if_there(conn);
+        }
+    }
+
+    /// The host begins anew; its connections are lost.
+    pub(crate) fn restart_host(&mut self) -> Stepped
+        ensures { Steps event.RestartHost self.old result self.new }
+    {
+        self.host_leaves_all();
+        self.host.restart();
+        Stepped::Done
+    }
+
+    /// The host takes bytes that are under way to it: so many of them, or all.
+    fn feed_host(&mut self, conn: usize, count: usize) -> Fed
+        requires { conn < most_connections }
+        ensures fed { Feeds conn (counter_at conn self.old.host) (take count (up_of conn self.old)) result (counter_at conn self.new.host) }
+        ensures others { self.new ≡ with_host (with_counter conn (counter_at conn self.new.host) self.old.host) self.old }
+    {
+        let out = out_at(&self.seats, conn);
+        let bytes = first(self.links[conn].up.under_way(out), count);
+        self.host.feed(conn, bytes)
+    }
+
+    /// The host's first bytes are sent, where what comes is the host's.
+    fn tell_host(&mut self, is_its: bool, conn: usize, count: usize)
+        requires number { conn < most_connections }
+        requires count { is_its ≡ true → count ≤ length (host_out conn self.old) }
+        ensures { self.new ≡ host_told is_its count conn self.old }
+    {
+        if is_its {
+            self.host.sent(conn, count);
+        }
+    }
+
+    /// The first bytes of the terminal at a connection are sent, where what comes is the terminal's.
+    fn tell_terminal(&mut self, is_its: bool, conn: usize, count: usize)
+        requires { is_its ≡ true → count ≤ length (terminal_out conn self.old) }
+        ensures { self.new ≡ terminal_told is_its count (terminal_at conn self.old.sittings) self.old }
+    {
+        if is_its {
+            match terminal_at(&self.seats, conn) {
+                Some(terminal) => self.seats[terminal].sent(count),
+                None => {}
+            }
+        }
+    }
+
+    /// So many bytes came down.
+    fn came_down(&mut self, conn: usize, count: usize)
+        requires number { conn < most_connections }
+        requires count { is_senders (ways_at conn self.old).down ≡ true → count ≤ length (host_out conn self.old) }
+        ensures { self.new ≡ down_came count conn self.old }
+    {
+        let is_its = self.links[conn].down.is_senders();
+        self.tell_host(is_its, conn, count);
+        self.links[conn].came_down(count);
+    }
+
+    /// So many bytes came up.
+    fn came_up(&mut self, conn: usize, count: usize)
+        requires number { conn < most_connections }
+        requires count { is_senders (ways_at conn self.old).up ≡ true → count ≤ length (terminal_out conn self.old) }
+        ensures { self.new ≡ up_came count conn self.old }
+    {
+        let is_its = self.links[conn].up.is_senders();
+        self.tell_terminal(is_its, conn, count);
+        self.links[conn].came_up(count);
+    }
+
+    /// Whether bytes come up: so many of those that are under way to the host, or all.
+    fn comes_up(&self, conn: usize, count: usize) -> bool
+        ensures place { result ≡ has_place (event.Up conn count) self.now }
+        ensures number { result ≡ true → conn < most_connections }
+    {
+        conn < MOST_CONNECTIONS && self.host_there(conn) && are_queued(self.queued_up(conn), count)
+    }
+
+    /// The host leaves a connection that it has closed.
+    fn host_leaves_closed(&mut self, conn: usize, stop: &Stop)
+        requires { conn < most_connections }
+        ensures { self.new ≡ host_gone_if stop.now conn self.old }
+    {
+        match stop {
+            Stop::Going => {}
+            Stop::Memory => {}
+            Stop::Closed(_) => self.host_leaves(conn),
+        }
+    }
+
+    /// Bytes come up to the host: so many of those under way, or all. Skipped where none are, or the host isn't there.
+    pub(crate) fn bring_up(&mut self, conn: usize, count: usize) -> Stepped
+        ensures { Steps (event.Up conn count) self.old result self.new }
+    {
+        if !self.comes_up(conn, count) {
+            return Stepped::Skipped;
+        }
+        let fed = self.feed_host(conn, count);
+        self.came_up(conn, fed.taken);
+        self.host_leaves_closed(conn, &fed.stop);
+        fed_as(fed)
+    }
+
+    /// The terminal that bytes come down to, if they do: so many of those under way to it, or all.
+    fn comes_down(&self, conn: usize, count: usize) -> Option<usize>
+        ensures place { is_some result ≡ has_place (event.Down conn count) self.now }
+        ensures found { IfSome result (λ terminal. terminal_at conn self.now.sittings ≡ Some terminal) }
+        ensures below { IfSome result (λ terminal. terminal < length self.now.sittings) }
+        ensures number { IfSome result (λ terminal. conn < most_connections) }
+    {
+        if conn < MOST_CONNECTIONS && are_queued(self.queued_down(conn), count) {
+            terminal_at(&self.seats, conn)
+        } else {
+            None
+        }
+    }
+
+    /// A terminal takes bytes that are under way to it: so many of them, or all.
+    fn feed_terminal(&mut self, terminal: usize, conn: usize, count: usize) -> Fed
+        requires terminal { terminal < length self.old.sittings }
+        requires number { conn < most_connections }
+        ensures fed { SeatFeeds (sitting_at terminal self.old).seat (take count (down_of conn self.old)) result (sitting_at terminal self.new).seat }
+        ensures others { self.new ≡ with_sitting terminal (record (sitting_at terminal self.old) { seat = (sitting_at terminal self.new).seat }) self.old }
+    {
+        let bytes = first(self.links[conn].down.under_way(self.host.out(conn)), count);
+        self.seats[terminal].feed(bytes)
+    }
+
+    /// A terminal leaves a connection that it has closed.
+    fn terminal_leaves_closed(&mut self, terminal: usize, conn: usize, stop: &Stop)
+        requires terminal { terminal < length self.old.sittings }
+        requires number { conn < most_connections }
+        ensures { self.new ≡ terminal_gone_if stop.now terminal conn self.old }
+    {
+        match stop {
+            Stop::Going => {}
+            Stop::Memory => {}
+            Stop::Closed(_) => self.terminal_leaves(terminal, conn),
+        }
+    }
+
+    /// Bytes come down to the terminal: so many of those under way, or all. Skipped where none are, or no terminal is there.
+    pub(crate) fn bring_down(&mut self, conn: usize, count: usize) -> Stepped
+        ensures { Steps (event.Down conn count) self.old result self.new }
+    {
+        match self.comes_down(conn, count) {
+            None => Stepped::Skipped,
+            Some(terminal) => {
+                let fed = self.feed_terminal(terminal, conn, count);
+                self.came_down(conn, fed.taken);
+                self.terminal_leaves_closed(terminal, conn, &fed.stop);
+                fed_as(fed)
+            }
+        }
+    }
+
+    /// An event happens, or is skipped.
+    pub(crate) fn happen(&mut self, event: &Event) -> Stepped
+        ensures { Steps event.now self.old result self.new }
+    {
+        match event {
+            Event::Key(terminal, key) => self.press(*terminal, *key),
+            Event::Up(conn, count) => self.bring_up(*conn, *count),
+            Event::Down(conn, count) => self.bring_down(*conn, *count),
+            Event::Act(conn) => self.act(*conn),
+            Event::Note(conn, text) => self.note(*conn, text),
+            Event::Lose(conn) => self.lose(*conn),
+            Event::HostSees(conn) => self.host_sees(*conn),
+            Event::TermSees(terminal) => self.term_sees(*terminal),
+            Event::Connect(terminal, wanted) => self.connect(*terminal, *wanted),
+            Event::RestartTerm(terminal) => self.restart_term(*terminal),
+            Event::RestartHost => self.restart_host(),
+        }
+    }
+}

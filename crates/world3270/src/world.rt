@@ -1,0 +1,153 @@
+//! The world, of which the headline holds after every event.
+ghost use Rattle.std.specs.Prelude.{◌≡◌, ◌<◌, length, IfOk};
+ghost use Rattle.host_core.specs.State.{most_connections};
+ghost use Rattle.world3270.specs.ByteRuns.{Runs, refused_at};
+ghost use Rattle.world3270.specs.ByteSteps.{Steps};
+ghost use Rattle.world3270.specs.ByteWorld.{IsTerminalCount, down_of, new_byte_world, sitting_at, up_of};
+ghost use Rattle.world3270.specs.Headline.{Headline};
+ghost use Rattle.world3270.specs.SeenBytes.{seen_bytes};
+
+use crate::bytes_follow_messages;
+use crate::event::{Event, Ran, Stepped, events_are_real};
+use crate::network::Network;
+use host_core::Host;
+use lu_pool::Pool;
+use panels::PanelSet;
+use std::alloc::Global;
+use std::marker::Model;
+use telnet_wire::Memory;
+use term_core::Terminal;
+
+/// A host that serves panels, the connections to it, and terminals. Bytes that an end has to send are under way: they come when
+/// an event brings them, or never, where the connection is lost.
+///
+/// Whatever happens to it, the headline holds of what is seen of it: each call that changes it says so.
+#[derive(Drop)]
+pub struct World {
+    network: Network,
+}
+
+impl Model for World {
+    ghost use Rattle.world3270.specs.ByteWorld.{ByteWorld};
+    ghost use Rattle.world3270.specs.Refines.{IsReached};
+
+    ghost Value = { ByteWorld };
+
+    ghost view = { λ world. world.network };
+
+    ghost invariant = { λ world. IsReached world.network };
+}
+
+/// Behind how many bytes memory was refused, if it was.
+fn refused_at(answer: Stepped) -> Option<usize>
+    ensures { result ≡ refused_at answer }
+{
+    match answer {
+        Stepped::Done => None,
+        Stepped::Refused(_) => None,
+        Stepped::Skipped => None,
+        Stepped::Part(taken) => Some(taken),
+        Stepped::Memory => Some(0),
+    }
+}
+
+impl World {
+    /// A world at its begin, with 1 to 16 terminals: nobody holds an LU, and no connection was ever used.
+    pub fn new(
+        alloc: Global,
+        panels: PanelSet,
+        pool: Pool,
+        terminals: usize,
+    ) -> Result<World, Memory>
+        requires { IsTerminalCount terminals }
+        ensures begins { IfOk result (λ world. world ≡ new_byte_world panels pool terminals) }
+        ensures headline { IfOk result (λ world. Headline (seen_bytes world)) }
+    {
+        bytes_follow_messages();
+        panels.panels_are_sound();
+        pool.lus_are_listed_once();
+        let network = Network::new(alloc, panels, pool, terminals)?;
+        let world = World { network };
+        world.headline_holds();
+        Ok(world)
+    }
+
+    /// The host.
+    pub fn host(&self) -> &Host
+        ensures { result.now ≡ self.now.host }
+    {
+        self.network.host()
+    }
+
+    /// A terminal, by its number.
+    pub fn terminal(&self, terminal: usize) -> &Terminal
+        requires { terminal < length self.now.sittings }
+        ensures { result.now ≡ (sitting_at terminal self.now).seat.terminal }
+    {
+        self.network.terminal(terminal)
+    }
+
+    /// The bytes under way to the host on a connection.
+    pub fn queued_up(&self, conn: usize) -> &[u8]
+        requires { conn < most_connections }
+        ensures { result.now ≡ up_of conn self.now }
+    {
+        self.network.queued_up(conn)
+    }
+
+    /// The bytes under way to the terminal on a connection.
+    pub fn queued_down(&self, conn: usize) -> &[u8]
+        requires { conn < most_connections }
+        ensures { result.now ≡ down_of conn self.now }
+    {
+        self.network.queued_down(conn)
+    }
+
+    /// Does nothing: its contract says that the headline holds of what is seen of this world, whatever happened to it.
+    pub fn headline_holds(&self)
+        ensures { Headline (seen_bytes self.now) }
+    {
+        let _network = &self.network;
+        bytes_follow_messages();
+    }
+
+    /// An event happens, or is skipped; the world goes on standing for one over messages.
+    fn happen(&mut self, event: &Event) -> Stepped
+        ensures { Steps event.now self.old result self.new }
+    {
+        bytes_follow_messages();
+        events_are_real(event);
+        self.network.happen(event)
+    }
+
+    /// An event happens, or is skipped where there is nothing for it to happen to.
+    pub fn step(&mut self, event: Event) -> Stepped
+        ensures steps { Steps event self.old result self.new }
+        ensures headline { Headline (seen_bytes self.new) }
+    {
+        let stepped = self.happen(&event);
+        self.headline_holds();
+        stepped
+    }
+
+    /// Events happen one after another, up to the first for which memory is refused.
+    pub fn run(&mut self, events: &[Event]) -> Ran
+        ensures runs { Runs events.now self.old result self.new }
+        ensures headline { Headline (seen_bytes self.new) }
+    {
+        for (whole, event) in events.iter().enumerate() {
+            match refused_at(self.happen(event)) {
+                None => {}
+                Some(part) => {
+                    self.headline_holds();
+                    return Ran { whole, part };
+                }
+            }
+        }
+        self.headline_holds();
+        Ran {
+            whole: events.len(),
+            part: 0,
+        }
+    }
+}
