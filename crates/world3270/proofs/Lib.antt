@@ -54,3 +54,4 @@ pub mod Partings
 pub mod Joinings
 pub mod HostAnew
 pub mod ByteEnds
+pub mod Unbroken

@@ -41,3 +41,4 @@ pub mod Refines
 pub mod SeenBytes
 pub mod ByteRuns
 pub mod Known
+pub mod Unbroken

@@ -18,6 +18,7 @@ ghost use Rattle.world3270.specs.Sendable.{AlwaysTyped, DataCanBeSpelt, PaintsAr
 ghost use Rattle.world3270.specs.Skipped.{SkippedChangesNothing};
 ghost use Rattle.world3270.specs.Stands.{StandsDown, StandsUp};
 ghost use Rattle.world3270.specs.StandsEnds.{PaintStands, TakesKeepSendable, TermPresses, TermTakes, WritesAreMarked};
+ghost use Rattle.world3270.specs.Unbroken.{DeliveriesCloseNothing, NothingIsRefused};
 ghost use Rattle.world3270.specs.StandsLinks.{
   BeginStands,
   BytesAreMarked,
@@ -251,13 +252,16 @@ fn what_is_known()
 /// Does nothing: its contract says how the world over bytes follows the world over messages. A world that begins stands for one
 /// that begins. After each event it stands for the world after more events: single deliveries, as many as there were messages whose
 /// last byte came, or that one event. An event is skipped exactly where that over messages is. And the headline holds of
-/// what is seen of each such world.
+/// what is seen of each such world. Whatever comes up or down, neither end closes a connection; and no response under way
+/// refuses a command.
 pub fn bytes_follow_messages()
     ensures begin { BeginIsReached }
     ensures steps { StepsGoOn }
     ensures runs { RunsGoOn }
     ensures skipped { SkipsAreThose }
     ensures headline { HeadlineIsSeen }
+    ensures close_nothing { DeliveriesCloseNothing }
+    ensures none_refused { NothingIsRefused }
 {
     what_is_known();
 }

@@ -8,6 +8,7 @@ use Rattle.world3270.proofs.ByteUp.{up_goes}
 use Rattle.world3270.proofs.Follows.{EventsGo, runs_go_on, steps_go_on}
 use Rattle.world3270.proofs.SeenStands.{headline_is_seen}
 use Rattle.world3270.specs.Refines.{SkipsAreThose, StepsGoOn}
+use Rattle.world3270.proofs.Unbroken.{deliveries_close_nothing, nothing_is_refused}
 use Rattle.world3270.proofs.bytes_follow_messages.Goals as goal
 
 skips : Known → SkipsAreThose
@@ -45,3 +46,9 @@ returns-clause-skipped c = skips c.what_is_known.ensures
 
 pub returns-clause-headline : goal.returns-clause-headline
 returns-clause-headline c = headline_is_seen c.what_is_known.ensures.worlds
+
+pub returns-clause-close_nothing : goal.returns-clause-close_nothing
+returns-clause-close_nothing c = deliveries_close_nothing c.what_is_known.ensures.worlds (steps c.what_is_known.ensures)
+
+pub returns-clause-none_refused : goal.returns-clause-none_refused
+returns-clause-none_refused c = nothing_is_refused c.what_is_known.ensures
