@@ -114,7 +114,7 @@ module _ {L : Type 0} (gave : L → ℕ → List ℕ → LinkRead → L → Type
   -- What there is to send is handed to one write, and what that took is dropped; where there is nothing to send, nothing is written.
   pub data SendsOut (conn : ℕ) (host : Host) (old : L) (new_host : Host) (new : L) : Type 0 where
     nothing : (line_at conn host).out ≡ [] → new_host ≡ host → new ≡ old → SendsOut conn host old new_host new
-    handed : (wrote : LinkWrite) → took old conn (line_at conn host).out wrote new → new_host ≡ sent_from conn (taken_by wrote) host
+    handed : (wrote : LinkWrite) → (line_at conn host).out ≢ [] → took old conn (line_at conn host).out wrote new → new_host ≡ sent_from conn (taken_by wrote) host
         → SendsOut conn host old new_host new
 
   -- One read; where that ended or failed nothing else. Else the host is fed what came, acts, and sends; want of memory ends the turn.
