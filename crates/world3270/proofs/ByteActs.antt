@@ -1,24 +1,14 @@
 -- What the host sends in its turn, and notes that it sends, over bytes: they stand for the messages that it sends.
-use Rattle.std.proofs.Common.{◌≡◌, ◌<◌, ◌≤◌, ◌+◌, ◌*◌, ◌==◌, not, ℕ, Bool, true, false, Option, Some, None, is_some, List, [], ◌∷◌, ◌++◌, length, length-append, refl, ap, sym, subst, ◌∙◌, arith, inr, IfSome, if◌then◌else◌}
-use Rattle.std.specs.Prelude.{⊤, All}
-use Rattle.std.proofs.lemmas.Bool.{and_parts, ltb-true, ne_eqb}
-use Rattle.std.proofs.lemmas.Bool.Decides.{Decides-eqb}
-use Rattle.std.proofs.lemmas.List.{append-nil, length-set, set-get_or, get_or_past, take-append-le}
-use Rattle.std.proofs.lemmas.List.Elements.{All-append, All-cons, All-nil, All-head, All-tail}
-use Rattle.codes3270.proofs.RoundTrips.{wcc_read_back}
-use Rattle.codes3270.specs.Size.{Shape, model_2, cell_count}
-use Rattle.datastream.proofs.Commands.{command_proper}
-use Rattle.datastream.proofs.Written.{orders_written}
-use Rattle.datastream.specs.Grammar.{CommandParts, IsCommand, write, other, IsProper}
-use Rattle.datastream.specs.Note.{quiet}
+use Rattle.std.proofs.Common.{◌≡◌, ◌<◌, ℕ, Bool, true, false, Option, Some, None, is_some, List, [], ◌∷◌, ◌++◌, length, refl, ap, sym, subst, ◌∙◌, IfSome, if◌then◌else◌}
+use Rattle.std.specs.Prelude.{All}
+use Rattle.std.proofs.lemmas.Bool.{and_parts, ltb-true}
+use Rattle.std.proofs.lemmas.List.{length-set, set-get_or}
+use Rattle.std.proofs.lemmas.List.Elements.{All-head, All-tail}
+use Rattle.codes3270.specs.Size.{Shape, model_2}
 use Rattle.shadow.specs.Belief.{Shadow}
 use Rattle.shadow.specs.Fits.{fits}
 use Rattle.shadow.specs.Laws.{PaintIsBounded}
-use Rattle.shadow.specs.Paint.{paint, paint_bytes}
-use Rattle.telnet_wire.specs.Items.{CanCome, sent_bytes}
-use Rattle.tn3270e_msg.specs.Header.{Begins, spelling, record_limit, error_response, always_response}
-use Rattle.tn3270e_msg.specs.declared.header.Header.{Header}
-use Rattle.host_core.proofs.NoteBytes.{note_record_fits}
+use Rattle.telnet_wire.specs.Items.{sent_bytes}
 use Rattle.host_core.specs.Acts.{Sent, acted, act_on, done as done_act, may_act}
 use Rattle.host_core.specs.Answering.{number_in}
 use Rattle.host_core.specs.Application.{Application, application_of}
@@ -26,8 +16,8 @@ use Rattle.host_core.specs.Does.{Does as HostDoes, acted_by, noted_by, with_conn
 use Rattle.host_core.specs.Laws.{PaintsWhatFits}
 use Rattle.host_core.specs.Messages.{ToTerminal}
 use Rattle.host_core.specs.NoteLaws.{IsNoteOf}
-use Rattle.host_core.specs.Notes.{note_orders, note_command, may_note, noted, noted_as}
-use Rattle.host_core.specs.Says.{written, read_buffer_command, command_header, command_record, item_sent}
+use Rattle.host_core.specs.Notes.{note_command, may_note, noted, noted_as}
+use Rattle.host_core.specs.Says.{item_sent}
 use Rattle.host_core.specs.Session.{Conn, is_agreed}
 use Rattle.host_core.specs.State.{Host, Line, Service, unused, most_connections, line_at, service_at, with_line}
 use Rattle.host_core.specs.declared.acted.Acted.{Acted}
@@ -35,7 +25,7 @@ use Rattle.host_core.specs.declared.acted.Acted.TheVariants as acted_as
 use Rattle.panels.specs.Panel.{Panels}
 use Rattle.world3270.specs.Known.{Known}
 use Rattle.world3270.specs.ByteSteps.{ActsHost, answer_acted, is_link}
-use Rattle.world3270.specs.ByteWorld.{ByteWorld, Under, Ways, Sitting, new_sitting, under_way, is_live, is_there, ways_at, sitting_at, with_host, host_there, host_out, out_of}
+use Rattle.world3270.specs.ByteWorld.{ByteWorld, Ways, is_there, ways_at, with_host, host_there, host_out, out_of}
 use Rattle.world3270.specs.Given.{Given}
 use Rattle.world3270.specs.Happens.{done}
 use Rattle.world3270.specs.Link.{Link, sent, host_sent}
@@ -45,91 +35,19 @@ use Rattle.world3270.specs.Places.{EndsAgree}
 use Rattle.world3270.specs.Refines.{Begin, IsBegin, Reached, GoesOn, SkipsAreThose, once, after}
 use Rattle.world3270.specs.Seats.{Seat}
 use Rattle.world3270.specs.Sendable.{IsTyped, PaintsAScreen, IsSpelt}
-use Rattle.world3270.specs.Standing.{WorldStands, IsFlow, AreWays, IsAt, IsNotClosed, IsSettled, conn_of, rest_of, seat_of, link_with}
-use Rattle.world3270.specs.Stands.{StandsDown, ByteLink, LinkStands}
+use Rattle.world3270.specs.Standing.{WorldStands, IsFlow, AreWays, IsNotClosed, IsSettled, conn_of, seat_of, link_with}
+use Rattle.world3270.specs.Stands.{ByteLink, LinkStands}
 use Rattle.world3270.specs.StandsEnds.{PaintStands}
 use Rattle.world3270.specs.StandsLinks.{said_down, sent_down, HostSends}
-use Rattle.world3270.specs.World.{Place, World, Event, IsEvent, with_link, new_world}
+use Rattle.world3270.specs.World.{World, Event, IsEvent, with_link, new_world}
 use Rattle.world3270.specs.declared.event.Event.TheVariants as event
 use Rattle.world3270.specs.declared.event.Stepped.{Stepped}
-use Rattle.world3270.proofs.Frames.{IsHere, changed_stands, line_same, line_other, who_is_there}
-use Rattle.world3270.proofs.Known.{Facts, Goes, facts, is_application, after_more, are_more, happened, reached_one}
+use Rattle.world3270.proofs.Frames.{beyond_is_alone, changed_stands, flow_there, line_other, line_same, line_within, link_there, sits_same, there_settled, with_parts}
+use Rattle.world3270.proofs.ItemsSpelt.{Spells, Suits, spells}
+use Rattle.world3270.proofs.Known.{Facts, Goes, facts_now, facts_once, is_application, reached_one, reached_still}
+use Rattle.world3270.proofs.OneOfMany.{with_other, with_same}
+use Rattle.world3270.proofs.UnderWay.{lost_says, more_flows, more_under_way}
 use Rattle.world3270.proofs.Worlds.{run_good, new_good}
-
--- ---- what is sent is spelt
-
--- what fits where it is sent: a paint what is believed, and a note a model 2
-abbrev Suits : ToTerminal → Type 0
-Suits (ToTerminal.TalksDown saying) = ⊥
-Suits (ToTerminal.Paint number wanted believed) = fits believed wanted ≡ true
-Suits (ToTerminal.ReadBuffer number) = ⊤
-Suits (ToTerminal.Note number command) = IsNoteOf model_2 command
-
--- what is known of a command under way
-record IsSound (message : ToTerminal) : Type 0 where
-  screen : PaintsAScreen message
-  spelt : IsSpelt message
-  number : IfSome (number_in message) IsNumber
-
--- its item stands for it, and may come
-record Spells (message : ToTerminal) : Type 0 where
-  stands : StandsDown (item_sent message) message
-  comes : CanCome record_limit (item_sent message)
-
-begins : (flag number : ℕ) (body : List ℕ) → flag ≤ always_response → IsNumber number
-    → Begins (spelling (command_header flag number) ++ body) (command_header flag number) body
-begins flag number body flags fits = record { is_header = record { kind = tt; flag = flags }; number = omega arith; spelt = refl }
-
--- five bytes are before a body
-record_length : (header : Header) (body : List ℕ) → length (spelling header ++ body) ≡ 5 + length body
-record_length header body = omega arith
-
--- a paint of so many cells is within the limit
-paint_fits : (whole bytes cells : ℕ) → whole ≡ 5 + bytes → bytes ≤ 6 + 5 * cells → cells ≡ cell_count → whole ≤ record_limit
-paint_fits whole bytes cells is few size = omega arith
-
-note_spelt : (command : CommandParts) (text : List ℕ) → command ≡ note_command model_2 text → All IsProper command.orders → IsCommand command (written command)
-note_spelt command text is proper =
-    subst (λ (c : CommandParts). IsCommand c (written c)) (sym is)
-    (write _ _ _ refl (inr refl) (ap (λ w. Some w) (sym (wcc_read_back quiet)))
-    (orders_written (note_orders model_2 text) (subst (λ (c : CommandParts). All IsProper c.orders) is proper)) refl)
-
-note_comes : (number : ℕ) (command : CommandParts) (text : List ℕ) → command ≡ note_command model_2 text
-    → length (command_record always_response number command) ≤ record_limit
-note_comes number command text is =
-    let fits = note_record_fits number text (command_record always_response number (note_command model_2 text)) refl in
-    subst (λ (c : CommandParts). length (command_record always_response number c) ≤ record_limit) (sym is) (omega arith)
-
-spells : PaintStands → PaintIsBounded → (message : ToTerminal) → Suits message → IsSound message → Spells message
-spells stands bounded (ToTerminal.TalksDown saying) suits sound = absurd suits
-spells stands bounded (ToTerminal.Paint number wanted believed) suits sound =
-    let body : List ℕ = written (paint (length wanted.cells) believed wanted) in
-    record {
-      stands = stands number wanted believed (spelling (command_header always_response number) ++ body) body (begins always_response number body (omega arith) sound.number)
-          (subst (λ (n : ℕ). IsCommand (paint n believed wanted) (paint_bytes n believed wanted)) (sym sound.screen.size) sound.spelt) suits;
-      comes = paint_fits (length (spelling (command_header always_response number) ++ body)) (length body) (length wanted.cells)
-          (record_length (command_header always_response number) body) (bounded (length wanted.cells) believed wanted) sound.screen.size;
-    }
-spells stands bounded (ToTerminal.ReadBuffer number) suits sound = record {
-  stands = record {
-    bytes = command_record error_response number read_buffer_command;
-    body = written read_buffer_command;
-    is_record = refl;
-    begins = begins error_response number (written read_buffer_command) (omega arith) sound.number;
-    spelt = other _ [] refl (inr refl) refl refl refl;
-  };
-  comes = omega arith;
-}
-spells stands bounded (ToTerminal.Note number command) suits sound = record {
-  stands = record {
-    bytes = command_record always_response number command;
-    body = written command;
-    is_record = refl;
-    begins = begins always_response number (written command) (omega arith) sound.number;
-    spelt = note_spelt command suits.text suits.is (command_proper command sound.spelt);
-  };
-  comes = note_comes number command suits.text suits.is;
-}
 
 -- ---- the connection, once something is said
 
@@ -139,35 +57,7 @@ told sending number old = with_host (with_line number (sent_on sending (line_at 
 
 -- the connection, where the host's line is this one
 abbrev with_this : Option ℕ → Ways → List ℕ → Seat → Service → List ℕ → ByteLink
-with_this here ways up seat service out = record {
-  lost = not (is_live ways.down);
-  down = under_way ways.down out;
-  up = under_way ways.up up;
-  host_here = is_there service;
-  host = conn_of service;
-  host_rest = rest_of service;
-  term_here = here;
-  seat = seat;
-}
-
--- terminals stay
-same_out : (here : Option ℕ) (host : Host) (old : ByteWorld) → out_of here (with_host host old) ≡ out_of here old
-same_out None host old = refl
-same_out (Some terminal) host old = refl
-
-same_seat : (here : Option ℕ) (host : Host) (old : ByteWorld) → seat_of here (with_host host old) ≡ seat_of here old
-same_seat None host old = refl
-same_seat (Some terminal) host old = refl
-
-more_sent : (out more : List ℕ) (under : Under) → IsFlow true out under → under_way under (out ++ more) ≡ sent (not (is_live under)) (under_way under out) more
-more_sent out more Under.Live flow = refl
-more_sent out more (Under.Cut kept) flow = take-append-le kept out more flow
-more_sent out more (Under.Left bytes) flow = absurd (cc)
-
-more_flows : (out more : List ℕ) (under : Under) → IsFlow true out under → IsFlow true (out ++ more) under
-more_flows out more Under.Live flow = tt
-more_flows out more (Under.Cut kept) flow = let whole = length-append out more in omega (arith, flow, whole)
-more_flows out more (Under.Left bytes) flow = flow
+with_this here ways up seat service out = with_parts here (record { service = service; out = out }) ways up seat
 
 -- the host's line says more, and the connection has that under way
 line_says : (here : Option ℕ) (ways : Ways) (up : List ℕ) (seat : Seat) (sending : Sent) (service : Service) (out : List ℕ) → is_there service ≡ true → IsNotClosed service
@@ -177,7 +67,7 @@ line_says : (here : Option ℕ) (ways : Ways) (up : List ℕ) (seat : Seat) (sen
 line_says here ways up seat sending Service.Free out there going flow = absurd (cc)
 line_says here ways up seat sending (Service.Open rest conn) out there going flow =
     ap (λ (down : List ℕ). record (with_this here ways up seat (Service.Open rest sending.conn) out) { down = down })
-    (more_sent out (sent_bytes (item_sent sending.message ∷ [])) ways.down flow)
+    (more_under_way out (sent_bytes (item_sent sending.message ∷ [])) ways.down flow)
 line_says here ways up seat sending (Service.Closed cause) out there going flow = absurd going
 
 -- the host's line is then this one
@@ -195,31 +85,21 @@ told_link : (here : Option ℕ) (number : ℕ) (old : ByteWorld) (sending : Sent
     → link_with here number (told sending number old) ≡ said_down sending.conn (item_sent sending.message ∷ []) (link_with here number old)
 told_link here number old sending below there going flow =
     let ways : Ways = ways_at number old in
-    let host : Host = (told sending number old).host in
     let seat : Seat = seat_of here (told sending number old) in
     let service : Service = with_conn sending.conn (service_at number old.host) in
     ap (λ (l : Line). with_this here ways (out_of here (told sending number old)) seat l.service l.out) (with_line_there number old sending below)
-    ∙ ap (λ (up : List ℕ). with_this here ways up seat service (said_out number old sending)) (same_out here host old)
-    ∙ ap (λ (s : Seat). with_this here ways (out_of here old) s service (said_out number old sending)) (same_seat here host old)
+    ∙ ap (λ (up : List ℕ). with_this here ways up seat service (said_out number old sending)) (sits_same here old (told sending number old) refl).0
+    ∙ ap (λ (s : Seat). with_this here ways (out_of here old) s service (said_out number old sending)) (sits_same here old (told sending number old) refl).1
     ∙ line_says here ways (out_of here old) (seat_of here old) sending (service_at number old.host) (host_out number old) there going flow
 
 -- on a lost connection what is said vanishes; else it stands for what is sent
-vanishes : {X : Type 0} (lost : Bool) (queue some others : List X) → lost ≡ true → sent lost queue some ≡ sent lost queue others
-vanishes true queue some others is = refl
-vanishes false queue some others is = absurd (cc)
-
 said_stands : HostSends → (bytes : ByteLink) (link : Link) (sending : Sent) → LinkStands bytes link → (link.lost ≡ false → Spells sending.message)
     → LinkStands (said_down sending.conn (item_sent sending.message ∷ []) bytes) (sent_down sending.conn (sending.message ∷ []) link)
 said_stands sends bytes link sending stands good = by_loss link.lost refl
   where
     by_loss : (lost : Bool) → link.lost ≡ lost
         → LinkStands (said_down sending.conn (item_sent sending.message ∷ []) bytes) (sent_down sending.conn (sending.message ∷ []) link)
-    by_loss true is =
-        subst (λ (down : List ℕ). LinkStands (record bytes { host = sending.conn; down = down }) (sent_down sending.conn (sending.message ∷ []) link))
-        (vanishes bytes.lost bytes.down (sent_bytes []) (sent_bytes (item_sent sending.message ∷ [])) (stands.lost ∙ is))
-        (subst (λ (down : List ToTerminal). LinkStands (said_down sending.conn [] bytes) (record link { host = sending.conn; down = down }))
-        (vanishes link.lost link.down [] (sending.message ∷ []) is)
-        (sends bytes link sending.conn [] [] stands tt tt))
+    by_loss true is = lost_says sends bytes link sending.conn (item_sent sending.message ∷ []) (sending.message ∷ []) stands is
     by_loss false is =
         let spelt : Spells sending.message = good is in
         sends bytes link sending.conn (item_sent sending.message ∷ []) (sending.message ∷ []) stands (spelt.comes, tt) (spelt.stands, tt)
@@ -229,21 +109,6 @@ said_stands sends bytes link sending stands good = by_loss link.lost refl
 -- over messages
 abbrev says : Sent → ℕ → World → World
 says sending number world = with_link number (host_sent (Some sending) (world.link number)) world
-
-same_number : (number : ℕ) → (number == number) ≡ true
-same_number number = (Decides-eqb number number).1 refl
-
-link_now : (number : ℕ) (world : World) (sending : Sent) → (says sending number world).link number ≡ host_sent (Some sending) (world.link number)
-link_now number world sending = ap (λ (b : Bool). if b then host_sent (Some sending) (world.link number) else world.link number) (same_number number)
-
--- nobody is at a terminal beyond all
-stays_alone : (number : ℕ) (sitting : Sitting) (place : Place) → IsAt sitting place → sitting.at ≡ None → IsHere number place
-stays_alone number sitting (Place.At at) is none = absurd (cc)
-stays_alone number sitting (Place.Alone display) is none = tt
-
--- where the host is nothing is said of what it has to send
-there_settled : (line : Line) → is_there line.service ≡ true → IsSettled line
-there_settled line there free = absurd (cc)
 
 still_open : (conn : Conn) (service : Service) → IsNotClosed service → IsNotClosed (with_conn conn service)
 still_open conn Service.Free going = tt
@@ -258,14 +123,10 @@ still_there conn (Service.Closed cause) there = refl
 module _ (sends : HostSends) (number : ℕ) (old : ByteWorld) (world : World) (sending : Sent) (stands : WorldStands old world)
     (below : number < most_connections) (there : host_there number old ≡ true) (good : (world.link number).lost ≡ false → Spells sending.message) where
   in_lines : number < length old.host.lines
-  in_lines = subst (λ (n : ℕ). number < n) (sym stands.lines) below
+  in_lines = line_within number old world stands below
 
   goes_down : IsFlow true (host_out number old) (ways_at number old).down
   goes_down = subst (λ (b : Bool). IsFlow b (host_out number old) (ways_at number old).down) there (stands.flows number).down
-
-  beyond : IsHere number (world.place (length old.sittings))
-  beyond = stays_alone number (sitting_at (length old.sittings) old) (world.place (length old.sittings)) (stands.places (length old.sittings))
-      (ap (λ (s : Sitting). s.at) (get_or_past old.sittings (length old.sittings) new_sitting (omega arith)))
 
   told_flow : (here : Option ℕ) → AreWays here number old → AreWays here number (told sending number old)
   told_flow here are = record {
@@ -274,7 +135,7 @@ module _ (sends : HostSends) (number : ℕ) (old : ByteWorld) (world : World) (s
         (subst (λ (b : Bool). IsFlow b (host_out number old ++ sent_bytes (item_sent sending.message ∷ [])) (ways_at number old).down)
         (sym (still_there sending.conn (service_at number old.host) there))
         (more_flows (host_out number old) (sent_bytes (item_sent sending.message ∷ [])) (ways_at number old).down goes_down));
-    up = subst (λ (out : List ℕ). IsFlow (is_some here) out (ways_at number old).up) (sym (same_out here (told sending number old).host old)) are.up;
+    up = subst (λ (out : List ℕ). IsFlow (is_some here) out (ways_at number old).up) (sym (sits_same here old (told sending number old) refl).0) are.up;
   }
 
   told_stands_here : (here : Option ℕ) → LinkStands (link_with here number old) (world.link number)
@@ -286,30 +147,29 @@ module _ (sends : HostSends) (number : ℕ) (old : ByteWorld) (world : World) (s
 
   told_stands : EndsAgree world → EndsAgree (says sending number world) → WorldStands (told sending number old) (says sending number world)
   told_stands agree agrees =
-      let now = link_now number world sending in
-      let who = who_is_there old world number agree stands.places in
+      let now = with_same number (host_sent (Some sending) (world.link number)) world.link in
       changed_stands number (length old.sittings) old (told sending number old) world (says sending number world)
       (record {
         lines = λ other differs. line_other number other (sent_on sending (line_at number old.host)) old.host differs;
         ways = λ other differs. refl;
         sittings = λ other differs. refl;
-        links = λ other differs. ap (λ (b : Bool). if b then host_sent (Some sending) (world.link number) else world.link other) (ne_eqb other number differs);
+        links = λ other differs. with_other number other (host_sent (Some sending) (world.link number)) world.link differs;
         places = λ other differs. refl;
         line_count = length-set old.host.lines number (sent_on sending (line_at number old.host));
         way_count = refl;
         sitting_count = refl;
         terminals = refl;
         pool = stands.pool;
-        before = beyond;
-        behind = beyond;
+        before = beyond_is_alone number old world stands;
+        behind = beyond_is_alone number old world stands;
         none_closed = subst (λ (l : Line). IsNotClosed l.service) (sym (with_line_there number old sending in_lines))
             (still_open sending.conn (service_at number old.host) (stands.none_closed number));
         settled = subst (λ (l : Line). IsSettled l) (sym (with_line_there number old sending in_lines))
             (there_settled (sent_on sending (line_at number old.host)) (still_there sending.conn (service_at number old.host) there));
         flow = subst (λ (l : Link). AreWays l.term_here number (told sending number old)) (sym now)
-            (told_flow (world.link number).term_here (subst (λ (h : Option ℕ). AreWays h number old) who (stands.flows number)));
+            (told_flow (world.link number).term_here (flow_there number old world agree stands));
         link = subst (λ (l : Link). LinkStands (link_with l.term_here number (told sending number old)) l) (sym now)
-            (told_stands_here (world.link number).term_here (subst (λ (h : Option ℕ). LinkStands (link_with h number old) (world.link number)) who (stands.links number)));
+            (told_stands_here (world.link number).term_here (link_there number old world agree stands));
         place = stands.places (length old.sittings);
       })
       agree stands agrees
@@ -380,8 +240,7 @@ went_on begin events message number sending old new answer host acted_as.Sent do
 went_on begin events message number sending old new answer host acted_as.Memory does others answers leaves before reached = record {
   more = [];
   is_once = ap (λ (a : Stepped). once message a) (sym answers);
-  reached = subst (λ (all : List Event). Reached begin all new) (sym (append-nil events))
-      (subst (λ (w : ByteWorld). Reached begin events w) (sym (leaves ∙ nothing_said number old host others does)) before);
+  reached = reached_still begin events old new before (leaves ∙ nothing_said number old host others does);
 }
 went_on begin events message number sending old new answer host acted_as.Nothing does others answers leaves before reached = absurd does
 
@@ -394,12 +253,10 @@ module _ (known : Known) (skips : SkipsAreThose) (given : Given) (stands_for : P
   told_reached begin events message number sending old is reached such typed place is_done below there suits =
       let world : World = after begin events in
       let link : Link = world.link number in
-      let before : Facts world = facts known.worlds begin is events reached.are_events reached.typed in
+      let before : Facts world = facts_now known.worlds begin events old is reached in
       let behind : Facts (says sending number world) =
-      subst (λ (w : World). Facts w) (after_more begin events (message ∷ []) ∙ happened begin message world place ∙ is_done)
-      (facts known.worlds begin is (events ++ message ∷ []) (are_more events (message ∷ []) reached.are_events (such, tt))
-      (All-append IsTyped events (message ∷ []) reached.typed (All-cons IsTyped message [] typed (All-nil IsTyped)))) in
-      let now = link_now number world sending in
+      subst (λ (w : World). Facts w) is_done (facts_once known.worlds begin events message old is reached such typed place) in
+      let now = with_same number (host_sent (Some sending) link) world.link in
       reached_one begin events message old (told sending number old) reached such typed place refl
       (subst (λ (w : World). WorldStands (told sending number old) w) (sym is_done)
       (told_stands known.links.sends number old world sending reached.stands below there

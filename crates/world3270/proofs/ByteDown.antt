@@ -1,9 +1,8 @@
 -- Bytes come down to a terminal: what that comes to over messages.
-use Rattle.std.proofs.Common.{◌≡◌, ◌≢◌, ◌<◌, ◌≤◌, ◌-◌, ◌&&◌, ◌++◌, ℕ, zero, suc, Bool, true, false, Option, None, Some, is_some, List, [], ◌∷◌, length, take, drop, replicate, slice_index_or, refl, ap, sym, subst, ◌∙◌, arith, append_assoc, le_of_suc-le-suc, not-suc-le-zero, length-drop, length-set, if◌then◌else◌}
+use Rattle.std.proofs.Common.{◌≡◌, ◌≢◌, ◌<◌, ◌≤◌, ◌&&◌, ◌++◌, ℕ, zero, suc, Bool, true, false, Option, None, Some, is_some, List, [], ◌∷◌, length, take, drop, replicate, slice_index_or, refl, ap, sym, subst, ◌∙◌, append_assoc, le_of_suc-le-suc, not-suc-le-zero, length-set, if◌then◌else◌}
 use Rattle.std.proofs.lemmas.Bool.{and_parts, ltb-true}
 use Rattle.std.proofs.lemmas.List.{append-nil}
 use Rattle.std.proofs.lemmas.List.Elements.{All-replicate}
-use Rattle.std.proofs.lemmas.List.Quantifiers.{position-Some}
 use Rattle.std.specs.Prelude.{All}
 use Rattle.datastream.specs.InboundFields.{IsSendable}
 use Rattle.host_core.specs.Application.{Application, application_of}
@@ -21,31 +20,33 @@ use Rattle.tn3270e_msg.specs.declared.cause.Stop.{Stop}
 use Rattle.tn3270e_msg.specs.declared.cause.Stop.TheVariants as stop
 use Rattle.world3270.specs.Known.{Known}
 use Rattle.world3270.specs.ByteSteps.{ComesDown, GoesDown, down_came, host_told, terminal_gone_if}
-use Rattle.world3270.specs.ByteWorld.{ByteWorld, Under, Ways, Sitting, came, sits_at, terminal_there, down_of, is_live, is_senders, is_there, new_sitting, sitting_at, terminal_at, unused_ways, ways_at, with_sitting}
+use Rattle.world3270.specs.ByteWorld.{ByteWorld, Under, Ways, Sitting, came, terminal_there, down_of, is_senders, is_there, new_sitting, sitting_at, terminal_at, unused_ways, ways_at, with_sitting}
 use Rattle.world3270.specs.Happens.{closed_if, came_down, done, happens, place_after, run, said, term_took_it, went_down}
-use Rattle.world3270.specs.Link.{Link, sent, term_left_if, term_stepped}
+use Rattle.world3270.specs.Link.{Link, term_left_if, term_stepped}
 use Rattle.world3270.specs.Placed.{comes_down, is_link, is_queued}
 use Rattle.world3270.specs.Refines.{Begin, IsBegin, Reached, GoesOn, after}
 use Rattle.world3270.specs.Seats.{Seat, SeatTakes}
 use Rattle.world3270.specs.Sendable.{IsTyped, display_at}
-use Rattle.world3270.specs.Standing.{WorldStands, AreWays, IsFlow, with_out, link_with}
+use Rattle.world3270.specs.Standing.{WorldStands, with_out}
 use Rattle.world3270.specs.Stands.{ByteLink, LinkStands}
 use Rattle.world3270.specs.StandsLinks.{IsReady, NoneCloses, took_down}
 use Rattle.world3270.specs.Terminal.{TermEnd, TermStep, took as term_took}
 use Rattle.world3270.specs.World.{Place, World, Event as MessageEvent, AreEvents, with_at}
 use Rattle.world3270.specs.declared.event.Event.TheVariants as event
 use Rattle.world3270.specs.declared.event.Stepped.{Stepped}
-use Rattle.world3270.proofs.ByteKeys.{facts_then}
-use Rattle.world3270.proofs.ByteTerms.{made_of, AreFlows, BytesWent, GoesOnHere, TermWent, flows_go_on, link_goes_on, term_went_stands, with_other, with_same}
-use Rattle.world3270.proofs.Frames.{came_under_way, found_sits, line_other, line_same, sitting_other, sitting_same, ways_other, ways_same, who_is_there}
-use Rattle.world3270.proofs.Known.{Facts, Goes, facts, reached_more}
+use Rattle.world3270.proofs.ByteTerms.{made_of, AreFlows, BytesWent, GoesOnHere, TermWent, flows_go_on, flows_here, link_goes_on, stands_here, term_went_stands}
+use Rattle.world3270.proofs.Frames.{found_sits, found_within, line_other, line_same, line_within, sitting_other, sitting_same, who_was_there, way_within, ways_other, ways_same}
+use Rattle.world3270.proofs.Known.{Facts, Goes, facts_now, facts_then, reached_more}
+use Rattle.world3270.proofs.OneOfMany.{with_other, with_same}
+use Rattle.world3270.proofs.StandsLinks.{stayed}
+use Rattle.world3270.proofs.UnderWay.{came_flows, came_live, came_under_way}
 
 -- ---- what a terminal makes of bytes doesn't hang on what it has to send
 
 record ByteQuietly (old : Terminal) (byte : ℕ) (new : Terminal) : Type 0 where
-  pub said : List ℕ
-  pub out_is : new.out ≡ old.out ++ said
-  pub takes : (before : List ℕ) → TakesByte (record old { out = before }) byte (record new { out = before ++ said })
+  said : List ℕ
+  out_is : new.out ≡ old.out ++ said
+  takes : (before : List ℕ) → TakesByte (record old { out = before }) byte (record new { out = before ++ said })
 
 -- with a byte to which it says nothing
 says_nothing : (before : List ℕ) (new plain : Terminal) → new ≡ plain → record new { out = before ++ [] } ≡ record plain { out = before }
@@ -70,13 +71,13 @@ quiet_byte old byte new (TakesByte.breaks rest talk fault at wrong is) = record 
 }
 
 -- bytes come, one after another
-pub record TakesQuietly (old : Seat) (bytes : List ℕ) (new : Seat) : Type 0 where
-  pub said : List ℕ
-  pub out_is : new.terminal.out ≡ old.terminal.out ++ said
-  pub takes : (before : List ℕ) → SeatTakes (with_out before old) bytes (with_out (before ++ said) new)
+record TakesQuietly (old : Seat) (bytes : List ℕ) (new : Seat) : Type 0 where
+  said : List ℕ
+  out_is : new.terminal.out ≡ old.terminal.out ++ said
+  takes : (before : List ℕ) → SeatTakes (with_out before old) bytes (with_out (before ++ said) new)
 
 -- With other bytes to send before, the same comes of it, and what it says stands behind these.
-pub quiet_takes : (old : Seat) (bytes : List ℕ) (new : Seat) → SeatTakes old bytes new → TakesQuietly old bytes new
+quiet_takes : (old : Seat) (bytes : List ℕ) (new : Seat) → SeatTakes old bytes new → TakesQuietly old bytes new
 quiet_takes old [] new taken = record {
   said = [];
   out_is = ap (λ (s : Seat). s.terminal.out) taken ∙ sym (append-nil old.terminal.out);
@@ -98,10 +99,6 @@ quiet_takes old (byte ∷ bytes) new taken =
     }
 
 -- ---- messages come down, over messages
-
--- the connection after one that closes nothing
-abbrev stayed : TermStep → List ToTerminal → Link → Link
-stayed step rest link = record link { down = rest; term = step.end; up = sent link.lost link.up step.sends }
 
 -- what one makes of the world, by the cause by which it closes the connection, if it does
 abbrev made_by : Option Cause → ℕ → ℕ → TermStep → List ToTerminal → World → World
@@ -153,7 +150,7 @@ went_on number terminal one other was mid now first second = record {
 }
 
 -- Messages come down, one by one: none of them closes the connection.
-pub all_came : (app : Application) (number terminal : ℕ) → is_link number ≡ true → (taken others : List ToTerminal) (world : World)
+all_came : (app : Application) (number terminal : ℕ) → is_link number ≡ true → (taken others : List ToTerminal) (world : World)
     → (world.link number).term_here ≡ Some terminal → world.place terminal ≡ Place.At number → (world.link number).down ≡ taken ++ others
     → NoneCloses (world.link number).term (taken ++ others)
     → TermWent number terminal (took_down taken others (world.link number)) world (run app (replicate (length taken) (MessageEvent.Down number)) world)
@@ -195,39 +192,24 @@ taken_off (suc taken) zero bytes few = absurd (not-suc-le-zero few)
 taken_off (suc taken) (suc count) [] few = refl
 taken_off (suc taken) (suc count) (byte ∷ bytes) few = ap (λ (b : List ℕ). byte ∷ b) (taken_off taken count bytes (le_of_suc-le-suc few))
 
--- a connection is lost as before
-came_live : (count : ℕ) (under : Under) → is_live (came count under) ≡ is_live under
-came_live count Under.Live = refl
-came_live count (Under.Cut kept) = refl
-came_live count (Under.Left bytes) = refl
-
 -- what the host has to send then
 abbrev out_then : Bool → ℕ → List ℕ → List ℕ
 out_then senders count out = if senders then drop count out else out
 
--- and what was cut is no more than the host has to send
 nothing_then : (is_its : Bool) (count : ℕ) (out : List ℕ) → out ≡ [] → out_then is_its count out ≡ []
 nothing_then true zero out none = none
 nothing_then true (suc count) out none = ap (λ (o : List ℕ). drop (suc count) o) none
 nothing_then false count out none = none
 
-came_flow : (there : Bool) (count : ℕ) (out : List ℕ) (under : Under) → IsFlow there out under → IsFlow there (out_then (is_senders under) count out) (came count under)
-came_flow there count out Under.Live flow = tt
-came_flow there count out (Under.Cut kept) flow = fewer kept flow
-  where
-    fewer : (kept : ℕ) → kept ≤ length out → kept - count ≤ length (drop count out)
-    fewer kept few = omega (arith, length-drop count out, few)
-came_flow there count out (Under.Left bytes) flow = flow
-
 -- the host is told
 record IsTold (number : ℕ) (line : Line) (old new : ByteWorld) : Type 0 where
-  pub line_is : line_at number new.host ≡ line
-  pub other_lines : (other : ℕ) → other ≢ number → line_at other new.host ≡ line_at other old.host
-  pub line_count : length new.host.lines ≡ length old.host.lines
-  pub pool : new.host.pool ≡ old.host.pool
-  pub panels : new.host.panels ≡ old.host.panels
-  pub links : new.links ≡ old.links
-  pub sittings : new.sittings ≡ old.sittings
+  line_is : line_at number new.host ≡ line
+  other_lines : (other : ℕ) → other ≢ number → line_at other new.host ≡ line_at other old.host
+  line_count : length new.host.lines ≡ length old.host.lines
+  pool : new.host.pool ≡ old.host.pool
+  panels : new.host.panels ≡ old.host.panels
+  links : new.links ≡ old.links
+  sittings : new.sittings ≡ old.sittings
 
 -- where what came was its own, as many bytes fewer are left to send
 told : (senders : Bool) (count number : ℕ) (world : ByteWorld) → number < length world.host.lines
@@ -288,10 +270,6 @@ not_gone (stop.Closed cause) old new bytes taken terminal number world rest talk
     let both : Closed cause ≡ Attached rest talk = sym stops ∙ attached in
     absurd (cc)
 
--- a terminal that is found is one of those that there are
-is_below : (number terminal : ℕ) (world : ByteWorld) → terminal_at number world.sittings ≡ Some terminal → terminal < length world.sittings
-is_below number terminal world found = (position-Some (λ sitting. sits_at number sitting.at) world.sittings terminal new_sitting found).0
-
 -- ---- the delivery
 
 module _ (known : Known) (begin : Begin) (events : List MessageEvent) (number count terminal : ℕ) (old : ByteWorld) (answer : Stepped) (new : ByteWorld)
@@ -319,20 +297,19 @@ module _ (known : Known) (begin : Begin) (events : List MessageEvent) (number co
   bytes_behind = drop taken_bytes (down_of number old)
 
   world_facts : Facts world
-  world_facts = facts known.worlds begin is events reached.are_events reached.typed
+  world_facts = facts_now known.worlds begin events old is reached
 
   here : link.term_here ≡ Some terminal
-  here = sym (who_is_there old world number world_facts.agree reached.stands.places) ∙ found
+  here = sym (who_was_there number old world world_facts.agree reached.stands) ∙ found
 
   place : world.place terminal ≡ Place.At number
   place = (world_facts.agree terminal number).1 here
 
   stood : LinkStands (made_of terminal line ways sitting) link
-  stood = subst (λ (h : Option ℕ). LinkStands (link_with h number old) link) found (reached.stands.links number)
+  stood = stands_here number terminal old world world_facts.agree reached.stands here
 
   flows : AreFlows line ways sitting
-  flows = let are : AreWays (Some terminal) number old = subst (λ (h : Option ℕ). AreWays h number old) found (reached.stands.flows number) in
-      record { together = are.together; down = are.down; up = are.up }
+  flows = flows_here number terminal old world world_facts.agree reached.stands here
 
   ready : IsReady (made_of terminal line ways sitting) link
   ready = record {
@@ -362,18 +339,18 @@ module _ (known : Known) (begin : Begin) (events : List MessageEvent) (number co
       let out : List ℕ = out_then (is_senders ways.down) taken_bytes line.out in
       let goes : GoesOnHere line out ways left sitting comes.seat quiet.said bytes_behind = record {
         live = came_live taken_bytes ways.down;
-        flow = came_flow (is_there line.service) taken_bytes line.out ways.down flows.down;
+        flow = came_flows (is_there line.service) taken_bytes line.out ways.down flows.down;
         behind_is = came_under_way taken_bytes ways.down line.out;
         out_is = quiet.out_is;
       } in
       let below : number < most_connections = ltb-true number most_connections linked in
       let after_it : ByteWorld = down_came taken_bytes number (with_sitting terminal (record sitting { seat = comes.seat }) old) in
-      let went_bytes = bytes_went number terminal taken_bytes comes.seat old (subst (λ (n : ℕ). number < n) (sym reached.stands.lines) below)
-      (subst (λ (n : ℕ). number < n) (sym reached.stands.ways) below) (is_below number terminal old found) in
+      let went_bytes = bytes_went number terminal taken_bytes comes.seat old (line_within number old world reached.stands below)
+      (way_within number old world reached.stands below) (found_within number terminal old found) in
       let made : new ≡ after_it = comes.leaves
       ∙ not_gone comes.fed.stop sitting.seat.terminal comes.seat.terminal (take count (down_of number old)) taken_bytes terminal number after_it
       (down.stands.term terminal went.here).rest holds.talk comes.feeds.stops holds.attached in
-      let next_facts = facts_then known begin events more old is reached (are_deliveries number (length down.taken)) typed in
+      let next_facts = facts_then known.worlds begin events more old is reached (are_deliveries number (length down.taken)) typed in
       let stands : WorldStands after_it now = term_went_stands number terminal (record line { out = out }) (record ways { down = left })
       (record sitting { seat = comes.seat }) old after_it next world now went_bytes went
       (record {

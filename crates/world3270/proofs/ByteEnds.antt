@@ -1,8 +1,7 @@
 -- What connections that are lost, ends that leave, and ends that begin come to, over bytes as over messages.
-use Rattle.std.proofs.Common.{◌≡◌, ◌<◌, ◌++◌, ◌&&◌, ℕ, Bool, true, Option, None, Some, List, [], ◌∷◌, length, append-nil, refl, ap, sym, subst, ◌∙◌}
-use Rattle.std.specs.Prelude.{All}
+use Rattle.std.proofs.Common.{◌≡◌, ◌<◌, ◌&&◌, ℕ, Bool, true, Option, None, Some, List, [], ◌∷◌, length, refl, ap, sym, subst, ◌∙◌}
 use Rattle.std.proofs.lemmas.Bool.{and_parts, ltb-true}
-use Rattle.std.proofs.lemmas.List.Elements.{All-append, All-cons, All-nil}
+use Rattle.std.proofs.lemmas.List.Elements.{All-nil}
 use Rattle.codes3270.specs.Size.{model_2}
 use Rattle.host_core.specs.Application.{application_of}
 use Rattle.host_core.specs.State.{most_connections}
@@ -10,22 +9,24 @@ use Rattle.world3270.specs.Known.{Known}
 use Rattle.world3270.specs.ByteSteps.{Connects, ConnectsIf, has_place, is_link, is_terminal, is_lost, is_up, sees_loss, may_connect, free_number, lost_ways, host_gone, saw_loss, terminal_anew, host_anew, host_gone_below}
 use Rattle.world3270.specs.ByteWorld.{ByteWorld, Sitting, alone, new_sitting, host_there, sitting_at, with_ways}
 use Rattle.world3270.specs.Happens.{done, left_alone, joined, term_saw, term_anew}
-use Rattle.world3270.specs.Placed.{has_place as has_place_over_messages, free_number as free_over_messages}
+use Rattle.world3270.specs.Placed.{free_number as free_over_messages}
 use Rattle.world3270.specs.Places.{EndsAgree, UpIsHeld}
 use Rattle.world3270.specs.Refines.{Begin, IsBegin, Reached, IsReal, IsCounted, GoesOn, ComesTo, SkipsAreThose, BeginIsReached, message_event, once, after}
 use Rattle.world3270.specs.Sendable.{IsTyped}
-use Rattle.world3270.specs.Standing.{WorldStands, IsAt, link_with}
-use Rattle.world3270.specs.Stands.{LinkStands}
+use Rattle.world3270.specs.Standing.{WorldStands, IsAt}
 use Rattle.world3270.specs.StandsLinks.{TermLeaves}
 use Rattle.world3270.specs.Terminal.{new_display}
-use Rattle.world3270.specs.World.{Place, World, Event as MessageEvent, IsEvent, AreEvents}
+use Rattle.world3270.specs.World.{Place, World, Event as MessageEvent}
 use Rattle.world3270.specs.declared.event.Event.{Event}
 use Rattle.world3270.specs.declared.event.Event.TheVariants as event
 use Rattle.world3270.specs.declared.event.Stepped.{Stepped}
+use Rattle.world3270.proofs.BytePlaced.{same_free}
+use Rattle.world3270.proofs.ByteTerms.{alone_stands, stands_here}
+use Rattle.world3270.proofs.Frames.{way_within}
 use Rattle.world3270.proofs.HostAnew.{host_anew_stands, panels_stay}
-use Rattle.world3270.proofs.Joinings.{anew_alone, begin_stands, connected, connected_stands, found_below, new_is_alone, same_free}
-use Rattle.world3270.proofs.Known.{Facts, Goes, facts, after_more, are_more, happened, reached_one}
-use Rattle.world3270.proofs.Partings.{host_gone_stands, link_there, lost_stands, parted_stands}
+use Rattle.world3270.proofs.Joinings.{begin_stands, connected, connected_stands, found_below, new_is_alone}
+use Rattle.world3270.proofs.Known.{Goes, facts_now, facts_once, reached_one, reached_still}
+use Rattle.world3270.proofs.Partings.{host_gone_stands, lost_stands, parted_stands}
 
 -- ---- a terminal leaves its connection
 
@@ -37,9 +38,7 @@ left_is_alone : (terminal number : ℕ) (old : ByteWorld) (was : World) → Ends
     → IsAt (alone (sitting_at terminal old)) (Place.Alone (left_alone (was.link number).term.display))
 left_is_alone terminal number old was agree stands at =
     let holds : (was.link number).term_here ≡ Some terminal = (agree terminal number).0 at in
-    let link : LinkStands (link_with (Some terminal) number old) (was.link number) =
-    subst (λ (h : Option ℕ). LinkStands (link_with h number old) (was.link number)) holds (link_there number old was agree stands) in
-    let end = (link.term terminal holds).holds.is_end in (
+    let end = ((stands_here number terminal old was agree stands holds).term terminal holds).holds.is_end in (
       refl,
       record {
         detached = refl;
@@ -72,7 +71,7 @@ module _ (leaves : TermLeaves) (terminal : ℕ) (old : ByteWorld) (was : World) 
       → (begin : Begin) → EndsAgree (term_anew (application_of begin.panels) terminal place was)
       → WorldStands (terminal_anew terminal at old) (term_anew (application_of begin.panels) terminal place was)
   anew_stands None (Place.At number) at is begin agrees = let here = at_place (Place.At number) is in absurd (cc)
-  anew_stands None (Place.Alone display) at is begin agrees = anew_alone terminal old was agree stands there at agrees
+  anew_stands None (Place.Alone display) at is begin agrees = alone_stands terminal new_sitting (new_display model_2) old was agree stands there at new_is_alone agrees
   anew_stands (Some number) (Place.At other) at is begin agrees =
       let same : other ≡ number = at_number (sitting_at terminal old) number other at (at_place (Place.At other) is) in
       subst (λ (n : ℕ). WorldStands (terminal_anew terminal (Some n) old) (term_anew (application_of begin.panels) terminal (Place.At other) was)) same
@@ -93,8 +92,8 @@ is_alone (Some number) world may = absurd (cc)
 
 -- ---- the begin
 
-pub begin_is_reached : Known → BeginIsReached
-begin_is_reached known begin is = record {
+pub begin_is_reached : BeginIsReached
+begin_is_reached begin is = record {
   are_events = tt;
   typed = All-nil IsTyped;
   panels = refl;
@@ -104,15 +103,6 @@ begin_is_reached known begin is = record {
 -- ---- one event
 
 module _ (known : Known) (skips : SkipsAreThose) where
-  -- both ends agree behind one more
-  agrees_after : (begin : Begin) (events : List MessageEvent) (message : MessageEvent) → IsBegin begin → AreEvents events → All IsTyped events
-      → IsEvent message → IsTyped message → has_place_over_messages (application_of begin.panels) message (after begin events) ≡ true
-      → EndsAgree (done (application_of begin.panels) message (after begin events))
-  agrees_after begin events message is are typed is_event is_typed place =
-      subst (λ (w : World). EndsAgree w) (after_more begin events (message ∷ []) ∙ happened begin message (after begin events) place)
-      (facts known.worlds begin is (events ++ message ∷ []) (are_more events (message ∷ []) are (is_event, tt))
-      (All-append IsTyped events (message ∷ []) typed (All-cons IsTyped message [] is_typed (All-nil IsTyped)))).agree
-
   -- it happens once, over bytes as over messages
   goes_once : (it : Event) (begin : Begin) (events : List MessageEvent) (old : ByteWorld) (answer : Stepped) (new : ByteWorld)
       → IsBegin begin → Reached begin events old → IsReal it → IsCounted it → has_place it old ≡ true
@@ -126,21 +116,18 @@ module _ (known : Known) (skips : SkipsAreThose) where
         more = message_event it ∷ [];
         comes_to = comes;
         reached = reached_one begin events (message_event it) old new reached real.0 real.1 there panels
-            (stands (agrees_after begin events (message_event it) is reached.are_events reached.typed real.0 real.1 there));
+            (stands (facts_once known.worlds begin events (message_event it) old is reached real.0 real.1 there).agree);
       }
-
-  facts_now : (begin : Begin) (events : List MessageEvent) (old : ByteWorld) → IsBegin begin → Reached begin events old → Facts (after begin events)
-  facts_now begin events old is reached = facts known.worlds begin is events reached.are_events reached.typed
 
   -- ---- a connection is lost
 
   within : (number : ℕ) (other : Bool) (old : ByteWorld) (was : World) → WorldStands old was → (is_link number && other) ≡ true → number < length old.links
   within number other old was stands place =
-      subst (λ (n : ℕ). number < n) (sym stands.ways) (ltb-true number most_connections (and_parts (is_link number) other place).0)
+      way_within number old was stands (ltb-true number most_connections (and_parts (is_link number) other place).0)
 
   pub lose_goes : (number : ℕ) → Goes (event.Lose number)
   lose_goes number begin events old answer new is reached real place happens =
-      let f = facts_now begin events old is reached in
+      let f = facts_now known.worlds begin events old is reached in
       let below = within number (is_up number old) old (after begin events) reached.stands place in
       let made : ByteWorld = with_ways number (lost_ways number old) old in
       subst (λ (w : ByteWorld). GoesOn begin events (event.Lose number) answer w) (sym happens.1)
@@ -152,7 +139,7 @@ module _ (known : Known) (skips : SkipsAreThose) where
 
   pub host_sees_goes : (number : ℕ) → Goes (event.HostSees number)
   host_sees_goes number begin events old answer new is reached real place happens =
-      let f = facts_now begin events old is reached in
+      let f = facts_now known.worlds begin events old is reached in
       let below = within number (is_lost number old && host_there number old) old (after begin events) reached.stands place in
       subst (λ (w : ByteWorld). GoesOn begin events (event.HostSees number) answer w) (sym happens.1)
       (goes_once (event.HostSees number) begin events old answer (host_gone number old) is reached real tt place
@@ -161,7 +148,7 @@ module _ (known : Known) (skips : SkipsAreThose) where
 
   pub term_sees_goes : (terminal : ℕ) → Goes (event.TermSees terminal)
   term_sees_goes terminal begin events old answer new is reached real place happens =
-      let f = facts_now begin events old is reached in
+      let f = facts_now known.worlds begin events old is reached in
       let at : Option ℕ = (sitting_at terminal old).at in
       let there = ltb-true terminal (length old.sittings) (and_parts (is_terminal terminal old) (sees_loss at old) place).0 in
       subst (λ (w : ByteWorld). GoesOn begin events (event.TermSees terminal) answer w) (sym happens.1)
@@ -173,7 +160,7 @@ module _ (known : Known) (skips : SkipsAreThose) where
 
   pub restart_term_goes : (terminal : ℕ) → Goes (event.RestartTerm terminal)
   restart_term_goes terminal begin events old answer new is reached real place happens =
-      let f = facts_now begin events old is reached in
+      let f = facts_now known.worlds begin events old is reached in
       let at : Option ℕ = (sitting_at terminal old).at in
       subst (λ (w : ByteWorld). GoesOn begin events (event.RestartTerm terminal) answer w) (sym happens.1)
       (goes_once (event.RestartTerm terminal) begin events old answer (terminal_anew terminal at old) is reached real tt place
@@ -183,7 +170,7 @@ module _ (known : Known) (skips : SkipsAreThose) where
 
   pub restart_host_goes : Goes event.RestartHost
   restart_host_goes begin events old answer new is reached real place happens =
-      let f = facts_now begin events old is reached in
+      let f = facts_now known.worlds begin events old is reached in
       let made : ByteWorld = host_anew (host_gone_below most_connections old) in
       subst (λ (w : ByteWorld). GoesOn begin events event.RestartHost answer w) (sym happens.1)
       (goes_once event.RestartHost begin events old answer made is reached real tt place
@@ -201,16 +188,16 @@ module _ (known : Known) (skips : SkipsAreThose) where
       by_found (Some number) free (Connects.refused memory same) = record {
         more = [];
         comes_to = ap (λ (a : Stepped). once (MessageEvent.Connect terminal wanted) a) (sym memory);
-        reached = subst (λ (e : List MessageEvent). Reached begin e new) (sym (append-nil events)) (subst (λ (w : ByteWorld). Reached begin events w) (sym same) reached);
+        reached = reached_still begin events old new reached same;
       }
       by_found (Some number) free (Connects.done answers made) =
-          let f = facts_now begin events old is reached in
+          let f = facts_now known.worlds begin events old is reached in
           let app = application_of begin.panels in
           let both = and_parts (is_terminal terminal old) (may_connect (sitting_at terminal old).at old) place in
           let there = ltb-true terminal (length old.sittings) both.0 in
           let lonely = is_alone (sitting_at terminal old).at old both.1 in
-          let below : number < length old.links = subst (λ (n : ℕ). number < n) (sym reached.stands.ways) (found_below most_connections 0 number old free) in
-          let same : free_over_messages (after begin events).link ≡ Some number = sym (same_free old (after begin events) f.agree reached.stands) ∙ free in
+          let below = way_within number old (after begin events) reached.stands (found_below most_connections 0 number old free) in
+          let same : free_over_messages (after begin events).link ≡ Some number = sym (same_free old (after begin events) reached.stands) ∙ free in
           subst (λ (w : ByteWorld). GoesOn begin events (event.Connect terminal wanted) answer w) (sym made)
           (goes_once (event.Connect terminal wanted) begin events old answer (connected number terminal wanted old) is reached real tt place
           (ap (λ (a : Stepped). once (MessageEvent.Connect terminal wanted) a) (sym answers)) refl

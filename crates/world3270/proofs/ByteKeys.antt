@@ -2,8 +2,6 @@
 use Rattle.std.proofs.Common.{◌≡◌, ◌<◌, ◌||◌, ◌++◌, ℕ, Bool, true, false, Option, None, Some, List, [], ◌∷◌, length, refl, ap, sym, subst, ◌∙◌, nat_lt, length-set}
 use Rattle.std.proofs.lemmas.Bool.{ltb-true}
 use Rattle.std.proofs.lemmas.List.{append-nil}
-use Rattle.std.proofs.lemmas.List.Elements.{All-append, All-cons, All-nil}
-use Rattle.std.specs.Prelude.{All}
 use Rattle.codes3270.specs.Size.{Shape, model_2}
 use Rattle.datastream.specs.InboundFields.{IsSendable}
 use Rattle.datastream.specs.Screen.{Screen}
@@ -20,31 +18,23 @@ use Rattle.term_core.specs.Records.{data_sent}
 use Rattle.term_core.specs.State.{Link as TermLink, Station, phase_of, is_bound}
 use Rattle.world3270.specs.Known.{Known}
 use Rattle.world3270.specs.ByteSteps.{Presses, answer_pressed}
-use Rattle.world3270.specs.ByteWorld.{ByteWorld, Ways, Sitting, ways_at, sitting_at, with_sitting, terminal_at}
-use Rattle.world3270.specs.Happens.{run, key_went, done}
+use Rattle.world3270.specs.ByteWorld.{ByteWorld, Ways, Sitting, ways_at, sitting_at, with_sitting}
+use Rattle.world3270.specs.Happens.{key_went, done}
 use Rattle.world3270.specs.Link.{Link, term_stepped}
 use Rattle.world3270.specs.Places.{EndsAgree}
 use Rattle.world3270.specs.Refines.{Begin, IsBegin, Reached, IsReal, GoesOn, SkipsAreThose, after, once}
 use Rattle.world3270.specs.Seats.{Seat, seat_after_key}
-use Rattle.world3270.specs.Sendable.{IsTyped, ScreensAreSendable, display_at}
-use Rattle.world3270.specs.Standing.{WorldStands, IsAlone, IsAt, AreWays, with_out, link_with}
+use Rattle.world3270.specs.Sendable.{ScreensAreSendable, display_at}
+use Rattle.world3270.specs.Standing.{WorldStands, IsAlone, IsAt, with_out}
 use Rattle.world3270.specs.Stands.{ByteLink, LinkStands}
 use Rattle.world3270.specs.Terminal.{Display, after_key, erases_if, key_came, outcome_of}
-use Rattle.world3270.specs.World.{Place, World, Event as MessageEvent, AreEvents}
+use Rattle.world3270.specs.World.{Place, World, Event as MessageEvent}
 use Rattle.world3270.specs.declared.event.Event.TheVariants as event
 use Rattle.world3270.specs.declared.event.Stepped.{Stepped}
-use Rattle.world3270.proofs.ByteTerms.{made_of, AreFlows, GoesOnHere, alone_stands, flows_go_on, link_goes_on, term_went_stands, with_other, with_same}
-use Rattle.world3270.proofs.Frames.{sitting_other, sitting_same, who_is_there}
-use Rattle.world3270.proofs.Known.{Facts, Goes, after_more, are_more, facts, happened, reached_more, reached_one}
-
--- ---- more happened over messages
-
--- what is known of the world then
-pub facts_then : (known : Known) (begin : Begin) (events more : List MessageEvent) (bytes : ByteWorld) → IsBegin begin → Reached begin events bytes
-    → AreEvents more → All IsTyped more → Facts (run (application_of begin.panels) more (after begin events))
-facts_then known begin events more bytes is reached are typed =
-    subst (λ (w : World). Facts w) (after_more begin events more)
-    (facts known.worlds begin is (events ++ more) (are_more events more reached.are_events are) (All-append IsTyped events more reached.typed typed))
+use Rattle.world3270.proofs.ByteTerms.{GoesOnHere, alone_stands, flows_go_on, flows_here, link_goes_on, made_of, stands_here, term_went_stands}
+use Rattle.world3270.proofs.Frames.{sitting_other, sitting_same}
+use Rattle.world3270.proofs.Known.{Facts, Goes, facts_now, facts_once, reached_one, reached_still}
+use Rattle.world3270.proofs.OneOfMany.{with_other, with_same}
 
 -- ---- what a key makes of a terminal
 
@@ -103,19 +93,18 @@ module _ (known : Known) (key : Key) (terminal : ℕ) (old : ByteWorld) (world :
       → WorldStands (with_sitting terminal pressed_at old) (went place)
   key_stands (Place.Alone display) is agrees sendable =
       let at = subst (λ (p : Place). IsAt (sitting_at terminal old) p) is (stands.places terminal) in
-      alone_stands terminal (seat_after_key key (sitting_at terminal old).seat) display (after_key key display) old world stands now_facts.agree is below
-      (stays_alone key (sitting_at terminal old).seat display at.1) at.0 agrees
+      alone_stands terminal pressed_at (after_key key display) old world now_facts.agree stands below at.0
+      (at.0, stays_alone key (sitting_at terminal old).seat display at.1) agrees
   key_stands (Place.At number) is agrees sendable =
       let link : Link = world.link number in
       let here : link.term_here ≡ Some terminal = (now_facts.agree terminal number).0 is in
-      let there : terminal_at number old.sittings ≡ Some terminal = who_is_there old world number now_facts.agree stands.places ∙ here in
       let at : (sitting_at terminal old).at ≡ Some number = subst (λ (p : Place). IsAt (sitting_at terminal old) p) is (stands.places terminal) in
       let line : Line = line_at number old.host in
       let ways : Ways = ways_at number old in
       let sitting : Sitting = sitting_at terminal old in
       let seat : Seat = seat_after_key key sitting.seat in
-      let stood : LinkStands (made_of terminal line ways sitting) link = subst (λ (h : Option ℕ). LinkStands (link_with h number old) link) there (stands.links number) in
-      let are : AreWays (Some terminal) number old = subst (λ (h : Option ℕ). AreWays h number old) there (stands.flows number) in
+      let stood = stands_here number terminal old world now_facts.agree stands here in
+      let flows = flows_here number terminal old world now_facts.agree stands here in
       let next : Link = term_stepped (key_came key link.term) link.down link in
       let is_end = ((stood.term terminal here).holds).is_end in
       let same = outcome_is key sitting.seat.terminal.station link.term.display is_end.shape_is is_end.keyboard_is is_end.screen_is in
@@ -124,10 +113,9 @@ module _ (known : Known) (key : Key) (terminal : ℕ) (old : ByteWorld) (world :
       (subst (λ (p : Place). IsSendable (display_at (went (Place.At number)) p).screen) is (sendable terminal)) in
       let stays = known.links.press key (made_of terminal line ways sitting) link terminal stood here
       (subst (λ (o : Outcome). IsSendable o.screen) (sym same) screen) in
-      let flows : AreFlows line ways sitting = record { together = are.together; down = are.down; up = are.up } in
       let said : List ℕ = (seat_after_key key (with_out [] sitting.seat)).terminal.out in
       let down : List ℕ = (made_of terminal line ways sitting).down in
-      let goes : GoesOnHere line line.out ways ways.down sitting seat said down = record { live = refl; flow = are.down; behind_is = refl; out_is = refl } in
+      let goes : GoesOnHere line line.out ways ways.down sitting seat said down = record { live = refl; flow = flows.down; behind_is = refl; out_is = refl } in
       term_went_stands number terminal line ways pressed_at old (with_sitting terminal pressed_at old) next world (went (Place.At number))
       (record {
         line_is = refl;
@@ -167,16 +155,14 @@ module _ (known : Known) (skips : SkipsAreThose) where
   pressed_on terminal key begin events old answer new is reached real place (Presses.refused memory same) = record {
     more = [];
     comes_to = ap (once (MessageEvent.Press terminal key)) (sym memory);
-    reached = reached_more begin events [] old new reached tt (All-nil IsTyped) (ap (λ (w : ByteWorld). w.host.panels) same)
-        (subst (λ (w : ByteWorld). WorldStands w (after begin events)) (sym same) reached.stands);
+    reached = reached_still begin events old new reached same;
   }
   pressed_on terminal key begin events old answer new is reached real place (Presses.done answers made) =
       let press : MessageEvent = MessageEvent.Press terminal key in
       let world : World = after begin events in
       let has = sym (skips begin events (event.Key terminal key) old is reached tt) ∙ place in
-      let next_facts = subst (λ (w : World). Facts w) (happened begin press world has)
-      (facts_then known begin events (press ∷ []) old is reached (real.0, tt) (All-cons IsTyped press [] real.1 (All-nil IsTyped))) in
-      let stands = key_stands known key terminal old world (facts known.worlds begin is events reached.are_events reached.typed) reached.stands
+      let next_facts = facts_once known.worlds begin events press old is reached real.0 real.1 has in
+      let stands = key_stands known key terminal old world (facts_now known.worlds begin events old is reached) reached.stands
       (ltb-true terminal (length old.sittings) place) (world.place terminal) refl next_facts.agree next_facts.sendable in
       record {
         more = press ∷ [];

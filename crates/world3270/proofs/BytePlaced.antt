@@ -25,6 +25,7 @@ use Rattle.world3270.specs.Standing.{WorldStands, IsAt, IsNotClosed, conn_of, li
 use Rattle.world3270.specs.Stands.{StandsDown, StandsUp, BytesStand}
 use Rattle.world3270.specs.World.{Place, World}
 use Rattle.world3270.specs.declared.event.Event.TheVariants as event
+use Rattle.world3270.proofs.Queues.{not_empty}
 
 -- ---- who is there
 
@@ -134,11 +135,7 @@ connects_alike terminal bytes world stands = by_place (world.place terminal) (st
 -- tokens that say no item and leave nothing unfinished are none
 none_unfinished : (before : List ℕ) (tokens : List Token) → items_after before tokens ≡ [] → unfinished_after before tokens ≡ [] → (before ≡ []) × (tokens ≡ [])
 none_unfinished before [] items rest = (rest, refl)
-none_unfinished before (Data byte ∷ tokens) items rest = absurd (one_more before byte (none_unfinished (before ++ byte ∷ []) tokens items rest).0)
-  where
-    one_more : (some : List ℕ) (byte : ℕ) → some ++ byte ∷ [] ≡ [] → ⊥
-    one_more [] byte e = absurd (cc)
-    one_more (first ∷ some) byte e = absurd (cc)
+none_unfinished before (Data byte ∷ tokens) items rest = absurd (not_empty before byte [] (none_unfinished (before ++ byte ∷ []) tokens items rest).0)
 none_unfinished before (End ∷ tokens) items rest = absurd (cc)
 none_unfinished before (OptToken verb code ∷ tokens) items rest = absurd (cc)
 none_unfinished before (SubToken bytes ∷ tokens) items rest = absurd (cc)
@@ -149,11 +146,7 @@ some_items : (rest : Rest) (byte : ℕ) (bytes : List ℕ) → Delivers record_l
 some_items rest byte bytes delivers =
     let none : delivers.tokens ≡ [] = (none_unfinished rest.unfinished delivers.tokens (sym delivers.said) (sym delivers.reads.unfinished)).1 in
     let spelt : rest.partial ++ byte ∷ bytes ≡ [] = delivers.reads.spelt ∙ append-nil (text delivers.tokens) ∙ ap text none in
-    no_bytes rest.partial spelt
-  where
-    no_bytes : (some : List ℕ) → some ++ byte ∷ bytes ≡ [] → ⊥
-    no_bytes [] e = absurd (cc)
-    no_bytes (first ∷ some) e = absurd (cc)
+    not_empty rest.partial byte bytes spelt
 
 -- some bytes are taken, where there are some and more than none are taken
 some_taken : (count : ℕ) (bytes : List ℕ) → 0 < count → is_queued (take count bytes) ≡ is_queued bytes
@@ -163,7 +156,7 @@ some_taken (suc count) (byte ∷ bytes) above = refl
 
 module _ (one : OneDelivery) (no_bytes : ReadingNothing) where
   -- Some bytes are under way exactly where some message is.
-  pub queued_alike : {X : Type 0} (Stands : WireItem → X → Type 0) (rest : Rest) (bytes : List ℕ) (messages : List X) → BytesStand Stands rest bytes messages
+  queued_alike : {X : Type 0} (Stands : WireItem → X → Type 0) (rest : Rest) (bytes : List ℕ) (messages : List X) → BytesStand Stands rest bytes messages
       → is_queued bytes ≡ is_queued messages
   queued_alike Stands rest [] [] stands = refl
   queued_alike Stands rest (byte ∷ bytes) (message ∷ messages) stands = refl

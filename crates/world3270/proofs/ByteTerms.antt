@@ -1,48 +1,24 @@
 -- A terminal goes on at its connection, or alone: the world over bytes then stands for the world over messages.
-use Rattle.std.proofs.Common.{◌≡◌, ◌≢◌, ◌<◌, ◌≤◌, ◌==◌, not, ℕ, Bool, true, false, Option, None, Some, List, [], ◌++◌, length, refl, ap, sym, subst, ◌∙◌, arith, length-append, length-set, if◌then◌else◌}
-use Rattle.std.proofs.lemmas.Bool.{eqb-true}
-use Rattle.std.proofs.lemmas.Bool.Decides.{Decides-eqb}
+use Rattle.std.proofs.Common.{◌≡◌, ◌≢◌, ◌<◌, not, ℕ, Bool, true, Option, None, Some, List, [], ◌++◌, length, le_refl, refl, ap, sym, subst, ◌∙◌, length-set}
 use Rattle.host_core.specs.State.{Line, line_at}
-use Rattle.world3270.specs.ByteWorld.{ByteWorld, Under, Ways, Sitting, under_way, is_live, is_there, ways_at, sitting_at, with_sitting, terminal_at}
+use Rattle.world3270.specs.ByteWorld.{ByteWorld, Under, Ways, Sitting, under_way, is_live, is_there, ways_at, sitting_at, with_sitting}
 use Rattle.world3270.specs.Link.{Link, sent}
 use Rattle.world3270.specs.Places.{EndsAgree}
 use Rattle.world3270.specs.Seats.{Seat}
-use Rattle.world3270.specs.Standing.{WorldStands, IsFlow, IsAlone, IsAt, IsNotClosed, IsSettled, AreWays, conn_of, rest_of, with_out, link_with}
+use Rattle.world3270.specs.Standing.{WorldStands, IsFlow, IsAt, IsNotClosed, IsSettled, AreWays, conn_of, rest_of, with_out, link_with}
 use Rattle.world3270.specs.Stands.{ByteLink, LinkStands}
 use Rattle.world3270.specs.StandsLinks.{fed}
 use Rattle.world3270.specs.Terminal.{Display}
-use Rattle.world3270.specs.World.{Place, World, with_at, with_place}
-use Rattle.world3270.proofs.Frames.{IsHere, changed_stands, more_under_way, sitting_same, sitting_other, who_is_there}
-
--- ---- one of many, over messages
-
-same_number : (number : ℕ) → (number == number) ≡ true
-same_number number = (Decides-eqb number number).1 refl
-
-pub with_same : {X : Type 0} (number : ℕ) (new : X) (old : ℕ → X) → with_at number new old number ≡ new
-with_same number new old = ap (λ (b : Bool). if b then new else old number) (same_number number)
-
-pub with_other : {X : Type 0} (number other : ℕ) (new : X) (old : ℕ → X) → other ≢ number → with_at number new old other ≡ old other
-with_other {X} number other new old apart = by_test (other == number) refl
-  where
-    by_test : (b : Bool) → (other == number) ≡ b → (if b then new else old other) ≡ old other
-    by_test true e = absurd (apart (eqb-true other number e))
-    by_test false e = refl
+use Rattle.world3270.specs.World.{Place, World, with_place}
+use Rattle.world3270.proofs.Frames.{IsHere, alone_there, changed_stands, flow_there, link_there, none_beyond, of_parts, sitting_same, sitting_other, with_parts}
+use Rattle.world3270.proofs.OneOfMany.{with_other, with_same}
+use Rattle.world3270.proofs.UnderWay.{more_flows, more_under_way}
 
 -- ---- a connection at whose end a terminal is
 
 -- it is made of the host's line, of what is under way, and of the terminal
 abbrev pub made_of : ℕ → Line → Ways → Sitting → ByteLink
-made_of terminal line ways sitting = record {
-  lost = not (is_live ways.down);
-  down = under_way ways.down line.out;
-  up = under_way ways.up sitting.seat.terminal.out;
-  host_here = is_there line.service;
-  host = conn_of line.service;
-  host_rest = rest_of line.service;
-  term_here = Some terminal;
-  seat = with_out [] sitting.seat;
-}
+made_of terminal line ways sitting = with_parts (Some terminal) line ways sitting.seat.terminal.out (with_out [] sitting.seat)
 
 -- both directions are live, or neither is; and what is under way is what the ends have to send
 pub record AreFlows (line : Line) (ways : Ways) (sitting : Sitting) : Type 0 where
@@ -59,28 +35,8 @@ pub record GoesOnHere (line : Line) (out : List ℕ) (ways : Ways) (down : Under
 
 -- the connection with other bytes under way
 abbrev with_queues : ℕ → Line → Seat → Bool → List ℕ → List ℕ → ByteLink
-with_queues terminal line seat lost down up = record {
-  lost = lost;
-  down = down;
-  up = up;
-  host_here = is_there line.service;
-  host = conn_of line.service;
-  host_rest = rest_of line.service;
-  term_here = Some terminal;
-  seat = with_out [] seat;
-}
-
-sent_if_live : (live : Bool) (queue said : List ℕ) → (if live then queue ++ said else queue) ≡ sent (not live) queue said
-sent_if_live true queue said = refl
-sent_if_live false queue said = refl
-
-flow_more : (out said : List ℕ) (under : Under) → IsFlow true out under → IsFlow true (out ++ said) under
-flow_more out said Under.Live flow = tt
-flow_more out said (Under.Cut kept) flow = longer kept flow
-  where
-    longer : (kept : ℕ) → kept ≤ length out → kept ≤ length (out ++ said)
-    longer kept few = omega (arith, length-append out said, few)
-flow_more out said (Under.Left bytes) flow = flow
+with_queues terminal line seat lost down up =
+    of_parts lost down up (is_there line.service) (conn_of line.service) (rest_of line.service) (Some terminal) (with_out [] seat)
 
 module _ (terminal : ℕ) (line : Line) (out : List ℕ) (ways : Ways) (down : Under) (sitting : Sitting) (seat : Seat) (said behind : List ℕ)
     (flows : AreFlows line ways sitting) (goes : GoesOnHere line out ways down sitting seat said behind) where
@@ -88,8 +44,7 @@ module _ (terminal : ℕ) (line : Line) (out : List ℕ) (ways : Ways) (down : U
   up_now =
       let before : List ℕ = sitting.seat.terminal.out in
       ap (λ (o : List ℕ). under_way ways.up o) goes.out_is
-      ∙ more_under_way true before said ways.up refl flows.up
-      ∙ sent_if_live (is_live ways.up) (under_way ways.up before) said
+      ∙ more_under_way before said ways.up flows.up
       ∙ ap (λ (b : Bool). sent (not b) (under_way ways.up before) said) flows.together
 
   -- The connection is as after these bytes came, and what the terminal said is under way.
@@ -105,10 +60,22 @@ module _ (terminal : ℕ) (line : Line) (out : List ℕ) (ways : Ways) (down : U
   flows_go_on = record {
     together = flows.together ∙ sym goes.live;
     down = goes.flow;
-    up = subst (λ (o : List ℕ). IsFlow true o ways.up) (sym goes.out_is) (flow_more sitting.seat.terminal.out said ways.up flows.up);
+    up = subst (λ (o : List ℕ). IsFlow true o ways.up) (sym goes.out_is) (more_flows sitting.seat.terminal.out said ways.up flows.up);
   }
 
 -- ---- a terminal goes on at its connection
+
+-- what stands there
+pub flows_here : (number terminal : ℕ) (old : ByteWorld) (was : World) → EndsAgree was → WorldStands old was → (was.link number).term_here ≡ Some terminal
+    → AreFlows (line_at number old.host) (ways_at number old) (sitting_at terminal old)
+flows_here number terminal old was agree stands here =
+    let are = subst (λ (h : Option ℕ). AreWays h number old) here (flow_there number old was agree stands) in
+    record { together = are.together; down = are.down; up = are.up }
+
+pub stands_here : (number terminal : ℕ) (old : ByteWorld) (was : World) → EndsAgree was → WorldStands old was → (was.link number).term_here ≡ Some terminal
+    → LinkStands (made_of terminal (line_at number old.host) (ways_at number old) (sitting_at terminal old)) (was.link number)
+stands_here number terminal old was agree stands here =
+    subst (λ (h : Option ℕ). LinkStands (link_with h number old) (was.link number)) here (link_there number old was agree stands)
 
 -- what becomes of the world over bytes: all else is as it was
 pub record BytesWent (number terminal : ℕ) (line : Line) (ways : Ways) (sitting : Sitting) (old new : ByteWorld) : Type 0 where
@@ -188,62 +155,38 @@ module _ (number terminal : ℕ) (line : Line) (ways : Ways) (sitting : Sitting)
 
 -- ---- a terminal goes on alone
 
-module _ (terminal : ℕ) (seat : Seat) (was_display display : Display) (old : ByteWorld) (was : World)
-    (stands : WorldStands old was) (agree : EndsAgree was) (alone : was.place terminal ≡ Place.Alone was_display) (below : terminal < length old.sittings)
-    (is_alone : IsAlone seat display) (at : (sitting_at terminal old).at ≡ None) where
-  abbrev sitting : Sitting
-  sitting = record (sitting_at terminal old) { seat = seat }
-
-  abbrev new : ByteWorld
-  new = with_sitting terminal sitting old
-
-  abbrev now : World
-  now = with_place terminal (Place.Alone display) was
-
-  -- who is at a connection isn't the terminal that is alone
-  another : (number there : ℕ) → (was.link number).term_here ≡ Some there → there ≢ terminal
-  another number there held same =
-      let sat : was.place terminal ≡ Place.At number = (agree terminal number).1 (held ∙ ap (λ (t : ℕ). Some t) same) in
-      absurd (cc)
-
-  link_same : (number : ℕ) (here : Option ℕ) → (was.link number).term_here ≡ here → LinkStands (link_with here number old) (was.link number)
-      → LinkStands (link_with here number new) (was.link number)
-  link_same number None held it = it
-  link_same number (Some there) held it =
-      subst (λ (s : Sitting). LinkStands (made_of there (line_at number old.host) (ways_at number old) s) (was.link number))
-      (sym (sitting_other terminal there sitting old (another number there held))) it
-
-  flow_same : (number : ℕ) (here : Option ℕ) → (was.link number).term_here ≡ here → AreWays here number old → AreWays here number new
-  flow_same number None held are = record { together = are.together; down = are.down; up = are.up }
-  flow_same number (Some there) held are = record {
-    together = are.together;
-    down = are.down;
-    up = subst (λ (s : Sitting). IsFlow true s.seat.terminal.out (ways_at number old).up) (sym (sitting_other terminal there sitting old (another number there held))) are.up;
-  }
-
-  -- No connection changes: that with the number 0 is as it was, as each other is.
-  pub alone_stands : EndsAgree now → WorldStands new now
-  alone_stands agrees =
-      let there : terminal_at 0 old.sittings ≡ (was.link 0).term_here = who_is_there old was 0 agree stands.places in
-      changed_stands 0 terminal old new was now
-      (record {
-        lines = λ other differs. refl;
-        ways = λ other differs. refl;
-        sittings = λ other differs. sitting_other terminal other sitting old differs;
-        links = λ other differs. refl;
-        places = λ other differs. with_other terminal other (Place.Alone display) was.place differs;
-        line_count = refl;
-        way_count = refl;
-        sitting_count = length-set old.sittings terminal sitting;
-        terminals = refl;
-        pool = stands.pool;
-        before = subst (λ (p : Place). IsHere 0 p) (sym alone) tt;
-        behind = subst (λ (p : Place). IsHere 0 p) (sym (with_same terminal (Place.Alone display) was.place)) tt;
-        none_closed = stands.none_closed 0;
-        settled = stands.settled 0;
-        flow = flow_same 0 (was.link 0).term_here refl (subst (λ (h : Option ℕ). AreWays h 0 old) there (stands.flows 0));
-        link = link_same 0 (was.link 0).term_here refl (subst (λ (h : Option ℕ). LinkStands (link_with h 0 old) (was.link 0)) there (stands.links 0));
-        place = subst (λ (p : Place). IsAt (sitting_at terminal new) p) (sym (with_same terminal (Place.Alone display) was.place))
-            (subst (λ (s : Sitting). IsAt s (Place.Alone display)) (sym (sitting_same terminal sitting old below)) (at, is_alone));
-      })
-      agree stands agrees
+-- No connection changes: one that isn't there takes the place of the one that does.
+pub alone_stands : (terminal : ℕ) (sitting : Sitting) (display : Display) (old : ByteWorld) (was : World) → EndsAgree was → WorldStands old was
+    → terminal < length old.sittings → (sitting_at terminal old).at ≡ None → IsAt sitting (Place.Alone display) → EndsAgree (with_place terminal (Place.Alone display) was)
+    → WorldStands (with_sitting terminal sitting old) (with_place terminal (Place.Alone display) was)
+alone_stands terminal sitting display old was agree stands there_is alone is_alone agrees =
+    let new : ByteWorld = with_sitting terminal sitting old in
+    let now : World = with_place terminal (Place.Alone display) was in
+    let beyond : ℕ = length old.links in
+    let nobody : (was.link beyond).term_here ≡ None = none_beyond beyond old was agree stands (le_refl beyond) in
+    let goes : now.place terminal ≡ Place.Alone display = with_same terminal (Place.Alone display) was.place in
+    changed_stands beyond terminal old new was now
+    (record {
+      lines = λ other differs. refl;
+      ways = λ other differs. refl;
+      sittings = λ other differs. sitting_other terminal other sitting old differs;
+      links = λ other differs. refl;
+      places = λ other differs. with_other terminal other (Place.Alone display) was.place differs;
+      line_count = refl;
+      way_count = refl;
+      sitting_count = length-set old.sittings terminal sitting;
+      terminals = refl;
+      pool = stands.pool;
+      before = alone_there (sitting_at terminal old) (was.place terminal) beyond alone (stands.places terminal);
+      behind = subst (λ (p : Place). IsHere beyond p) (sym goes) tt;
+      none_closed = stands.none_closed beyond;
+      settled = stands.settled beyond;
+      flow = subst (λ (h : Option ℕ). AreWays h beyond new) (sym nobody)
+          (let none = subst (λ (h : Option ℕ). AreWays h beyond old) nobody (flow_there beyond old was agree stands) in
+          record { together = none.together; down = none.down; up = none.up });
+      link = subst (λ (h : Option ℕ). LinkStands (link_with h beyond new) (was.link beyond)) (sym nobody)
+          (subst (λ (h : Option ℕ). LinkStands (link_with h beyond old) (was.link beyond)) nobody (link_there beyond old was agree stands));
+      place = subst (λ (s : Sitting). IsAt s (now.place terminal)) (sym (sitting_same terminal sitting old there_is))
+          (subst (λ (p : Place). IsAt sitting p) (sym goes) is_alone);
+    })
+    agree stands agrees

@@ -1,10 +1,9 @@
 -- Bytes that come up to a host: the world over bytes stands for the one behind as many single deliveries as there were messages completed.
-use Rattle.std.proofs.Common.{◌≡◌, ◌<◌, ◌+◌, ◌==◌, ◌&&◌, nat_lt, ℕ, suc, Bool, true, false, Option, None, Some, List, [], ◌∷◌, ◌++◌, drop, take, length, map, replicate, refl, ap, sym, subst, ◌∙◌, append_assoc, if◌then◌else◌}
+use Rattle.std.proofs.Common.{◌≡◌, ◌<◌, ◌+◌, ◌&&◌, nat_lt, ℕ, suc, Bool, true, false, Option, None, Some, List, [], ◌∷◌, ◌++◌, drop, take, length, map, replicate, refl, ap, sym, subst, ◌∙◌, append_assoc}
 use Rattle.std.specs.List.{AllByRecursion}
-use Rattle.std.proofs.lemmas.Bool.{and_parts, ltb-true, lt-ltb, ne_eqb}
-use Rattle.std.proofs.lemmas.Bool.Decides.{Decides-eqb}
+use Rattle.std.proofs.lemmas.Bool.{and_parts, ltb-true, lt-ltb}
 use Rattle.std.proofs.lemmas.List.{append-nil, length-take-le, replicate-append-replicate, take-append-drop}
-use Rattle.std.proofs.lemmas.List.Elements.{All-append, All-cons, All-nil}
+use Rattle.std.proofs.lemmas.List.Elements.{All-nil}
 use Rattle.lu_pool.specs.Asking.{answer_to}
 use Rattle.lu_pool.specs.Holders.{granted_if}
 use Rattle.lu_pool.specs.declared.entry.Entry.{Entry}
@@ -43,11 +42,16 @@ use Rattle.world3270.specs.StandsLinks.{MayComeAll, WhatComesMayCome, HostSends,
 use Rattle.world3270.specs.Terminal.{TermEnd, took as term_took}
 use Rattle.world3270.specs.World.{World, Event as MessageEvent, with_at}
 use Rattle.world3270.specs.declared.event.Event.TheVariants as event
+use Rattle.world3270.proofs.Frames.{line_within, way_within}
 use Rattle.world3270.proofs.HostItems.{IsSaidUp, IsAwaited, host_takes}
 use Rattle.world3270.proofs.HostSteps.{just_talks}
-use Rattle.world3270.proofs.Known.{Facts, Goes, facts, after_more, are_more, reached_more, happened, reached_one}
+use Rattle.world3270.proofs.Known.{Facts, Goes, facts_now, facts_once, reached_more, reached_one, reached_still}
+use Rattle.world3270.proofs.OneOfMany.{with_other, with_same}
+use Rattle.world3270.proofs.Queues.{not_empty, nothing_sent}
 use Rattle.world3270.proofs.SaidUp.{all_said_up}
 use Rattle.world3270.proofs.StandsFits.{payload_fits}
+use Rattle.world3270.proofs.StandsLinks.{none_for_none}
+use Rattle.world3270.proofs.UnderWay.{lost_says}
 use Rattle.world3270.proofs.UpCame.{Taken, heard, one_stood, host_is, counter_is, took_up, took_none, took_next}
 
 -- ---- what a host says to a message
@@ -71,21 +75,13 @@ may_behind : (front back : List ToTerminal) (end : TermEnd) → MayComeAll end (
 may_behind [] back end may = (end, may)
 may_behind (message ∷ front) back end may = may_behind front back (term_took end message).end may.1
 
-vanish : {X : Type 0} (lost : Bool) (queue some others : List X) → lost ≡ true → sent lost queue some ≡ sent lost queue others
-vanish true queue some others is = refl
-vanish false queue some others is = absurd (cc)
-
 sends_stand : HostSends → (bytes : ByteLink) (link : Link) (conn : Conn) (sends : List ToTerminal) (talk : List Saying) → sends ≡ map ToTerminal.TalksDown talk
     → LinkStands bytes link → MayComeAll link.term (sent link.lost link.down sends)
     → LinkStands (said_down conn (map item_sent sends) bytes) (sent_down conn sends link)
 sends_stand host_sends bytes link conn sends talk says stands may = by_lost link.lost refl
   where
     by_lost : (lost : Bool) → link.lost ≡ lost → LinkStands (said_down conn (map item_sent sends) bytes) (sent_down conn sends link)
-    by_lost true e =
-        subst (λ (d : List ℕ). LinkStands (record bytes { host = conn; down = d }) (sent_down conn sends link))
-        (vanish bytes.lost bytes.down (sent_bytes []) (sent_bytes (map item_sent sends)) (stands.lost ∙ e))
-        (subst (λ (d : List ToTerminal). LinkStands (said_down conn [] bytes) (record link { host = conn; down = d }))
-        (vanish link.lost link.down [] sends e) (host_sends bytes link conn [] [] stands tt tt))
+    by_lost true e = lost_says host_sends bytes link conn (map item_sent sends) sends stands e
     by_lost false e =
         let all = may_behind link.down sends link.term (subst (λ (l : Bool). MayComeAll link.term (sent l link.down sends)) e may) in
         host_sends bytes link conn (map item_sent sends) sends stands
@@ -113,16 +109,9 @@ is_behind number step others world none =
       link = with_at number (host_left_if c (link_behind step others (world.link number))) world.link;
     })) none
 
-no_more : (causes : List Cause) (cause : Cause) → causes ++ cause ∷ [] ≡ [] → ⊥
-no_more [] cause e = absurd (cc)
-no_more (first ∷ causes) cause e = absurd (cc)
-
 closes_none : (cause : Option Cause) (world : World) → (closed_if cause world).causes ≡ [] → cause ≡ None
 closes_none None world e = refl
-closes_none (Some cause) world e = absurd (no_more world.causes cause e)
-
-same_number : (number : ℕ) → (number == number) ≡ true
-same_number number = (Decides-eqb number number).1 refl
+closes_none (Some cause) world e = absurd (not_empty world.causes cause [] e)
 
 all_three : (one two three : Bool) → one ≡ true → two ≡ true → three ≡ true → (one && (two && three)) ≡ true
 all_three one two three a b c = ap (λ (x : Bool). x && (two && three)) a ∙ ap (λ (x : Bool). x && three) b ∙ c
@@ -137,14 +126,6 @@ record OneByte (begin : Begin) (events : List MessageEvent) (number : ℕ) (coun
   is_open : IsOpen counter.line.service
   there : terminal_at number (took_up 1 number counter old).sittings ≡ terminal_at number old.sittings
   queue : up_of number (took_up 1 number counter old) ≡ drop 1 (up_of number old)
-
-none_for_none : (taken : List ToHost) → Pairwise StandsUp [] taken → taken ≡ []
-none_for_none [] stand = refl
-none_for_none (message ∷ taken) stand = absurd stand
-
-nothing_said : (lost : Bool) (queue : List ℕ) → queue ≡ sent lost queue []
-nothing_said true queue = refl
-nothing_said false queue = sym (append-nil queue)
 
 awaited : (world : World) (number : ℕ) (message : ToHost) (others : List ToHost) → FormsAreAwaited world → (world.link number).up ≡ message ∷ others
     → IsAwaited (world.link number).host message
@@ -164,13 +145,13 @@ module _ (known : Known) (begin : Begin) (is : IsBegin begin) (events : List Mes
   stands = reached.stands
 
   known_here : Facts world
-  known_here = facts known.worlds begin is events reached.are_events reached.typed
+  known_here = facts_now known.worlds begin events old is reached
 
   linked : number < length old.links
-  linked = subst (λ (n : ℕ). number < n) (sym stands.ways) below
+  linked = way_within number old world stands below
 
   lined : number < length old.host.lines
-  lined = subst (λ (n : ℕ). number < n) (sym stands.lines) below
+  lined = line_within number old world stands below
 
   host_here : link.host_here ≡ true
   host_here = sym (stands.links number).host_here ∙ there
@@ -190,7 +171,7 @@ module _ (known : Known) (begin : Begin) (is : IsBegin begin) (events : List Mes
   nothing_completes byte behind counter rest to conn queue held delivers is_counter =
       let came = known.links.up (link_of number old) link (byte ∷ []) behind [] to (stands.links number) host_here queue
       (subst (λ (r : Rest). Delivers record_limit r (byte ∷ []) [] to) (sym (ap rest_of held)) delivers) in
-      let others : came.others ≡ link.up = sym (came.whole ∙ ap (λ (m : List ToHost). m ++ came.others) (none_for_none came.taken came.each)) in
+      let others : came.others ≡ link.up = sym (came.whole ∙ ap (λ (m : List ToHost). m ++ came.others) (none_for_none StandsUp came.taken came.each)) in
       let bytes_behind : behind ≡ drop 1 (up_of number old) = sym (ap (drop 1) queue) in
       let taken : Taken number counter old world world = record {
         rest = to;
@@ -208,7 +189,7 @@ module _ (known : Known) (begin : Begin) (is : IsBegin begin) (events : List Mes
         places = refl;
         terminals = refl;
         stands = subst (λ (d : List ℕ). LinkStands (record (link_of number old) { host_rest = to; up = drop 1 (up_of number old); down = d }) link)
-            (nothing_said (link_of number old).lost (down_of number old))
+            (sym (nothing_sent (link_of number old).lost (down_of number old)))
             (subst (λ (u : List ℕ). LinkStands (record (link_of number old) { host_rest = to; up = u }) link) bytes_behind
             (subst (λ (m : List ToHost). LinkStands (record (link_of number old) { host_rest = to; up = behind }) (record link { up = m })) others came.stands));
       } in
@@ -240,13 +221,8 @@ module _ (known : Known) (begin : Begin) (is : IsBegin begin) (events : List Mes
     took_it : came_up number link.up world ≡ host_took_it number step others world
     took_it = ap (λ (u : List ToHost). came_up number u world) e
 
-    known_then : Facts (after begin (events ++ delivery ∷ []))
-    known_then =
-        facts known.worlds begin is (events ++ delivery ∷ []) (are_more events (delivery ∷ []) reached.are_events (tt, tt))
-        (All-append IsTyped events (delivery ∷ []) reached.typed (All-cons IsTyped delivery [] tt (All-nil IsTyped)))
-
-    world_then : after begin (events ++ delivery ∷ []) ≡ host_took_it number step others world
-    world_then = after_more begin events (delivery ∷ []) ∙ happened begin delivery world has_its_place ∙ took_it
+    known_then : Facts (came_up number link.up world)
+    known_then = facts_once known.worlds begin events delivery old is reached tt tt has_its_place
 
     stays : step.closes ≡ None
     stays =
@@ -254,13 +230,13 @@ module _ (known : Known) (begin : Begin) (is : IsBegin begin) (events : List Mes
           pool = freed_if number step.closes (granted_if number step.grants world.pool);
           link = with_at number (host_left_if step.closes (link_behind step others link)) world.link;
         })
-        (ap (λ (w : World). w.causes) (sym world_then) ∙ known_then.nobody_refuses.none_closed)
+        (ap (λ (w : World). w.causes) (sym took_it) ∙ known_then.nobody_refuses.none_closed)
 
-    world_now : after begin (events ++ delivery ∷ []) ≡ now
-    world_now = world_then ∙ is_behind number step others world stays
+    world_now : came_up number link.up world ≡ now
+    world_now = took_it ∙ is_behind number step others world stays
 
     link_now : now.link number ≡ link_behind step others link
-    link_now = ap (λ (b : Bool). if b then link_behind step others link else link) (same_number number)
+    link_now = with_same number (link_behind step others link) world.link
 
     may_come : MayComeAll link.term (sent link.lost link.down step.sends)
     may_come =
@@ -301,7 +277,7 @@ module _ (known : Known) (begin : Begin) (is : IsBegin begin) (events : List Mes
               ∙ ap (λ (c : Option Cause). freed_if number c (granted_if number step.grants old.host.pool)) stays
               ∙ ap (granted_if number step.grants) stands.pool;
           is_link = link_now;
-          others = λ other differs. ap (λ (b : Bool). if b then link_behind step others link else world.link other) (ne_eqb other number differs);
+          others = λ other differs. with_other number other (link_behind step others link) world.link differs;
           term_here = refl;
           places = refl;
           terminals = refl;
@@ -314,7 +290,7 @@ module _ (known : Known) (begin : Begin) (is : IsBegin begin) (events : List Mes
           some = delivery ∷ [];
           repeats = (1, refl);
           reached = reached_one begin events delivery old new reached tt tt has_its_place (panels_are counter)
-              (subst (λ (w : World). WorldStands new w) (sym (took_it ∙ is_behind number step others world stays)) stood.stands);
+              (subst (λ (w : World). WorldStands new w) (sym world_now) stood.stands);
           is_open = subst IsOpen (sym taken.service) tt;
           there = stood.there;
           queue = stood.queue;
@@ -389,15 +365,14 @@ many_bytes : Known → (begin : Begin) → IsBegin begin → (number : ℕ) → 
 many_bytes known begin is number below [] behind events old counter reached there queue same = record {
   more = [];
   repeats = (0, refl);
-  reached = subst (λ (c : Counter). Reached begin (events ++ []) (took_up 0 number c old)) (sym same)
-      (subst (λ (w : ByteWorld). Reached begin (events ++ []) w) (sym (took_none number old))
-      (subst (λ (m : List MessageEvent). Reached begin m old) (sym (append-nil events)) reached));
+  reached = reached_still begin events old (took_up 0 number counter old) reached
+      (ap (λ (c : Counter). took_up 0 number c old) same ∙ took_none number old);
   is_open = subst (λ (c : Counter). IsOpen c.line.service) (sym same) (there_open (service_at number old.host) (reached.stands.none_closed number) there);
 }
 many_bytes known begin is number below (byte ∷ front) behind events old counter reached there queue taken =
     let first : Counter = taken.0 in
-    let linked : number < length old.links = subst (λ (n : ℕ). number < n) (sym reached.stands.ways) below in
-    let lined : number < length old.host.lines = subst (λ (n : ℕ). number < n) (sym reached.stands.lines) below in
+    let linked : number < length old.links = way_within number old (after begin events) reached.stands below in
+    let lined : number < length old.host.lines = line_within number old (after begin events) reached.stands below in
     let one = one_byte known begin is events old reached number below there byte (front ++ behind) first queue taken.1 in
     let mid : ByteWorld = took_up 1 number first old in
     let counter_mid : counter_at number mid.host ≡ first = counter_is number first old linked lined in

@@ -8,7 +8,7 @@ use Rattle.world3270.specs.ByteSteps.{HappensIf, Steps, has_place}
 use Rattle.world3270.specs.ByteWorld.{ByteWorld}
 use Rattle.world3270.specs.Happens.{done, happens}
 use Rattle.world3270.specs.Placed.{has_place as has_place_over_messages}
-use Rattle.world3270.specs.Refines.{Begin, IsBegin, Reached, IsReached, IsReal, GoesOn, StepsGoOn, SkipsAreThose, ComeTo, NextComesTo, RunsGoOn, AreReal, after, message_event, once}
+use Rattle.world3270.specs.Refines.{Begin, IsBegin, Reached, IsReached, IsReal, IsCounted, GoesOn, ComesTo, StepsGoOn, SkipsAreThose, ComeTo, NextComesTo, RunsGoOn, AreReal, after, message_event, once}
 use Rattle.world3270.specs.Sendable.{IsTyped}
 use Rattle.world3270.specs.Standing.{WorldStands}
 use Rattle.world3270.specs.World.{World, Event as MessageEvent}
@@ -16,7 +16,7 @@ use Rattle.world3270.specs.declared.event.Event.{Event}
 use Rattle.world3270.specs.declared.event.Event.TheVariants as event
 use Rattle.world3270.specs.declared.event.Stepped.{Stepped}
 use Rattle.world3270.specs.declared.event.Stepped.TheVariants as stepped
-use Rattle.world3270.proofs.Known.{Goes, reached_more}
+use Rattle.world3270.proofs.Known.{Goes, reached_more, reached_still}
 
 -- what each event comes to, where it has a place
 pub record EventsGo : Type 0 where
@@ -48,13 +48,6 @@ goes go event.RestartHost = go.restart_host
 -- ---- an event that has no place
 
 module _ (begin : Begin) (events : List MessageEvent) (old new : ByteWorld) (reached : Reached begin events old) (same : new ≡ old) where
-  still_stands : WorldStands new (after begin events)
-  still_stands = subst (λ (b : ByteWorld). WorldStands b (after begin events)) (sym same) reached.stands
-
-  -- nothing happens over messages
-  nothing : Reached begin (events ++ []) new
-  nothing = reached_more begin events [] old new reached tt (All-nil IsTyped) (ap (λ (b : ByteWorld). b.host.panels) same) still_stands
-
   -- what happens over messages is skipped too
   skipped : (event : Event) → IsReal event → has_place_over_messages (application_of begin.panels) (message_event event) (after begin events) ≡ false
       → Reached begin (events ++ message_event event ∷ []) new
@@ -65,56 +58,31 @@ module _ (begin : Begin) (events : List MessageEvent) (old new : ByteWorld) (rea
       ap (λ (b : Bool). if b then done app (message_event event) world else world) place in
       reached_more begin events (message_event event ∷ []) old new reached (real.0, tt) (All-cons IsTyped (message_event event) [] real.1 (All-nil IsTyped))
       (ap (λ (b : ByteWorld). b.host.panels) same)
-      (subst (λ (w : World). WorldStands new w) (sym stays) still_stands)
+      (subst (λ (w : World). WorldStands new w) (sym stays) (subst (λ (b : ByteWorld). WorldStands b world) (sym same) reached.stands))
 
 module _ (skips : SkipsAreThose) (begin : Begin) (events : List MessageEvent) (old : ByteWorld) (answer : Stepped) (new : ByteWorld)
     (is : IsBegin begin) (reached : Reached begin events old) (skip : answer ≡ stepped.Skipped) (same : new ≡ old) where
   is_once : (event : MessageEvent) → event ∷ [] ≡ once event answer
   is_once event = sym (ap (once event) skip)
 
+  skips_once : (event : Event) → IsReal event → IsCounted event → has_place event old ≡ false → ComesTo event answer (message_event event ∷ []) → GoesOn begin events event answer new
+  skips_once event real counted place comes = record {
+    more = message_event event ∷ [];
+    comes_to = comes;
+    reached = skipped begin events old new reached same event real (sym (skips begin events event old is reached counted) ∙ place);
+  }
+
   skips_go : (event : Event) → IsReal event → has_place event old ≡ false → GoesOn begin events event answer new
-  skips_go (event.Up number count) real place = record { more = []; comes_to = (0, refl); reached = nothing begin events old new reached same }
-  skips_go (event.Down number count) real place = record { more = []; comes_to = (0, refl); reached = nothing begin events old new reached same }
-  skips_go (event.Key terminal key) real place = record {
-    more = MessageEvent.Press terminal key ∷ [];
-    comes_to = is_once (MessageEvent.Press terminal key);
-    reached = skipped begin events old new reached same (event.Key terminal key) real (sym (skips begin events (event.Key terminal key) old is reached tt) ∙ place);
-  }
-  skips_go (event.Act number) real place = record {
-    more = MessageEvent.Act number ∷ [];
-    comes_to = is_once (MessageEvent.Act number);
-    reached = skipped begin events old new reached same (event.Act number) real (sym (skips begin events (event.Act number) old is reached tt) ∙ place);
-  }
-  skips_go (event.Note number text) real place = record {
-    more = MessageEvent.Note number text ∷ [];
-    comes_to = is_once (MessageEvent.Note number text);
-    reached = skipped begin events old new reached same (event.Note number text) real (sym (skips begin events (event.Note number text) old is reached tt) ∙ place);
-  }
-  skips_go (event.Lose number) real place = record {
-    more = MessageEvent.Lose number ∷ [];
-    comes_to = is_once (MessageEvent.Lose number);
-    reached = skipped begin events old new reached same (event.Lose number) real (sym (skips begin events (event.Lose number) old is reached tt) ∙ place);
-  }
-  skips_go (event.HostSees number) real place = record {
-    more = MessageEvent.HostSees number ∷ [];
-    comes_to = is_once (MessageEvent.HostSees number);
-    reached = skipped begin events old new reached same (event.HostSees number) real (sym (skips begin events (event.HostSees number) old is reached tt) ∙ place);
-  }
-  skips_go (event.TermSees terminal) real place = record {
-    more = MessageEvent.TermSees terminal ∷ [];
-    comes_to = is_once (MessageEvent.TermSees terminal);
-    reached = skipped begin events old new reached same (event.TermSees terminal) real (sym (skips begin events (event.TermSees terminal) old is reached tt) ∙ place);
-  }
-  skips_go (event.Connect terminal wanted) real place = record {
-    more = MessageEvent.Connect terminal wanted ∷ [];
-    comes_to = is_once (MessageEvent.Connect terminal wanted);
-    reached = skipped begin events old new reached same (event.Connect terminal wanted) real (sym (skips begin events (event.Connect terminal wanted) old is reached tt) ∙ place);
-  }
-  skips_go (event.RestartTerm terminal) real place = record {
-    more = MessageEvent.RestartTerm terminal ∷ [];
-    comes_to = is_once (MessageEvent.RestartTerm terminal);
-    reached = skipped begin events old new reached same (event.RestartTerm terminal) real (sym (skips begin events (event.RestartTerm terminal) old is reached tt) ∙ place);
-  }
+  skips_go (event.Up number count) real place = record { more = []; comes_to = (0, refl); reached = reached_still begin events old new reached same }
+  skips_go (event.Down number count) real place = record { more = []; comes_to = (0, refl); reached = reached_still begin events old new reached same }
+  skips_go (event.Key terminal key) real place = skips_once (event.Key terminal key) real tt place (is_once (MessageEvent.Press terminal key))
+  skips_go (event.Act number) real place = skips_once (event.Act number) real tt place (is_once (MessageEvent.Act number))
+  skips_go (event.Note number text) real place = skips_once (event.Note number text) real tt place (is_once (MessageEvent.Note number text))
+  skips_go (event.Lose number) real place = skips_once (event.Lose number) real tt place (is_once (MessageEvent.Lose number))
+  skips_go (event.HostSees number) real place = skips_once (event.HostSees number) real tt place (is_once (MessageEvent.HostSees number))
+  skips_go (event.TermSees terminal) real place = skips_once (event.TermSees terminal) real tt place (is_once (MessageEvent.TermSees terminal))
+  skips_go (event.Connect terminal wanted) real place = skips_once (event.Connect terminal wanted) real tt place (is_once (MessageEvent.Connect terminal wanted))
+  skips_go (event.RestartTerm terminal) real place = skips_once (event.RestartTerm terminal) real tt place (is_once (MessageEvent.RestartTerm terminal))
   skips_go event.RestartHost real place = absurd (cc)
 
 -- ---- each event
@@ -146,7 +114,7 @@ grouped begin before first others new reached = subst (λ (es : List MessageEven
 all_gone : StepsGoOn → (begin : Begin) (before : List MessageEvent) (events : List Event) (old new : ByteWorld)
     → IsBegin begin → Reached begin before old → AreReal events → AllHappen events old new → HaveGone begin before events new
 all_gone go begin before [] old new is reached real none =
-    record { more = []; come = refl; reached = nothing begin before old new reached none }
+    record { more = []; come = refl; reached = reached_still begin before old new reached none }
 all_gone go begin before (event ∷ events) old new is reached real all =
     let one = go begin before event old all.0 all.1 is reached real.0 all.2 in
     let others = all_gone go begin (before ++ one.more) events all.1 new is one.reached real.1 all.4 in
@@ -165,7 +133,7 @@ record HasStopped (begin : Begin) (before : List MessageEvent) (events : List Ev
 stopped : StepsGoOn → (begin : Begin) (before : List MessageEvent) (events : List Event) (part : ℕ) (old new : ByteWorld)
     → IsBegin begin → Reached begin before old → AreReal events → StopsAt events part old new → HasStopped begin before events new
 stopped go begin before [] part old new is reached real stops =
-    record { more = []; comes = refl; reached = nothing begin before old new reached stops.1 }
+    record { more = []; comes = refl; reached = reached_still begin before old new reached stops.1 }
 stopped go begin before (event ∷ events) part old new is reached real stops =
     let one = go begin before event old stops.0 new is reached real.0 stops.1 in
     record { more = one.more; comes = (stops.0, one.comes_to); reached = one.reached }

@@ -1,21 +1,22 @@
--- What stays of a world over bytes, where one connection and one terminal change.
-use Rattle.std.proofs.Common.{◌≡◌, ◌≢◌, ◌<◌, ◌+◌, ◌-◌, ◌==◌, not, ℕ, zero, suc, Bool, true, false, Option, None, Some, is_some, List, [], ◌∷◌, ◌++◌, drop, take, length, slice_index_or, refl, ap, sym, subst, ◌∙◌, arith, cond, if◌then◌else◌}
+-- Who is at which connection of a world over bytes, what stands there, and what stays where one connection and one terminal change.
+use Rattle.std.proofs.Common.{◌≡◌, ◌≢◌, ◌⊎◌, inl, inr, ◌<◌, ◌≤◌, ◌+◌, not, ℕ, zero, suc, Bool, true, false, Option, None, Some, is_some, List, [], ◌∷◌, length, slice_index_or, le_refl, refl, ap, sym, subst, ◌∙◌, arith, cond}
 use Rattle.std.specs.Prelude.{⊤}
 use Rattle.std.specs.List.{position_from}
-use Rattle.std.proofs.lemmas.Bool.{eqb-true}
-use Rattle.std.proofs.lemmas.Bool.Decides.{Decides-eqb}
+use Rattle.std.proofs.lemmas.Bool.{cases_lt, eqb-true}
 use Rattle.std.proofs.lemmas.Iterator.Adapters.{position_from-zero}
-use Rattle.std.proofs.lemmas.List.{get_or-set_same, get_or-set_other, take-append-le}
+use Rattle.std.proofs.lemmas.List.{get_or_past, get_or-set_same, get_or-set_other}
 use Rattle.std.proofs.lemmas.List.Quantifiers.{position-Some}
-use Rattle.host_core.specs.State.{Host, Line, unused, line_at, service_at, with_line}
-use Rattle.world3270.specs.ByteWorld.{ByteWorld, Under, Ways, Sitting, under_way, came, cut, left, is_live, is_senders, is_there, unused_ways, new_sitting, ways_at, sitting_at, with_ways, with_sitting, sits_at, terminal_at, host_there, host_out, out_of}
+use Rattle.telnet_wire.specs.Reading.{Rest}
+use Rattle.host_core.specs.Session.{Conn}
+use Rattle.host_core.specs.State.{Host, Line, unused, most_connections, line_at, service_at, with_line}
+use Rattle.world3270.specs.ByteWorld.{ByteWorld, Ways, Sitting, under_way, is_live, is_there, unused_ways, new_sitting, ways_at, sitting_at, with_ways, with_sitting, sits_at, terminal_at, host_there, host_out, out_of}
 use Rattle.world3270.specs.Link.{Link}
 use Rattle.world3270.specs.Places.{EndsAgree}
 use Rattle.world3270.specs.Seats.{Seat}
 use Rattle.world3270.specs.Standing.{WorldStands, IsFlow, IsAt, IsNotClosed, IsSettled, AreWays, conn_of, rest_of, with_out, seat_of, link_with}
 use Rattle.world3270.specs.Stands.{ByteLink, LinkStands}
 use Rattle.world3270.specs.World.{Place, World}
-use Rattle.world3270.proofs.OneOfMany.{differs as is_other}
+use Rattle.world3270.proofs.OneOfMany.{one_or_another, same_number}
 
 -- ---- one of many
 
@@ -39,62 +40,17 @@ line_same number line host below = get_or-set_same host.lines number line unused
 pub line_other : (number other : ℕ) (line : Line) (host : Host) → other ≢ number → line_at other (with_line number line host) ≡ line_at other host
 line_other number other line host differs = get_or-set_other host.lines number other line unused differs
 
--- ---- what is under way
+-- ---- a connection
 
--- a sender says more: on a lost connection that vanishes
-pub more_under_way : (there : Bool) (out more : List ℕ) (under : Under) → there ≡ true → IsFlow there out under
-    → under_way under (out ++ more) ≡ (if is_live under then under_way under out ++ more else under_way under out)
-more_under_way there out more Under.Live is flow = refl
-more_under_way there out more (Under.Cut kept) is flow = take-append-le kept out more flow
-more_under_way there out more (Under.Left bytes) is flow = absurd (cc)
+-- it is made of these parts
+abbrev pub of_parts : Bool → List ℕ → List ℕ → Bool → Conn → Rest → Option ℕ → Seat → ByteLink
+of_parts lost down up there conn rest here seat =
+    record { lost = lost; down = down; up = up; host_here = there; host = conn; host_rest = rest; term_here = here; seat = seat }
 
--- the first bytes came
-take_nothing : (count : ℕ) → take {A = ℕ} count [] ≡ []
-take_nothing zero = refl
-take_nothing (suc count) = refl
-
-drop_take : (count kept : ℕ) (out : List ℕ) → take (kept - count) (drop count out) ≡ drop count (take kept out)
-drop_take zero kept out = let same : kept - 0 ≡ kept = omega arith in ap (λ (n : ℕ). take n out) same
-drop_take (suc count) zero out = let none : 0 - suc count ≡ 0 = omega arith in ap (λ (n : ℕ). take n (drop (suc count) out)) none
-drop_take (suc count) (suc kept) [] = take_nothing (suc kept - suc count)
-drop_take (suc count) (suc kept) (byte ∷ out) =
-    let less : suc kept - suc count ≡ kept - count = omega arith in
-    ap (λ (n : ℕ). take n (drop count out)) less ∙ drop_take count kept out
-
-pub came_under_way : (count : ℕ) (under : Under) (out : List ℕ)
-    → under_way (came count under) (if is_senders under then drop count out else out) ≡ drop count (under_way under out)
-came_under_way count Under.Live out = refl
-came_under_way count (Under.Cut kept) out = drop_take count kept out
-came_under_way count (Under.Left bytes) out = refl
-
--- it is lost
-all_taken : (out : List ℕ) → take (length out) out ≡ out
-all_taken [] = refl
-all_taken (byte ∷ out) = ap (λ (bytes : List ℕ). byte ∷ bytes) (all_taken out)
-
-pub cut_under_way : (under : Under) (out : List ℕ) → under_way (cut (length out) under) out ≡ under_way under out
-cut_under_way Under.Live out = all_taken out
-cut_under_way (Under.Cut kept) out = refl
-cut_under_way (Under.Left bytes) out = refl
-
--- the sender leaves
-pub left_under_way : (under : Under) (out now : List ℕ) → under_way (left out under) now ≡ under_way under out
-left_under_way Under.Live out now = refl
-left_under_way (Under.Cut kept) out now = refl
-left_under_way (Under.Left bytes) out now = refl
-
--- a connection is made of these parts of the world
-abbrev with_parts : Option ℕ → Line → Ways → List ℕ → Seat → ByteLink
-with_parts here line ways out seat = record {
-  lost = not (is_live ways.down);
-  down = under_way ways.down line.out;
-  up = under_way ways.up out;
-  host_here = is_there line.service;
-  host = conn_of line.service;
-  host_rest = rest_of line.service;
-  term_here = here;
-  seat = seat;
-}
+-- and of these parts of the world
+abbrev pub with_parts : Option ℕ → Line → Ways → List ℕ → Seat → ByteLink
+with_parts here line ways out seat =
+    of_parts (not (is_live ways.down)) (under_way ways.down line.out) (under_way ways.up out) (is_there line.service) (conn_of line.service) (rest_of line.service) here seat
 
 -- ---- who is at a connection
 
@@ -102,12 +58,13 @@ sits : (number : ℕ) (at : Option ℕ) → sits_at number at ≡ true → at �
 sits number None e = absurd (cc)
 sits number (Some at) e = ap (λ (n : ℕ). Some n) (eqb-true at number e)
 
-same_number : (number : ℕ) → (number == number) ≡ true
-same_number number = (Decides-eqb number number).1 refl
-
 pub found_sits : (number terminal : ℕ) (world : ByteWorld) → terminal_at number world.sittings ≡ Some terminal → (sitting_at terminal world).at ≡ Some number
 found_sits number terminal world found =
     sits number (sitting_at terminal world).at (position-Some (λ sitting. sits_at number sitting.at) world.sittings terminal new_sitting found).1
+
+-- and it is one of those that there are
+pub found_within : (number terminal : ℕ) (world : ByteWorld) → terminal_at number world.sittings ≡ Some terminal → terminal < length world.sittings
+found_within number terminal world found = (position-Some (λ sitting. sits_at number sitting.at) world.sittings terminal new_sitting found).0
 
 -- where no place is found no element passes
 none_passes : {X : Type 0} (test : X → Bool) (xs : List X) (start : ℕ) (beyond : X) → position_from test start xs ≡ None → test beyond ≡ false
@@ -150,12 +107,75 @@ who_is_there bytes world number agree places = by_found (terminal_at number byte
         let sat = found_sits number terminal bytes is in
         sym ((agree terminal number).0 (at_place (sitting_at terminal bytes) (world.place terminal) number (places terminal) sat)) ∙ held
 
--- ---- one connection and one terminal change
+-- where the terminals are as they were, so is what each has to send, and what each is
+pub sits_same : (here : Option ℕ) (old new : ByteWorld) → new.sittings ≡ old.sittings → (out_of here new ≡ out_of here old) × (seat_of here new ≡ seat_of here old)
+sits_same None old new same = (refl, refl)
+sits_same (Some terminal) old new same = (
+  ap (λ (s : List Sitting). (slice_index_or s terminal new_sitting).seat.terminal.out) same,
+  ap (λ (s : List Sitting). with_out [] (slice_index_or s terminal new_sitting).seat) same,
+)
 
 -- a terminal is at this connection, or alone
 abbrev pub IsHere : ℕ → Place → Type 0
 IsHere number (Place.At at) = at ≡ number
 IsHere number (Place.Alone display) = ⊤
+
+pub alone_there : (sitting : Sitting) (place : Place) (number : ℕ) → sitting.at ≡ None → IsAt sitting place → IsHere number place
+alone_there sitting (Place.At at) number none is = absurd (cc)
+alone_there sitting (Place.Alone display) number none is = tt
+
+-- a number beyond all is no terminal's: nobody is there
+pub beyond_is_alone : (number : ℕ) (old : ByteWorld) (was : World) → WorldStands old was → IsHere number (was.place (length old.sittings))
+beyond_is_alone number old was stands =
+    let beyond : ℕ = length old.sittings in
+    alone_there (sitting_at beyond old) (was.place beyond) number
+    (ap (λ (s : Sitting). s.at) (get_or_past old.sittings beyond new_sitting (le_refl beyond))) (stands.places beyond)
+
+-- ---- what stands on a connection
+
+-- it is one of those that there are
+pub way_within : (number : ℕ) (old : ByteWorld) (was : World) → WorldStands old was → number < most_connections → number < length old.links
+way_within number old was stands below = subst (λ (n : ℕ). number < n) (sym stands.ways) below
+
+pub line_within : (number : ℕ) (old : ByteWorld) (was : World) → WorldStands old was → number < most_connections → number < length old.host.lines
+line_within number old was stands below = subst (λ (n : ℕ). number < n) (sym stands.lines) below
+
+-- where the host is nothing is said of what it has to send
+pub there_settled : (line : Line) → is_there line.service ≡ true → IsSettled line
+there_settled line there free = absurd (cc)
+
+module _ (number : ℕ) (old : ByteWorld) (was : World) (agree : EndsAgree was) (stands : WorldStands old was) where
+  abbrev here : Option ℕ
+  here = (was.link number).term_here
+
+  pub who_was_there : terminal_at number old.sittings ≡ here
+  who_was_there = who_is_there old was number agree stands.places
+
+  pub flow_there : AreWays here number old
+  flow_there = subst (λ (h : Option ℕ). AreWays h number old) who_was_there (stands.flows number)
+
+  pub link_there : LinkStands (link_with here number old) (was.link number)
+  link_there = subst (λ (h : Option ℕ). LinkStands (link_with h number old) (was.link number)) who_was_there (stands.links number)
+
+  -- who holds an end is at one of the connections that there are
+  pub is_within : (terminal : ℕ) → here ≡ Some terminal → number < length old.links
+  is_within terminal held = by_order (cases_lt number (length old.links))
+    where
+      by_order : (number < length old.links) ⊎ (length old.links ≤ number) → number < length old.links
+      by_order (inl below) = below
+      by_order (inr past) =
+          let none : is_some here ≡ false = subst (λ (w : Ways). IsFlow (is_some here) (out_of here old) w.up) (get_or_past old.links number unused_ways past) flow_there.up in
+          let some : is_some here ≡ true = ap (λ (h : Option ℕ). is_some h) held in
+          absurd (cc)
+
+  pub none_beyond : length old.links ≤ number → here ≡ None
+  none_beyond past = by_here here refl
+    where
+      by_here : (h : Option ℕ) → here ≡ h → h ≡ None
+      by_here None holds = refl
+      by_here (Some terminal) holds = let below = is_within terminal holds in absurd (omega arith)
+
+-- ---- one connection and one terminal change
 
 -- What stands on the connection and at the terminal is given; all others are as they were, over bytes and over messages.
 pub record Changed (number terminal : ℕ) (old new : ByteWorld) (was now : World) : Type 0 where
@@ -178,27 +198,22 @@ pub record Changed (number terminal : ℕ) (old new : ByteWorld) (was now : Worl
   pub place : IsAt (sitting_at terminal new) (now.place terminal)
 
 -- who is at another connection isn't the terminal that changes
-other_there : (number terminal other there : ℕ) (place : Place) → other ≢ number → IsHere number place → place ≡ Place.At other → ⊥
-other_there number terminal other there (Place.At at) differs here e = let same : at ≡ other = cc in differs (sym same ∙ here)
-other_there number terminal other there (Place.Alone display) differs here e = absurd (cc)
+other_there : (number other : ℕ) (place : Place) → other ≢ number → IsHere number place → place ≡ Place.At other → ⊥
+other_there number other (Place.At at) differs here e = let same : at ≡ other = cc in differs (sym same ∙ here)
+other_there number other (Place.Alone display) differs here e = absurd (cc)
 
 module _ (number terminal : ℕ) (old new : ByteWorld) (was now : World) (c : Changed number terminal old new was now) (agree : EndsAgree was) (stands : WorldStands old was) where
   place_stands : (other : ℕ) → IsAt (sitting_at other new) (now.place other)
-  place_stands other = by_test (other == terminal) refl
-    where
-      by_test : (b : Bool) → (other == terminal) ≡ b → IsAt (sitting_at other new) (now.place other)
-      by_test true e = subst (λ (t : ℕ). IsAt (sitting_at t new) (now.place t)) (sym (eqb-true other terminal e)) c.place
-      by_test false e =
-          let differs : other ≢ terminal = is_other other terminal e in
-          subst (λ (p : Place). IsAt (sitting_at other new) p) (sym (c.places other differs))
-          (subst (λ (s : Sitting). IsAt s (was.place other)) (sym (c.sittings other differs)) (stands.places other))
+  place_stands = one_or_another (λ (other : ℕ). IsAt (sitting_at other new) (now.place other)) terminal c.place
+      (λ other differs. subst (λ (p : Place). IsAt (sitting_at other new) p) (sym (c.places other differs))
+      (subst (λ (s : Sitting). IsAt s (was.place other)) (sym (c.sittings other differs)) (stands.places other)))
 
   -- what the terminal at another connection is, and has to send
   seat_stays : (other : ℕ) → other ≢ number → (here : Option ℕ) → (was.link other).term_here ≡ here
       → (out_of here new ≡ out_of here old) × (seat_of here new ≡ seat_of here old)
   seat_stays other differs None held = (refl, refl)
   seat_stays other differs (Some there) held =
-      let another : there ≢ terminal = λ (e : there ≡ terminal). other_there number terminal other there (was.place terminal) differs c.before
+      let another : there ≢ terminal = λ (e : there ≡ terminal). other_there number other (was.place terminal) differs c.before
       ((agree terminal other).1 (held ∙ ap (λ (t : ℕ). Some t) e)) in
       let same = c.sittings there another in
       (ap (λ (s : Sitting). s.seat.terminal.out) same, ap (λ (s : Sitting). with_out [] s.seat) same)
@@ -229,44 +244,24 @@ module _ (number terminal : ℕ) (old new : ByteWorld) (was now : World) (c : Ch
   now_there : EndsAgree now → (other : ℕ) → terminal_at other new.sittings ≡ (now.link other).term_here
   now_there agrees other = who_is_there new now other agrees place_stands
 
-  was_there : (other : ℕ) → terminal_at other old.sittings ≡ (was.link other).term_here
-  was_there other = who_is_there old was other agree stands.places
-
   link_stands : (other : ℕ) → LinkStands (link_with (now.link other).term_here other new) (now.link other)
-  link_stands other = by_test (other == number) refl
-    where
-      by_test : (b : Bool) → (other == number) ≡ b → LinkStands (link_with (now.link other).term_here other new) (now.link other)
-      by_test true e = subst (λ (n : ℕ). LinkStands (link_with (now.link n).term_here n new) (now.link n)) (sym (eqb-true other number e)) c.link
-      by_test false e =
-          let differs : other ≢ number = is_other other number e in
-          subst (λ (l : Link). LinkStands (link_with l.term_here other new) l) (sym (c.links other differs))
-          (subst (λ (b : ByteLink). LinkStands b (was.link other)) (sym (link_stays other differs (was.link other).term_here refl))
-          (subst (λ (h : Option ℕ). LinkStands (link_with h other old) (was.link other)) (was_there other) (stands.links other)))
+  link_stands = one_or_another (λ (other : ℕ). LinkStands (link_with (now.link other).term_here other new) (now.link other)) number c.link
+      (λ other differs. subst (λ (l : Link). LinkStands (link_with l.term_here other new) l) (sym (c.links other differs))
+      (subst (λ (b : ByteLink). LinkStands b (was.link other)) (sym (link_stays other differs (was.link other).term_here refl))
+      (link_there other old was agree stands)))
 
   flow_stands : (other : ℕ) → AreWays (now.link other).term_here other new
-  flow_stands other = by_test (other == number) refl
-    where
-      by_test : (b : Bool) → (other == number) ≡ b → AreWays (now.link other).term_here other new
-      by_test true e = subst (λ (n : ℕ). AreWays (now.link n).term_here n new) (sym (eqb-true other number e)) c.flow
-      by_test false e =
-          let differs : other ≢ number = is_other other number e in
-          subst (λ (l : Link). AreWays l.term_here other new) (sym (c.links other differs))
-          (flow_stays other differs (was.link other).term_here refl
-          (subst (λ (h : Option ℕ). AreWays h other old) (was_there other) (stands.flows other)))
+  flow_stands = one_or_another (λ (other : ℕ). AreWays (now.link other).term_here other new) number c.flow
+      (λ other differs. subst (λ (l : Link). AreWays l.term_here other new) (sym (c.links other differs))
+      (flow_stays other differs (was.link other).term_here refl (flow_there other old was agree stands)))
 
   closed_stands : (other : ℕ) → IsNotClosed (service_at other new.host)
-  closed_stands other = by_test (other == number) refl
-    where
-      by_test : (b : Bool) → (other == number) ≡ b → IsNotClosed (service_at other new.host)
-      by_test true e = subst (λ (n : ℕ). IsNotClosed (service_at n new.host)) (sym (eqb-true other number e)) c.none_closed
-      by_test false e = subst (λ (l : Line). IsNotClosed l.service) (sym (c.lines other (is_other other number e))) (stands.none_closed other)
+  closed_stands = one_or_another (λ (other : ℕ). IsNotClosed (service_at other new.host)) number c.none_closed
+      (λ other differs. subst (λ (l : Line). IsNotClosed l.service) (sym (c.lines other differs)) (stands.none_closed other))
 
   settled_stands : (other : ℕ) → IsSettled (line_at other new.host)
-  settled_stands other = by_test (other == number) refl
-    where
-      by_test : (b : Bool) → (other == number) ≡ b → IsSettled (line_at other new.host)
-      by_test true e = subst (λ (n : ℕ). IsSettled (line_at n new.host)) (sym (eqb-true other number e)) c.settled
-      by_test false e = subst (λ (l : Line). IsSettled l) (sym (c.lines other (is_other other number e))) (stands.settled other)
+  settled_stands = one_or_another (λ (other : ℕ). IsSettled (line_at other new.host)) number c.settled
+      (λ other differs. subst (λ (l : Line). IsSettled l) (sym (c.lines other differs)) (stands.settled other))
 
   -- So the world stands for the one after the change.
   pub changed_stands : EndsAgree now → WorldStands new now

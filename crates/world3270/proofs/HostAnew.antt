@@ -15,10 +15,10 @@ use Rattle.world3270.specs.Standing.{WorldStands, IsFlow, IsAt, IsNotClosed, IsS
 use Rattle.world3270.specs.Stands.{LinkStands}
 use Rattle.world3270.specs.StandsLinks.{HostLeaves}
 use Rattle.world3270.specs.World.{World}
-use Rattle.world3270.proofs.Frames.{ways_same, ways_other, line_other, who_is_there}
+use Rattle.world3270.proofs.Frames.{ways_same, ways_other, line_other, flow_there, link_there, sits_same, who_was_there}
 use Rattle.world3270.proofs.OneOfMany.{differs as is_other}
 use Rattle.world3270.proofs.Joinings.{get_or_equal}
-use Rattle.world3270.proofs.Partings.{Passes, Gone, gone_flow, gone_stands, like_stands, sits_same, left_passes, flow_there, link_there, lives, lost_up}
+use Rattle.world3270.proofs.Partings.{Passes, Gone, gone_flow, gone_stands, like_stands, left_passes, lives, lost_up}
 
 -- ---- a pool of which some was given back
 
@@ -26,7 +26,7 @@ held_or_not : (b : Bool) (lu : List ℕ) (at : Entry) → at.lu ≡ lu → entry
 held_or_not true lu at same = refl
 held_or_not false lu at same = ap (λ (l : List ℕ). entry l None) same
 
-pub freed_the_same : (number : ℕ) (pool : List Entry) → all_free (given_back number pool) ≡ all_free pool
+freed_the_same : (number : ℕ) (pool : List Entry) → all_free (given_back number pool) ≡ all_free pool
 freed_the_same number [] = refl
 freed_the_same number (at ∷ pool) =
     ap (λ (e : Entry). e ∷ all_free (given_back number pool)) (held_or_not (is_held_by number at.holder) at.lu at refl)
@@ -248,7 +248,7 @@ module _ (leaves : HostLeaves) (old : ByteWorld) (was : World) (agree : EndsAgre
         )
 
     there : terminal_at number new.sittings ≡ here
-    there = ap (λ (s : List Sitting). terminal_at number s) left_all.sittings ∙ who_is_there old was number agree stands.places
+    there = ap (λ (s : List Sitting). terminal_at number s) left_all.sittings ∙ who_was_there number old was agree stands
 
   pub host_anew_stands : WorldStands new (host_anew_over_messages was)
   host_anew_stands = record {

@@ -1,6 +1,6 @@
--- Where a terminal connects, or begins anew alone, the world over bytes stands for the one over messages in which it does; and so at the begin.
-use Rattle.std.proofs.Common.{◌≡◌, ◌⊎◌, inl, inr, ◌<◌, ◌≤◌, ◌+◌, ◌||◌, not, ℕ, zero, suc, Bool, true, false, Option, None, Some, is_some, List, [], find, length, replicate, slice_index_or, le_refl, refl, ap, sym, subst, ◌∙◌, arith, if◌then◌else◌}
-use Rattle.std.specs.List.{position_from, range_with_len}
+-- Where a terminal connects the world over bytes stands for the one over messages in which it does; and so at the begin.
+use Rattle.std.proofs.Common.{◌≡◌, ◌⊎◌, inl, inr, ◌<◌, ◌≤◌, ◌+◌, not, ℕ, zero, suc, Bool, true, false, Option, None, Some, List, [], length, replicate, slice_index_or, refl, ap, sym, subst, ◌∙◌, arith, if◌then◌else◌}
+use Rattle.std.specs.List.{position_from}
 use Rattle.std.proofs.lemmas.Bool.{cases_lt}
 use Rattle.std.proofs.lemmas.Iterator.Adapters.{position_from-zero}
 use Rattle.std.proofs.lemmas.List.{get_or_past, get_or-replicate, length-replicate, length-set}
@@ -9,43 +9,20 @@ use Rattle.lu_pool.specs.declared.entry.Entry.{Entry}
 use Rattle.panels.specs.Panel.{Panels}
 use Rattle.host_core.specs.Application.{application_of}
 use Rattle.host_core.specs.State.{Line, unused, opened, line_at, with_line, most_connections}
-use Rattle.world3270.specs.ByteSteps.{is_held, free_from, free_number}
+use Rattle.world3270.specs.ByteSteps.{is_held, free_from}
 use Rattle.world3270.specs.ByteWorld.{ByteWorld, Ways, Sitting, under_way, is_live, is_there, unused_ways, begun_ways, new_sitting, sits, sits_at, new_byte_world, ways_at, sitting_at, with_ways, with_sitting, with_host, terminal_at, host_there, host_out, out_of}
-use Rattle.world3270.specs.Link.{Link, is_free, begun, unused as unused_link}
-use Rattle.world3270.specs.Placed.{free_number as free_over_messages}
+use Rattle.world3270.specs.Link.{Link, begun, unused as unused_link}
 use Rattle.world3270.specs.Places.{EndsAgree}
 use Rattle.world3270.specs.Standing.{WorldStands, IsFlow, IsAt, IsNotClosed, IsSettled, AreWays, conn_of, rest_of, with_out, link_with}
 use Rattle.world3270.specs.Stands.{LinkStands}
 use Rattle.world3270.specs.StandsLinks.{BeginStands, begun_bytes}
 use Rattle.world3270.specs.Terminal.{new_display}
-use Rattle.world3270.specs.World.{Place, World, new_world, with_at, with_place}
-use Rattle.world3270.proofs.Frames.{ways_same, ways_other, sitting_same, sitting_other, line_same, line_other, who_is_there, IsHere, changed_stands}
-use Rattle.world3270.proofs.Partings.{with_same, with_other, like_stands, alone_there, flow_there, link_there, none_beyond}
+use Rattle.world3270.specs.World.{Place, World, new_world, with_at}
+use Rattle.world3270.proofs.Frames.{ways_same, ways_other, sitting_same, sitting_other, line_same, line_other, IsHere, alone_there, changed_stands}
+use Rattle.world3270.proofs.OneOfMany.{with_other, with_same}
+use Rattle.world3270.proofs.Partings.{like_stands}
 
 -- ---- the least number that is free
-
-either_way : (held : Bool) (number : ℕ) (other others : Option ℕ) → other ≡ others
-    → (if held then other else Some number) ≡ (if not held then Some number else others)
-either_way true number other others same = same
-either_way false number other others same = refl
-
-module _ (bytes : ByteWorld) (world : World) (agree : EndsAgree world) (stands : WorldStands bytes world) where
-  -- an end is held over bytes where one is over messages
-  same_held : (number : ℕ) → is_held number bytes ≡ ((world.link number).host_here || is_some (world.link number).term_here)
-  same_held number =
-      ap (λ (b : Bool). b || is_some (terminal_at number bytes.sittings)) (stands.links number).host_here
-      ∙ ap (λ (h : Option ℕ). (world.link number).host_here || is_some h) (who_is_there bytes world number agree stands.places)
-
-  same_free_from : (count number : ℕ) → free_from count number bytes ≡ find (λ n. is_free (world.link n)) (range_with_len number count)
-  unfolding free_from
-  same_free_from zero number = refl
-  same_free_from (suc count) number =
-      ap (λ (b : Bool). if b then free_from count (number + 1) bytes else Some number) (same_held number)
-      ∙ either_way ((world.link number).host_here || is_some (world.link number).term_here) number (free_from count (number + 1) bytes)
-      (find (λ n. is_free (world.link n)) (range_with_len (number + 1) count)) (same_free_from count (number + 1))
-
-  pub same_free : free_number bytes ≡ free_over_messages world.link
-  same_free = same_free_from most_connections 0
 
 pub found_below : (count number found : ℕ) (world : ByteWorld) → free_from count number world ≡ Some found → found < number + count
 unfolding free_from
@@ -122,47 +99,10 @@ module _ (number terminal : ℕ) (wanted : Option (List ℕ)) (old : ByteWorld) 
       })
       agree stands agrees
 
--- ---- a terminal that is alone begins anew
+-- ---- a terminal that begins anew
 
 pub new_is_alone : IsAt new_sitting (Place.Alone (new_display model_2))
 new_is_alone = (refl, record { detached = refl; silent = refl; shape = refl; screen = refl; keyboard = refl; left = refl; erased = refl })
-
--- No connection changes: one that isn't there takes the place of the one that does.
-pub anew_alone : (terminal : ℕ) (old : ByteWorld) (was : World) → EndsAgree was → WorldStands old was → terminal < length old.sittings → (sitting_at terminal old).at ≡ None
-    → EndsAgree (with_place terminal (Place.Alone (new_display model_2)) was)
-    → WorldStands (with_sitting terminal new_sitting old) (with_place terminal (Place.Alone (new_display model_2)) was)
-anew_alone terminal old was agree stands there_is alone agrees =
-    let new : ByteWorld = with_sitting terminal new_sitting old in
-    let now : World = with_place terminal (Place.Alone (new_display model_2)) was in
-    let beyond : ℕ = length old.links in
-    let here : Option ℕ = (was.link beyond).term_here in
-    let nobody : here ≡ None = none_beyond beyond old was agree stands (le_refl beyond) in
-    let goes : now.place terminal ≡ Place.Alone (new_display model_2) = with_same terminal (Place.Alone (new_display model_2)) was.place in
-    changed_stands beyond terminal old new was now
-    (record {
-      lines = λ other differs. refl;
-      ways = λ other differs. refl;
-      sittings = λ other differs. sitting_other terminal other new_sitting old differs;
-      links = λ other differs. refl;
-      places = λ other differs. with_other terminal other (Place.Alone (new_display model_2)) was.place differs;
-      line_count = refl;
-      way_count = refl;
-      sitting_count = length-set old.sittings terminal new_sitting;
-      terminals = refl;
-      pool = stands.pool;
-      before = alone_there (sitting_at terminal old) (was.place terminal) beyond alone (stands.places terminal);
-      behind = subst (λ (p : Place). IsHere beyond p) (sym goes) tt;
-      none_closed = stands.none_closed beyond;
-      settled = stands.settled beyond;
-      flow = subst (λ (h : Option ℕ). AreWays h beyond new) (sym nobody)
-          (let none = subst (λ (h : Option ℕ). AreWays h beyond old) nobody (flow_there beyond old was agree stands) in
-          record { together = none.together; down = none.down; up = none.up });
-      link = subst (λ (h : Option ℕ). LinkStands (link_with h beyond new) (was.link beyond)) (sym nobody)
-          (subst (λ (h : Option ℕ). LinkStands (link_with h beyond old) (was.link beyond)) nobody (link_there beyond old was agree stands));
-      place = subst (λ (s : Sitting). IsAt s (now.place terminal)) (sym (sitting_same terminal new_sitting old there_is))
-          (subst (λ (p : Place). IsAt new_sitting p) (sym goes) new_is_alone);
-    })
-    agree stands agrees
 
 -- ---- one of equal ones
 

@@ -38,7 +38,7 @@ pub record Facts (world : World) : Type 0 where
 pub is_application : KnownWorlds → (begin : Begin) → IsBegin begin → IsApplication (application_of begin.panels)
 is_application known begin is = known.application begin.panels is.panels.cursors is.panels.apart
 
-pub asks_for_screens : KnownWorlds → (begin : Begin) → IsBegin begin → AsksForScreens (application_of begin.panels)
+asks_for_screens : KnownWorlds → (begin : Begin) → IsBegin begin → AsksForScreens (application_of begin.panels)
 asks_for_screens known begin is = known.screens begin.panels is.panels.cursors is.panels.characters
 
 pub facts : KnownWorlds → (begin : Begin) → IsBegin begin → (events : List Event) → AreEvents events → All IsTyped events → Facts (after begin events)
@@ -84,7 +84,7 @@ reached_more begin events more old new reached are typed panels stands = record 
 }
 
 -- one event happened
-pub happened : (begin : Begin) (event : Event) (world : World) → has_place_over_messages (application_of begin.panels) event world ≡ true
+happened : (begin : Begin) (event : Event) (world : World) → has_place_over_messages (application_of begin.panels) event world ≡ true
     → happens (application_of begin.panels) event world ≡ done (application_of begin.panels) event world
 happened begin event world is = ap (λ (b : Bool). if b then done (application_of begin.panels) event world else world) is
 
@@ -94,3 +94,27 @@ pub reached_one : (begin : Begin) (events : List Event) (event : Event) (old new
 reached_one begin events event old new reached is typed place panels stands =
     reached_more begin events (event ∷ []) old new reached (is, tt) (All-cons IsTyped event [] typed (All-nil IsTyped)) panels
     (subst (λ (w : World). WorldStands new w) (sym (happened begin event (after begin events) place)) stands)
+
+-- nothing happened
+pub reached_still : (begin : Begin) (events : List Event) (old new : ByteWorld) → Reached begin events old → new ≡ old → Reached begin (events ++ []) new
+reached_still begin events old new reached same =
+    reached_more begin events [] old new reached tt (All-nil IsTyped) (ap (λ (w : ByteWorld). w.host.panels) same)
+    (subst (λ (w : ByteWorld). WorldStands w (after begin events)) (sym same) reached.stands)
+
+-- ---- of the world that was reached, and of what events make of it
+
+pub facts_now : KnownWorlds → (begin : Begin) (events : List Event) (bytes : ByteWorld) → IsBegin begin → Reached begin events bytes → Facts (after begin events)
+facts_now known begin events bytes is reached = facts known begin is events reached.are_events reached.typed
+
+pub facts_then : KnownWorlds → (begin : Begin) (events more : List Event) (bytes : ByteWorld) → IsBegin begin → Reached begin events bytes
+    → AreEvents more → All IsTyped more → Facts (run (application_of begin.panels) more (after begin events))
+facts_then known begin events more bytes is reached are typed =
+    subst (λ (w : World). Facts w) (after_more begin events more)
+    (facts known begin is (events ++ more) (are_more events more reached.are_events are) (All-append IsTyped events more reached.typed typed))
+
+pub facts_once : KnownWorlds → (begin : Begin) (events : List Event) (event : Event) (bytes : ByteWorld) → IsBegin begin → Reached begin events bytes
+    → IsEvent event → IsTyped event → has_place_over_messages (application_of begin.panels) event (after begin events) ≡ true
+    → Facts (done (application_of begin.panels) event (after begin events))
+facts_once known begin events event bytes is reached is_event typed place =
+    subst (λ (w : World). Facts w) (happened begin event (after begin events) place)
+    (facts_then known begin events (event ∷ []) bytes is reached (is_event, tt) (All-cons IsTyped event [] typed (All-nil IsTyped)))

@@ -37,6 +37,7 @@ pub mod Sendable
 pub mod Sittings
 pub mod Steps
 pub mod Known
+pub mod UnderWay
 pub mod Frames
 pub mod SeenStands
 pub mod Follows
@@ -45,6 +46,7 @@ pub mod ByteTerms
 pub mod ByteKeys
 pub mod ByteDown
 pub mod BytePlaced
+pub mod ItemsSpelt
 pub mod ByteActs
 pub mod HostItems
 pub mod SaidUp

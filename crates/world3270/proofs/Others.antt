@@ -44,13 +44,10 @@ use Rattle.world3270.specs.Placed.{has_place, free_number, may_connect, is_termi
 use Rattle.world3270.specs.Places.{is_at, is_found, takes_number, concerns, LinksStay, HoldersStay, PoolIsSound}
 use Rattle.world3270.specs.Terminal.{TermStep, key_came as term_key_came, took as term_took}
 use Rattle.world3270.specs.World.{Place, World, Event, new_world, with_at}
-use Rattle.world3270.proofs.OneOfMany.{differs}
+use Rattle.world3270.proofs.OneOfMany.{differs, with_other}
 use Rattle.world3270.proofs.Worlds.{granted_other, new_good, run_good}
 
 -- ---- connections that an event doesn't concern
-
-with_other : {X : Type 0} (at : ℕ) (x : X) (old : ℕ → X) (number : ℕ) → (number == at) ≡ false → with_at at x old number ≡ old number
-with_other at x old number e = ap (λ b. if b then x else old number) e
 
 pub closed_link : (cause : Option Cause) (world : World) → (closed_if cause world).link ≡ world.link
 closed_link None world = refl
@@ -62,14 +59,14 @@ came_up_link world at number (message ∷ rest) e =
     let step : Step = host_took (answer_to world.pool) (world.link at).host message in
     let new : Link = host_stepped step rest (world.link at) in
     ap (λ (links : ℕ → Link). links number) (closed_link step.closes (record world { pool = freed_if at step.closes (granted_if at step.grants world.pool); link = with_at at new world.link }))
-    ∙ with_other at new world.link number e
+    ∙ with_other at number new world.link (differs number at e)
 
 came_down_link : (world : World) (at terminal number : ℕ) (down : List ToTerminal) → (number == at) ≡ false → (came_down at terminal down world).link number ≡ world.link number
 came_down_link world at terminal number [] e = refl
 came_down_link world at terminal number (message ∷ rest) e =
     let step : TermStep = term_took (world.link at).term message in
     let new : Link = term_stepped step rest (world.link at) in
-    ap (λ (links : ℕ → Link). links number) (closed_link step.closes _) ∙ with_other at new world.link number e
+    ap (λ (links : ℕ → Link). links number) (closed_link step.closes _) ∙ with_other at number new world.link (differs number at e)
 
 went_down_link : (world : World) (at number : ℕ) (here : Option ℕ) → (number == at) ≡ false → (went_down at here world).link number ≡ world.link number
 went_down_link world at number None e = refl
@@ -77,19 +74,19 @@ went_down_link world at number (Some terminal) e = came_down_link world at termi
 
 key_went_link : (world : World) (terminal number : ℕ) (key : Key) (place : Place) → is_at number place ≡ false → (key_went terminal key place world).link number ≡ world.link number
 key_went_link world terminal number key (Place.At at) e =
-    with_other at (term_stepped (term_key_came key (world.link at).term) (world.link at).down (world.link at)) world.link number e
+    with_other at number (term_stepped (term_key_came key (world.link at).term) (world.link at).down (world.link at)) world.link (differs number at e)
 key_went_link world terminal number key (Place.Alone display) e = refl
 
 term_saw_link : (world : World) (terminal number : ℕ) (place : Place) → is_at number place ≡ false → (term_saw terminal place world).link number ≡ world.link number
-term_saw_link world terminal number (Place.At at) e = with_other at (term_left (world.link at)) world.link number e
+term_saw_link world terminal number (Place.At at) e = with_other at number (term_left (world.link at)) world.link (differs number at e)
 term_saw_link world terminal number (Place.Alone display) e = refl
 
 joined_link : (app : Application) (world : World) (terminal number : ℕ) (wanted : Option (List ℕ)) (free : Option ℕ) → is_found number free ≡ false → (joined app terminal wanted free world).link number ≡ world.link number
 joined_link app world terminal number wanted None e = refl
-joined_link app world terminal number wanted (Some found) e = with_other found (begun app.begins terminal wanted) world.link number e
+joined_link app world terminal number wanted (Some found) e = with_other found number (begun app.begins terminal wanted) world.link (differs number found e)
 
 term_anew_link : (app : Application) (world : World) (terminal number : ℕ) (place : Place) → is_at number place ≡ false → (term_anew app terminal place world).link number ≡ world.link number
-term_anew_link app world terminal number (Place.At at) e = with_other at (term_left (world.link at)) world.link number e
+term_anew_link app world terminal number (Place.At at) e = with_other at number (term_left (world.link at)) world.link (differs number at e)
 term_anew_link app world terminal number (Place.Alone display) e = refl
 
 -- a terminal that is at a connection doesn't connect
@@ -102,10 +99,10 @@ done_link : (app : Application) (event : Event) (world : World) (number : ℕ) �
 done_link app (Event.Press terminal key) world number here e = key_went_link world terminal number key (world.place terminal) e
 done_link app (Event.Up at) world number here e = came_up_link world at number (world.link at).up e
 done_link app (Event.Down at) world number here e = went_down_link world at number (world.link at).term_here e
-done_link app (Event.Act at) world number here e = with_other at (host_sent (acted app (world.link at).host) (world.link at)) world.link number e
-done_link app (Event.Note at text) world number here e = with_other at (host_sent (noted text (world.link at).host) (world.link at)) world.link number e
-done_link app (Event.Lose at) world number here e = with_other at (cut (world.link at)) world.link number e
-done_link app (Event.HostSees at) world number here e = with_other at (host_left (world.link at)) world.link number e
+done_link app (Event.Act at) world number here e = with_other at number (host_sent (acted app (world.link at).host) (world.link at)) world.link (differs number at e)
+done_link app (Event.Note at text) world number here e = with_other at number (host_sent (noted text (world.link at).host) (world.link at)) world.link (differs number at e)
+done_link app (Event.Lose at) world number here e = with_other at number (cut (world.link at)) world.link (differs number at e)
+done_link app (Event.HostSees at) world number here e = with_other at number (host_left (world.link at)) world.link (differs number at e)
 done_link app (Event.TermSees terminal) world number here e = term_saw_link world terminal number (world.place terminal) e
 done_link app (Event.Connect terminal wanted) world number here e =
     found_or_at app world terminal number wanted (world.place terminal) (and_parts (is_terminal world terminal) (may_connect world (world.place terminal)) here).1 e

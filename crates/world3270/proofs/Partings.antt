@@ -1,30 +1,23 @@
 -- Where a connection over bytes is lost, or an end leaves it, it stands for one over messages of which that holds.
-use Rattle.std.proofs.Common.{◌≡◌, ◌≢◌, ◌⊎◌, inl, inr, ◌<◌, ◌≤◌, not, ℕ, Bool, true, false, Option, None, Some, is_some, List, [], length, slice_index_or, eq-eqb, ne_eqb, le_refl, refl, ap, sym, subst, ◌∙◌, arith, if◌then◌else◌}
-use Rattle.std.proofs.lemmas.Bool.{cases_lt}
-use Rattle.std.proofs.lemmas.List.{get_or_past, length-set}
+use Rattle.std.proofs.Common.{◌≡◌, ◌<◌, not, ℕ, Bool, true, false, Option, None, Some, is_some, List, [], length, le_refl, refl, ap, sym, subst, ◌∙◌}
+use Rattle.std.proofs.lemmas.List.{length-set}
 use Rattle.lu_pool.specs.Holders.{given_back}
 use Rattle.telnet_wire.specs.Reading.{Rest}
 use Rattle.host_core.specs.State.{Host, Line, unused, line_at, service_at}
 use Rattle.world3270.specs.ByteSteps.{lost_ways, host_gone, terminal_gone}
-use Rattle.world3270.specs.ByteWorld.{ByteWorld, Under, Ways, Sitting, under_way, cut, left, is_live, is_there, unused_ways, new_sitting, ways_at, sitting_at, with_ways, with_sitting, terminal_at, host_there, host_out, out_of}
+use Rattle.world3270.specs.ByteWorld.{ByteWorld, Under, Ways, Sitting, under_way, cut, left, is_live, is_there, ways_at, sitting_at, with_ways, with_sitting, host_there, host_out, out_of}
 use Rattle.world3270.specs.Happens.{host_parted, parted}
 use Rattle.world3270.specs.Link.{Link, cut as link_cut, host_left, term_left}
 use Rattle.world3270.specs.Places.{EndsAgree, UpIsHeld}
 use Rattle.world3270.specs.Seats.{Seat}
-use Rattle.world3270.specs.Standing.{WorldStands, IsFlow, IsAt, IsNotClosed, IsSettled, AreWays, conn_of, rest_of, with_out, seat_of, link_with}
+use Rattle.world3270.specs.Standing.{WorldStands, IsFlow, IsAt, IsNotClosed, IsSettled, AreWays, conn_of, rest_of, seat_of, link_with}
 use Rattle.world3270.specs.Stands.{BytesUp, BytesDown, ByteLink, Holds, LinkStands}
 use Rattle.world3270.specs.StandsLinks.{LossStands, HostLeaves, TermLeaves}
 use Rattle.world3270.specs.Terminal.{Display}
-use Rattle.world3270.specs.World.{Place, World, with_at, with_link}
-use Rattle.world3270.proofs.Frames.{ways_same, ways_other, sitting_same, sitting_other, line_same, line_other, cut_under_way, who_is_there, IsHere, changed_stands}
-
--- ---- one of many, over messages
-
-pub with_same : {X : Type 0} (number : ℕ) (x : X) (old : ℕ → X) → with_at number x old number ≡ x
-with_same {X} number x old = ap (λ (b : Bool). if b then x else old number) (eq-eqb number number refl)
-
-pub with_other : {X : Type 0} (number other : ℕ) (x : X) (old : ℕ → X) → other ≢ number → with_at number x old other ≡ old other
-with_other {X} number other x old differs = ap (λ (b : Bool). if b then x else old other) (ne_eqb other number differs)
+use Rattle.world3270.specs.World.{Place, World, with_link}
+use Rattle.world3270.proofs.Frames.{ways_same, ways_other, sitting_same, sitting_other, line_same, line_other, IsHere, beyond_is_alone, changed_stands, flow_there, is_within, link_there, sits_same, who_was_there}
+use Rattle.world3270.proofs.OneOfMany.{with_other, with_same}
+use Rattle.world3270.proofs.UnderWay.{cut_under_way}
 
 -- ---- what is looked at
 
@@ -55,14 +48,6 @@ like_stands old new link like stands = record {
   };
 }
 
--- where the terminals are as they were, so is what each has to send
-pub sits_same : (here : Option ℕ) (old new : ByteWorld) → new.sittings ≡ old.sittings → (out_of here new ≡ out_of here old) × (seat_of here new ≡ seat_of here old)
-sits_same None old new same = (refl, refl)
-sits_same (Some terminal) old new same = (
-  ap (λ (s : List Sitting). (slice_index_or s terminal new_sitting).seat.terminal.out) same,
-  ap (λ (s : List Sitting). with_out [] (slice_index_or s terminal new_sitting).seat) same,
-)
-
 -- ---- one direction of a lost connection
 
 -- it is lost, what was under way still is, and it fits its sender
@@ -71,7 +56,7 @@ pub record Passes (out : List ℕ) (under : Under) (there : Bool) (now_out : Lis
   pub same : under_way now now_out ≡ under_way under out
   pub flow : IsFlow there now_out now
 
-pub cut_passes : (there : Bool) (out : List ℕ) (under : Under) → (is_live under ≡ true → there ≡ true) → IsFlow there out under
+cut_passes : (there : Bool) (out : List ℕ) (under : Under) → (is_live under ≡ true → there ≡ true) → IsFlow there out under
     → Passes out under there out (cut (length out) under)
 cut_passes there out Under.Live lives flow = record { lost = refl; same = cut_under_way Under.Live out; flow = le_refl (length out) }
 cut_passes there out (Under.Cut kept) lives flow = record { lost = refl; same = refl; flow = flow }
@@ -121,59 +106,30 @@ module _ (number : ℕ) (old new : ByteWorld) (was here : Option ℕ) (line : Li
 
 -- ---- a world whose connection is lost
 
--- a number beyond all isn't a terminal's: nobody is there
-pub alone_there : (sitting : Sitting) (place : Place) (number : ℕ) → sitting.at ≡ None → IsAt sitting place → IsHere number place
-alone_there sitting (Place.At at) number none is = absurd (cc)
-alone_there sitting (Place.Alone display) number none is = tt
-
-pub beyond_is_alone : (number terminal : ℕ) (old : ByteWorld) (was : World) → WorldStands old was → length old.sittings ≤ terminal → IsHere number (was.place terminal)
-beyond_is_alone number terminal old was stands past =
-    let nobody : sitting_at terminal old ≡ new_sitting = get_or_past old.sittings terminal new_sitting past in
-    alone_there (sitting_at terminal old) (was.place terminal) number (ap (λ (s : Sitting). s.at) nobody) (stands.places terminal)
-
 module _ (number : ℕ) (old : ByteWorld) (was : World) (agree : EndsAgree was) (stands : WorldStands old was) where
   abbrev here : Option ℕ
   here = (was.link number).term_here
 
-  there : terminal_at number old.sittings ≡ here
-  there = who_is_there old was number agree stands.places
+  its_flow : AreWays here number old
+  its_flow = flow_there number old was agree stands
 
-  pub flow_there : AreWays here number old
-  flow_there = subst (λ (h : Option ℕ). AreWays h number old) there (stands.flows number)
-
-  pub link_there : LinkStands (link_with here number old) (was.link number)
-  link_there = subst (λ (h : Option ℕ). LinkStands (link_with h number old) (was.link number)) there (stands.links number)
-
-  -- who holds an end is at one of the connections that there are
-  pub is_within : (terminal : ℕ) → here ≡ Some terminal → number < length old.links
-  is_within terminal held = by_order (cases_lt number (length old.links))
-    where
-      by_order : (number < length old.links) ⊎ (length old.links ≤ number) → number < length old.links
-      by_order (inl below) = below
-      by_order (inr past) =
-          let none : is_some here ≡ false = subst (λ (w : Ways). IsFlow (is_some here) (out_of here old) w.up) (get_or_past old.links number unused_ways past) flow_there.up in
-          let some : is_some here ≡ true = ap (λ (h : Option ℕ). is_some h) held in
-          absurd (cc)
-
-  pub none_beyond : length old.links ≤ number → here ≡ None
-  none_beyond past = by_here here refl
-    where
-      by_here : (h : Option ℕ) → here ≡ h → h ≡ None
-      by_here None holds = refl
-      by_here (Some terminal) holds = let below = is_within terminal holds in absurd (omega arith)
+  its_link : LinkStands (link_with here number old) (was.link number)
+  its_link = link_there number old was agree stands
 
   module _ (held : UpIsHeld was) where
     pub lives : is_live (ways_at number old).down ≡ true → (was.link number).lost ≡ false
-    lives live = sym link_there.lost ∙ ap not live
+    lives live = sym its_link.lost ∙ ap not live
 
     lost_down : Passes (host_out number old) (ways_at number old).down (host_there number old) (host_out number old) (lost_ways number old).down
     lost_down = cut_passes (host_there number old) (host_out number old) (ways_at number old).down
-        (λ live. link_there.host_here ∙ (held number (lives live)).host) flow_there.down
+        (λ live. its_link.host_here ∙ (held number (lives live)).host) its_flow.down
 
     pub lost_up : Passes (out_of here old) (ways_at number old).up (is_some here) (out_of here old) (lost_ways number old).up
-    lost_up = subst (λ (h : Option ℕ). Passes (out_of here old) (ways_at number old).up (is_some here) (out_of here old) (cut (length (out_of h old)) (ways_at number old).up)) (sym there)
+    lost_up =
+        let up : Under = (ways_at number old).up in
+        subst (λ (h : Option ℕ). Passes (out_of here old) up (is_some here) (out_of here old) (cut (length (out_of h old)) up)) (sym (who_was_there number old was agree stands))
         (cut_passes (is_some here) (out_of here old) (ways_at number old).up
-        (λ live. (held number (lives (sym flow_there.together ∙ live))).terminal) flow_there.up)
+        (λ live. (held number (lives (sym its_flow.together ∙ live))).terminal) its_flow.up)
 
     -- ---- it is lost, or the host leaves it
 
@@ -204,15 +160,15 @@ module _ (number : ℕ) (old : ByteWorld) (was : World) (agree : EndsAgree was) 
           sitting_count = refl;
           terminals = refl;
           pool = stands.pool;
-          before = beyond_is_alone number nobody old was stands (le_refl nobody);
-          behind = beyond_is_alone number nobody old was stands (le_refl nobody);
+          before = beyond_is_alone number old was stands;
+          behind = beyond_is_alone number old was stands;
           none_closed = stands.none_closed number;
           settled = stands.settled number;
           flow = subst (λ (l : Link). AreWays l.term_here number new) (sym is)
               (gone_flow number old new here here (line_at number old.host) (lost_ways number old) (out_of here old) gone);
           link = subst (λ (l : Link). LinkStands (link_with l.term_here number new) l) (sym is)
               (gone_stands number old new here here (line_at number old.host) (lost_ways number old) (out_of here old) gone (link_cut (was.link number))
-              (λ e. refl) (λ terminal e. same.1) (loss (link_with here number old) (was.link number) link_there));
+              (λ e. refl) (λ terminal e. same.1) (loss (link_with here number old) (was.link number) its_link));
           place = stands.places nobody;
         })
         agree stands agrees
@@ -251,15 +207,15 @@ module _ (number : ℕ) (old : ByteWorld) (was : World) (agree : EndsAgree was) 
           sitting_count = refl;
           terminals = refl;
           pool = ap (given_back number) stands.pool;
-          before = beyond_is_alone number nobody old was stands (le_refl nobody);
-          behind = beyond_is_alone number nobody old was stands (le_refl nobody);
+          before = beyond_is_alone number old was stands;
+          behind = beyond_is_alone number old was stands;
           none_closed = subst (λ (l : Line). IsNotClosed l.service) (sym line) tt;
           settled = subst (λ (l : Line). IsSettled l) (sym line) (λ free. refl);
           flow = subst (λ (l : Link). AreWays l.term_here number new) (sym is)
               (gone_flow number old new here here unused host_ways (out_of here old) gone);
           link = subst (λ (l : Link). LinkStands (link_with l.term_here number new) l) (sym is)
               (gone_stands number old new here here unused host_ways (out_of here old) gone (host_left (was.link number))
-              (λ e. absurd (cc)) (λ terminal e. same.1) (leaves (link_with here number old) (was.link number) link_there));
+              (λ e. absurd (cc)) (λ terminal e. same.1) (leaves (link_with here number old) (was.link number) its_link));
           place = stands.places nobody;
         })
         agree stands agrees
@@ -277,7 +233,7 @@ module _ (number : ℕ) (old : ByteWorld) (was : World) (agree : EndsAgree was) 
         let new : ByteWorld = terminal_gone sitting terminal number old in
         let now : World = parted terminal number display was in
         let holds : here ≡ Some terminal = (agree terminal number).0 at in
-        let below : number < length old.links = is_within terminal holds in
+        let below : number < length old.links = is_within number old was agree stands terminal holds in
         let line : Line = line_at number old.host in
         let is : now.link number ≡ term_left (was.link number) = with_same number (term_left (was.link number)) was.link in
         let goes : now.place terminal ≡ Place.Alone display = with_same terminal (Place.Alone display) was.place in
@@ -309,7 +265,7 @@ module _ (number : ℕ) (old : ByteWorld) (was : World) (agree : EndsAgree was) 
               (gone_flow number old new here None line (terminal_ways terminal) [] gone);
           link = subst (λ (l : Link). LinkStands (link_with l.term_here number new) l) (sym is)
               (gone_stands number old new here None line (terminal_ways terminal) [] gone (term_left (was.link number))
-              (λ e. refl) (λ who e. absurd (cc)) (leaves (link_with here number old) (was.link number) link_there));
+              (λ e. refl) (λ who e. absurd (cc)) (leaves (link_with here number old) (was.link number) its_link));
           place = subst (λ (s : Sitting). IsAt s (now.place terminal)) (sym (sitting_same terminal sitting old there_is))
               (subst (λ (p : Place). IsAt sitting p) (sym goes) alone);
         })

@@ -1,4 +1,4 @@
--- What is under way.
+-- What messages are under way; and what is said behind others is not nothing.
 use Rattle.std.proofs.Common.{◌≡◌, Bool, true, false, List, [], ◌∷◌, ◌++◌, refl, ap, sym, ◌∙◌, append_assoc, append-nil}
 use Rattle.world3270.specs.Link.{sent}
 use Rattle.world3270.specs.Moments.{UnderWay}
@@ -32,6 +32,6 @@ nothing lost queue x rest e h =
     let whole : x ∷ (rest ++ h.vanished) ≡ [] = ap (λ q. q ++ h.vanished) (sym e) ∙ h.whole in
     absurd (cc)
 
--- nothing is under way on a new connection
-pub none : {X : Type 0} (lost : Bool) → UnderWay {X = X} lost [] []
-none lost = record { vanished = []; whole = refl; none = λ _. refl }
+pub not_empty : {X : Type 0} (some : List X) (x : X) (others : List X) → some ++ x ∷ others ≡ [] → ⊥
+not_empty [] x others e = absurd (cc)
+not_empty (first ∷ some) x others e = absurd (cc)

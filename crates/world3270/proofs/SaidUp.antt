@@ -1,29 +1,16 @@
 -- What a terminal says of LUs is their names, after any list of events.
-use Rattle.std.proofs.Common.{◌≡◌, ◌-◌, ◌==◌, ℕ, Bool, true, false, Option, None, Some, List, [], ◌∷◌, ◌++◌, map, refl, subst, if◌then◌else◌}
+use Rattle.std.proofs.Common.{◌≡◌, ℕ, Bool, true, false, Option, None, Some, List, [], ◌∷◌, ◌++◌, map, refl, subst, if◌then◌else◌}
 use Rattle.std.specs.List.{AllByRecursion}
-use Rattle.std.specs.Str.{bytes_eq}
 use Rattle.keyboard.specs.declared.key.Key.{Key}
 use Rattle.keyboard.specs.declared.key.Pressed.{Pressed}
 use Rattle.keyboard.specs.declared.key.Pressed.TheVariants.{Done, Refused, Send}
 use Rattle.datastream.specs.Screen.{Screen}
 use Rattle.lu_pool.specs.Asking.{answer_to}
 use Rattle.lu_pool.specs.declared.entry.Entry.{Entry}
-use Rattle.tn3270e_msg.specs.Device.{device_of}
-use Rattle.tn3270e_msg.specs.Lu.{lu_of}
-use Rattle.tn3270e_msg.specs.Talk.{Comes, Will, Wont, Do, Dont, OtherWill, OtherDo, SendsType, RequestsType, IsType, RejectsType, RequestsFunctions, IsFunctions, BreaksForm, NoTalk, Talk, follow, IsLuIfSome, IsSending, says, sayings}
-use Rattle.tn3270e_msg.specs.TermTable.{term_line, grant_line}
+use Rattle.tn3270e_msg.specs.Talk.{IsLuIfSome, says, sayings}
 use Rattle.tn3270e_msg.specs.declared.cause.Cause.{Cause}
-use Rattle.tn3270e_msg.specs.declared.cause.Cause.TheVariants as cause
-use Rattle.tn3270e_msg.specs.declared.device.Device.{Device}
-use Rattle.tn3270e_msg.specs.declared.device.Device.TheVariants as device
-use Rattle.tn3270e_msg.specs.declared.functions.Wants.TheVariants.{ResponsesAlone, ResponsesAndMore, NoResponses}
-use Rattle.tn3270e_msg.specs.declared.hearing.Line.{Line}
-use Rattle.tn3270e_msg.specs.declared.hearing.Line.TheVariants as line
-use Rattle.tn3270e_msg.specs.declared.reply.After.TheVariants as behind
 use Rattle.tn3270e_msg.specs.declared.reply.Reply.{Reply}
 use Rattle.tn3270e_msg.specs.declared.reply.Reply.TheVariants as reply
-use Rattle.tn3270e_msg.specs.declared.reply.Sending.{Sending}
-use Rattle.tn3270e_msg.specs.declared.reply.Sending.TheVariants as sent
 use Rattle.tn3270e_msg.specs.declared.term_talk.TermState.{TermState}
 use Rattle.tn3270e_msg.specs.declared.term_talk.TermState.TheVariants as at
 use Rattle.host_core.specs.Acts.{Sent, acted}
@@ -34,174 +21,25 @@ use Rattle.host_core.specs.Takes.{Step, pool_after, took as host_took}
 use Rattle.world3270.specs.Happens.{closed_if, said, came_up, place_after, came_down, went_down, key_went, term_saw, joined, term_anew, host_left_from, done, happens, run}
 use Rattle.world3270.specs.Link.{Link, sent as sent_on, host_left, host_left_if, host_stepped, host_sent, term_left, term_left_if, term_stepped, begun}
 use Rattle.world3270.specs.Placed.{has_place, free_number}
+use Rattle.world3270.specs.StandsEnds.{NamesWanted}
 use Rattle.world3270.specs.Terminal.{TermEnd, TermStep, is_bound, once_bound, outcome_of, data_of, key_came, took as term_took}
 use Rattle.world3270.specs.World.{Place, World, Event, IsEvent, AreEvents, new_world, with_at}
 use Rattle.world3270.proofs.HostItems.{IsSaidUp}
 use Rattle.world3270.proofs.OneOfMany.{all_with}
+use Rattle.world3270.proofs.StandsFits.{Fits, answer_fits}
 
 -- ---- what a terminal's talk sends of LUs, where it wants one by its name or any
 
-abbrev Names : Reply → Type 0
-Names (reply.Sub sending after) = IsSending sending
-Names _ = Unit {0}
+names_wanted : (state : TermState) (wanted : Option (List ℕ)) → IsLuIfSome wanted → NamesWanted state wanted
+names_wanted at.Waiting wanted is = tt
+names_wanted at.Willing wanted is = is
+names_wanted at.TypeAsked wanted is = tt
+names_wanted (at.FunctionsAsked lu) wanted is = tt
+names_wanted (at.Agreed lu) wanted is = tt
+names_wanted (at.Refused reason) wanted is = tt
+names_wanted (at.Closed cause) wanted is = tt
 
-abbrev LineNames : Line TermState → Type 0
-LineNames (line.Stays answer) = Names answer
-LineNames (line.Goes state answer) = Names answer
-LineNames (line.Refuses state sending) = IsSending sending
-LineNames (line.Closes cause) = Unit {0}
-
-granted_names : (same : Bool) (lu : List ℕ) → LineNames (if same then line.Goes (at.FunctionsAsked lu) (reply.Sub sent.FunRequest behind.Going) else line.Closes cause.BadTalk)
-granted_names true lu = tt
-granted_names false lu = tt
-
-grant_names : (wanted : Option (List ℕ)) (type : Option Device) (lu : Option (List ℕ)) → LineNames (grant_line wanted type lu)
-grant_names None None lu = tt
-grant_names (Some name) None lu = tt
-grant_names None (Some device.Model2) None = tt
-grant_names None (Some device.Model2) (Some lu) = tt
-grant_names None (Some device.Model2E) None = tt
-grant_names None (Some device.Model2E) (Some lu) = tt
-grant_names None (Some device.Model3) None = tt
-grant_names None (Some device.Model3) (Some lu) = tt
-grant_names None (Some device.Model3E) None = tt
-grant_names None (Some device.Model3E) (Some lu) = tt
-grant_names None (Some device.Model4) None = tt
-grant_names None (Some device.Model4) (Some lu) = tt
-grant_names None (Some device.Model4E) None = tt
-grant_names None (Some device.Model4E) (Some lu) = tt
-grant_names None (Some device.Model5) None = tt
-grant_names None (Some device.Model5) (Some lu) = tt
-grant_names None (Some device.Model5E) None = tt
-grant_names None (Some device.Model5E) (Some lu) = tt
-grant_names (Some name) (Some device.Model2) None = tt
-grant_names (Some name) (Some device.Model2) (Some lu) = granted_names (bytes_eq lu name) lu
-grant_names (Some name) (Some device.Model2E) None = tt
-grant_names (Some name) (Some device.Model2E) (Some lu) = tt
-grant_names (Some name) (Some device.Model3) None = tt
-grant_names (Some name) (Some device.Model3) (Some lu) = tt
-grant_names (Some name) (Some device.Model3E) None = tt
-grant_names (Some name) (Some device.Model3E) (Some lu) = tt
-grant_names (Some name) (Some device.Model4) None = tt
-grant_names (Some name) (Some device.Model4) (Some lu) = tt
-grant_names (Some name) (Some device.Model4E) None = tt
-grant_names (Some name) (Some device.Model4E) (Some lu) = tt
-grant_names (Some name) (Some device.Model5) None = tt
-grant_names (Some name) (Some device.Model5) (Some lu) = tt
-grant_names (Some name) (Some device.Model5E) None = tt
-grant_names (Some name) (Some device.Model5E) (Some lu) = tt
-
-line_names : (wanted : Option (List ℕ)) (state : TermState) → IsLuIfSome wanted → (comes : Comes) → LineNames (term_line wanted state comes)
-line_names wanted (at.Closed cause) h comes = tt
-line_names wanted (at.Refused reason) h comes = tt
-line_names wanted at.Waiting h Will = tt
-line_names wanted at.Waiting h Wont = tt
-line_names wanted at.Waiting h Do = tt
-line_names wanted at.Waiting h Dont = tt
-line_names wanted at.Waiting h (OtherWill code) = tt
-line_names wanted at.Waiting h (OtherDo code) = tt
-line_names wanted at.Waiting h SendsType = tt
-line_names wanted at.Waiting h (RequestsType type name) = tt
-line_names wanted at.Waiting h (IsType type name) = tt
-line_names wanted at.Waiting h (RejectsType reason) = tt
-line_names wanted at.Waiting h (RequestsFunctions ResponsesAlone) = tt
-line_names wanted at.Waiting h (RequestsFunctions ResponsesAndMore) = tt
-line_names wanted at.Waiting h (RequestsFunctions NoResponses) = tt
-line_names wanted at.Waiting h (IsFunctions ResponsesAlone) = tt
-line_names wanted at.Waiting h (IsFunctions ResponsesAndMore) = tt
-line_names wanted at.Waiting h (IsFunctions NoResponses) = tt
-line_names wanted at.Waiting h BreaksForm = tt
-line_names wanted at.Waiting h NoTalk = tt
-line_names wanted at.Willing h Will = tt
-line_names wanted at.Willing h Wont = tt
-line_names wanted at.Willing h Do = tt
-line_names wanted at.Willing h Dont = tt
-line_names wanted at.Willing h (OtherWill code) = tt
-line_names wanted at.Willing h (OtherDo code) = tt
-line_names wanted at.Willing h SendsType = h
-line_names wanted at.Willing h (RequestsType type name) = tt
-line_names wanted at.Willing h (IsType type name) = tt
-line_names wanted at.Willing h (RejectsType reason) = tt
-line_names wanted at.Willing h (RequestsFunctions ResponsesAlone) = tt
-line_names wanted at.Willing h (RequestsFunctions ResponsesAndMore) = tt
-line_names wanted at.Willing h (RequestsFunctions NoResponses) = tt
-line_names wanted at.Willing h (IsFunctions ResponsesAlone) = tt
-line_names wanted at.Willing h (IsFunctions ResponsesAndMore) = tt
-line_names wanted at.Willing h (IsFunctions NoResponses) = tt
-line_names wanted at.Willing h BreaksForm = tt
-line_names wanted at.Willing h NoTalk = tt
-line_names wanted at.TypeAsked h Will = tt
-line_names wanted at.TypeAsked h Wont = tt
-line_names wanted at.TypeAsked h Do = tt
-line_names wanted at.TypeAsked h Dont = tt
-line_names wanted at.TypeAsked h (OtherWill code) = tt
-line_names wanted at.TypeAsked h (OtherDo code) = tt
-line_names wanted at.TypeAsked h SendsType = tt
-line_names wanted at.TypeAsked h (RequestsType type name) = tt
-line_names wanted at.TypeAsked h (IsType type name) = grant_names wanted (device_of type) (lu_of name)
-line_names wanted at.TypeAsked h (RejectsType reason) = tt
-line_names wanted at.TypeAsked h (RequestsFunctions ResponsesAlone) = tt
-line_names wanted at.TypeAsked h (RequestsFunctions ResponsesAndMore) = tt
-line_names wanted at.TypeAsked h (RequestsFunctions NoResponses) = tt
-line_names wanted at.TypeAsked h (IsFunctions ResponsesAlone) = tt
-line_names wanted at.TypeAsked h (IsFunctions ResponsesAndMore) = tt
-line_names wanted at.TypeAsked h (IsFunctions NoResponses) = tt
-line_names wanted at.TypeAsked h BreaksForm = tt
-line_names wanted at.TypeAsked h NoTalk = tt
-line_names wanted (at.FunctionsAsked lu) h Will = tt
-line_names wanted (at.FunctionsAsked lu) h Wont = tt
-line_names wanted (at.FunctionsAsked lu) h Do = tt
-line_names wanted (at.FunctionsAsked lu) h Dont = tt
-line_names wanted (at.FunctionsAsked lu) h (OtherWill code) = tt
-line_names wanted (at.FunctionsAsked lu) h (OtherDo code) = tt
-line_names wanted (at.FunctionsAsked lu) h SendsType = tt
-line_names wanted (at.FunctionsAsked lu) h (RequestsType type name) = tt
-line_names wanted (at.FunctionsAsked lu) h (IsType type name) = tt
-line_names wanted (at.FunctionsAsked lu) h (RejectsType reason) = tt
-line_names wanted (at.FunctionsAsked lu) h (RequestsFunctions ResponsesAlone) = tt
-line_names wanted (at.FunctionsAsked lu) h (RequestsFunctions ResponsesAndMore) = tt
-line_names wanted (at.FunctionsAsked lu) h (RequestsFunctions NoResponses) = tt
-line_names wanted (at.FunctionsAsked lu) h (IsFunctions ResponsesAlone) = tt
-line_names wanted (at.FunctionsAsked lu) h (IsFunctions ResponsesAndMore) = tt
-line_names wanted (at.FunctionsAsked lu) h (IsFunctions NoResponses) = tt
-line_names wanted (at.FunctionsAsked lu) h BreaksForm = tt
-line_names wanted (at.FunctionsAsked lu) h NoTalk = tt
-line_names wanted (at.Agreed lu) h Will = tt
-line_names wanted (at.Agreed lu) h Wont = tt
-line_names wanted (at.Agreed lu) h Do = tt
-line_names wanted (at.Agreed lu) h Dont = tt
-line_names wanted (at.Agreed lu) h (OtherWill code) = tt
-line_names wanted (at.Agreed lu) h (OtherDo code) = tt
-line_names wanted (at.Agreed lu) h SendsType = tt
-line_names wanted (at.Agreed lu) h (RequestsType type name) = tt
-line_names wanted (at.Agreed lu) h (IsType type name) = tt
-line_names wanted (at.Agreed lu) h (RejectsType reason) = tt
-line_names wanted (at.Agreed lu) h (RequestsFunctions ResponsesAlone) = tt
-line_names wanted (at.Agreed lu) h (RequestsFunctions ResponsesAndMore) = tt
-line_names wanted (at.Agreed lu) h (RequestsFunctions NoResponses) = tt
-line_names wanted (at.Agreed lu) h (IsFunctions ResponsesAlone) = tt
-line_names wanted (at.Agreed lu) h (IsFunctions ResponsesAndMore) = tt
-line_names wanted (at.Agreed lu) h (IsFunctions NoResponses) = tt
-line_names wanted (at.Agreed lu) h BreaksForm = tt
-line_names wanted (at.Agreed lu) h NoTalk = tt
-
-abbrev AnswerNames : Talk TermState × Reply → Type 0
-AnswerNames answer = Names answer.1
-
-refused_names : (last : Bool) (talk : Talk TermState) (state : TermState) (sending : Sending) → IsSending sending
-    → AnswerNames
-    (if last then (record { state = at.Closed cause.TooMany; refusals_left = 0 }, reply.Sub sending (behind.Close cause.TooMany))
-    else (record { state = state; refusals_left = talk.refusals_left - 1 }, reply.Sub sending behind.Going))
-refused_names true talk state sending h = h
-refused_names false talk state sending h = h
-
-follow_names : (talk : Talk TermState) (next : Line TermState) → LineNames next → AnswerNames (follow at.Closed talk next)
-follow_names talk (line.Stays answer) h = h
-follow_names talk (line.Goes state answer) h = h
-follow_names talk (line.Refuses state sending) h = refused_names (talk.refusals_left - 1 == 0) talk state sending h
-follow_names talk (line.Closes cause) h = tt
-
-replies_said : (answer : Reply) → Names answer → AllByRecursion IsSaidUp (map ToHost.TalksUp (sayings answer))
+replies_said : (answer : Reply) → Fits answer → AllByRecursion IsSaidUp (map ToHost.TalksUp (sayings answer))
 replies_said reply.Nothing h = tt
 replies_said (reply.Opt verb code) h = (tt, tt)
 replies_said (reply.Sub sending after) h = (h, tt)
@@ -229,8 +67,7 @@ record StepSaid (step : TermStep) : Type 0 where
 took_said : (end : TermEnd) (message : ToTerminal) → IsLuIfSome end.talk.wanted → StepSaid (term_took end message)
 took_said end (ToTerminal.TalksDown saying) is = record {
   wanted = is;
-  sends = replies_said (follow at.Closed end.talk.talk (term_line end.talk.wanted end.talk.talk.state (says saying))).1
-      (follow_names end.talk.talk (term_line end.talk.wanted end.talk.talk.state (says saying)) (line_names end.talk.wanted end.talk.talk.state is (says saying)));
+  sends = replies_said _ (answer_fits end.talk.talk end.talk.wanted (names_wanted end.talk.talk.state end.talk.wanted is) (says saying));
 }
 took_said end (ToTerminal.Paint number wanted over) is =
     record { wanted = once_bound_wanted (is_bound end) end _ _ is is; sends = once_bound_said (is_bound end) end _ _ tt }

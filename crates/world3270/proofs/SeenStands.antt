@@ -22,7 +22,7 @@ use Rattle.world3270.specs.Standing.{WorldStands, IsNotClosed, conn_of, link_wit
 use Rattle.world3270.specs.Stands.{LinkStands}
 use Rattle.world3270.specs.Terminal.{bound_to}
 use Rattle.world3270.specs.World.{World}
-use Rattle.world3270.proofs.Known.{facts}
+use Rattle.world3270.proofs.Known.{facts_now}
 
 -- the LU that a terminal is bound to, by its phase and by its talk
 same_bound : (state : TermState) → bound_of (talk_phase state) ≡ bound_to state
@@ -133,7 +133,7 @@ module _ (bytes : ByteWorld) (world : World) (stands : WorldStands bytes world) 
       subst (λ (l : SeenLink). Agrees l) (sym same) (agrees number (subst (λ (l : SeenLink). IsHostsTurn l) same turn))
 
   -- So the headline is seen there, where it holds of the world that it stands for.
-  pub headline_seen : Headline (seen world) → Headline (seen_bytes bytes)
+  headline_seen : Headline (seen world) → Headline (seen_bytes bytes)
   headline_seen headline = record {
     one_session_each = λ one other lu first second. headline.one_session_each one other lu (live_seen one lu first) (live_seen other lu second);
     bound_is_granted = granted_seen headline.bound_is_granted;
@@ -143,4 +143,4 @@ module _ (bytes : ByteWorld) (world : World) (stands : WorldStands bytes world) 
 pub headline_is_seen : KnownWorlds → HeadlineIsSeen
 headline_is_seen known bytes is =
     headline_seen bytes (after is.begin is.events) is.reached.stands
-    (facts known is.begin is.is_begin is.events is.reached.are_events is.reached.typed).headline
+    (facts_now known is.begin is.events bytes is.is_begin is.reached).headline

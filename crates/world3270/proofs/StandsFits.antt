@@ -28,7 +28,7 @@ use Rattle.world3270.specs.StandsEnds.{NamesWanted}
 
 -- ---- what a talk sends of LUs is their names
 
-abbrev Fits : Reply → Type 0
+abbrev pub Fits : Reply → Type 0
 Fits (reply.Sub sending after) = IsSending sending
 Fits _ = Unit {0}
 
@@ -225,7 +225,12 @@ reply_comes reply.Agreed h = tt
 reply_comes (reply.Refused reason) h = tt
 reply_comes (reply.Close cause) h = tt
 
+-- what a talk answers
+pub answer_fits : (talk : Talk TermState) (wanted : Option (List ℕ)) → NamesWanted talk.state wanted → (comes : Comes)
+    → Fits (follow at.Closed talk (term_line wanted talk.state comes)).1
+answer_fits talk wanted h comes = follow_fits talk (term_line wanted talk.state comes) (line_fits wanted talk.state h comes)
+
 -- what a talk says can come
 pub talk_comes : (talk : Talk TermState) (wanted : Option (List ℕ)) → NamesWanted talk.state wanted → (comes : Comes)
     → AllByRecursion (CanCome record_limit) (items_sent (follow at.Closed talk (term_line wanted talk.state comes)).1)
-talk_comes talk wanted h comes = reply_comes _ (follow_fits talk (term_line wanted talk.state comes) (line_fits wanted talk.state h comes))
+talk_comes talk wanted h comes = reply_comes _ (answer_fits talk wanted h comes)

@@ -112,8 +112,12 @@ all_more P [] ys h k = k
 all_more P (x ∷ xs) ys h k = (h.0, all_more P xs ys h.1 k)
 
 -- the connection after a message that closes nothing
-abbrev stayed : TermStep → List ToTerminal → Link → Link
+abbrev pub stayed : TermStep → List ToTerminal → Link → Link
 stayed step rest link = record link { down = rest; term = step.end; up = sent link.lost link.up step.sends }
+
+stepped_stays : (step : TermStep) (rest others : List ToTerminal) (link : Link) → step.closes ≡ None → others ≡ rest → term_stepped step rest link ≡ stayed step others link
+stepped_stays step rest others link goes_on same =
+    ap (λ (c : Option Cause). term_left_if c (stayed step rest link)) goes_on ∙ ap (λ (m : List ToTerminal). stayed step m link) (sym same)
 
 ran_nothing : (link : Link) (old new : Seat) (behind : List ℕ) (rest : Rest) → Holds rest old link.term → BytesDown rest behind link.down → new ≡ old → Ran link link old new behind
 ran_nothing link old new behind rest holds down same = record {
@@ -171,6 +175,20 @@ one_more link now step rest old mid new behind some said fit out ran = record {
   fit = all_more (CanCome record_limit) some ran.says fit ran.fit;
 }
 
+-- and the messages behind it
+came_more : (message : ToTerminal) (others : List ToTerminal) (link : Link) (old mid new : Seat) (behind : List ℕ) (some : List WireItem)
+    → link.down ≡ message ∷ others → (took link.term message).closes ≡ None → Pairwise StandsUp some (took link.term message).sends
+    → AllByRecursion (CanCome record_limit) some → mid.terminal.out ≡ old.terminal.out ++ sent_bytes some
+    → CameSome (stayed (took link.term message) others link) mid new behind → CameSome link old new behind
+came_more message others link old mid new behind some whole goes_on said fit out came = record {
+  taken = message ∷ came.taken;
+  others = came.others;
+  whole = whole ∙ ap (λ (m : List ToTerminal). message ∷ m) came.whole;
+  ran = subst (λ (l : Link). Ran link (took_down came.taken came.others l) old new behind)
+      (sym (stepped_stays (took link.term message) (came.taken ++ came.others) others link goes_on came.whole))
+      (one_more link (took_down came.taken came.others (stayed (took link.term message) others link)) (took link.term message) others old mid new behind some said fit out came.ran);
+}
+
 link_parts : (rest to : Rest) (talk after : Term) → Attached rest talk ≡ Attached to after → (rest ≡ to) × (talk ≡ after)
 link_parts rest to talk after e = (cc, cc)
 
@@ -180,9 +198,9 @@ not_wrong : WrongIsFinal → (rest : Rest) (byte : ℕ) (bytes : List ℕ) (faul
 not_wrong final rest byte bytes fault messages stands wrong =
     final record_limit rest (byte ∷ []) bytes fault stands.delivers.tokens nothing wrong stands.delivers.reads stands.delivers.is_rest
 
-none_for_none : (taken : List ToTerminal) → Pairwise StandsDown [] taken → taken ≡ []
-none_for_none [] stand = refl
-none_for_none (message ∷ messages) stand = absurd stand
+pub none_for_none : {X : Type 0} (Stands : WireItem → X → Type 0) (taken : List X) → Pairwise Stands [] taken → taken ≡ []
+none_for_none Stands [] stand = refl
+none_for_none Stands (message ∷ messages) stand = absurd stand
 
 -- what is to be shown of some bytes, wherever they are taken
 abbrev Comes : List ℕ → List ℕ → Seat → Type 0
@@ -204,19 +222,9 @@ module _ (takes : TermTakes) (keeps : TakesKeepSendable) (goes_on : StandsGoOn S
       let step : ByteStep = record { end = end_at after mid; says = says; closes = closes } in
       let same = takes message item (end_at talk old) link.term step (record { stands = each.0; may = all.0; sendable = can; is_end = is; takes = taken }) in
       let next : Link = stayed (took link.term message) others link in
-      let came = comes mid to next
-      (record { talk = after; attached = at ∙ ap (link_after to after) (same.closed ∙ opened.0); is_end = same.is_end })
-      down all.1 opened.1 (keeps message item link.term each.0 all.0 can) more in
-      let now : term_stepped (took link.term message) (came.taken ++ came.others) link ≡ next =
-      ap (λ (c : Option Cause). term_left_if c (stayed (took link.term message) (came.taken ++ came.others) link)) opened.0
-      ∙ ap (λ (m : List ToTerminal). stayed (took link.term message) m link) (sym came.whole) in
-      record {
-        taken = message ∷ came.taken;
-        others = came.others;
-        whole = whole ∙ ap (λ (m : List ToTerminal). message ∷ m) came.whole;
-        ran = subst (λ (l : Link). Ran link (took_down came.taken came.others l) old new behind) (sym now)
-            (one_more link (took_down came.taken came.others next) (took link.term message) others old mid new behind says same.said same.fit out came.ran);
-      }
+      came_more message others link old mid new behind says whole opened.0 same.said same.fit out
+      (comes mid to next (record { talk = after; attached = at ∙ ap (link_after to after) (same.closed ∙ opened.0); is_end = same.is_end })
+      down all.1 opened.1 (keeps message item link.term each.0 all.0 can) more)
   item_comes item (message ∷ other ∷ more) others link talk after old mid new to front behind says closes comes whole each down may none can is taken at out rest = absurd each.1
 
   -- what the terminal takes with a byte, as the end takes it
@@ -237,7 +245,7 @@ module _ (takes : TermTakes) (keeps : TakesKeepSendable) (goes_on : StandsGoOn S
       let is = holds.is_end in
       let parts = link_parts rest rest' holds.talk talk' (sym holds.attached ∙ at') in
       let some = goes_on rest to (byte ∷ []) (front ++ behind) [] link.down down (subst (λ (r : Rest). Delivers record_limit r (byte ∷ []) [] to) (sym parts.0) delivers) in
-      let same : link.down ≡ some.others = some.whole ∙ ap (λ (m : List ToTerminal). m ++ some.others) (none_for_none some.taken some.each) in
+      let same : link.down ≡ some.others = some.whole ∙ ap (λ (m : List ToTerminal). m ++ some.others) (none_for_none StandsDown some.taken some.each) in
       let stays : mid.history ≡ old.history = history ∙ ap (λ (t : Terminal). marked t.station old.history) is_mid in
       let came = comes mid to link
       (record {
@@ -288,7 +296,7 @@ module _ (takes : TermTakes) (keeps : TakesKeepSendable) (goes_on : StandsGoOn S
       (at : mid.terminal.link ≡ link_after to after closes) (out : mid.terminal.out ≡ old.terminal.out ++ sent_bytes says)
       → mid.terminal.station.took_write
       ≡ any_painted link.term (item_comes item taken others link talk after old mid mid to [] behind says closes (bytes_come [] behind mid) whole each down may none can is takes_it at out refl).taken
-  unfolding item_comes bytes_come
+  unfolding item_comes came_more bytes_come
   item_marks marks item [] others link talk after old mid to behind says closes whole each down may none can is takes_it at out = absurd each
   item_marks marks item (message ∷ []) others link talk after old mid to behind says closes whole each down may none can is takes_it at out =
       let all = subst (λ (m : List ToTerminal). MayComeAll link.term m) whole may in

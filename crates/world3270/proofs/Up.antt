@@ -1,6 +1,5 @@
 -- What a host makes of the next message, at each moment.
-use Rattle.std.proofs.Common.{◌≡◌, ◌==◌, ◌<◌, ℕ, Bool, true, false, Option, None, Some, Result, Ok, Err, List, [], ◌∷◌, ◌++◌, length, refl, ap, sym, subst, ◌∙◌, IsOkAnd, IfOk}
-use Rattle.std.proofs.lemmas.Bool.Decides.{Decides-eqb}
+use Rattle.std.proofs.Common.{◌≡◌, ◌<◌, ℕ, Bool, true, false, Option, None, Some, Result, Ok, Err, List, [], ◌∷◌, ◌++◌, length, refl, ap, sym, subst, ◌∙◌, IsOkAnd, IfOk}
 use Rattle.codes3270.specs.Size.{Shape, cells_in}
 use Rattle.codes3270.specs.declared.attention.Aid.{Aid}
 use Rattle.codes3270.specs.declared.attention.Aid.TheVariants.{NoAid, Enter, Clear, Pf, Pa}
@@ -43,6 +42,7 @@ use Rattle.world3270.specs.Moments.{Kind, awaiting, Talking, Serving, Moment, Un
 use Rattle.world3270.specs.Occasions.{IsOccasion, IsOpenBy, IsOpenFor}
 use Rattle.world3270.specs.Stages.{scene_of, once_taken, FactsAreExact, Suits, Sees, IsPressed, WillBeHeard, IsRead, Fact, Kept}
 use Rattle.world3270.specs.View.{view_of}
+use Rattle.world3270.proofs.OneOfMany.{same_number}
 use Rattle.world3270.proofs.Queues.{more, front, nothing}
 
 -- the connection once the host took the message before the rest
@@ -187,9 +187,6 @@ module _ (app : Application) (pool : List Entry) (link : Link) (rest : List ToHo
   as_step m message step e is a = subst (λ x. Answered app pool link rest (took (answer_to pool) link.host x)) (sym e) (subst (Answered app pool link rest) (sym is) a)
 
 -- ---- responses
-
-same_number : (number : ℕ) → (number == number) ≡ true
-same_number number = (Decides-eqb number number).1 refl
 
 answers_it : (kind : Kind) (number : ℕ) (command : CommandParts) (conn : Conn) → response_came number Verdict.Positive (awaiting kind number command) conn ≡ quiet (answered command conn)
 answers_it Kind.APaint number command conn = ap (λ b. if_answers b (quiet (answered command conn)) conn) (same_number number)

@@ -1,23 +1,23 @@
 -- What stays of a world over bytes, and what it stands for, where bytes came up to its host.
-use Rattle.std.proofs.Common.{◌≡◌, ◌≢◌, ◌<◌, ◌≤◌, ◌-◌, not, ℕ, suc, Bool, true, false, Option, None, Some, is_some, List, [], ◌∷◌, ◌++◌, drop, length, length-append, slice_index_or, slice_set, refl, ap, sym, subst, ◌∙◌, arith, if◌then◌else◌}
+use Rattle.std.proofs.Common.{◌≡◌, ◌≢◌, ◌<◌, ◌-◌, not, ℕ, suc, Bool, true, false, Option, None, Some, is_some, List, [], ◌∷◌, ◌++◌, drop, length, slice_index_or, slice_set, refl, ap, sym, subst, ◌∙◌, arith, if◌then◌else◌}
 use Rattle.std.specs.Prelude.{⊤}
 use Rattle.std.proofs.Math.Seq.{drop-nil}
-use Rattle.std.proofs.lemmas.List.{get_or_past, length-set, set-get_or, set-set}
-use Rattle.std.proofs.lemmas.List.Quantifiers.{position-Some}
+use Rattle.std.proofs.lemmas.List.{length-set, set-get_or, set-set}
 use Rattle.telnet_wire.specs.Reading.{Rest}
 use Rattle.host_core.specs.Bytes.{Counter}
 use Rattle.host_core.specs.Feeds.{counter_at, with_counter}
 use Rattle.host_core.specs.Session.{Conn}
 use Rattle.host_core.specs.State.{Host, Service, Line, most_connections, line_at, service_at, unused}
 use Rattle.world3270.specs.ByteSteps.{is_lost, sent_of, terminal_told, up_came}
-use Rattle.world3270.specs.ByteWorld.{ByteWorld, Under, Ways, Sitting, under_way, came, is_live, is_senders, is_there, unused_ways, new_sitting, ways_at, sitting_at, with_ways, with_host, sits_at, terminal_at, host_there, host_out, out_of, down_of, up_of}
+use Rattle.world3270.specs.ByteWorld.{ByteWorld, Under, Ways, Sitting, under_way, came, is_live, is_senders, is_there, unused_ways, new_sitting, ways_at, sitting_at, with_ways, with_host, terminal_at, host_there, host_out, out_of, down_of, up_of}
 use Rattle.world3270.specs.Link.{Link, sent}
 use Rattle.world3270.specs.Places.{EndsAgree}
 use Rattle.world3270.specs.Seats.{Seat}
-use Rattle.world3270.specs.Standing.{WorldStands, IsFlow, IsAt, IsNotClosed, IsSettled, AreWays, conn_of, rest_of, with_out, seat_of, link_with}
+use Rattle.world3270.specs.Standing.{WorldStands, IsFlow, IsAt, IsNotClosed, AreWays, conn_of, rest_of, with_out, seat_of, link_with}
 use Rattle.world3270.specs.Stands.{ByteLink, LinkStands}
 use Rattle.world3270.specs.World.{Place, World}
-use Rattle.world3270.proofs.Frames.{ways_same, ways_other, sitting_same, sitting_other, line_same, line_other, more_under_way, came_under_way, who_is_there, IsHere, Changed, changed_stands}
+use Rattle.world3270.proofs.Frames.{ways_same, ways_other, sitting_same, sitting_other, line_same, line_other, IsHere, Changed, beyond_is_alone, changed_stands, found_within, line_within, of_parts, sits_same, there_settled, who_was_there, way_within, who_is_there}
+use Rattle.world3270.proofs.UnderWay.{came_flows, came_live, came_senders, came_under_way, more_flows, more_under_way}
 
 -- ---- a terminal's bytes are sent
 
@@ -54,7 +54,7 @@ IsIn (Some terminal) sittings = terminal < length sittings
 
 is_in : (number : ℕ) (here : Option ℕ) (world : ByteWorld) → terminal_at number world.sittings ≡ here → IsIn here world.sittings
 is_in number None world e = tt
-is_in number (Some terminal) world e = (position-Some (λ sitting. sits_at number sitting.at) world.sittings terminal new_sitting e).0
+is_in number (Some terminal) world e = found_within number terminal world e
 
 told_count : (senders : Bool) (count : ℕ) (here : Option ℕ) (world : ByteWorld) → length (terminal_told senders count here world).sittings ≡ length world.sittings
 told_count true count (Some terminal) world = length-set world.sittings terminal (sent_of count (sitting_at terminal world))
@@ -66,15 +66,6 @@ told_other : (senders : Bool) (count : ℕ) (here : Option ℕ) (world : ByteWor
 told_other true count (Some terminal) world other differs = sitting_other terminal other (sent_of count (sitting_at terminal world)) world differs
 told_other true count None world other differs = refl
 told_other false count here world other differs = refl
-
--- what a terminal has to send, and what it is, is seen of the terminals alone
-out_seen : (here : Option ℕ) (one other : ByteWorld) → one.sittings ≡ other.sittings → out_of here one ≡ out_of here other
-out_seen None one other same = refl
-out_seen (Some terminal) one other same = ap (λ (s : List Sitting). (slice_index_or s terminal new_sitting).seat.terminal.out) same
-
-seat_seen : (here : Option ℕ) (one other : ByteWorld) → one.sittings ≡ other.sittings → seat_of here one ≡ seat_of here other
-seat_seen None one other same = refl
-seat_seen (Some terminal) one other same = ap (λ (s : List Sitting). with_out [] (slice_index_or s terminal new_sitting).seat) same
 
 told_out : (senders : Bool) (count : ℕ) (here : Option ℕ) (world : ByteWorld) → IsIn here world.sittings
     → out_of here (terminal_told senders count here world) ≡ (if senders then drop count (out_of here world) else out_of here world)
@@ -144,16 +135,6 @@ came_next : (count : ℕ) (under : Under) → came count (came 1 under) ≡ came
 came_next count Under.Live = refl
 came_next count (Under.Cut kept) = let same : kept - 1 - count ≡ kept - suc count = omega arith in ap Under.Cut same
 came_next count (Under.Left bytes) = ap Under.Left (drop_next count bytes)
-
-live_came : (count : ℕ) (under : Under) → is_live (came count under) ≡ is_live under
-live_came count Under.Live = refl
-live_came count (Under.Cut kept) = refl
-live_came count (Under.Left bytes) = refl
-
-senders_came : (count : ℕ) (under : Under) → is_senders (came count under) ≡ is_senders under
-senders_came count Under.Live = refl
-senders_came count (Under.Cut kept) = refl
-senders_came count (Under.Left bytes) = refl
 
 seats_none : (senders : Bool) (here : Option ℕ) (sittings : List Sitting) → seats_told senders 0 here sittings ≡ sittings
 seats_none true (Some terminal) sittings = set-get_or sittings terminal new_sitting
@@ -226,8 +207,8 @@ module _ (number : ℕ) (counter : Counter) (old : ByteWorld) (linked : number <
 
   out_is : out_of here new ≡ (if senders then drop 1 (out_of here old) else out_of here old)
   out_is =
-      out_seen here new told refl ∙ told_out senders 1 here mid (is_in number here old refl)
-      ∙ ap (λ (o : List ℕ). if senders then drop 1 o else o) (out_seen here mid old refl)
+      (sits_same here told new refl).0 ∙ told_out senders 1 here mid (is_in number here old refl)
+      ∙ ap (λ (o : List ℕ). if senders then drop 1 o else o) ((sits_same here old mid refl).0)
 
   up_is : under_way (ways_at number new).up (out_of here new) ≡ drop 1 (up_of number old)
   up_is =
@@ -242,7 +223,7 @@ module _ (number : ℕ) (counter : Counter) (old : ByteWorld) (linked : number <
       let once : ByteWorld = with_host (with_counter number next old.host) old in
       let ways_then : Ways = record ways { up = came count ways.up } in
       let same_senders : is_senders (ways_at number new).up ≡ senders =
-      ap (λ (w : Ways). is_senders w.up) ways_are ∙ senders_came 1 (ways_at number old).up in
+      ap (λ (w : Ways). is_senders w.up) ways_are ∙ came_senders 1 (ways_at number old).up in
       ap (λ (h : Option ℕ). made count number next (is_senders (ways_at number new).up) h new) there
       ∙ ap (λ (b : Bool). made count number next b here new) same_senders
       ∙ world_same (made count number next senders here new) (took_up (suc count) number next old)
@@ -300,54 +281,19 @@ pub record Stood (number : ℕ) (old new : ByteWorld) (now : World) : Type 0 whe
   pub there : terminal_at number new.sittings ≡ terminal_at number old.sittings
   pub queue : up_of number new ≡ drop 1 (up_of number old)
 
-flips : (live : Bool) (some others : List ℕ) → (if live then some ++ others else some) ≡ sent (not live) some others
-flips true some others = refl
-flips false some others = refl
-
-flow_up : (there : Bool) (out : List ℕ) (under : Under) → IsFlow there out under
-    → IsFlow there (if is_senders under then drop 1 out else out) (came 1 under)
-flow_up there out Under.Live flow = tt
-flow_up there [] (Under.Cut kept) flow = omega (arith, flow)
-flow_up there (byte ∷ out) (Under.Cut kept) flow = omega (arith, flow)
-flow_up there out (Under.Left bytes) flow = flow
-
-flow_down : (out more : List ℕ) (under : Under) → IsFlow true out under → IsFlow true (out ++ more) under
-flow_down out more Under.Live flow = tt
-flow_down out more (Under.Cut kept) flow = let same = length-append out more in omega (arith, same, flow)
-flow_down out more (Under.Left bytes) flow = flow
-
-open_settled : (line : Line) (rest : Rest) (conn : Conn) → line.service ≡ Service.Open rest conn → IsSettled line
-open_settled line rest conn e free = let there : is_there line.service ≡ true = ap is_there e in absurd (cc)
-
-not_closed : (service : Service) (rest : Rest) (conn : Conn) → service ≡ Service.Open rest conn → IsNotClosed service
-not_closed Service.Free rest conn e = tt
-not_closed (Service.Open to other) rest conn e = tt
-not_closed (Service.Closed cause) rest conn e = absurd (cc)
-
 -- the terminal that is there is at this connection; and a number that no terminal has is at none
-alone_here : (number : ℕ) (sitting : Sitting) (place : Place) → IsAt sitting place → sitting.at ≡ None → IsHere number place
-alone_here number sitting (Place.At at) is none = let both : Some at ≡ None = sym is ∙ none in absurd (cc)
-alone_here number sitting (Place.Alone display) is none = tt
-
-is_here : (number : ℕ) (there : Option ℕ) (old : ByteWorld) (was : World) → EndsAgree was → ((terminal : ℕ) → IsAt (sitting_at terminal old) (was.place terminal))
-    → (was.link number).term_here ≡ there → IsHere number (was.place (which there old.sittings))
-is_here number None old was agree places e =
-    alone_here number (sitting_at (length old.sittings) old) (was.place (length old.sittings)) (places (length old.sittings))
-    (let past : length old.sittings ≤ length old.sittings = omega arith in ap (λ (s : Sitting). s.at) (get_or_past old.sittings (length old.sittings) new_sitting past))
-is_here number (Some terminal) old was agree places e = subst (λ (p : Place). IsHere number p) (sym ((agree terminal number).1 e)) refl
-
--- a connection is made of these parts
-abbrev of_parts : Bool → List ℕ → List ℕ → Bool → Conn → Rest → Option ℕ → Seat → ByteLink
-of_parts lost down up there conn rest here seat =
-    record { lost = lost; down = down; up = up; host_here = there; host = conn; host_rest = rest; term_here = here; seat = seat }
+is_here : (number : ℕ) (there : Option ℕ) (old : ByteWorld) (was : World) → EndsAgree was → WorldStands old was → (was.link number).term_here ≡ there
+    → IsHere number (was.place (which there old.sittings))
+is_here number None old was agree stands e = beyond_is_alone number old was stands
+is_here number (Some terminal) old was agree stands e = subst (λ (p : Place). IsHere number p) (sym ((agree terminal number).1 e)) refl
 
 module _ (number : ℕ) (counter : Counter) (old : ByteWorld) (was now : World) (t : Taken number counter old was now) (agree : EndsAgree was) (agrees : EndsAgree now)
     (stands : WorldStands old was) where
   linked : number < length old.links
-  linked = subst (λ (n : ℕ). number < n) (sym stands.ways) t.below
+  linked = way_within number old was stands t.below
 
   lined : number < length old.host.lines
-  lined = subst (λ (n : ℕ). number < n) (sym stands.lines) t.below
+  lined = line_within number old was stands t.below
 
   abbrev at : Option ℕ
   at = terminal_at number old.sittings
@@ -370,19 +316,21 @@ module _ (number : ℕ) (counter : Counter) (old : ByteWorld) (was now : World) 
   lost_is : is_lost number after ≡ is_lost number old
   lost_is = ap (λ (w : Ways). not (is_live w.down)) (ways_are number counter old linked lined)
 
+  said_flow : IsFlow true (host_out number old) way.down
+  said_flow = subst (λ (b : Bool). IsFlow b (host_out number old) way.down) t.host_here (stands.flows number).down
+
   down_is : down_of number after ≡ sent (is_lost number old) (down_of number old) t.more
   down_is =
       ap (λ (w : Ways). under_way w.down (host_out number after)) (ways_are number counter old linked lined)
       ∙ ap (under_way way.down) said_is
-      ∙ more_under_way (host_there number old) (host_out number old) t.more way.down t.host_here (stands.flows number).down
-      ∙ flips (is_live way.down) (down_of number old) t.more
+      ∙ more_under_way (host_out number old) t.more way.down said_flow
 
   seat_is : seat_of at after ≡ seat_of at old
   seat_is =
       let mid : ByteWorld = with_host (with_counter number counter old.host) old in
-      seat_seen at after (terminal_told (is_senders way.up) 1 at mid) refl
+      (sits_same at (terminal_told (is_senders way.up) 1 at mid) after refl).1
       ∙ told_seat (is_senders way.up) 1 at mid (is_in number at old refl)
-      ∙ seat_seen at mid old refl
+      ∙ (sits_same at old mid refl).1
 
   link_is : link_with at number after ≡ heard number t.rest t.conn t.more old
   link_is =
@@ -403,25 +351,25 @@ module _ (number : ℕ) (counter : Counter) (old : ByteWorld) (was now : World) 
       let before = stands.flows number in
       let out : List ℕ = if is_senders way.up then drop 1 (out_of at old) else out_of at old in
       record {
-        together = ap (λ (w : Ways). is_live w.up) (ways_are number counter old linked lined) ∙ live_came 1 way.up ∙ before.together
+        together = ap (λ (w : Ways). is_live w.up) (ways_are number counter old linked lined) ∙ came_live 1 way.up ∙ before.together
             ∙ ap (λ (w : Ways). is_live w.down) (sym (ways_are number counter old linked lined));
         down = subst (λ (w : Ways). IsFlow (host_there number after) (host_out number after) w.down) (sym (ways_are number counter old linked lined))
             (subst (λ (o : List ℕ). IsFlow (host_there number after) o way.down) (sym said_is)
             (subst (λ (b : Bool). IsFlow b (host_out number old ++ t.more) way.down) (sym there_is)
-            (flow_down (host_out number old) t.more way.down (subst (λ (b : Bool). IsFlow b (host_out number old) way.down) t.host_here before.down))));
+            (more_flows (host_out number old) t.more way.down said_flow)));
         up = subst (λ (w : Ways). IsFlow (is_some at) (out_of at after) w.up) (sym (ways_are number counter old linked lined))
             (subst (λ (o : List ℕ). IsFlow (is_some at) o (came 1 way.up)) (sym (out_is number counter old linked lined))
-            (flow_up (is_some at) (out_of at old) way.up before.up));
+            (came_flows (is_some at) 1 (out_of at old) way.up before.up));
       }
 
   was_at : at ≡ (was.link number).term_here
-  was_at = who_is_there old was number agree stands.places
+  was_at = who_was_there number old was agree stands
 
   now_at : (now.link number).term_here ≡ at
   now_at = ap (λ (l : Link). l.term_here) t.is_link ∙ t.term_here ∙ sym was_at
 
   place_was : IsHere number (was.place (which at old.sittings))
-  place_was = is_here number at old was agree stands.places (sym was_at)
+  place_was = is_here number at old was agree stands (sym was_at)
 
   changed : Changed number (which at old.sittings) old after was now
   changed =
@@ -441,8 +389,8 @@ module _ (number : ℕ) (counter : Counter) (old : ByteWorld) (was now : World) 
         pool = ap (λ (h : Host). h.pool) host ∙ t.pool;
         before = place_was;
         behind = subst (λ (p : ℕ → Place). IsHere number (p (which at old.sittings))) (sym t.places) place_was;
-        none_closed = not_closed (service_at number after.host) t.rest t.conn service_is;
-        settled = open_settled (line_at number after.host) t.rest t.conn service_is;
+        none_closed = subst IsNotClosed (sym service_is) tt;
+        settled = there_settled (line_at number after.host) there_is;
         flow = subst (λ (h : Option ℕ). AreWays h number after) (sym now_at) flows;
         link = subst (λ (h : Option ℕ). LinkStands (link_with h number after) (now.link number)) (sym now_at)
             (subst (λ (b : ByteLink). LinkStands b (now.link number)) (sym link_is)

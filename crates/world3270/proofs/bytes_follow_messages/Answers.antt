@@ -33,7 +33,7 @@ steps : Known → StepsGoOn
 steps known = steps_go_on (all_go known) (skips known)
 
 pub returns-clause-begin : goal.returns-clause-begin
-returns-clause-begin c = begin_is_reached c.what_is_known.ensures
+returns-clause-begin c = begin_is_reached
 
 pub returns-clause-steps : goal.returns-clause-steps
 returns-clause-steps c = steps c.what_is_known.ensures

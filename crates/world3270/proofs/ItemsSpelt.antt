@@ -1,0 +1,98 @@
+-- What the host sends in its turn, and notes, are spelt: the item of each stands for it, and may come.
+use Rattle.std.proofs.Common.{◌≡◌, ◌≤◌, ◌+◌, ◌*◌, ℕ, true, Some, List, [], ◌++◌, length, refl, ap, sym, subst, arith, inr, IfSome}
+use Rattle.std.specs.Prelude.{⊤, All}
+use Rattle.codes3270.proofs.RoundTrips.{wcc_read_back}
+use Rattle.codes3270.specs.Size.{model_2, cell_count}
+use Rattle.datastream.proofs.Commands.{command_proper}
+use Rattle.datastream.proofs.Written.{orders_written}
+use Rattle.datastream.specs.Grammar.{CommandParts, IsCommand, write, other, IsProper}
+use Rattle.datastream.specs.Note.{quiet}
+use Rattle.shadow.specs.Fits.{fits}
+use Rattle.shadow.specs.Laws.{PaintIsBounded}
+use Rattle.shadow.specs.Paint.{paint, paint_bytes}
+use Rattle.telnet_wire.specs.Items.{CanCome}
+use Rattle.tn3270e_msg.specs.Header.{Begins, spelling, record_limit, error_response, always_response}
+use Rattle.tn3270e_msg.specs.declared.header.Header.{Header}
+use Rattle.host_core.proofs.NoteBytes.{note_record_fits}
+use Rattle.host_core.specs.Answering.{number_in}
+use Rattle.host_core.specs.Messages.{ToTerminal}
+use Rattle.host_core.specs.NoteLaws.{IsNoteOf}
+use Rattle.host_core.specs.Notes.{note_orders, note_command}
+use Rattle.host_core.specs.Says.{written, read_buffer_command, command_header, command_record, item_sent}
+use Rattle.world3270.specs.Numbers.{IsNumber}
+use Rattle.world3270.specs.Sendable.{PaintsAScreen, IsSpelt}
+use Rattle.world3270.specs.Stands.{StandsDown}
+use Rattle.world3270.specs.StandsEnds.{PaintStands}
+
+-- what fits where it is sent: a paint what is believed, and a note a model 2
+abbrev pub Suits : ToTerminal → Type 0
+Suits (ToTerminal.TalksDown saying) = ⊥
+Suits (ToTerminal.Paint number wanted believed) = fits believed wanted ≡ true
+Suits (ToTerminal.ReadBuffer number) = ⊤
+Suits (ToTerminal.Note number command) = IsNoteOf model_2 command
+
+-- what is known of a command under way
+pub record IsSound (message : ToTerminal) : Type 0 where
+  pub screen : PaintsAScreen message
+  pub spelt : IsSpelt message
+  pub number : IfSome (number_in message) IsNumber
+
+-- its item stands for it, and may come
+pub record Spells (message : ToTerminal) : Type 0 where
+  pub stands : StandsDown (item_sent message) message
+  pub comes : CanCome record_limit (item_sent message)
+
+begins : (flag number : ℕ) (body : List ℕ) → flag ≤ always_response → IsNumber number
+    → Begins (spelling (command_header flag number) ++ body) (command_header flag number) body
+begins flag number body flags fits = record { is_header = record { kind = tt; flag = flags }; number = omega arith; spelt = refl }
+
+-- five bytes are before a body
+record_length : (header : Header) (body : List ℕ) → length (spelling header ++ body) ≡ 5 + length body
+record_length header body = omega arith
+
+-- a paint of so many cells is within the limit
+paint_fits : (whole bytes cells : ℕ) → whole ≡ 5 + bytes → bytes ≤ 6 + 5 * cells → cells ≡ cell_count → whole ≤ record_limit
+paint_fits whole bytes cells is few size = omega arith
+
+note_spelt : (command : CommandParts) (text : List ℕ) → command ≡ note_command model_2 text → All IsProper command.orders → IsCommand command (written command)
+note_spelt command text is proper =
+    subst (λ (c : CommandParts). IsCommand c (written c)) (sym is)
+    (write _ _ _ refl (inr refl) (ap (λ w. Some w) (sym (wcc_read_back quiet)))
+    (orders_written (note_orders model_2 text) (subst (λ (c : CommandParts). All IsProper c.orders) is proper)) refl)
+
+note_comes : (number : ℕ) (command : CommandParts) (text : List ℕ) → command ≡ note_command model_2 text
+    → length (command_record always_response number command) ≤ record_limit
+note_comes number command text is =
+    let fits = note_record_fits number text (command_record always_response number (note_command model_2 text)) refl in
+    subst (λ (c : CommandParts). length (command_record always_response number c) ≤ record_limit) (sym is) (omega arith)
+
+pub spells : PaintStands → PaintIsBounded → (message : ToTerminal) → Suits message → IsSound message → Spells message
+spells stands bounded (ToTerminal.TalksDown saying) suits sound = absurd suits
+spells stands bounded (ToTerminal.Paint number wanted believed) suits sound =
+    let body : List ℕ = written (paint (length wanted.cells) believed wanted) in
+    record {
+      stands = stands number wanted believed (spelling (command_header always_response number) ++ body) body (begins always_response number body (omega arith) sound.number)
+          (subst (λ (n : ℕ). IsCommand (paint n believed wanted) (paint_bytes n believed wanted)) (sym sound.screen.size) sound.spelt) suits;
+      comes = paint_fits (length (spelling (command_header always_response number) ++ body)) (length body) (length wanted.cells)
+          (record_length (command_header always_response number) body) (bounded (length wanted.cells) believed wanted) sound.screen.size;
+    }
+spells stands bounded (ToTerminal.ReadBuffer number) suits sound = record {
+  stands = record {
+    bytes = command_record error_response number read_buffer_command;
+    body = written read_buffer_command;
+    is_record = refl;
+    begins = begins error_response number (written read_buffer_command) (omega arith) sound.number;
+    spelt = other _ [] refl (inr refl) refl refl refl;
+  };
+  comes = omega arith;
+}
+spells stands bounded (ToTerminal.Note number command) suits sound = record {
+  stands = record {
+    bytes = command_record always_response number command;
+    body = written command;
+    is_record = refl;
+    begins = begins always_response number (written command) (omega arith) sound.number;
+    spelt = note_spelt command suits.text suits.is (command_proper command sound.spelt);
+  };
+  comes = note_comes number command suits.text suits.is;
+}
