@@ -122,6 +122,26 @@ fn paints(alloc: Global, shadow: &Shadow, wanted: &Wanted, bytes: &[u8]) -> Resu
     Ok(out.as_slice() == bytes)
 }
 
+/// A field: its attribute, its characters, and how many cells they and the nulls behind them are.
+type Laid = (u8, &'static [u8], usize);
+
+/// Adds a field of so many cells behind its attribute, which are null behind its characters.
+fn put_field(buffer: &mut Vec<u8>, attr: u8, chars: &[u8], cells: usize) -> Result<(), AllocError> {
+    buffer.extend_from_slice(&[0x1D, attr])?;
+    buffer.extend_from_slice(chars)?;
+    for _ in chars.len()..cells {
+        buffer.push(0)?;
+    }
+    Ok(())
+}
+
+fn put_fields(buffer: &mut Vec<u8>, fields: &[Laid]) -> Result<(), AllocError> {
+    for (attr, chars, cells) in fields {
+        put_field(buffer, *attr, chars, *cells)?;
+    }
+    Ok(())
+}
+
 fn put_attributes(buffer: &mut Vec<u8>) -> Result<(), AllocError> {
     for _ in 0..CELLS {
         buffer.extend_from_slice(&[0x1D, 0xF0])?;
@@ -212,15 +232,18 @@ fn is_left(alloc: Global, shadow: &Shadow, wanted: &Wanted) -> Result<bool, Memo
 }
 
 /// The operator's fields are kept, whatever they hold; a field of another length isn't one that is believed to be there.
+fn what_is_kept_is_left(alloc: Global, shadow: &mut Shadow) -> Result<bool, Memory> {
+    Ok(
+        is_left(alloc, shadow, &keeping(167))?
+            && hears(shadow, &[0x7D, 0xC2, 0xE8, 0x11, 0xC2, 0xE7, 0xC1])
+            && is_left(alloc, shadow, &keeping(175))?
+            && !shadow.fits(&keeping(176)),
+    )
+}
+
 #[test]
 fn what_is_right_is_not_painted(rt: HostRuntime) -> Result<(), Fail> {
-    let mut shadow = sign_on();
-    assert!(rt;
-        is_left(rt.alloc(), &shadow, &keeping(167))?
-            && hears(&mut shadow, &[0x7D, 0xC2, 0xE8, 0x11, 0xC2, 0xE7, 0xC1])
-            && is_left(rt.alloc(), &shadow, &keeping(175))?
-            && !shadow.fits(&keeping(176))
-    );
+    assert!(rt; what_is_kept_is_left(rt.alloc(), &mut sign_on())?);
     Ok(())
 }
 
@@ -235,32 +258,21 @@ fn a_blank_shadow_is_painted_over(rt: HostRuntime) -> Result<(), Fail> {
 
 // ---- what was read before
 
-/// Adds a field of so many cells behind its attribute, which are null behind its characters.
-fn put_field(buffer: &mut Vec<u8>, attr: u8, chars: &[u8], cells: usize) -> Result<(), AllocError> {
-    buffer.extend_from_slice(&[0x1D, attr])?;
-    buffer.extend_from_slice(chars)?;
-    for _ in chars.len()..cells {
-        buffer.push(0)?;
-    }
-    Ok(())
-}
-
 /// The sign-on panel as Read Buffer answers it after PA1, with `AB` typed into the first field.
-fn put_sign_on(buffer: &mut Vec<u8>) -> Result<(), AllocError> {
-    let title = [0xE2, 0xC9, 0xC7, 0xD5, 0x40, 0xD6, 0xD5];
-    put_field(buffer, 0xF0, &title, 159)?;
-    put_field(buffer, 0xF0, &[0xE4, 0xE2, 0xC5, 0xD9], 5)?;
-    put_field(buffer, 0xC1, &[0xC1, 0xC2], 8)?;
-    put_field(buffer, 0xF0, &[], 64)?;
-    put_field(buffer, 0xF0, &[0xC4, 0xC5, 0xD7, 0xE3], 5)?;
-    put_field(buffer, 0x40, &[], 4)?;
-    put_field(buffer, 0xF0, &[], 1588)?;
-    put_field(buffer, 0xF8, &[], 79)
-}
+static SIGN_ON_READ: [Laid; 8] = [
+    (0xF0, b"\xe2\xc9\xc7\xd5\x40\xd6\xd5", 159),
+    (0xF0, b"\xe4\xe2\xc5\xd9", 5),
+    (0xC1, b"\xc1\xc2", 8),
+    (0xF0, b"", 64),
+    (0xF0, b"\xc4\xc5\xd7\xe3", 5),
+    (0x40, b"", 4),
+    (0xF0, b"", 1588),
+    (0xF8, b"", 79),
+];
 
 fn sign_on_read(alloc: Global) -> Result<Vec<u8>, AllocError> {
     let mut buffer = followed_by(alloc, &[0x6C, 0xC2, 0xE9], 0x00, 0)?;
-    put_sign_on(&mut buffer)?;
+    put_fields(&mut buffer, &SIGN_ON_READ)?;
     Ok(buffer)
 }
 
@@ -365,33 +377,17 @@ fn greeting() -> Wanted {
     Wanted::new(wants, Addr::first(), true)
 }
 
-/// Adds nulls from an address on.
-fn put_nulls(out: &mut Vec<u8>, high: u8, low: u8, count: u8) -> Result<(), AllocError> {
-    out.extend_from_slice(&[0x11, high, low])?;
-    for _ in 0..count {
-        out.push(0)?;
-    }
-    Ok(())
-}
+/// What paints the greeting over the sign-on panel, and nulls from five addresses on, 5, 10, 5, 6 and 14 of them.
+static GREETING: &[u8] = b"\xf1\xc3\x11\x40\xc1\xc8\xc5\xd3\xd3\xd6\x00\x1d\xf0\xc1\xd5\xd5\
+    \x11\xc2\x60\0\0\0\0\0\
+    \x11\xc2\xe6\0\0\0\0\0\0\0\0\0\0\
+    \x11\xc3\xf0\0\0\0\0\0\
+    \x11\xc3\xf6\0\0\0\0\0\0\
+    \x11\x5c\xf1\0\0\0\0\0\0\0\0\0\0\0\0\0\0\
+    \x11\x40\x40\x13";
 
-/// What paints the greeting over the sign-on panel, behind its own cells.
-fn put_cleared(out: &mut Vec<u8>) -> Result<(), AllocError> {
-    put_nulls(out, 0xC2, 0x60, 5)?;
-    put_nulls(out, 0xC2, 0xE6, 10)?;
-    put_nulls(out, 0xC3, 0xF0, 5)?;
-    put_nulls(out, 0xC3, 0xF6, 6)?;
-    put_nulls(out, 0x5C, 0xF1, 14)?;
-    out.extend_from_slice(&[0x11, 0x40, 0x40, 0x13])
-}
-
-fn the_greeting_is_painted(alloc: Global, shadow: &Shadow) -> Result<bool, Fail> {
-    let start = [
-        0xF1, 0xC3, 0x11, 0x40, 0xC1, 0xC8, 0xC5, 0xD3, 0xD3, 0xD6, 0x00, 0x1D, 0xF0, 0xC1, 0xD5,
-        0xD5,
-    ];
-    let mut expected = followed_by(alloc, &start, 0x00, 0)?;
-    put_cleared(&mut expected)?;
-    Ok(paints(alloc, shadow, &greeting(), expected.as_slice())?)
+fn the_greeting_is_painted(alloc: Global, shadow: &Shadow) -> Result<bool, Memory> {
+    paints(alloc, shadow, &greeting(), GREETING)
 }
 
 #[test]
@@ -416,16 +412,12 @@ fn it_may_be_null(shadow: &mut Shadow) -> bool {
     hears(shadow, &[0x7D, 0x40, 0xC1]) && fact_at(shadow, 0) == Some(Fact::ExactOrNulls)
 }
 
-fn put_typed(buffer: &mut Vec<u8>) -> Result<(), AllocError> {
-    put_field(buffer, 0x40, &[0xC1, 0xC2], 2)?;
-    put_field(buffer, 0xF0, &[], 1836)?;
-    put_field(buffer, 0xF8, &[], 79)
-}
+static TYPED_READ: [Laid; 3] = [(0x40, b"\xc1\xc2", 2), (0xF0, b"", 1836), (0xF8, b"", 79)];
 
 /// Whether it is read. With header and end of record that is 1,933 bytes.
 fn it_is_read(alloc: Global, shadow: &mut Shadow) -> Result<bool, AllocError> {
     let mut buffer = followed_by(alloc, &[0x7D, 0x40, 0xC1], 0x00, 0)?;
-    put_typed(&mut buffer)?;
+    put_fields(&mut buffer, &TYPED_READ)?;
     Ok(
         buffer.len() == 1926
             && hears_buffer(shadow, buffer.as_slice())

@@ -74,7 +74,7 @@ pub(crate) fn believes(shadow: &Shadow, place: u16, fact: Fact, text: &[u8]) -> 
 }
 
 pub(crate) fn has_no_field(shadow: &Shadow, place: u16) -> bool {
-    fact_at(shadow, place) == None
+    fact_at(shadow, place).is_none()
 }
 
 pub(crate) fn known_at(shadow: &Shadow, place: u16) -> Option<Cell> {
@@ -89,7 +89,7 @@ pub(crate) fn knows(shadow: &Shadow, place: u16, cell: Cell) -> bool {
 }
 
 pub(crate) fn is_unknown(shadow: &Shadow, place: u16) -> bool {
-    known_at(shadow, place) == None
+    known_at(shadow, place).is_none()
 }
 
 /// A belief of the screen that a command leaves.

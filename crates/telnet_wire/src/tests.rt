@@ -9,39 +9,43 @@ use std::test::Fail;
 /// The data bytes that a record of a TN3270E session may have.
 const RECORD_LIMIT: usize = 16_384;
 
+/// Says whether this byte completes this item.
+fn ends(decoder: &mut Decoder, byte: u8, item: Item) -> bool {
+    match decoder.push(byte) {
+        Ok(Step::Ready) => decoder.item() == item,
+        _ => false,
+    }
+}
+
 /// Pushes the bytes. Says whether the last of them, and no other, completed this item.
-fn completes(decoder: &mut Decoder, bytes: &[u8], item: Item) -> Result<bool, WireFault> {
+fn completes(decoder: &mut Decoder, bytes: &[u8], item: Item) -> bool {
     let Some((last, before)) = bytes.split_last() else {
-        return Ok(false);
+        return false;
     };
-    Ok(
-        completes_none(decoder, before)?
-            && decoder.push(*last)? == Step::Ready
-            && decoder.item() == item,
-    )
+    completes_none(decoder, before) && ends(decoder, *last, item)
 }
 
 /// Pushes the bytes. Says whether none of them completed an item.
-fn completes_none(decoder: &mut Decoder, bytes: &[u8]) -> Result<bool, WireFault> {
+fn completes_none(decoder: &mut Decoder, bytes: &[u8]) -> bool {
     for byte in bytes {
-        if decoder.push(*byte)? == Step::Ready {
-            return Ok(false);
+        if decoder.push(*byte) != Ok(Step::More) {
+            return false;
         }
     }
-    Ok(true)
+    true
 }
 
 /// Pushes the bytes. Says whether the last of them is refused for this fault, and the others complete nothing.
-fn is_refused(decoder: &mut Decoder, bytes: &[u8], fault: WireFault) -> Result<bool, WireFault> {
+fn is_refused(decoder: &mut Decoder, bytes: &[u8], fault: WireFault) -> bool {
     let Some((last, before)) = bytes.split_last() else {
-        return Ok(false);
+        return false;
     };
-    Ok(completes_none(decoder, before)? && decoder.push(*last) == Err(fault))
+    completes_none(decoder, before) && decoder.push(*last) == Err(fault)
 }
 
 /// Says whether each byte is refused, and whether the decoder is as new after a reset.
-fn has_failed_until_reset(decoder: &mut Decoder) -> Result<bool, WireFault> {
-    Ok(refuses_each(decoder, &[0, 239, 240, 255]) && is_as_new_after_reset(decoder)?)
+fn has_failed_until_reset(decoder: &mut Decoder) -> bool {
+    refuses_each(decoder, &[0, 239, 240, 255]) && is_as_new_after_reset(decoder)
 }
 
 /// Says whether each byte is refused since the stream failed.
@@ -55,19 +59,9 @@ fn refuses_each(decoder: &mut Decoder, bytes: &[u8]) -> bool {
 }
 
 /// Says whether a record is read after a reset, with nothing from before it.
-fn is_as_new_after_reset(decoder: &mut Decoder) -> Result<bool, WireFault> {
+fn is_as_new_after_reset(decoder: &mut Decoder) -> bool {
     decoder.reset();
     completes(decoder, b"\x07\xff\xef", Item::Record(b"\x07"))
-}
-
-/// Pushes the bytes so many times. Says whether none of them completed an item.
-fn completes_none_of(decoder: &mut Decoder, bytes: &[u8], count: usize) -> Result<bool, WireFault> {
-    for _ in 0..count {
-        if !completes_none(decoder, bytes)? {
-            return Ok(false);
-        }
-    }
-    Ok(true)
 }
 
 /// Says whether there are so many, all of them this byte.
@@ -91,10 +85,9 @@ fn put_item(out: &mut Vec<u8>, item: Item) -> Result<(), Memory> {
 }
 
 /// Says whether the item is written as these bytes.
-fn is_written_as(out: &mut Vec<u8>, item: Item, bytes: &[u8]) -> Result<bool, WireFault> {
+fn is_written_as(out: &mut Vec<u8>, item: Item, bytes: &[u8]) -> bool {
     out.clear();
-    put_item(out, item)?;
-    Ok(out.as_slice() == bytes)
+    put_item(out, item).is_ok() && out.as_slice() == bytes
 }
 
 /// A negotiation of TN3270E: DO, WILL, SEND DEVICE-TYPE, REQUEST IBM-3278-2 CONNECT PNL01, IS, REQUEST and IS.
@@ -193,26 +186,20 @@ static RECORDS: [(&[u8], Item); 5] = [
 ];
 
 /// Says whether the bytes of each pair are read as its item, and the item is written as the bytes.
-fn are_read_and_written(
-    decoder: &mut Decoder,
-    out: &mut Vec<u8>,
-    pairs: &[(&[u8], Item)],
-) -> Result<bool, WireFault> {
+fn are_read_and_written(decoder: &mut Decoder, out: &mut Vec<u8>, pairs: &[(&[u8], Item)]) -> bool {
     for (bytes, item) in pairs {
-        if !(completes(decoder, bytes, *item)? && is_written_as(out, *item, bytes)?) {
-            return Ok(false);
+        if !(completes(decoder, bytes, *item) && is_written_as(out, *item, bytes)) {
+            return false;
         }
     }
-    Ok(true)
+    true
 }
 
 /// Says of all three tables whether they are read and written.
-fn tables_agree(decoder: &mut Decoder, out: &mut Vec<u8>) -> Result<bool, WireFault> {
-    Ok(
-        are_read_and_written(decoder, out, &NEGOTIATION)?
-            && are_read_and_written(decoder, out, &OTHER_OPTIONS)?
-            && are_read_and_written(decoder, out, &RECORDS)?,
-    )
+fn tables_agree(decoder: &mut Decoder, out: &mut Vec<u8>) -> bool {
+    are_read_and_written(decoder, out, &NEGOTIATION)
+        && are_read_and_written(decoder, out, &OTHER_OPTIONS)
+        && are_read_and_written(decoder, out, &RECORDS)
 }
 
 /// The parts of a request of a device type, and how they are written.
@@ -221,10 +208,9 @@ static REQUEST: [&[u8]; 5] = [b"\x28\x02\x07", b"IBM-3278-2", b"", b"\x01", b"PN
 static REQUEST_SPELT: &[u8] = b"\xff\xfa\x28\x02\x07IBM-3278-2\x01PNL01\xff\xf0";
 
 /// Says whether a subnegotiation in these parts is written as these bytes.
-fn parts_are_written_as(out: &mut Vec<u8>, parts: &[&[u8]], bytes: &[u8]) -> Result<bool, Memory> {
+fn parts_are_written_as(out: &mut Vec<u8>, parts: &[&[u8]], bytes: &[u8]) -> bool {
     out.clear();
-    put_sub_parts(out, parts)?;
-    Ok(out.as_slice() == bytes)
+    put_sub_parts(out, parts).is_ok() && out.as_slice() == bytes
 }
 
 /// A write, and its data.
@@ -234,39 +220,38 @@ static WRITE_SPELT: &[u8] =
 static WRITE: &[u8] = b"\x00\x00\x02\x00\x00\xf5\xc3\x11\x40\x40\x1d\x60\xc8\xc9\x1d\x40\x13";
 
 /// Says whether the bytes complete the item wherever they are cut, and nothing before their end.
-fn is_read_from_any_cut(
-    decoder: &mut Decoder,
-    bytes: &[u8],
-    item: Item,
-) -> Result<bool, WireFault> {
+fn is_read_from_any_cut(decoder: &mut Decoder, bytes: &[u8], item: Item) -> bool {
     for cut in 1..bytes.len() {
         // The last cut leaves out the end alone: there is no record before it.
         let (first, rest) = bytes.split_at(cut);
-        if !(completes_none(decoder, first)? && completes(decoder, rest, item)?) {
-            return Ok(false);
+        if !(completes_none(decoder, first) && completes(decoder, rest, item)) {
+            return false;
         }
     }
-    Ok(true)
+    true
 }
 
 /// Says of the tables whether they are read and written, of a record whether it is the same however it is cut, and of a
 /// subnegotiation whether it is written in parts.
-fn items_agree(decoder: &mut Decoder, out: &mut Vec<u8>) -> Result<bool, WireFault> {
+fn items_agree(decoder: &mut Decoder, out: &mut Vec<u8>) -> bool {
     let record = Item::Record(WRITE);
-    Ok(
-        tables_agree(decoder, out)?
-            && is_read_from_any_cut(decoder, WRITE_SPELT, record)?
-            && is_written_as(out, record, WRITE_SPELT)?
-            && parts_are_written_as(out, &REQUEST, REQUEST_SPELT)?,
-    )
+    tables_agree(decoder, out)
+        && is_read_from_any_cut(decoder, WRITE_SPELT, record)
+        && is_written_as(out, record, WRITE_SPELT)
+        && parts_are_written_as(out, &REQUEST, REQUEST_SPELT)
+}
+
+/// Says so of what it writes to a vector of its own.
+fn items_agree_in(alloc: Global, decoder: &mut Decoder) -> bool {
+    let mut out = Vec::new(alloc);
+    items_agree(decoder, &mut out)
 }
 
 #[test]
 fn items_are_read_and_written(rt: HostRuntime) -> Result<(), Fail> {
     one_reading();
     let mut decoder = Decoder::new(rt.alloc(), RECORD_LIMIT)?;
-    let mut out = Vec::new(rt.alloc());
-    assert_eq!(rt; items_agree(&mut decoder, &mut out), Ok(true));
+    assert!(rt; items_agree_in(rt.alloc(), &mut decoder));
     Ok(())
 }
 
@@ -285,29 +270,29 @@ static ITEMS_INSIDE: [(&[u8], Item); 4] = [
 ];
 
 /// Says whether the bytes of each pair are read as its item.
-fn are_read(decoder: &mut Decoder, pairs: &[(&[u8], Item)]) -> Result<bool, WireFault> {
+fn are_read(decoder: &mut Decoder, pairs: &[(&[u8], Item)]) -> bool {
     for (bytes, item) in pairs {
-        if !completes(decoder, bytes, *item)? {
-            return Ok(false);
+        if !completes(decoder, bytes, *item) {
+            return false;
         }
     }
-    Ok(true)
+    true
 }
 
 /// Says whether the byte behind IAC is an item by itself, for each of these.
-fn are_commands(decoder: &mut Decoder, codes: &[u8]) -> Result<bool, WireFault> {
+fn are_commands(decoder: &mut Decoder, codes: &[u8]) -> bool {
     for code in codes {
-        if !completes(decoder, &[255, *code], Item::Other(*code))? {
-            return Ok(false);
+        if !completes(decoder, &[255, *code], Item::Other(*code)) {
+            return false;
         }
     }
-    Ok(true)
+    true
 }
 
 /// Says whether commands are items: the lowest and highest code, NOP, and SE with no subnegotiation open; and whether
 /// those inside a record come at once.
-fn commands_are_items(decoder: &mut Decoder) -> Result<bool, WireFault> {
-    Ok(are_commands(decoder, &[0, 241, 240, 249])? && are_read(decoder, &ITEMS_INSIDE)?)
+fn commands_are_items(decoder: &mut Decoder) -> bool {
+    are_commands(decoder, &[0, 241, 240, 249]) && are_read(decoder, &ITEMS_INSIDE)
 }
 
 /// Says whether the item that ends so is as long as it may be: a record of this byte alone, or a subnegotiation of it
@@ -320,54 +305,63 @@ fn is_longest(item: Item, end: u8, byte: u8) -> bool {
     }
 }
 
-/// Says whether the beginning and this byte so many times are an item once IAC and this code end it, and in place of the
-/// end one byte more is refused where its spelling is complete.
+/// Says whether IAC and this code end an item that is as long as it may be.
+fn ends_longest(decoder: &mut Decoder, end: u8, byte: u8) -> bool {
+    match (decoder.push(255), decoder.push(end)) {
+        (Ok(Step::More), Ok(Step::Ready)) => is_longest(decoder.item(), end, byte),
+        _ => false,
+    }
+}
+
+/// As many of one byte as a record may have, and as a subnegotiation may have behind the option's code. A 255 is spelt twice.
+static RECORD_OF_5: [u8; RECORD_LIMIT] = [5; RECORD_LIMIT];
+
+static RECORD_OF_255: [u8; 2 * RECORD_LIMIT] = [255; 2 * RECORD_LIMIT];
+
+static SUB_OF_0: [u8; 255] = [0; 255];
+
+static SUB_OF_255: [u8; 2 * 255] = [255; 2 * 255];
+
+/// Says whether the beginning and these spellings of one byte are an item once IAC and this code end it, and in place of
+/// the end one byte more is refused where its spelling is complete.
 fn is_limited(
     decoder: &mut Decoder,
     begun: &[u8],
-    count: usize,
+    spelt: &[u8],
     end: u8,
     byte: u8,
     spelling: &[u8],
-) -> Result<bool, WireFault> {
-    Ok(
-        completes_none(decoder, begun)?
-            && completes_none_of(decoder, spelling, count)?
-            && decoder.push(255)? == Step::More
-            && decoder.push(end)? == Step::Ready
-            && is_longest(decoder.item(), end, byte)
-            && completes_none(decoder, begun)?
-            && completes_none_of(decoder, spelling, count)?
-            && is_refused(decoder, spelling, WireFault::TooLong)?
-            && has_failed_until_reset(decoder)?,
-    )
+) -> bool {
+    completes_none(decoder, begun)
+        && completes_none(decoder, spelt)
+        && ends_longest(decoder, end, byte)
+        && completes_none(decoder, begun)
+        && completes_none(decoder, spelt)
+        && is_refused(decoder, spelling, WireFault::TooLong)
+        && has_failed_until_reset(decoder)
 }
 
 /// Says whether a record has at most the limit. A 255 is complete, and refused, at its second byte.
-fn records_are_limited(decoder: &mut Decoder) -> Result<bool, WireFault> {
-    Ok(
-        is_limited(decoder, b"", RECORD_LIMIT, 239, 5, b"\x05")?
-            && is_limited(decoder, b"", RECORD_LIMIT, 239, 255, b"\xff\xff")?,
-    )
+fn records_are_limited(decoder: &mut Decoder) -> bool {
+    is_limited(decoder, b"", &RECORD_OF_5, 239, 5, b"\x05")
+        && is_limited(decoder, b"", &RECORD_OF_255, 239, 255, b"\xff\xff")
 }
 
 /// Says whether a subnegotiation has at most 256 bytes, the option's code among them.
-fn subnegotiations_are_limited(decoder: &mut Decoder) -> Result<bool, WireFault> {
-    Ok(
-        is_limited(decoder, b"\xff\xfa\x29", 255, 240, 0, b"\x00")?
-            && is_limited(decoder, b"\xff\xfa\x29", 255, 240, 255, b"\xff\xff")?,
-    )
+fn subnegotiations_are_limited(decoder: &mut Decoder) -> bool {
+    is_limited(decoder, b"\xff\xfa\x29", &SUB_OF_0, 240, 0, b"\x00")
+        && is_limited(decoder, b"\xff\xfa\x29", &SUB_OF_255, 240, 255, b"\xff\xff")
 }
 
 /// Says whether each of these codes, behind IAC inside a subnegotiation, is refused.
-fn refuses_inside(decoder: &mut Decoder, codes: &[u8]) -> Result<bool, WireFault> {
+fn refuses_inside(decoder: &mut Decoder, codes: &[u8]) -> bool {
     for code in codes {
         let bytes = [255, 250, 40, 3, 255, *code];
-        if !(is_refused(decoder, &bytes, WireFault::BadSub)? && has_failed_until_reset(decoder)?) {
-            return Ok(false);
+        if !(is_refused(decoder, &bytes, WireFault::BadSub) && has_failed_until_reset(decoder)) {
+            return false;
         }
     }
-    Ok(true)
+    true
 }
 
 /// What may have come when a decoder is reset.
@@ -380,31 +374,29 @@ static BEGINNINGS: [&[u8]; 5] = [
 ];
 
 /// Says whether a reset forgets each of these beginnings.
-fn forgets_each(decoder: &mut Decoder, beginnings: &[&[u8]]) -> Result<bool, WireFault> {
+fn forgets_each(decoder: &mut Decoder, beginnings: &[&[u8]]) -> bool {
     for begun in beginnings {
-        if !(completes_none(decoder, begun)? && is_as_new_after_reset(decoder)?) {
-            return Ok(false);
+        if !(completes_none(decoder, begun) && is_as_new_after_reset(decoder)) {
+            return false;
         }
     }
-    Ok(true)
+    true
 }
 
 /// Says of a stream whether commands are items, items are limited, NOP, the end of a record, another subnegotiation, and
 /// an option's negotiation are refused inside a subnegotiation, and a reset forgets what came.
-fn stream_agrees(decoder: &mut Decoder) -> Result<bool, WireFault> {
-    Ok(
-        commands_are_items(decoder)?
-            && records_are_limited(decoder)?
-            && subnegotiations_are_limited(decoder)?
-            && refuses_inside(decoder, &[241, 239, 250, 253])?
-            && forgets_each(decoder, &BEGINNINGS)?,
-    )
+fn stream_agrees(decoder: &mut Decoder) -> bool {
+    commands_are_items(decoder)
+        && records_are_limited(decoder)
+        && subnegotiations_are_limited(decoder)
+        && refuses_inside(decoder, &[241, 239, 250, 253])
+        && forgets_each(decoder, &BEGINNINGS)
 }
 
 #[test]
 fn a_stream_is_read_refused_and_reset(rt: HostRuntime) -> Result<(), Fail> {
     let mut decoder = Decoder::new(rt.alloc(), RECORD_LIMIT)?;
-    assert_eq!(rt; stream_agrees(&mut decoder), Ok(true));
+    assert!(rt; stream_agrees(&mut decoder));
     Ok(())
 }
 
@@ -442,33 +434,34 @@ fn added(put: Put) -> usize {
     }
 }
 
-/// Fills the room that a new vector has with sevens.
-fn fill_room(out: &mut Vec<u8>) -> Result<(), Memory> {
-    for _ in 0..out.capacity() {
-        out.push(7)?;
+static SEVENS: [u8; 64] = [7; 64];
+
+/// Fills the room that a new vector has with sevens. Says whether there were enough.
+fn fill_room(out: &mut Vec<u8>) -> bool {
+    match SEVENS.get(..out.capacity()) {
+        Some(sevens) => out.extend_from_slice(sevens).is_ok(),
+        None => false,
     }
-    Ok(())
 }
 
 /// Says whether the call, behind as many sevens as a new vector has room for, adds its bytes, and, where a growth was
 /// refused, nothing at first and all of them then.
-fn adds_all_or_nothing(put: Put, out: &mut Vec<u8>) -> Result<bool, Memory> {
-    fill_room(out)?;
-    let start = out.len();
-    if put_long(put, out).is_err() {
-        if !are_all(out, 7, start) {
-            return Ok(false);
-        }
-        put_long(put, out)?;
+fn adds_all_or_nothing(put: Put, out: &mut Vec<u8>) -> bool {
+    if !fill_room(out) {
+        return false;
     }
-    Ok(out.len().checked_sub(start) == Some(added(put)))
+    let start = out.len();
+    if put_long(put, out).is_err() && !(are_all(out, 7, start) && put_long(put, out).is_ok()) {
+        return false;
+    }
+    out.len().checked_sub(start) == Some(added(put))
 }
 
 /// Says so of a vector of two bytes, where one is had.
-fn is_all_or_nothing(alloc: Global, put: Put) -> Result<bool, Memory> {
+fn is_all_or_nothing(alloc: Global, put: Put) -> bool {
     match Vec::with_capacity(alloc, 2) {
         Ok(mut out) => adds_all_or_nothing(put, &mut out),
-        Err(_) => Ok(true),
+        Err(_) => true,
     }
 }
 
@@ -480,48 +473,47 @@ fn is_made_or_refused(alloc: Global, limit: usize) -> bool {
     }
 }
 
-fn each_is_all_or_nothing(alloc: Global) -> Result<bool, Memory> {
+fn each_is_all_or_nothing(alloc: Global) -> bool {
     for put in &PUTS {
-        if !is_all_or_nothing(alloc, *put)? {
-            return Ok(false);
+        if !is_all_or_nothing(alloc, *put) {
+            return false;
         }
     }
     // There is no memory for the highest limit.
-    Ok(is_made_or_refused(alloc, RECORD_LIMIT) && is_made_or_refused(alloc, usize::MAX))
+    is_made_or_refused(alloc, RECORD_LIMIT) && is_made_or_refused(alloc, usize::MAX)
 }
 
 // In an ordinary run no growth is refused, and each call succeeds. `rt try --test --fail-alloc N` refuses the Nth one:
 // this test and the next pass at every N, whichever growth it meets.
 #[test]
 fn a_refused_growth_changes_nothing(rt: HostRuntime) {
-    assert_eq!(rt; each_is_all_or_nothing(rt.alloc()), Ok(true));
+    assert!(rt; each_is_all_or_nothing(rt.alloc()));
 }
 
 /// Says whether the call takes no more room.
-fn stays_in_room(put: Put, out: &mut Vec<u8>) -> Result<bool, Memory> {
+fn stays_in_room(put: Put, out: &mut Vec<u8>) -> bool {
     let room = out.capacity();
-    put_long(put, out)?;
-    Ok(out.capacity() == room)
+    put_long(put, out).is_ok() && out.capacity() == room
 }
 
 /// Says so of a vector with the room that the call wants, where one is had.
-fn stays_in_its_room(alloc: Global, put: Put) -> Result<bool, Memory> {
+fn stays_in_its_room(alloc: Global, put: Put) -> bool {
     match Vec::with_capacity(alloc, added(put)) {
         Ok(mut out) => stays_in_room(put, &mut out),
-        Err(_) => Ok(true),
+        Err(_) => true,
     }
 }
 
-fn each_stays_in_its_room(alloc: Global) -> Result<bool, Memory> {
+fn each_stays_in_its_room(alloc: Global) -> bool {
     for put in &PUTS {
-        if !stays_in_its_room(alloc, *put)? {
-            return Ok(false);
+        if !stays_in_its_room(alloc, *put) {
+            return false;
         }
     }
-    Ok(true)
+    true
 }
 
 #[test]
 fn where_there_is_room_no_memory_is_taken(rt: HostRuntime) {
-    assert_eq!(rt; each_stays_in_its_room(rt.alloc()), Ok(true));
+    assert!(rt; each_stays_in_its_room(rt.alloc()));
 }
