@@ -1,12 +1,13 @@
 -- How a run ends, from the ends of its parts.
-use Rattle.std.proofs.Common.{◌≡◌, ℕ, ◌+◌, ◌<◌, ◌≤◌, List, ◌++◌, length, take, Result, Ok, Err, IfErr, OnErr, IsUtf8, Some, refl, sym, subst, arith, length-append}
+use Rattle.std.proofs.Common.{◌≡◌, ℕ, ◌+◌, ◌<◌, ◌≤◌, List, ◌++◌, length, take, Result, Ok, Err, IfErr, OnErr, IsUtf8, Option, None, Some, refl, sym, subst, arith, length-append}
 use Rattle.std.specs.Io.KnownBytes.{Consumes}
 use Rattle.std.proofs.KnownBytes.{Consumes-trans, Keeps-refl}
 use Rattle.std.proofs.lemmas.List.{length-take-le}
 use Rattle.panel3270.specs.Counting.{Input, Output}
-use Rattle.panel3270.specs.Runs.{ReadWhole, NotRead, too_many_bytes, no_text, most_bytes, RefusesInput, HasCause}
+use Rattle.panel3270.specs.Runs.{ReadWhole, NotRead, too_many_bytes, no_text, most_bytes, RefusesInput, IsInput, EndsPrinting, HasCause}
 use Rattle.panel3270.specs.declared.fault.Fault.{Fault}
-use Rattle.panel3270.specs.declared.fault.Fault.TheVariants.{InputNotRead, NotHex, NoMemory, OutputFailed}
+use Rattle.panel3270.specs.declared.fault.Fault.TheVariants.{InputNotRead, Panels, Pool, NotHex, NotUnderstood, NoMemory, OutputFailed}
+use Rattle.panel3270.specs.declared.task.Task.{Task}
 
 -- what was read is no text
 pub refused : {T : Type 0} → (text : Result T Fault) (old new : Input) (bytes : List ℕ) → ReadWhole old new bytes → IfErr text (λ fault. fault ≡ InputNotRead)
@@ -22,8 +23,23 @@ too_many first old new bytes buffer count before now within long =
     (let n = length-take-le count buffer within in let m = length-append bytes (take count buffer) in omega arith)
 
 -- where there is no input nothing is written
-pub without_input : (fault : Fault) (in_old in_new : Input) (out : Output) → RefusesInput fault in_old in_new → HasCause (Some fault) in_old in_new out out
-without_input InputNotRead in_old in_new out why = (why, record { kept = Keeps-refl out.got; sound = refl })
-without_input (NotHex line) in_old in_new out why = absurd why
-without_input NoMemory in_old in_new out why = record { kept = Keeps-refl out.got; sound = refl }
-without_input OutputFailed in_old in_new out why = absurd why
+pub without_input : (task : Task) (fault : Fault) (in_old in_new : Input) (out : Output) → RefusesInput fault in_old in_new → HasCause task (Some fault) in_old in_new out out
+without_input task InputNotRead in_old in_new out why = (why, record { kept = Keeps-refl out.got; sound = refl })
+without_input task (Panels fault) in_old in_new out why = absurd why
+without_input task (Pool fault) in_old in_new out why = absurd why
+without_input task (NotHex line) in_old in_new out why = absurd why
+without_input task (NotUnderstood line) in_old in_new out why = absurd why
+without_input task NoMemory in_old in_new out why = record { kept = Keeps-refl out.got; sound = refl }
+without_input task OutputFailed in_old in_new out why = absurd why
+
+-- where there is one the run ends as its printing does
+pub with_input : (task : Task) (ending : Option Fault) (in_old in_new : Input) (out_old out_new : Output) (text : List ℕ) → IsInput in_old in_new text
+    → EndsPrinting task ending text out_old out_new → HasCause task ending in_old in_new out_old out_new
+with_input task None in_old in_new out_old out_new text is ends = (text, is, ends)
+with_input task (Some InputNotRead) in_old in_new out_old out_new text is ends = absurd ends
+with_input task (Some (Panels fault)) in_old in_new out_old out_new text is ends = (text, is, ends)
+with_input task (Some (Pool fault)) in_old in_new out_old out_new text is ends = (text, is, ends)
+with_input task (Some (NotHex line)) in_old in_new out_old out_new text is ends = (text, is, ends)
+with_input task (Some (NotUnderstood line)) in_old in_new out_old out_new text is ends = (text, is, ends)
+with_input task (Some NoMemory) in_old in_new out_old out_new text is ends = ends
+with_input task (Some OutputFailed) in_old in_new out_old out_new text is ends = (text, is, ends)

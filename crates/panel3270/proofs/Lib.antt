@@ -4,3 +4,9 @@ pub mod Commands
 pub mod OnePage
 pub mod Known
 pub mod Endings
+pub mod ScriptLines
+pub mod Happenings
+pub mod Rounds
+pub mod Typing
+pub mod Playing
+pub mod LuNames

@@ -1,6 +1,12 @@
 pub mod ScreenText
 pub mod HexLines
 pub mod Pages
+pub mod PhaseText
+pub mod KeyNames
+pub mod ScriptLines
+pub mod Happenings
+pub mod Plays
+pub mod Scripts
 pub mod Faults
 pub mod Counting
 pub mod Counted

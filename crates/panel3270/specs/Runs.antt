@@ -5,7 +5,10 @@ use Rattle.panel3270.specs.Faults.{status_of, fault_text}
 use Rattle.panel3270.specs.Pages.{IsPage}
 use Rattle.panel3270.specs.Counting.{Input, Output, more, Untouched, Written, CutShort}
 use Rattle.panel3270.specs.declared.fault.Fault.{Fault}
-use Rattle.panel3270.specs.declared.fault.Fault.TheVariants.{InputNotRead, NotHex, NoMemory, OutputFailed}
+use Rattle.panel3270.specs.declared.fault.Fault.TheVariants.{InputNotRead, Panels, Pool, NotHex, NotUnderstood, NoMemory, OutputFailed}
+use Rattle.panel3270.specs.declared.task.Task.{Task}
+use Rattle.panel3270.specs.declared.task.Task.TheVariants.{Script, Show}
+use Rattle.panel3270.specs.Scripts.{panel_text, HasPanelFault, HasPoolFault, IsScriptPage}
 
 -- the most bytes that an input may have
 abbrev pub most_bytes : ℕ
@@ -41,8 +44,7 @@ pub data NotRead (old new : Input) : Type 0 where
 abbrev pub RefusesInput : Fault → Input → Input → Type 0
 RefusesInput InputNotRead old new = NotRead old new
 RefusesInput NoMemory old new = ⊤
-RefusesInput (NotHex line) old new = ⊥
-RefusesInput OutputFailed old new = ⊥
+RefusesInput _ old new = ⊥
 
 -- the input was read, and is a text with this property
 abbrev pub OnInput : Input → Input → (List ℕ → Type 0) → Type 0
@@ -50,35 +52,46 @@ OnInput old new Has = (text : List ℕ) × IsInput old new text × Has text
 
 -- ---- the output
 
--- the text's page was written
-pub record Shows (text : List ℕ) (old new : Output) (not_hex : Option ℕ) : Type 0 where
+-- the page that a task prints of a text, and the number of the line that ends it, if one does
+abbrev pub IsPageBy : Task → (text page : List ℕ) → Option ℕ → Type 0
+IsPageBy Script text page stopped = IsScriptPage text page stopped
+IsPageBy Show text page stopped = IsPage text page stopped
+
+-- that page was written
+pub record Writes (task : Task) (text : List ℕ) (old new : Output) (stopped : Option ℕ) : Type 0 where
   pub page : List ℕ
-  pub is_page : IsPage text page not_hex
+  pub is_page : IsPageBy task text page stopped
   pub written : Written old new page
 
--- of the text's page a front was written, since the write failed
-pub record ShowsInPart (text : List ℕ) (old new : Output) : Type 0 where
+-- of that page a front was written, since the write failed
+pub record WritesInPart (task : Task) (text : List ℕ) (old new : Output) : Type 0 where
   pub page : List ℕ
-  pub not_hex : Option ℕ
-  pub is_page : IsPage text page not_hex
+  pub stopped : Option ℕ
+  pub is_page : IsPageBy task text page stopped
   pub cut_short : CutShort old new page
 
--- by which fault the printing of a text ends
-abbrev pub RefusesPage : Fault → List ℕ → Output → Output → Type 0
-RefusesPage InputNotRead text old new = ⊥
-RefusesPage (NotHex line) text old new = Shows text old new (Some line)
-RefusesPage NoMemory text old new = Untouched old new
-RefusesPage OutputFailed text old new = ShowsInPart text old new
+-- What has happened where the printing of a text ends well, or by a fault. Without memory, or a world, nothing is written.
+abbrev pub EndsPrinting : Task → Option Fault → (text : List ℕ) (old new : Output) → Type 0
+EndsPrinting task None text old new = Writes task text old new None
+EndsPrinting task (Some InputNotRead) text old new = ⊥
+EndsPrinting Script (Some (Panels fault)) text old new = HasPanelFault (panel_text text) fault × Untouched old new
+EndsPrinting Show (Some (Panels fault)) text old new = ⊥
+EndsPrinting Script (Some (Pool fault)) text old new = HasPoolFault (panel_text text) fault × Untouched old new
+EndsPrinting Show (Some (Pool fault)) text old new = ⊥
+EndsPrinting Script (Some (NotHex line)) text old new = ⊥
+EndsPrinting Show (Some (NotHex line)) text old new = Writes Show text old new (Some line)
+EndsPrinting Script (Some (NotUnderstood line)) text old new = Writes Script text old new (Some line)
+EndsPrinting Show (Some (NotUnderstood line)) text old new = ⊥
+EndsPrinting task (Some NoMemory) text old new = Untouched old new
+EndsPrinting task (Some OutputFailed) text old new = WritesInPart task text old new
 
 -- ---- the end of a run
 
--- What has happened where a run ends well, or by a fault. Without memory nothing is written.
-abbrev pub HasCause : Option Fault → (in_old in_new : Input) (out_old out_new : Output) → Type 0
-HasCause None in_old in_new out_old out_new = OnInput in_old in_new (λ text. Shows text out_old out_new None)
-HasCause (Some InputNotRead) in_old in_new out_old out_new = NotRead in_old in_new × Untouched out_old out_new
-HasCause (Some (NotHex line)) in_old in_new out_old out_new = OnInput in_old in_new (λ text. Shows text out_old out_new (Some line))
-HasCause (Some NoMemory) in_old in_new out_old out_new = Untouched out_old out_new
-HasCause (Some OutputFailed) in_old in_new out_old out_new = OnInput in_old in_new (λ text. ShowsInPart text out_old out_new)
+-- what has happened where a run ends well, or by a fault
+abbrev pub HasCause : Task → Option Fault → (in_old in_new : Input) (out_old out_new : Output) → Type 0
+HasCause task (Some InputNotRead) in_old in_new out_old out_new = NotRead in_old in_new × Untouched out_old out_new
+HasCause task (Some NoMemory) in_old in_new out_old out_new = Untouched out_old out_new
+HasCause task ending in_old in_new out_old out_new = OnInput in_old in_new (λ text. EndsPrinting task ending text out_old out_new)
 
 -- how a call ends that may fail
 abbrev pub ending_of : Result Unit Fault → Option Fault
@@ -99,9 +112,9 @@ abbrev pub status_after : Option Fault → ℕ
 status_after None = 0
 status_after (Some fault) = status_of fault
 
--- a run's end: by which fault, if by one
-pub record IsEnd (in_old in_new : Input) (out_old out_new faults_old faults_new : Output) (status : ℕ) : Type 0 where
+-- the end of a task's run: by which fault, if by one
+pub record IsEnd (task : Task) (in_old in_new : Input) (out_old out_new faults_old faults_new : Output) (status : ℕ) : Type 0 where
   pub ending : Option Fault
-  pub has_cause : HasCause ending in_old in_new out_old out_new
+  pub has_cause : HasCause task ending in_old in_new out_old out_new
   pub is_told : IsTold ending faults_old faults_new
   pub status_is : status ≡ status_after ending

@@ -2,6 +2,8 @@
 ghost use Rattle.std.specs.Prelude.{◌≡◌};
 ghost use Rattle.panel3270.specs.Faults.{status_of};
 
+use lu_pool::PoolFault;
+use panels::PanelFault;
 use std::fmt;
 use thiserror::Error;
 
@@ -10,8 +12,14 @@ use thiserror::Error;
 pub enum Fault {
     /// The input could not be read, is too long, or isn't UTF-8.
     InputNotRead,
+    /// The panel text defines no panels.
+    Panels(PanelFault),
+    /// The panels' LUs are no pool.
+    Pool(PoolFault),
     /// The line with this number, from 1 on, isn't pairs of hexadecimal digits.
     NotHex(usize),
+    /// The script's line with this number, from 1 on, isn't understood.
+    NotUnderstood(usize),
     /// A growth was refused.
     NoMemory,
     /// The output didn't take all that was printed.
@@ -24,7 +32,8 @@ impl Fault {
         ensures { result ≡ status_of self.now }
     {
         match self {
-            Fault::InputNotRead | Fault::NotHex(_) => 1,
+            Fault::InputNotRead | Fault::Panels(_) | Fault::Pool(_) => 1,
+            Fault::NotHex(_) | Fault::NotUnderstood(_) => 1,
             Fault::NoMemory => 3,
             Fault::OutputFailed => 6,
         }
@@ -41,7 +50,10 @@ impl fmt::Display for Fault {
     fn fmt<W: fmt::Write>(&self, f: &mut fmt::Formatter<W>) -> fmt::Result {
         match self {
             Fault::InputNotRead => f.write_str("input not read"),
+            Fault::Panels(fault) => write!(f, "{fault}"),
+            Fault::Pool(fault) => write!(f, "{fault}"),
             Fault::NotHex(line) => write!(f, "line {line}: not hex"),
+            Fault::NotUnderstood(line) => write!(f, "line {line}: not understood"),
             Fault::NoMemory => f.write_str("no memory"),
             Fault::OutputFailed => f.write_str("output failed"),
         }

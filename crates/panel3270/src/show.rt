@@ -1,7 +1,8 @@
 //! `show`: commands in hexadecimal come in, the printed screen comes out.
-ghost use Rattle.std.specs.Prelude.{◌≡◌, None, OnOk, IfErr};
+ghost use Rattle.std.specs.Prelude.{◌≡◌};
 ghost use Rattle.panel3270.specs.Faults.{status_of, fault_text};
-ghost use Rattle.panel3270.specs.Runs.{IsEnd, HasCause, IsToldIn, RefusesPage, Shows, ending_of};
+ghost use Rattle.panel3270.specs.Runs.{EndsPrinting, HasCause, IsEnd, IsToldIn, ending_of};
+ghost use Rattle.panel3270.specs.declared.task.Task.TheVariants.{Show};
 
 use crate::fault::Fault;
 use crate::input::read_whole;
@@ -22,7 +23,7 @@ pub fn run_show<I: Source, O: Sink, E: Sink>(
     out: &mut O,
     faults: &mut E,
 ) -> u8
-    ensures { IsEnd (I.seen input.old) (I.seen input.new) (O.seen out.old) (O.seen out.new) (E.seen faults.old) (E.seen faults.new) result }
+    ensures { IsEnd Show (I.seen input.old) (I.seen input.new) (O.seen out.old) (O.seen out.new) (E.seen faults.old) (E.seen faults.new) result }
 {
     match show(alloc, input, out) {
         Ok(()) => 0,
@@ -42,7 +43,7 @@ pub(crate) fn end_by<E: Sink>(fault: Fault, faults: &mut E) -> u8
 
 /// Reads the input, and prints its page.
 fn show<I: Source, O: Sink>(alloc: Global, input: &mut I, out: &mut O) -> Result<(), Fault>
-    ensures { HasCause (ending_of result) (I.seen input.old) (I.seen input.new) (O.seen out.old) (O.seen out.new) }
+    ensures { HasCause Show (ending_of result) (I.seen input.old) (I.seen input.new) (O.seen out.old) (O.seen out.new) }
 {
     match read_whole(alloc, input) {
         Ok(text) => print_page(alloc, text.as_str(), out),
@@ -52,8 +53,7 @@ fn show<I: Source, O: Sink>(alloc: Global, input: &mut I, out: &mut O) -> Result
 
 /// Prints the page of a text.
 fn print_page<O: Sink>(alloc: Global, text: &str, out: &mut O) -> Result<(), Fault>
-    ensures shows { OnOk result (Shows text.now (O.seen out.old) (O.seen out.new) None) }
-    ensures fault { IfErr result (λ fault. RefusesPage fault text.now (O.seen out.old) (O.seen out.new)) }
+    ensures { EndsPrinting Show (ending_of result) text.now (O.seen out.old) (O.seen out.new) }
 {
     let Ok(page) = page_of(alloc, text) else {
         return Err(Fault::NoMemory);

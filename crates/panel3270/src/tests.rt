@@ -1,8 +1,10 @@
 //! Whole runs of `show`: what comes in, what goes out, and the exit status. Each test asks a helper, which owns one run and
-//! answers whether it ended so.
+//! answers whether it ended so. Those of `script` are in `script`.
+mod script;
+
 use crate::input::{MOST_BYTES, MOST_READS};
-use crate::run_show;
 use crate::streams::{CountedReader, CountedWriter};
+use crate::{Task, run};
 use std::alloc::{AllocError, Global};
 use std::io;
 use std::io::{ErrorKind, Read, Write};
@@ -75,7 +77,7 @@ struct Outcome {
     faults: Vec<u8>,
 }
 
-fn run_with(alloc: Global, input: Pieces<'_>, room: usize) -> Outcome {
+fn run_by(alloc: Global, task: Task, input: Pieces<'_>, room: usize) -> Outcome {
     let mut input = CountedReader::new(input);
     let mut out = CountedWriter::new(Paper {
         text: Vec::new(alloc),
@@ -85,12 +87,16 @@ fn run_with(alloc: Global, input: Pieces<'_>, room: usize) -> Outcome {
         text: Vec::new(alloc),
         room: usize::MAX,
     });
-    let status = run_show(alloc, &mut input, &mut out, &mut faults);
+    let status = run(alloc, task, &mut input, &mut out, &mut faults);
     Outcome {
         status,
         out: out.into_inner().text,
         faults: faults.into_inner().text,
     }
+}
+
+fn run_with(alloc: Global, input: Pieces<'_>, room: usize) -> Outcome {
+    run_by(alloc, Task::Show, input, room)
 }
 
 /// Whether a run ends with a status, and prints this and tells these faults.
