@@ -4,3 +4,4 @@ pub mod Texts
 pub mod Storable
 pub mod FieldLists
 pub mod Sent
+pub mod AttributePlaces

@@ -137,8 +137,9 @@ impl Screen {
     pub fn fields(&self) -> Fields<'_>
         ensures { result ≡ listed_fields self.now.cells }
     {
+        let buffer = &self.buffer;
         Fields {
-            cells: &self.cells,
+            cells: &buffer.cells,
             next: 0,
         }
     }
@@ -158,10 +159,11 @@ impl Screen {
         ensures in_range { at < cell_count }
     {
         let _place = at.get();
-        let attr = attribute_place(&self.cells, at)?;
+        let buffer = &self.buffer;
+        let attr = attribute_place(&buffer.cells, at)?;
         Some(Field {
             attr,
-            length: field_length(&self.cells, attr),
+            length: field_length(&buffer.cells, attr),
         })
     }
 }

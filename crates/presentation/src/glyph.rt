@@ -41,10 +41,11 @@ impl Screen {
     pub fn glyph_at(&self, at: Addr) -> char
         ensures { result ≡ glyph_at self.now.cells at }
     {
-        if is_hidden(fields::attribute_over(&self.cells, at)) {
+        let buffer = &self.buffer;
+        if is_hidden(fields::attribute_over(&buffer.cells, at)) {
             ' '
         } else {
-            glyph_of(self.cells[at.get() as usize])
+            glyph_of(buffer.cells[at.get() as usize])
         }
     }
 }

@@ -13,9 +13,11 @@
 //! (`Appending`).
 #![tactic(auto)]
 
+mod buffer;
 mod cells;
 mod fields;
 mod glyph;
+mod index;
 mod read;
 mod screen;
 #[cfg(test)]

@@ -11,6 +11,7 @@ ghost use Rattle.datastream.specs.InboundFields.{IsSendable, modified_data, buff
 ghost use Rattle.presentation.specs.Answering.{form_of};
 ghost use Rattle.presentation.specs.Appending.{Appends, AppendsOrStops};
 
+use crate::buffer::Buffer;
 use crate::{Screen, cells};
 use codes3270::{Addr, Aid, CELLS, Cell, addr_to_bytes, aid_byte, attr_code};
 use datastream::{Memory, SET_BUFFER_ADDRESS, START_FIELD};
@@ -144,7 +145,7 @@ fn put_cells(out: &mut Vec<u8>, cells: &[Cell]) -> Result<(), Memory>
     Ok(())
 }
 
-impl Screen {
+impl Buffer {
     fn put_cursor_and_cells(&self, out: &mut Vec<u8>) -> Result<(), Memory>
         ensures { let bytes = address_bytes self.now.cursor ++ flat_map cell_bytes self.now.cells in
             AppendsOrStops (is_ok result) out.old out.new bytes }
@@ -159,22 +160,6 @@ impl Screen {
     {
         put_byte(out, aid_byte(self.aid))?;
         self.put_cursor_and_cells(out)
-    }
-
-    /// Appends what Read Buffer answers (GA23-0059-07 on Read Buffer): the AID, the cursor's address, and every cell from
-    /// address 0 on, an attribute as SF and its code. It succeeds where `out` has room; where memory is refused nothing is
-    /// appended.
-    pub fn put_read_buffer(&self, out: &mut Vec<u8>) -> Result<(), Memory>
-        ensures appends { Appends out.old out.new result (read_buffer self.now) }
-        // It is read as this screen's cells.
-        ensures inbound { IsInbound (buffer_data self.now) (read_buffer self.now) }
-    {
-        let before = out.len();
-        let put = self.put_buffer(out);
-        if put.is_err() {
-            out.truncate(before);
-        }
-        put
     }
 
     fn put_cursor_and_fields(&self, out: &mut Vec<u8>) -> Result<(), Memory>
@@ -196,6 +181,24 @@ impl Screen {
             self.put_cursor_and_fields(out)
         }
     }
+}
+
+impl Screen {
+    /// Appends what Read Buffer answers (GA23-0059-07 on Read Buffer): the AID, the cursor's address, and every cell from
+    /// address 0 on, an attribute as SF and its code. It succeeds where `out` has room; where memory is refused nothing is
+    /// appended.
+    pub fn put_read_buffer(&self, out: &mut Vec<u8>) -> Result<(), Memory>
+        ensures appends { Appends out.old out.new result (read_buffer self.now) }
+        // It is read as this screen's cells.
+        ensures inbound { IsInbound (buffer_data self.now) (read_buffer self.now) }
+    {
+        let before = out.len();
+        let put = self.buffer.put_buffer(out);
+        if put.is_err() {
+            out.truncate(before);
+        }
+        put
+    }
 
     /// Appends what Read Modified answers, with `all` Read Modified All (GA23-0059-07 on Read Modified): the AID, the cursor's
     /// address, and for each field with MDT on, by the address of its attribute, SBA, the address of its first cell and its
@@ -207,7 +210,7 @@ impl Screen {
         ensures inbound { IsInbound (modified_data (form_of all) self.now) (read_modified all self.now) }
     {
         let start = out.len();
-        let put = self.put_modified(out, all);
+        let put = self.buffer.put_modified(out, all);
         if put.is_err() {
             out.truncate(start);
         }

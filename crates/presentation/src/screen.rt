@@ -1,16 +1,19 @@
 //! The screen, and the changes to it that keys are made of.
-ghost use Rattle.std.specs.Prelude.{◌≡◌, ◌<◌, false, true, length, replicate, slice_get, slice_index_or, slice_set, Some, IsTrue};
+ghost use Rattle.std.specs.Prelude.{◌≡◌, ◌<◌, false, true, length, slice_get, slice_index_or, slice_set, Some, IsTrue};
 ghost use Rattle.codes3270.specs.Size.{cell_count};
 ghost use Rattle.codes3270.specs.Storable.{is_storable};
-ghost use Rattle.codes3270.specs.declared.attention.Aid.TheVariants.{NoAid};
 ghost use Rattle.codes3270.specs.declared.attribute.Cell.TheVariants.{Char};
-ghost use Rattle.datastream.specs.Meaning.{modified, home};
+ghost use Rattle.datastream.specs.Meaning.{modified, home, cleared, unprotected_erased, after_command};
 ghost use Rattle.datastream.specs.Screen.{is_char_at, blank_screen};
 ghost use Rattle.codes3270.specs.Aid.{IsRealAid};
 ghost use Rattle.datastream.specs.InboundFields.{IsSendable, IsStorableCell};
+ghost use Rattle.presentation.specs.Applied.{asked_by};
 
-use crate::cells;
+use crate::buffer::{Buffer, with_real_key};
+use crate::{Applied, cells, index};
+use arrayvec::ArrayVec;
 use codes3270::{Addr, Aid, CELLS, Cell};
+use datastream::{Command, CommandCode};
 use std::marker::Model;
 
 /// How many cells a screen has, as a length.
@@ -20,42 +23,26 @@ pub(crate) const SIZE: usize = CELLS as usize;
 /// storable. Contracts see it as the list of its cells, the cursor's address and the AID.
 #[derive(Clone, Debug, Drop, PartialEq, Eq)]
 pub struct Screen {
-    pub(crate) cells: [Cell; SIZE],
-    pub(crate) cursor: Addr,
-    pub(crate) aid: Aid,
+    pub(crate) buffer: Buffer,
+    /// The addresses of its attributes, ascending.
+    pub(crate) attributes: ArrayVec<u16, SIZE>,
 }
 
 impl Model for Screen {
+    ghost use Rattle.std.specs.Prelude.{◌≡◌};
+    ghost use Rattle.std.proofs.Common.{ap, sym};
     ghost use Rattle.datastream.specs.Screen.{Screen as Shown};
-    ghost use Rattle.datastream.specs.InboundFields.{IsSendable};
+    ghost use Rattle.presentation.specs.Places.{attribute_places};
 
     ghost Value = { Shown };
 
-    ghost view = { λ s. record { cells = s.cells; cursor = s.cursor; aid = s.aid } };
+    ghost view = { λ s. s.buffer };
 
-    ghost invariant = { λ s. IsSendable (record { cells = s.cells; cursor = s.cursor; aid = s.aid }) };
+    ghost invariant = { λ s. s.attributes.items ≡ attribute_places s.buffer.cells 0 };
 
-    ghost inverse = { λ shown. record { cells = shown.cells; cursor = shown.cursor; aid = shown.aid } };
-}
+    ghost inverse = { λ shown. record { buffer = shown; attributes = record { items = attribute_places shown.cells 0 } } };
 
-/// The AID itself. That the number of its key is in range is known once the number was asked for.
-fn with_real_key(aid: Aid) -> Aid
-    ensures same { result ≡ aid }
-    ensures real { IsRealAid result }
-{
-    match aid {
-        Aid::NoAid => Aid::NoAid,
-        Aid::Enter => Aid::Enter,
-        Aid::Clear => Aid::Clear,
-        Aid::Pf(key) => {
-            let _number = key.get();
-            Aid::Pf(key)
-        }
-        Aid::Pa(key) => {
-            let _number = key.get();
-            Aid::Pa(key)
-        }
-    }
+    ghost inverse_ok = { λ s indexed. ap (λ places. record { buffer = s.buffer; attributes = record { items = places } }) (sym indexed) };
 }
 
 impl Screen {
@@ -64,9 +51,8 @@ impl Screen {
         ensures { result ≡ blank_screen cell_count }
     {
         Screen {
-            cells: [Cell::Char(0); SIZE],
-            cursor: Addr::first(),
-            aid: Aid::NoAid,
+            buffer: Buffer::blank(),
+            attributes: ArrayVec::new(),
         }
     }
 
@@ -77,7 +63,8 @@ impl Screen {
         ensures in_range { at < cell_count }
         ensures sendable { IsSendable self.now }
     {
-        self.cells[at.get() as usize]
+        let buffer = &self.buffer;
+        buffer.cells[at.get() as usize]
     }
 
     /// Where the cursor is.
@@ -87,7 +74,8 @@ impl Screen {
         ensures size { length self.now.cells ≡ cell_count }
         ensures sendable { IsSendable self.now }
     {
-        self.cursor
+        let buffer = &self.buffer;
+        buffer.cursor
     }
 
     /// The AID of the key that was pressed last, if no write has restored the keyboard since.
@@ -97,7 +85,8 @@ impl Screen {
         ensures real { IsRealAid result }
         ensures sendable { IsSendable self.now }
     {
-        self.aid
+        let buffer = &self.buffer;
+        buffer.aid
     }
 
     /// Stores a character in a cell that holds no attribute; `cell` tells, and `codes3270::storable` whether a byte can
@@ -108,7 +97,8 @@ impl Screen {
         ensures { self.new ≡ record self.old { cells = slice_set self.old.cells at (Char byte) } }
     {
         let place = at.get() as usize;
-        self.cells[place] = Cell::Char(byte);
+        let buffer = &mut self.buffer;
+        buffer.cells[place] = Cell::Char(byte);
     }
 
     /// Turns MDT on in a cell that holds an attribute; `cell` tells.
@@ -118,7 +108,8 @@ impl Screen {
             self.new ≡ record self.old { cells = slice_set self.old.cells at (modified old) } }
     {
         let place = at.get() as usize;
-        self.cells[place] = cells::with_mdt(self.cells[place]);
+        let buffer = &mut self.buffer;
+        buffer.cells[place] = cells::with_mdt(buffer.cells[place]);
     }
 
     /// The first place to type at (our profile): the lowest address of a character that directly follows the attribute of
@@ -127,7 +118,8 @@ impl Screen {
         ensures value { result ≡ home self.now.cells }
         ensures in_range { result < cell_count }
     {
-        cells::home_of(&self.cells)
+        let buffer = &self.buffer;
+        cells::home_of(&buffer.cells)
     }
 
     /// Moves the cursor.
@@ -135,13 +127,43 @@ impl Screen {
         ensures { self.new ≡ record self.old { cursor = at } }
     {
         let _in_range = at.get();
-        self.cursor = at;
+        let buffer = &mut self.buffer;
+        buffer.cursor = at;
     }
 
     /// Sets the AID.
     pub fn set_aid(&mut self, aid: Aid)
         ensures { self.new ≡ record self.old { aid = aid } }
     {
-        self.aid = with_real_key(aid);
+        let buffer = &mut self.buffer;
+        buffer.aid = with_real_key(aid);
+    }
+
+    /// What the Clear key does to the screen: all cells null, the cursor at 0; the AID stays.
+    pub fn clear(&mut self)
+        ensures { self.new ≡ cleared self.old }
+    {
+        self.buffer.clear();
+        self.attributes.clear();
+    }
+
+    /// What the Erase Input key does to the screen: the characters of unprotected fields null, MDT off in their attributes,
+    /// the cursor at `home`.
+    pub fn erase_unprotected(&mut self)
+        ensures { self.new ≡ unprotected_erased self.old }
+    {
+        self.buffer.erase_unprotected();
+    }
+
+    /// Does what a command says to the screen (GA23-0059-07, "3270 Data Stream Commands" and "Buffer Control Orders and Order
+    /// Codes"); a read changes nothing. Answers what the command asks of the keyboard and the alarm.
+    pub fn apply(&mut self, command: &Command<'_>) -> Applied
+        ensures screen { self.new ≡ after_command command.now self.old }
+        ensures applied { result ≡ asked_by command.now }
+    {
+        let applied = self.buffer.apply(command);
+        let buffer = &self.buffer;
+        index::list_attributes(&buffer.cells, &mut self.attributes);
+        applied
     }
 }

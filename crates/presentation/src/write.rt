@@ -7,7 +7,8 @@ ghost use Rattle.datastream.specs.Meaning.{Draft, stored, ordered, nulls_after, 
 ghost use Rattle.presentation.specs.Applied.{asked_by, asked_by_wcc};
 ghost use Rattle.datastream.specs.InboundFields.{IsStorableCell};
 
-use crate::{Screen, cells};
+use crate::buffer::Buffer;
+use crate::cells;
 use codes3270::{Addr, Aid, CELLS, Cell, Wcc};
 use datastream::{Command, CommandCode, Order, Orders};
 
@@ -61,18 +62,17 @@ impl Pen {
     }
 }
 
-impl Screen {
-    /// What the Clear key does to the screen: all cells null, the cursor at 0; the AID stays.
-    pub fn clear(&mut self)
+impl Buffer {
+    /// All cells null, the cursor at 0; the AID stays.
+    pub(crate) fn clear(&mut self)
         ensures { self.new ≡ cleared self.old }
     {
         cells::fill(&mut self.cells, Addr::first(), CELLS, Cell::Char(0));
         self.cursor = Addr::first();
     }
 
-    /// What the Erase Input key does to the screen: the characters of unprotected fields null, MDT off in their attributes,
-    /// the cursor at `home`.
-    pub fn erase_unprotected(&mut self)
+    /// The characters of unprotected fields null, MDT off in their attributes, the cursor at `home`.
+    pub(crate) fn erase_unprotected(&mut self)
         ensures { self.new ≡ unprotected_erased self.old }
     {
         self.cursor = cells::home_of(&self.cells);
@@ -80,9 +80,8 @@ impl Screen {
         cells::reset_open_mdt(&mut self.cells);
     }
 
-    /// Does what a command says to the screen (GA23-0059-07, "3270 Data Stream Commands" and "Buffer Control Orders and Order
-    /// Codes"); a read changes nothing. Answers what the command asks of the keyboard and the alarm.
-    pub fn apply(&mut self, command: &Command<'_>) -> Applied
+    /// What a command says, and what it asks of the keyboard and the alarm.
+    pub(crate) fn apply(&mut self, command: &Command<'_>) -> Applied
         ensures screen { self.new ≡ after_command command.now self.old }
         ensures applied { result ≡ asked_by command.now }
     {

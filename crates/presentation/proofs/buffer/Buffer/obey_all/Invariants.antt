@@ -1,6 +1,6 @@
 use Rattle.std.proofs.Common.{◌≡◌, false}
 use Rattle.datastream.specs.Meaning.{all_ordered}
-use Rattle.presentation.proofs.screen.Screen.obey_all.Given as goal
+use Rattle.presentation.proofs.buffer.Buffer.obey_all.Given as goal
 
 abbrev pub invariant-loop-order : goal.invariant-loop-order
 invariant-loop-order l =

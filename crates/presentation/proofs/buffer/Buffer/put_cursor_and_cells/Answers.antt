@@ -3,7 +3,7 @@ use Rattle.std.specs.List.{flat_map}
 use Rattle.codes3270.specs.Address.{address_bytes}
 use Rattle.datastream.specs.Inbound.{cell_bytes}
 use Rattle.presentation.proofs.Appendings.{Appends-then, Appends-same}
-use Rattle.presentation.proofs.screen.Screen.put_cursor_and_cells.Goals as goal
+use Rattle.presentation.proofs.buffer.Buffer.put_cursor_and_cells.Goals as goal
 
 pub returns : goal.returns
 returns c =

@@ -1,5 +1,5 @@
 use Rattle.presentation.proofs.Storable.{with_filled}
-use Rattle.presentation.proofs.screen.Screen.repeat.Goals as goal
+use Rattle.presentation.proofs.buffer.Buffer.repeat.Goals as goal
 
 pub invariant_of-self : goal.invariant_of-self
 invariant_of-self c = rw c.fill.ensures (with_filled _ _ _ _ c.requires c.self.invariant)

@@ -2,7 +2,7 @@ use Rattle.std.proofs.Common.{◌≡◌, ℕ, List, ◌++◌, ap}
 use Rattle.codes3270.specs.Address.{address_bytes}
 use Rattle.datastream.specs.Inbound.{modified_text}
 use Rattle.presentation.proofs.Appendings.{Appends-then, Appends-same}
-use Rattle.presentation.proofs.screen.Screen.put_cursor_and_fields.Goals as goal
+use Rattle.presentation.proofs.buffer.Buffer.put_cursor_and_fields.Goals as goal
 
 pub returns : goal.returns
 returns c =

@@ -3,7 +3,7 @@ use Rattle.std.specs.List.{flat_map}
 use Rattle.codes3270.specs.Address.{address_bytes}
 use Rattle.datastream.specs.Inbound.{read_buffer, cell_bytes}
 use Rattle.presentation.proofs.Appendings.{Appends-then}
-use Rattle.presentation.proofs.screen.Screen.put_buffer.Goals as goal
+use Rattle.presentation.proofs.buffer.Buffer.put_buffer.Goals as goal
 
 pub returns-clause-bytes : goal.returns-clause-bytes
 returns-clause-bytes c =

@@ -6,7 +6,7 @@ use Rattle.datastream.specs.Screen.{Screen}
 use Rattle.datastream.specs.InboundFields.{IsStorableCell}
 use Rattle.std.proofs.lemmas.List.{length-replicate}
 use Rattle.std.proofs.lemmas.List.Elements.{All-replicate}
-use Rattle.presentation.proofs.screen.Screen.blank.Goals as goal
+use Rattle.presentation.proofs.buffer.Buffer.blank.Goals as goal
 
 pub returns : goal.returns
 returns c =

@@ -3,7 +3,7 @@ use Rattle.codes3270.specs.Address.{address_bytes}
 use Rattle.codes3270.specs.Aid.{is_short_aid}
 use Rattle.datastream.specs.Inbound.{read_modified, modified_text}
 use Rattle.presentation.proofs.Appendings.{Appends-then}
-use Rattle.presentation.proofs.screen.Screen.put_modified.Goals as goal
+use Rattle.presentation.proofs.buffer.Buffer.put_modified.Goals as goal
 
 pub returns-else-is_short_form-clause-bytes : goal.returns-else-is_short_form-clause-bytes
 returns-else-is_short_form-clause-bytes c =

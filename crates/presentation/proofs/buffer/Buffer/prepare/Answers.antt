@@ -1,5 +1,5 @@
 use Rattle.presentation.proofs.Storable.{with_mapped, storable_unmodified}
-use Rattle.presentation.proofs.screen.Screen.prepare.Goals as goal
+use Rattle.presentation.proofs.buffer.Buffer.prepare.Goals as goal
 
 pub invariant_of-self : goal.invariant_of-self
 invariant_of-self c = rw c.reset_mdt.ensures (with_mapped _ _ storable_unmodified c.self.invariant)

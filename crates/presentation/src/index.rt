@@ -1,0 +1,33 @@
+//! Where the attributes of a screen stand.
+ghost use Rattle.std.specs.Prelude.{◌≡◌, ◌<◌, ◌≤◌, ◌+◌, ◌∷◌, [], ◌++◌, length, not};
+ghost use Rattle.codes3270.specs.Size.{cell_count};
+ghost use Rattle.datastream.specs.Screen.{is_char, places_from};
+ghost use Rattle.presentation.specs.Places.{attribute_places};
+ghost use Rattle.arrayvec.specs.ArrayVec.{array_vec_len};
+
+use crate::cells;
+use crate::screen::SIZE;
+use arrayvec::ArrayVec;
+use codes3270::Cell;
+
+/// Lists the addresses of the attributes, ascending.
+pub(crate) fn list_attributes(cells: &[Cell], listed: &mut ArrayVec<u16, SIZE>)
+    requires { length cells.now ≡ cell_count }
+    ensures { listed.new.items ≡ attribute_places cells.now 0 }
+{
+    listed.clear();
+    for (place, cell) in cells.iter().enumerate() {
+        list_if_attribute(listed, place as u16, *cell);
+    }
+}
+
+/// Adds an address where its cell holds an attribute.
+fn list_if_attribute(listed: &mut ArrayVec<u16, SIZE>, place: u16, cell: Cell)
+    requires { array_vec_len listed.old < cell_count }
+    ensures items { listed.new.items ≡ listed.old.items ++ places_from (λ c. not (is_char c)) place (cell ∷ []) }
+    ensures count { array_vec_len listed.new ≤ array_vec_len listed.old + 1 }
+{
+    if !cells::is_character(cell) {
+        listed.push(place);
+    }
+}
