@@ -1,12 +1,18 @@
 -- The list of the places of attributes: how it is built, and what changes leave it as it is.
-use Rattle.std.proofs.Common.{◌≡◌, ℕ, ◌+◌, ◌<◌, not, Bool, true, false, cond, List, [], ◌∷◌, ◌++◌, get_or, drop, set, map, replicate, length, ◌∙◌, refl, suc, zero}
+use Rattle.std.proofs.Common.{◌≡◌, ℕ, ◌+◌, ◌-◌, ◌%◌, ◌<◌, ◌≤◌, not, Bool, true, false, cond, List, [], ◌∷◌, ◌++◌, get_or, set, map, replicate, length, arith, sym, ◌∙◌, refl, suc, zero}
+use Rattle.std.specs.List.{list_all}
+use Rattle.std.proofs.Math.Nat.{mod-lt}
 use Rattle.std.proofs.lemmas.List.{drop_more}
 use Rattle.codes3270.specs.declared.attribute.Cell.{Cell}
 use Rattle.codes3270.specs.declared.attribute.Cell.TheVariants.{Char, Attr}
-use Rattle.datastream.specs.Screen.{is_char, is_protected, places_from}
+use Rattle.datastream.specs.Screen.{is_char, is_char_at, is_protected, places_from, IsGoverned}
 use Rattle.datastream.specs.Span.{is_within}
 use Rattle.datastream.specs.Meaning.{by_place, opened, erased, modified, open_unmodified, unmodified}
+use Rattle.datastream.proofs.Rounds.{back_to}
+use Rattle.datastream.proofs.Fields.{all_characters}
+use Rattle.datastream.proofs.FieldViews.{ascending}
 use Rattle.presentation.specs.Places.{attribute_places}
+use Rattle.presentation.specs.Index.{AreAscending, IsNearest, place_of}
 
 abbrev pub attributes_from : ℕ → List Cell → List ℕ
 attributes_from at cells = places_from (λ cell. not (is_char cell)) at cells
@@ -75,3 +81,103 @@ attributes_erased cells = attributes_map open_unmodified open_unmodified_alike 0
 pub attributes_nulls : (from count : ℕ) → attributes_from from (replicate count (Char 0)) ≡ []
 attributes_nulls from zero = refl
 attributes_nulls from (suc count) = attributes_nulls (from + 1) count
+
+-- ---- what is listed, and what isn't
+
+not_before : (from : ℕ) (cells : List Cell) (k : ℕ) → k < length (attributes_from from cells) → from ≤ get_or (attributes_from from cells) k 0
+not_before from [] k below = absurd (omega arith)
+not_before from (Char byte ∷ cells) k below = omega (arith, not_before (from + 1) cells k below)
+not_before from (Attr attribute ∷ cells) zero below = omega arith
+not_before from (Attr attribute ∷ cells) (suc k) below =
+    let lower : k < length (attributes_from (from + 1) cells) = omega arith in
+    omega (arith, not_before (from + 1) cells k lower)
+
+not_behind : (from : ℕ) (cells : List Cell) (k : ℕ) → k < length (attributes_from from cells) → get_or (attributes_from from cells) k 0 < from + length cells
+not_behind from [] k below = absurd (omega arith)
+not_behind from (Char byte ∷ cells) k below = omega (arith, not_behind (from + 1) cells k below)
+not_behind from (Attr attribute ∷ cells) zero below = omega arith
+not_behind from (Attr attribute ∷ cells) (suc k) below =
+    let lower : k < length (attributes_from (from + 1) cells) = omega arith in
+    omega (arith, not_behind (from + 1) cells k lower)
+
+-- a listed place holds an attribute
+holds_from : (from : ℕ) (cells : List Cell) (k at : ℕ) → k < length (attributes_from from cells) → get_or (attributes_from from cells) k 0 ≡ from + at → is_char_at cells at ≡ false
+holds_from from [] k at below is = absurd (omega arith)
+holds_from from (Char byte ∷ cells) k zero below is = absurd (omega (arith, not_before (from + 1) cells k below))
+holds_from from (Char byte ∷ cells) k (suc at) below is = holds_from (from + 1) cells k at below (omega arith)
+holds_from from (Attr attribute ∷ cells) zero zero below is = refl
+holds_from from (Attr attribute ∷ cells) zero (suc at) below is = absurd (omega arith)
+holds_from from (Attr attribute ∷ cells) (suc k) zero below is =
+    let lower : k < length (attributes_from (from + 1) cells) = omega arith in
+    absurd (omega (arith, not_before (from + 1) cells k lower))
+holds_from from (Attr attribute ∷ cells) (suc k) (suc at) below is = holds_from (from + 1) cells k at (omega arith) (omega arith)
+
+-- each attribute is listed
+listed_from : (from : ℕ) (cells : List Cell) (at : ℕ) → at < length cells → is_char_at cells at ≡ false → (k : ℕ) × (k < length (attributes_from from cells)) × (get_or (attributes_from from cells) k 0 ≡ from + at)
+listed_from from [] at below attribute = absurd (omega arith)
+listed_from from (Char byte ∷ cells) zero below attribute = cc
+listed_from from (Char byte ∷ cells) (suc at) below attribute =
+    let further = listed_from (from + 1) cells at (omega arith) attribute in
+    (further.0, further.1, omega (arith, further.2))
+listed_from from (Attr attr ∷ cells) zero below attribute = (0, omega arith, omega arith)
+listed_from from (Attr attr ∷ cells) (suc at) below attribute =
+    let further = listed_from (from + 1) cells at (omega arith) attribute in
+    (suc further.0, omega (arith, further.1), omega (arith, further.2))
+
+pub are_ascending : (cells : List Cell) → AreAscending (length cells) (attribute_places cells 0)
+are_ascending cells = record {
+  order = λ i j before below. ascending 0 cells i j 0 before below;
+  within = λ i below. omega (arith, not_behind 0 cells i below);
+}
+
+pub place_holds : (cells : List Cell) (index : ℕ) → index < length (attribute_places cells 0) → is_char_at cells (place_of cells index) ≡ false
+place_holds cells index below = holds_from 0 cells index (place_of cells index) below (omega arith)
+
+pub place_listed : (cells : List Cell) (at : ℕ) → at < length cells → is_char_at cells at ≡ false → (index : ℕ) × (index < length (attribute_places cells 0)) × (place_of cells index ≡ at)
+place_listed cells at below attribute = let there = listed_from 0 cells at below attribute in (there.0, there.1, omega (arith, there.2))
+
+-- where none is listed there is none
+pub none_listed : (cells : List Cell) → attribute_places cells 0 ≡ [] → list_all is_char cells ≡ true
+none_listed cells none = all_characters cells (λ place below. by_test place below (is_char_at cells place) refl)
+  where
+    by_test : (place : ℕ) → place < length cells → (test : Bool) → is_char_at cells place ≡ test → test ≡ true
+    by_test place below true is = refl
+    by_test place below false is =
+        let there = place_listed cells place below is in
+        let none_there : there.0 < 0 = rw none at there.1 in
+        absurd (omega arith)
+
+-- the nearest one before an address governs the cell there
+pub nearest_governs : (cells : List Cell) (at index : ℕ) → at < length cells → IsNearest (length cells) (attribute_places cells 0) at index → IsGoverned cells at (place_of cells index)
+nearest_governs cells at index inside nearest =
+    let size : ℕ = length cells in
+    let place : ℕ = place_of cells index in
+    let below : place < size = (are_ascending cells).within index nearest.listed in
+    record {
+      back = (at + size - place) % size;
+      near = mod-lt (at + size - place) (omega arith);
+      place = sym (back_to size at place inside below);
+      there = place_holds cells index nearest.listed;
+      none_nearer = λ nearer closer. by_test nearer closer (is_char_at cells ((at + size - nearer) % size)) refl;
+    }
+  where
+    by_test : (nearer : ℕ) → nearer < (at + length cells - place_of cells index) % length cells → (test : Bool) → is_char_at cells ((at + length cells - nearer) % length cells) ≡ test → test ≡ true
+    by_test nearer closer true is = refl
+    by_test nearer closer false is =
+        let size : ℕ = length cells in
+        let other : ℕ = (at + size - nearer) % size in
+        let positive : 0 < size = omega arith in
+        let inner : nearer < size = omega (arith, mod-lt (at + size - place_of cells index) positive) in
+        let below : other < size = mod-lt (at + size - nearer) positive in
+        let there = place_listed cells other below is in
+        let back : (at + size - other) % size ≡ nearer = back_to size at nearer inside inner in
+        let least : (at + size - place_of cells index) % size ≤ (at + size - place_of cells there.0) % size = nearest.nearest there.0 there.1 in
+        let least_there : (at + size - place_of cells index) % size ≤ nearer = rw (there.2, back) at least in
+        absurd (omega arith)
+
+-- a screen with an attribute is formatted
+pub formatted : (cells : List Cell) (at : ℕ) → at < length cells → is_char_at cells at ≡ false → list_all is_char cells ≡ false
+formatted [] at below attribute = absurd (omega arith)
+formatted (Char byte ∷ cells) zero below attribute = cc
+formatted (Char byte ∷ cells) (suc at) below attribute = formatted cells at (omega arith) attribute
+formatted (Attr attr ∷ cells) at below attribute = refl

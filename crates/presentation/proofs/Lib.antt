@@ -5,3 +5,5 @@ pub mod Storable
 pub mod FieldLists
 pub mod Sent
 pub mod AttributePlaces
+pub mod Nearest
+pub mod FieldLengths

@@ -1,6 +1,7 @@
 pub mod Applied
 pub mod Appending
 pub mod Places
+pub mod Index
 pub mod Fields
 pub mod Glyph
 pub mod Answering

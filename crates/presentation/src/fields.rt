@@ -1,14 +1,15 @@
 //! The fields of a screen.
-ghost use Rattle.std.specs.Prelude.{◌≡◌, ◌+◌, ◌<◌, ◌∷◌, [], length, slice_index_or, false, IsTrue, IfSome, IfNone, MatchOption};
+ghost use Rattle.std.specs.Prelude.{◌≡◌, ◌-◌, ◌<◌, ◌≤◌, ◌%◌, ◌+◌, [], length, slice_get, slice_index_or, false, IsTrue, IfSome, IfNone};
 ghost use Rattle.codes3270.specs.Size.{cell_count};
 ghost use Rattle.std.specs.List.{list_all};
 ghost use Rattle.codes3270.specs.declared.attribute.Cell.TheVariants.{Char};
 ghost use Rattle.datastream.specs.Screen.{field_text, is_char, attribute_in, attribute_over, IsGoverned};
 ghost use Rattle.presentation.specs.Places.{attribute_places};
+ghost use Rattle.presentation.specs.Index.{AreAscending, IsNearest, place_of};
 ghost use Rattle.presentation.specs.Fields.{field_of, listed_fields};
 
-use crate::{Screen, cells};
-use codes3270::{Addr, Attr, CELLS, Cell};
+use crate::{Screen, cells, index};
+use codes3270::{Addr, Attr};
 use std::marker::Model;
 
 /// A field (GA23-0059-07 on fields).
@@ -23,21 +24,18 @@ pub struct Field {
 /// The fields of a screen that are left, by the addresses of their attributes. Contracts see their list.
 #[derive(Drop)]
 pub struct Fields<'a> {
-    cells: &'a [Cell],
+    screen: &'a Screen,
     next: usize,
 }
 
 impl<'a> Model for Fields<'a> {
-    ghost use Rattle.std.specs.Prelude.{◌≡◌, List, length};
-    ghost use Rattle.codes3270.specs.Size.{cell_count};
+    ghost use Rattle.std.specs.Prelude.{List, drop};
     ghost use Rattle.presentation.specs.Fields.{fields_from};
     ghost use Rattle.presentation.specs.declared.fields.Field.{Field};
 
     ghost Value = { List Field };
 
-    ghost view = { λ fields. fields_from fields.cells.now fields.next };
-
-    ghost invariant = { λ fields. length fields.cells.now ≡ cell_count };
+    ghost view = { λ fields. drop fields.next (fields_from fields.screen.now.cells 0) };
 }
 
 impl<'a> Iterator for Fields<'a> {
@@ -50,96 +48,85 @@ impl<'a> Iterator for Fields<'a> {
     ghost remaining = { item_count (λ fields. fields) };
 
     fn next(&mut self) -> Option<Field> {
-        let cells = self.cells;
-        match attribute_from(cells, self.next) {
-            None => {
-                self.next = cells.len();
-                None
-            }
-            Some(place) => {
-                self.next = place + 1;
-                Some(field_whose_attribute(cells, place))
-            }
+        let screen = self.screen;
+        if self.next < screen.field_count() {
+            let field = screen.field_number(self.next);
+            self.next += 1;
+            Some(field)
+        } else {
+            None
         }
-    }
-}
-
-fn field_whose_attribute(cells: &[Cell], place: usize) -> Field
-    requires size { length cells.now ≡ cell_count }
-    requires place { place < cell_count }
-    ensures { result ≡ field_of cells.now place }
-{
-    let attr = Addr::first().forward(place as u16);
-    Field {
-        attr,
-        length: field_length(cells, attr),
-    }
-}
-
-/// The place of the first attribute from `from` on.
-fn attribute_from(cells: &[Cell], from: usize) -> Option<usize>
-    ensures cases { let places = attribute_places cells.now in
-        MatchOption result (places from ≡ []) (λ place. places from ≡ place ∷ places (place + 1)) }
-    ensures in_range { IfSome result (λ place. place < length cells.now) }
-{
-    for place in from..cells.len() {
-        if !cells::is_character(cells[place]) {
-            return Some(place);
-        }
-    }
-    None
-}
-
-/// How many cells the field has whose attribute stands at `at`.
-fn field_length(cells: &[Cell], at: Addr) -> u16
-    requires { length cells.now ≡ cell_count }
-    ensures { result ≡ length (field_text cells.now at) }
-{
-    let (front, back) = cells.split_at(at.get() as usize + 1);
-    if cells::has_only_characters(back) {
-        (cells::characters_before_attribute(back)
-            + cells::characters_before_attribute(front)) as u16
-    } else {
-        cells::characters_before_attribute(back) as u16
-    }
-}
-
-/// Where the attribute stands that is the nearest before `at`, round the end.
-fn attribute_place(cells: &[Cell], at: Addr) -> Option<Addr>
-    requires { length cells.now ≡ cell_count }
-    ensures none { IfNone result (IsTrue (list_all is_char cells.now)) }
-    ensures nearest { IfSome result (λ place. IsGoverned cells.now at place) }
-    ensures governs { IfSome result (λ place.
-        attribute_over cells.now at ≡ attribute_in (slice_index_or cells.now place (Char 0))) }
-{
-    for back in 0..CELLS {
-        let place = at.backward(back);
-        if !cells::is_character(cells[place.get() as usize]) {
-            return Some(place);
-        }
-    }
-    None
-}
-
-/// The attribute that governs the cell at `at`.
-pub(crate) fn attribute_over(cells: &[Cell], at: Addr) -> Option<Attr>
-    requires { length cells.now ≡ cell_count }
-    ensures { result ≡ attribute_over cells.now at }
-{
-    match attribute_place(cells, at) {
-        Some(place) => cells::attribute_of(cells[place.get() as usize]),
-        None => None,
     }
 }
 
 impl Screen {
+    /// The addresses of the attributes, ascending.
+    fn places(&self) -> &[u16]
+        ensures value { result.now ≡ attribute_places self.now.cells 0 }
+        ensures ascending { AreAscending cell_count result.now }
+        ensures bound { length result.now ≤ cell_count }
+        ensures size { length self.now.cells ≡ cell_count }
+    {
+        let buffer = &self.buffer;
+        let _cells = &buffer.cells;
+        self.attributes.as_slice()
+    }
+
+    /// How many fields there are.
+    fn field_count(&self) -> usize
+        ensures count { result ≡ length (attribute_places self.now.cells 0) }
+        ensures bound { result ≤ cell_count }
+        ensures size { length self.now.cells ≡ cell_count }
+    {
+        self.places().len()
+    }
+
+    /// Where the attribute of a field stands, by the field's number in the list of fields, from 0 on.
+    fn field_place(&self, number: usize) -> Addr
+        requires { number < length (attribute_places self.now.cells 0) }
+        ensures { result ≡ place_of self.now.cells number }
+    {
+        Addr::first().forward(self.places()[number])
+    }
+
+    /// A field by its number.
+    fn field_number(&self, number: usize) -> Field
+        requires { number < length (attribute_places self.now.cells 0) }
+        ensures { result ≡ field_of self.now.cells (place_of self.now.cells number) }
+    {
+        let count = self.field_count();
+        let attr = self.field_place(number);
+        let next = self.field_place((number + 1) % count);
+        Field {
+            attr,
+            length: cells::distance_to(attr, next) - 1,
+        }
+    }
+
+    /// The number of the field that a cell lies in, or whose attribute it holds; None on an unformatted screen.
+    fn field_number_at(&self, at: Addr) -> Option<usize>
+        ensures none { IfNone result (attribute_places self.now.cells 0 ≡ []) }
+        ensures nearest { IfSome result (λ number. IsNearest cell_count (attribute_places self.now.cells 0) at number) }
+        ensures size { length self.now.cells ≡ cell_count }
+        ensures in_range { at < cell_count }
+    {
+        index::nearest_before(self.places(), at)
+    }
+
+    /// The attribute that governs a cell: its own, or the nearest before it, round the end; None on an unformatted screen.
+    pub fn attribute_over(&self, at: Addr) -> Option<Attr>
+        ensures { result ≡ attribute_over self.now.cells at }
+    {
+        let number = self.field_number_at(at)?;
+        cells::attribute_of(self.cell(self.field_place(number)))
+    }
+
     /// The fields, by the addresses of their attributes, each once. An unformatted screen has none.
     pub fn fields(&self) -> Fields<'_>
         ensures { result ≡ listed_fields self.now.cells }
     {
-        let buffer = &self.buffer;
         Fields {
-            cells: &buffer.cells,
+            screen: self,
             next: 0,
         }
     }
@@ -158,12 +145,7 @@ impl Screen {
         ensures length { IfSome result (λ field. field.length ≡ length (field_text self.now.cells field.attr)) }
         ensures in_range { at < cell_count }
     {
-        let _place = at.get();
-        let buffer = &self.buffer;
-        let attr = attribute_place(&buffer.cells, at)?;
-        Some(Field {
-            attr,
-            length: field_length(&buffer.cells, attr),
-        })
+        let number = self.field_number_at(at)?;
+        Some(self.field_number(number))
     }
 }

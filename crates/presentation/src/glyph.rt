@@ -3,7 +3,7 @@ ghost use Rattle.std.specs.Prelude.{◌≡◌};
 ghost use Rattle.codes3270.specs.Size.{cell_count};
 ghost use Rattle.presentation.specs.Glyph.{glyph_at, glyph_of, glyph_of_code, is_hidden};
 
-use crate::{Screen, fields};
+use crate::Screen;
 use codes3270::{Addr, Attr, Cell, Display, to_latin1};
 
 fn glyph_of_code(code: u8) -> char
@@ -41,11 +41,10 @@ impl Screen {
     pub fn glyph_at(&self, at: Addr) -> char
         ensures { result ≡ glyph_at self.now.cells at }
     {
-        let buffer = &self.buffer;
-        if is_hidden(fields::attribute_over(&buffer.cells, at)) {
+        if is_hidden(self.attribute_over(at)) {
             ' '
         } else {
-            glyph_of(buffer.cells[at.get() as usize])
+            glyph_of(self.cell(at))
         }
     }
 }

@@ -1,14 +1,15 @@
 //! Where the attributes of a screen stand.
-ghost use Rattle.std.specs.Prelude.{◌≡◌, ◌<◌, ◌≤◌, ◌+◌, ◌∷◌, [], ◌++◌, length, not};
+ghost use Rattle.std.specs.Prelude.{◌≡◌, ◌<◌, ◌≤◌, ◌+◌, ◌∷◌, [], ◌++◌, length, not, IfSome, IfNone};
 ghost use Rattle.codes3270.specs.Size.{cell_count};
 ghost use Rattle.datastream.specs.Screen.{is_char, places_from};
 ghost use Rattle.presentation.specs.Places.{attribute_places};
+ghost use Rattle.presentation.specs.Index.{AreAscending, IsNearest};
 ghost use Rattle.arrayvec.specs.ArrayVec.{array_vec_len};
 
 use crate::cells;
 use crate::screen::SIZE;
 use arrayvec::ArrayVec;
-use codes3270::Cell;
+use codes3270::{Addr, Cell};
 
 /// Lists the addresses of the attributes, ascending.
 pub(crate) fn list_attributes(cells: &[Cell], listed: &mut ArrayVec<u16, SIZE>)
@@ -29,5 +30,19 @@ fn list_if_attribute(listed: &mut ArrayVec<u16, SIZE>, place: u16, cell: Cell)
 {
     if !cells::is_character(cell) {
         listed.push(place);
+    }
+}
+
+/// Which of ascending places is the nearest before an address, round the end; the address itself is the nearest of all.
+pub(crate) fn nearest_before(places: &[u16], at: Addr) -> Option<usize>
+    requires { AreAscending cell_count places.now }
+    ensures none { IfNone result (places.now ≡ []) }
+    ensures nearest { IfSome result (λ index. IsNearest cell_count places.now at index) }
+    ensures in_range { at < cell_count }
+{
+    match places.binary_search(&at.get()) {
+        Ok(index) => Some(index),
+        Err(0) => places.len().checked_sub(1),
+        Err(behind) => Some(behind - 1),
     }
 }

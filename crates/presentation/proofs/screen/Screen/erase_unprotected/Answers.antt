@@ -1,4 +1,3 @@
-use Rattle.std.proofs.Common.{sym}
 use Rattle.presentation.proofs.AttributePlaces.{attributes_erased}
 use Rattle.presentation.proofs.screen.Screen.erase_unprotected.Goals as goal
 
