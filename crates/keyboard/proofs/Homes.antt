@@ -12,7 +12,7 @@ use Rattle.datastream.proofs.Rounds.{round_once}
 use Rattle.datastream.proofs.Texts.{get_or-ring}
 use Rattle.keyboard.specs.Places.{is_start_at, next_start}
 use Rattle.keyboard.proofs.Searches.{first_onward, none_onward}
-use Rattle.keyboard.proofs.Texts.{length-ring}
+use Rattle.presentation.proofs.Texts.{length-ring}
 
 none_from : (passes : Cell × Cell → Bool) (from : ℕ) (pairs : List (Cell × Cell)) → position_from passes from pairs ≡ None → (d : Cell × Cell) (i : ℕ) → i < length pairs → passes (get_or pairs i d) ≡ false
 none_from passes from [] e d i below = absurd (omega arith)

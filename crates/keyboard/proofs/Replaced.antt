@@ -9,9 +9,10 @@ use Rattle.codes3270.specs.declared.attribute.Cell.TheVariants.{Char, Attr}
 use Rattle.datastream.specs.Screen.{Screen, is_char, is_char_at, ring, text_before_attribute}
 use Rattle.datastream.specs.Meaning.{modified}
 use Rattle.datastream.proofs.Rounds.{distance_at}
+use Rattle.presentation.proofs.Texts.{length-ring}
 use Rattle.keyboard.specs.Places.{governing_place}
 use Rattle.keyboard.specs.Edits.{reach, text_from, laid, marked_at, rewritten, without_null}
-use Rattle.keyboard.proofs.Texts.{text_below, length-laid, length-ring, reach_cell, text_is_char, text_cell, text_length_is, length-text}
+use Rattle.keyboard.proofs.Texts.{text_below, length-laid, reach_cell, text_is_char, text_cell, text_length_is, length-text}
 use Rattle.keyboard.proofs.Kept.{laid_within, laid_outside, laid_alike, modified_alike}
 
 -- a mark changes no character

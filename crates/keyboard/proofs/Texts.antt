@@ -12,6 +12,7 @@ use Rattle.datastream.specs.Span.{is_within}
 use Rattle.datastream.proofs.Rounds.{distance_at, at_distance}
 use Rattle.datastream.proofs.Places.{across_more, across_none, get_or-across, length-across, by_place_from}
 use Rattle.datastream.proofs.Texts.{get_or-ring, get_or-text}
+use Rattle.presentation.proofs.Texts.{text_ends_at, length-ring}
 use Rattle.keyboard.specs.Edits.{reach, text_from, laid, without_null, deleted, marked_at, rewritten, changed, advanced, typed, typed_code, typed_before, with_room, wants_numbers, is_numeric_letter}
 use Rattle.codes3270.specs.CodePage.{code_of}
 use Rattle.keyboard.specs.Places.{governing_place, is_free_at}
@@ -24,9 +25,6 @@ pub length-text : (cells : List Cell) → length (text_before_attribute cells) �
 length-text [] = omega arith
 length-text (Char byte ∷ cells) = omega (arith, length-text cells)
 length-text (Attr attribute ∷ cells) = omega arith
-
-pub length-ring : (cells : List Cell) (from : ℕ) → from ≤ length cells → length (ring from cells) ≡ length cells
-length-ring cells from below = omega (arith, length-append (drop from cells) (take from cells), length-drop from cells, length-take-le from cells below)
 
 -- the text's first characters are in the cells, one more
 pub laid_none : (at : ℕ) (text : List ℕ) (cells : List Cell) → laid at 0 text cells ≡ cells
@@ -79,16 +77,6 @@ text_cell cells at i a b =
 
 pub text_is_char : (cells : List Cell) (at i : ℕ) → at < length cells → i < length (text_from cells at) → is_char_at cells ((at + i) % length cells) ≡ true
 text_is_char cells at i a b = rw (text_cell cells at i a b)
-
--- a text ends at the first cell that holds an attribute
-pub text_ends_at : (cells : List Cell) (i : ℕ) → i ≤ length cells → ((j : ℕ) → j < i → is_char_at cells j ≡ true) → (i < length cells → is_char_at cells i ≡ false) → length (text_before_attribute cells) ≡ i
-text_ends_at [] zero b each last = refl
-text_ends_at [] (suc i) b each last = absurd (omega arith)
-text_ends_at (Char byte ∷ cells) zero b each last = let wrong : true ≡ false = last (omega arith) in cc
-text_ends_at (Char byte ∷ cells) (suc i) b each last =
-    ap (λ n. suc n) (text_ends_at cells i (omega arith) (λ j lower. each (suc j) (omega arith)) (λ lower. last (omega arith)))
-text_ends_at (Attr attribute ∷ cells) zero b each last = refl
-text_ends_at (Attr attribute ∷ cells) (suc i) b each last = let wrong : false ≡ true = each 0 (omega arith) in cc
 
 pub text_length_is : (cells : List Cell) (at i : ℕ) → at < length cells → i ≤ length (reach cells at) → ((j : ℕ) → j < i → is_char_at cells ((at + j) % length cells) ≡ true) → (i < length (reach cells at) → is_char_at cells ((at + i) % length cells) ≡ false) → length (text_from cells at) ≡ i
 text_length_is cells at i a b each last =

@@ -7,3 +7,4 @@ pub mod Sent
 pub mod AttributePlaces
 pub mod Nearest
 pub mod FieldLengths
+pub mod Printing

@@ -1,5 +1,6 @@
 -- What is printed of a screen (our profile; code page 037).
-use Rattle.std.specs.Prelude.{ℕ, ◌==◌, Bool, true, false, List, Option, Some, None, if◌then◌else◌, slice_index_or, unwrap_or}
+use Rattle.std.specs.Prelude.{ℕ, ◌==◌, Bool, true, false, List, [], ◌∷◌, length, map, Option, Some, None, if◌then◌else◌, slice_index_or, unwrap_or}
+use Rattle.std.specs.List.{range_with_len}
 use Rattle.codes3270.specs.CodePage.{character_of}
 use Rattle.codes3270.specs.declared.attribute.Cell.{Cell}
 use Rattle.codes3270.specs.declared.attribute.Cell.TheVariants.{Char, Attr}
@@ -32,3 +33,22 @@ is_hidden (Some attribute) = is_hidden_display attribute.display
 -- the character that is printed for the cell at an address: a blank in a hidden field
 abbrev pub glyph_at : List Cell → ℕ → ℕ
 glyph_at cells at = if is_hidden (attribute_over cells at) then blank else glyph_of (slice_index_or cells at (Char 0))
+
+-- the characters that are printed for all cells, by address
+abbrev pub all_glyphs : List Cell → List ℕ
+all_glyphs cells = map (glyph_at cells) (range_with_len 0 (length cells))
+
+-- ---- the same list, as a walk over the cells finds it
+
+-- whether cells are hidden from a cell on, as those before it are or aren't
+abbrev pub hidden_from : Bool → Cell → Bool
+hidden_from before (Char code) = before
+hidden_from before (Attr attribute) = is_hidden_display attribute.display
+
+abbrev pub shown : Bool → ℕ → ℕ
+shown hidden glyph = if hidden then blank else glyph
+
+-- the characters that are printed for these cells
+abbrev pub glyphs_from : Bool → List Cell → List ℕ
+glyphs_from before [] = []
+glyphs_from before (cell ∷ cells) = shown (hidden_from before cell) (glyph_of cell) ∷ glyphs_from (hidden_from before cell) cells

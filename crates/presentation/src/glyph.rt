@@ -1,10 +1,11 @@
 //! What is printed of a screen.
 ghost use Rattle.std.specs.Prelude.{◌≡◌};
 ghost use Rattle.codes3270.specs.Size.{cell_count};
-ghost use Rattle.presentation.specs.Glyph.{glyph_at, glyph_of, glyph_of_code, is_hidden};
+ghost use Rattle.presentation.specs.Glyph.{glyph_at, glyph_of, glyph_of_code, is_hidden, hidden_from, shown, all_glyphs};
 
 use crate::Screen;
 use codes3270::{Addr, Attr, Cell, Display, to_latin1};
+use std::marker::Model;
 
 fn glyph_of_code(code: u8) -> char
     ensures { result ≡ glyph_of_code code }
@@ -35,7 +36,74 @@ fn is_hidden(over: Option<Attr>) -> bool
     }
 }
 
+/// Whether cells are hidden from a cell on, as those before it are or aren't.
+fn is_hidden_from(before: bool, cell: Cell) -> bool
+    ensures { result ≡ hidden_from before cell }
+{
+    match cell {
+        Cell::Char(_) => before,
+        Cell::Attr(attr) => matches!(attr.display, Display::Hidden),
+    }
+}
+
+/// A blank in place of what is hidden.
+fn shown_glyph(hidden: bool, glyph: char) -> char
+    ensures { result ≡ shown hidden glyph }
+{
+    if hidden { ' ' } else { glyph }
+}
+
+/// The characters that are printed for the cells that are left, by address. Contracts see their list.
+#[derive(Drop)]
+pub struct Glyphs<'a> {
+    cells: &'a [Cell],
+    /// Whether the cells up to the next attribute are hidden.
+    hidden: bool,
+}
+
+impl<'a> Model for Glyphs<'a> {
+    ghost use Rattle.std.specs.Prelude.{List, ℕ};
+    ghost use Rattle.presentation.specs.Glyph.{glyphs_from};
+
+    ghost Value = { List ℕ };
+
+    ghost view = { λ glyphs. glyphs_from glyphs.hidden glyphs.cells.now };
+}
+
+impl<'a> Iterator for Glyphs<'a> {
+    ghost use Rattle.std.specs.Iterator.{YieldsFirst, item_count};
+
+    type Item = char;
+
+    ghost next_gives = { YieldsFirst (λ glyphs. glyphs) };
+
+    ghost remaining = { item_count (λ glyphs. glyphs) };
+
+    fn next(&mut self) -> Option<char> {
+        match self.cells {
+            [] => None,
+            [cell, rest @ ..] => {
+                self.cells = rest;
+                self.hidden = is_hidden_from(self.hidden, *cell);
+                Some(shown_glyph(self.hidden, glyph_of(*cell)))
+            }
+        }
+    }
+}
+
 impl Screen {
+    /// The characters that are printed for all cells, by address: `glyph_at` of each. It goes over the cells once.
+    pub fn glyphs(&self) -> Glyphs<'_>
+        ensures { result ≡ all_glyphs self.now.cells }
+    {
+        let hidden = is_hidden(self.attribute_over(Addr::first().backward(1)));
+        let buffer = &self.buffer;
+        Glyphs {
+            cells: &buffer.cells,
+            hidden,
+        }
+    }
+
     /// The character that is printed for a cell (our profile): that of code page 037 for the codes from 40 to FE, `*` for
     /// 1C (DUP), `;` for 1E (FM), and a blank for all else, for attributes, and for every cell of a hidden field.
     pub fn glyph_at(&self, at: Addr) -> char

@@ -25,5 +25,6 @@ mod tests;
 mod write;
 
 pub use fields::{Field, Fields};
+pub use glyph::Glyphs;
 pub use screen::Screen;
 pub use write::Applied;
