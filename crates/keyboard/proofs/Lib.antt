@@ -11,3 +11,4 @@ pub mod Inside
 pub mod Homes
 pub mod Sendable
 pub mod SentKeys
+pub mod Free

@@ -27,7 +27,7 @@ pub(crate) fn type_character(
     if !places::is_free(screen, at) {
         return Err(Refusal::Protected);
     }
-    if is_refused_by(places::attribute_over(screen, at), letter) {
+    if is_refused_by(screen.attribute_over(at), letter) {
         return Err(Refusal::NotNumeric);
     }
     let Some(count) = room(screen, at, inserting) else {

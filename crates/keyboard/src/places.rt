@@ -1,7 +1,7 @@
 //! The places that keys look for.
-ghost use Rattle.std.specs.Prelude.{◌≡◌, ◌+◌, ◌%◌, ◌<◌, length};
+ghost use Rattle.std.specs.Prelude.{◌≡◌, ◌+◌, ◌%◌, ◌<◌, ◌&&◌, not, length};
 ghost use Rattle.codes3270.specs.Size.{cell_count, columns};
-ghost use Rattle.datastream.specs.Screen.{is_char, is_char_at, is_open_attribute, attribute_in, attribute_over as attribute_over_at};
+ghost use Rattle.datastream.specs.Screen.{is_char, is_char_at, is_open_attribute, attribute_in, protects};
 ghost use Rattle.keyboard.specs.Places.{is_start_at, is_free_at, next_start as start_behind, start_before as start_ahead, next_line as line_behind, row_end, first_or_zero, onward};
 
 use codes3270::{Addr, Attr, CELLS, COLUMNS, Cell};
@@ -41,19 +41,18 @@ pub(crate) fn is_character_at(screen: &Screen, at: Addr) -> bool
     is_character(screen.cell(at))
 }
 
-/// The attribute that governs a cell.
-pub(crate) fn attribute_over(screen: &Screen, at: Addr) -> Option<Attr>
-    ensures { result ≡ attribute_over_at screen.now.cells at }
-{
-    let field = screen.field_at(at)?;
-    attribute_of(screen.cell(field.attr))
-}
-
 /// Whether a cell may be typed into: it is unprotected, and no attribute.
 pub(crate) fn is_free(screen: &Screen, at: Addr) -> bool
     ensures { result ≡ is_free_at screen.now.cells at }
 {
-    is_character_at(screen, at) && !attribute_over(screen, at).is_some_and(|attr| attr.protected)
+    is_free_under(screen.attribute_over(at), screen.cell(at))
+}
+
+/// Whether a cell may be typed into that an attribute governs.
+fn is_free_under(over: Option<Attr>, cell: Cell) -> bool
+    ensures { result ≡ (is_char cell && not (protects over)) }
+{
+    is_character(cell) && !over.is_some_and(|attr| attr.protected)
 }
 
 /// Whether a cell is the first of an unprotected field.
@@ -97,9 +96,12 @@ fn next_free(screen: &Screen, at: Addr) -> Addr
     requires { length screen.now.cells ≡ cell_count }
     ensures { result ≡ first_or_zero (is_free_at screen.now.cells) (onward (length screen.now.cells) at) }
 {
+    let mut over = screen.attribute_over(at);
     for step in 1..=CELLS {
         let free = at.forward(step);
-        if is_free(screen, free) {
+        let cell = screen.cell(free);
+        over = attribute_of(cell).or(over);
+        if is_free_under(over, cell) {
             return free;
         }
     }

@@ -3,6 +3,8 @@
 ghost use Rattle.std.specs.Prelude.{◌<◌, ◌≤◌};
 ghost use Rattle.codes3270.specs.Size.{rows};
 
+mod by_search;
+
 use crate::{Applied, Field, Screen};
 use codes3270::{Addr, Aid, Attr, CELLS, COLUMNS, Cell, PaNo, ROWS};
 use datastream::read_command;

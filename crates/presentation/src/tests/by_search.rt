@@ -1,0 +1,161 @@
+//! What is looked up by the index of attributes, beside what a search from cell to cell finds.
+use super::{
+    ERASE, ERASE_WRITES, FIELDS, MODIFIED, NULLED_ROUND_THE_END,
+    REPEATED_AND_ERASED, SIGN_ON, Shown, TABS, THREE_FIELDS, at, obey, type_at,
+};
+use crate::{Field, Screen};
+use codes3270::{Addr, Attr, CELLS, Cell};
+
+fn attribute_at(screen: &Screen, at: Addr) -> Option<Attr> {
+    match screen.cell(at) {
+        Cell::Char(_) => None,
+        Cell::Attr(attr) => Some(attr),
+    }
+}
+
+/// Where the attribute stands that is the nearest before a cell, round the end.
+fn searched_place(screen: &Screen, at: Addr) -> Option<Addr> {
+    for back in 0..CELLS {
+        let place = at.backward(back);
+        if attribute_at(screen, place).is_some() {
+            return Some(place);
+        }
+    }
+    None
+}
+
+/// How many cells follow an attribute up to the next one, round the end.
+fn searched_length(screen: &Screen, attr: Addr) -> u16 {
+    for length in 0..CELLS - 1 {
+        if attribute_at(screen, attr.forward(length + 1)).is_some() {
+            return length;
+        }
+    }
+    CELLS - 1
+}
+
+fn searched_field(screen: &Screen, at: Addr) -> Option<Field> {
+    let attr = searched_place(screen, at)?;
+    Some(Field {
+        attr,
+        length: searched_length(screen, attr),
+    })
+}
+
+fn searched_attribute(screen: &Screen, at: Addr) -> Option<Attr> {
+    let place = searched_place(screen, at)?;
+    attribute_at(screen, place)
+}
+
+/// Whether each cell is found to lie in the same field, under the same attribute.
+fn finds_the_same(screen: &Screen) -> bool {
+    for place in 0..CELLS {
+        let here = at(place);
+        if screen.field_at(here) != searched_field(screen, here)
+            || screen.attribute_over(here) != searched_attribute(screen, here)
+        {
+            return false;
+        }
+    }
+    true
+}
+
+/// Whether the fields are those of all attributes, by address.
+fn lists_the_same(screen: &Screen) -> bool {
+    let mut fields = screen.fields();
+    for place in 0..CELLS {
+        let here = at(place);
+        if attribute_at(screen, here).is_some() && fields.next() != searched_field(screen, here) {
+            return false;
+        }
+    }
+    fields.next().is_none()
+}
+
+/// Whether the same is printed in one walk as cell by cell.
+fn prints_the_same(screen: &Screen) -> bool {
+    let mut glyphs = screen.glyphs();
+    for place in 0..CELLS {
+        if glyphs.next() != Some(screen.glyph_at(at(place))) {
+            return false;
+        }
+    }
+    glyphs.next().is_none()
+}
+
+fn is_as_searched(screen: &Screen) -> bool {
+    finds_the_same(screen) && lists_the_same(screen) && prints_the_same(screen)
+}
+
+/// Whether a blank screen is as searched after each of these commands.
+fn stays_as_searched(screen: &mut Screen, commands: &[&[u8]]) -> bool {
+    for command in commands {
+        if obey(screen, command).is_none() || !is_as_searched(screen) {
+            return false;
+        }
+    }
+    true
+}
+
+/// Which case is the first whose screens aren't as searched.
+fn first_other_shown(cases: &[Shown]) -> Option<usize> {
+    for case in 0..cases.len() {
+        let (commands, _rows, _cursor) = cases[case];
+        if !stays_as_searched(&mut Screen::blank(), commands) {
+            return Some(case);
+        }
+    }
+    None
+}
+
+#[test]
+fn what_is_shown_is_as_searched(rt: HostRuntime) {
+    assert_eq!(rt; first_other_shown(&ERASE_WRITES), None);
+    assert_eq!(rt; first_other_shown(&REPEATED_AND_ERASED), None);
+    assert_eq!(rt; first_other_shown(&TABS), None);
+}
+
+static OTHER_COMMANDS: [&[u8]; 8] = [
+    THREE_FIELDS,
+    FIELDS,
+    ERASE,
+    MODIFIED,
+    NULLED_ROUND_THE_END,
+    SIGN_ON,
+    // The last cell holds the only attribute, and then none.
+    b"\xF5\xC3\x11\x5D\x7F\x1D\x60",
+    b"\xF1\xC3\x11\x5D\x7F\xC1",
+];
+
+/// A write of an attribute at the cursor, which goes on to the next cell.
+static ONE_ATTRIBUTE_MORE: &[u8] = b"\xF1\xC3\x1D\x40\x13";
+
+/// Whether a screen is as searched whose cells are all attributes.
+fn is_as_searched_when_full(screen: &mut Screen) -> bool {
+    for _ in 0..CELLS {
+        if obey(screen, ONE_ATTRIBUTE_MORE).is_none() {
+            return false;
+        }
+    }
+    is_as_searched(screen)
+}
+
+/// Whether keys leave it as searched: characters typed, Erase Input, and Clear.
+fn is_as_searched_after_keys(screen: &mut Screen) -> bool {
+    let is_obeyed = obey(screen, SIGN_ON).is_some();
+    type_at(screen, at(167), b"\xC1\xC2");
+    let is_typed = is_as_searched(screen);
+    screen.erase_unprotected();
+    let is_erased = is_as_searched(screen);
+    screen.clear();
+    is_obeyed && is_typed && is_erased && is_as_searched(screen)
+}
+
+#[test]
+fn any_screen_is_as_searched(rt: HostRuntime) {
+    let is_so = is_as_searched(&Screen::blank())
+        && stays_as_searched(&mut Screen::blank(), &OTHER_COMMANDS)
+        && is_as_searched_when_full(&mut Screen::blank())
+        && is_as_searched_after_keys(&mut Screen::blank());
+    assert!(rt; is_so);
+}
