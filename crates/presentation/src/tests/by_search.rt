@@ -1,7 +1,7 @@
 //! What is looked up by the index of attributes, beside what a search from cell to cell finds.
 use super::{
-    ERASE, ERASE_WRITES, FIELDS, MODIFIED, NULLED_ROUND_THE_END,
-    REPEATED_AND_ERASED, SIGN_ON, Shown, TABS, THREE_FIELDS, at, obey, type_at,
+    ERASE, ERASE_WRITES, FIELDS, NULLED_ROUND_THE_END, REPEATED_AND_ERASED, SIGN_ON, Shown, TABS,
+    THREE_FIELDS, at, obey, obeys, type_at,
 };
 use crate::{Field, Screen};
 use codes3270::{Addr, Attr, CELLS, Cell};
@@ -47,25 +47,34 @@ fn searched_attribute(screen: &Screen, at: Addr) -> Option<Attr> {
     attribute_at(screen, place)
 }
 
-/// Whether each cell is found to lie in the same field, under the same attribute.
-fn finds_the_same(screen: &Screen) -> bool {
-    for place in 0..CELLS {
-        let here = at(place);
-        if screen.field_at(here) != searched_field(screen, here)
-            || screen.attribute_over(here) != searched_attribute(screen, here)
-        {
+/// Whether a cell is found to lie in the same field, under the same attribute.
+fn finds_the_same(screen: &Screen, here: Addr) -> bool {
+    screen.field_at(here) == searched_field(screen, here)
+        && screen.attribute_over(here) == searched_attribute(screen, here)
+}
+
+/// The distance between the cells that are looked at; those beside attributes are too.
+const STRIDE: u16 = 97;
+
+fn finds_the_same_here_and_there(screen: &Screen) -> bool {
+    for number in 0..CELLS / STRIDE {
+        if !finds_the_same(screen, at(number * STRIDE)) {
             return false;
         }
     }
-    true
+    finds_the_same(screen, at(CELLS - 1))
 }
 
-/// Whether the fields are those of all attributes, by address.
+/// Whether the fields are those of all attributes, by address, and are found from the cell before on.
 fn lists_the_same(screen: &Screen) -> bool {
     let mut fields = screen.fields();
     for place in 0..CELLS {
         let here = at(place);
-        if attribute_at(screen, here).is_some() && fields.next() != searched_field(screen, here) {
+        if attribute_at(screen, here).is_some()
+            && (fields.next() != searched_field(screen, here)
+                || !finds_the_same(screen, here)
+                || !finds_the_same(screen, here.backward(1)))
+        {
             return false;
         }
     }
@@ -84,24 +93,19 @@ fn prints_the_same(screen: &Screen) -> bool {
 }
 
 fn is_as_searched(screen: &Screen) -> bool {
-    finds_the_same(screen) && lists_the_same(screen) && prints_the_same(screen)
+    finds_the_same_here_and_there(screen) && lists_the_same(screen) && prints_the_same(screen)
 }
 
-/// Whether a blank screen is as searched after each of these commands.
-fn stays_as_searched(screen: &mut Screen, commands: &[&[u8]]) -> bool {
-    for command in commands {
-        if obey(screen, command).is_none() || !is_as_searched(screen) {
-            return false;
-        }
-    }
-    true
+/// Whether a screen is as searched after these commands.
+fn becomes_as_searched(screen: &mut Screen, commands: &[&[u8]]) -> bool {
+    obeys(screen, commands) && is_as_searched(screen)
 }
 
 /// Which case is the first whose screens aren't as searched.
 fn first_other_shown(cases: &[Shown]) -> Option<usize> {
     for case in 0..cases.len() {
         let (commands, _rows, _cursor) = cases[case];
-        if !stays_as_searched(&mut Screen::blank(), commands) {
+        if !becomes_as_searched(&mut Screen::blank(), commands) {
             return Some(case);
         }
     }
@@ -115,17 +119,20 @@ fn what_is_shown_is_as_searched(rt: HostRuntime) {
     assert_eq!(rt; first_other_shown(&TABS), None);
 }
 
-static OTHER_COMMANDS: [&[u8]; 8] = [
-    THREE_FIELDS,
-    FIELDS,
-    ERASE,
-    MODIFIED,
-    NULLED_ROUND_THE_END,
-    SIGN_ON,
-    // The last cell holds the only attribute, and then none.
-    b"\xF5\xC3\x11\x5D\x7F\x1D\x60",
-    b"\xF1\xC3\x11\x5D\x7F\xC1",
-];
+/// The last cell holds the only attribute.
+static LAST_ALONE: &[u8] = b"\xF5\xC3\x11\x5D\x7F\x1D\x60";
+
+/// A character takes its place.
+static LAST_OVERWRITTEN: &[u8] = b"\xF1\xC3\x11\x5D\x7F\xC1";
+
+fn is_as_searched_after_others(screen: &mut Screen) -> bool {
+    becomes_as_searched(screen, &[THREE_FIELDS])
+        && becomes_as_searched(screen, &[FIELDS, ERASE])
+        && becomes_as_searched(screen, &[b"\x6F"])
+        && becomes_as_searched(screen, &[NULLED_ROUND_THE_END])
+        && becomes_as_searched(screen, &[LAST_ALONE])
+        && becomes_as_searched(screen, &[LAST_OVERWRITTEN])
+}
 
 /// A write of an attribute at the cursor, which goes on to the next cell.
 static ONE_ATTRIBUTE_MORE: &[u8] = b"\xF1\xC3\x1D\x40\x13";
@@ -154,7 +161,7 @@ fn is_as_searched_after_keys(screen: &mut Screen) -> bool {
 #[test]
 fn any_screen_is_as_searched(rt: HostRuntime) {
     let is_so = is_as_searched(&Screen::blank())
-        && stays_as_searched(&mut Screen::blank(), &OTHER_COMMANDS)
+        && is_as_searched_after_others(&mut Screen::blank())
         && is_as_searched_when_full(&mut Screen::blank())
         && is_as_searched_after_keys(&mut Screen::blank());
     assert!(rt; is_so);
