@@ -1,5 +1,5 @@
 pub mod Trees
-pub mod PartLists
+pub mod Turning
 pub mod Standing
 pub mod Building
 pub mod Codes

@@ -9,7 +9,8 @@ pub mod Keys
 pub mod Faults
 pub mod Messages
 pub mod Passes
-pub mod Places
+pub mod Turns
+pub mod Walk
 pub mod Index
 pub mod Survey
 pub mod Values

@@ -1,5 +1,5 @@
 //! The faults of a panel text, table by table.
-ghost use Rattle.std.specs.Prelude.{◌≡◌, ◌↔◌, codes, ℕ, List, Some, IsTrue, All, Contains, MatchOption, MatchResult, option_map, option_and_then};
+ghost use Rattle.std.specs.Prelude.{◌≡◌, ◌↔◌, codes, ℕ, List, ◌+◌, Some, IsTrue, All, MatchOption, MatchResult, option_map, option_and_then};
 ghost use Rattle.std.specs.List.{list_any};
 ghost use Rattle.toml.specs.Data.{get_member, as_array};
 ghost use Rattle.toml.specs.View.{table_view};
@@ -7,8 +7,9 @@ ghost use Rattle.panels.specs.Faults.{IsFaulty, HasFault, IsTwiceNamed, IsOverla
 ghost use Rattle.panels.specs.declared.fault.TreeFault.{TreeFault};
 ghost use Rattle.panels.specs.declared.part.Part.{Part};
 ghost use Rattle.panels.specs.Index.{IsLater, is_unknown};
-ghost use Rattle.panels.specs.Passes.{IsFirst, IsFaultless};
-ghost use Rattle.panels.specs.Places.{HasEach};
+ghost use Rattle.panels.specs.Passes.{IsFaultless};
+ghost use Rattle.panels.specs.Turns.{IsClearTo, IsFirstFault};
+ghost use Rattle.panels.specs.Walk.{turn_at, IsCleanAt, IsFirstListed};
 ghost use Rattle.panels.specs.Survey.{IsSurveyOf};
 ghost use Rattle.panels.specs.Tree.{table_of, table_under, text_under, texts};
 
@@ -208,32 +209,11 @@ fn first_at(part: Part, faults: &[TreeFault], top: &Table, survey: &Survey) -> O
     requires { IsSurveyOf (table_view top.now) survey.now }
     ensures { MatchOption result
         (All (λ fault. ¬ IsFaulty fault part (table_view top.now)) faults.now)
-        (λ fault. Contains faults.now fault × IsFaulty fault part (table_view top.now)) }
+        (IsFirstListed faults.now part (table_view top.now)) }
 {
     for fault in faults {
         if is_faulty(*fault, part, top, survey) {
             return Some(*fault);
-        }
-    }
-    None
-}
-
-/// The first part that has one of some faults, and that fault.
-fn first_of(
-    faults: &[TreeFault],
-    parts: &[Part],
-    top: &Table,
-    survey: &Survey,
-) -> Option<(TreeFault, Part)>
-    requires each { HasEach (table_view top.now) parts.now }
-    requires survey { IsSurveyOf (table_view top.now) survey.now }
-    ensures { MatchOption result
-        ((fault : TreeFault) (part : Part) → Contains faults.now fault → ¬ IsFaulty fault part (table_view top.now))
-        (λ found. Contains faults.now found.0 × IsFaulty found.0 found.1 (table_view top.now)) }
-{
-    for part in parts {
-        if let Some(fault) = first_at(*part, faults, top, survey) {
-            return Some((fault, *part));
         }
     }
     None
@@ -270,22 +250,107 @@ fn faults_in(pass: usize) -> &'static [TreeFault]
     }
 }
 
-/// Looks for all faults, pass by pass.
-pub(crate) fn check_passes(
-    parts: &[Part],
+/// Looks for a pass's faults in a table.
+fn check_part(pass: usize, part: Part, top: &Table, survey: &Survey) -> Result<(), (TreeFault, At)>
+    requires survey { IsSurveyOf (table_view top.now) survey.now }
+    requires clear { IsClearTo (turn_at pass part) (table_view top.now) }
+    ensures { MatchResult result
+        (λ _. IsCleanAt pass part (table_view top.now))
+        (λ found. IsFirstFault found.0 found.1 (table_view top.now)) }
+{
+    match first_at(part, faults_in(pass), top, survey) {
+        Some(fault) => Err((fault, part.place())),
+        None => Ok(()),
+    }
+}
+
+/// Looks for a pass's faults in a panel's texts.
+fn check_texts(
+    pass: usize,
+    panel: usize,
+    count: usize,
     top: &Table,
     survey: &Survey,
 ) -> Result<(), (TreeFault, At)>
-    requires each { HasEach (table_view top.now) parts.now }
     requires survey { IsSurveyOf (table_view top.now) survey.now }
+    requires clear { IsClearTo (turn_at pass (Part.Text panel 0)) (table_view top.now) }
+    ensures { MatchResult result
+        (λ _. IsClearTo (turn_at pass (Part.Text panel count)) (table_view top.now))
+        (λ found. IsFirstFault found.0 found.1 (table_view top.now)) }
+{
+    for text in 0..count {
+        check_part(pass, Part::Text(panel, text), top, survey)?;
+    }
+    Ok(())
+}
+
+/// Looks for a pass's faults in a panel's fields.
+fn check_fields(
+    pass: usize,
+    panel: usize,
+    count: usize,
+    top: &Table,
+    survey: &Survey,
+) -> Result<(), (TreeFault, At)>
+    requires survey { IsSurveyOf (table_view top.now) survey.now }
+    requires clear { IsClearTo (turn_at pass (Part.Field panel 0)) (table_view top.now) }
+    ensures { MatchResult result
+        (λ _. IsClearTo (turn_at pass (Part.Field panel count)) (table_view top.now))
+        (λ found. IsFirstFault found.0 found.1 (table_view top.now)) }
+{
+    for field in 0..count {
+        check_part(pass, Part::Field(panel, field), top, survey)?;
+    }
+    Ok(())
+}
+
+/// Looks for a pass's faults in a panel: in its own table, its texts, its fields and its keys.
+fn check_panel(
+    pass: usize,
+    panel: usize,
+    top: &Table,
+    survey: &Survey,
+) -> Result<(), (TreeFault, At)>
+    requires survey { IsSurveyOf (table_view top.now) survey.now }
+    requires clear { IsClearTo (turn_at pass (Part.Panel panel)) (table_view top.now) }
+    ensures { MatchResult result
+        (λ _. IsClearTo (turn_at pass (Part.Panel (panel + 1))) (table_view top.now))
+        (λ found. IsFirstFault found.0 found.1 (table_view top.now)) }
+{
+    check_part(pass, Part::Panel(panel), top, survey)?;
+    let Some(table) = table_at(top, "panel", panel) else {
+        return Ok(());
+    };
+    check_texts(pass, panel, count_at(table, "text"), top, survey)?;
+    check_fields(pass, panel, count_at(table, "field"), top, survey)?;
+    check_part(pass, Part::Keys(panel), top, survey)?;
+    Ok(())
+}
+
+/// Looks for a pass's faults in the text's own table, and panel by panel.
+fn check_pass(pass: usize, top: &Table, survey: &Survey) -> Result<(), (TreeFault, At)>
+    requires survey { IsSurveyOf (table_view top.now) survey.now }
+    requires clear { IsClearTo (turn_at pass Part.Top) (table_view top.now) }
+    ensures { MatchResult result
+        (λ _. IsClearTo (turn_at (pass + 1) Part.Top) (table_view top.now))
+        (λ found. IsFirstFault found.0 found.1 (table_view top.now)) }
+{
+    check_part(pass, Part::Top, top, survey)?;
+    for panel in 0..count_at(top, "panel") {
+        check_panel(pass, panel, top, survey)?;
+    }
+    Ok(())
+}
+
+/// Looks for all faults, pass by pass.
+pub(crate) fn check_passes(top: &Table, survey: &Survey) -> Result<(), (TreeFault, At)>
+    requires { IsSurveyOf (table_view top.now) survey.now }
     ensures { MatchResult result
         (λ _. IsFaultless (table_view top.now))
-        (λ found. IsFirst found.0 found.1 (table_view top.now)) }
+        (λ found. IsFirstFault found.0 found.1 (table_view top.now)) }
 {
-    for pass in 0..7 {
-        if let Some((fault, part)) = first_of(faults_in(pass), parts, top, survey) {
-            return Err((fault, part.place()));
-        }
+    for pass in 1..=6 {
+        check_pass(pass, top, survey)?;
     }
     Ok(())
 }

@@ -17,7 +17,6 @@ mod next;
 mod panel;
 mod panel_set;
 mod part;
-mod parts;
 mod place;
 mod read;
 mod rules;

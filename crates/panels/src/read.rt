@@ -2,13 +2,13 @@
 ghost use Rattle.std.specs.Prelude.{IfOk, IfErr};
 ghost use Rattle.toml.specs.View.{table_view};
 ghost use Rattle.panels.specs.Passes.{IsFaultless, IsReasonIn, IsReason};
+ghost use Rattle.panels.specs.Turns.{IsFirstIn, IsFirstOf};
 ghost use Rattle.panels.specs.Defines.{Defines, IsReadFrom};
 
 use crate::build::build;
 use crate::checks::check_passes;
 use crate::fault::PanelFault;
 use crate::panel_set::PanelSet;
-use crate::parts::parts_of;
 use crate::survey::survey_of;
 use std::alloc::{AllocError, Global};
 use toml::Table;
@@ -17,16 +17,13 @@ use toml::Table;
 fn read_tree(alloc: Global, top: &Table) -> Result<PanelSet, PanelFault>
     ensures panels { IfOk result (λ set. IsFaultless (table_view top.now) × Defines (table_view top.now) set) }
     ensures fault { IfErr result (IsReasonIn (table_view top.now)) }
+    ensures first { IfErr result (IsFirstIn (table_view top.now)) }
 {
-    let parts = match parts_of(alloc, top) {
-        Ok(parts) => parts,
-        Err(AllocError) => return Err(PanelFault::Memory),
-    };
     let survey = match survey_of(alloc, top) {
         Ok(survey) => survey,
         Err(AllocError) => return Err(PanelFault::Memory),
     };
-    match check_passes(parts.as_slice(), top, &survey) {
+    match check_passes(top, &survey) {
         Ok(()) => {}
         Err((fault, place)) => return Err(PanelFault::Tree(fault, place)),
     }
@@ -43,6 +40,9 @@ impl PanelSet {
     pub fn read(alloc: Global, text: &str) -> Result<PanelSet, PanelFault>
         ensures panels { IfOk result (IsReadFrom text.now) }
         ensures fault { IfErr result (IsReason text.now) }
+
+        // Of several faults the first is answered, pass by pass, in a pass table by table, and in a table fault by fault.
+        ensures first { IfErr result (IsFirstOf text.now) }
     {
         match toml::table_from_str(alloc, text) {
             Ok(top) => read_tree(alloc, &top),

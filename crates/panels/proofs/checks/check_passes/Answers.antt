@@ -1,17 +1,15 @@
-use Rattle.std.proofs.Common.{◌<◌, sym, arith}
+use Rattle.std.proofs.Common.{◌≡◌, subst, arith}
 use Rattle.toml.specs.View.{table_view}
-use Rattle.panels.proofs.Standing.{clean_more, faultless}
+use Rattle.panels.specs.declared.part.Part.TheVariants.{Top}
+use Rattle.panels.specs.Turns.{IsClearTo}
+use Rattle.panels.specs.Walk.{turn_at}
+use Rattle.panels.proofs.Turning.{first_clear, all_clear}
 use Rattle.panels.proofs.checks.check_passes.Goals as goal
 
-pub loop-pass-preserved : goal.loop-pass-preserved
-loop-pass-preserved c = clean_more (table_view c.args.top.now) c.loop-pass.pass c.loop-pass.invariant (rw c.faults_in.ensures at c.in_default.ensures)
-
-pub returns-in-Some : goal.returns-in-Some
-returns-in-Some c =
-    let found = rw c.faults_in.ensures at c.in-Some.ensures in
-    record { pass = c.loop-pass.pass; looked_for = found.0; stands = (c.in-Some.part, sym c.place.ensures, found.1); earlier = c.loop-pass.invariant }
+pub loop-pass-init : goal.loop-pass-init
+loop-pass-init c = first_clear (table_view c.args.top.now)
 
 pub returns : goal.returns
-returns c = faultless (table_view c.args.top.now) (λ pass below.
-    let reached : pass < c.loop-pass.pass = omega arith in
-    c.loop-pass.invariant pass reached)
+returns c =
+    let whole : c.loop-pass.pass ≡ 7 = omega arith in
+    all_clear (table_view c.args.top.now) (subst (λ n. IsClearTo (turn_at n Top) (table_view c.args.top.now)) whole c.loop-pass.invariant)

@@ -1,0 +1,93 @@
+-- In which order the faults of a panel text are looked for (our profile).
+use Rattle.std.specs.Prelude.{◌≡◌, ℕ, suc, ◌<◌, ◌⊎◌, List, [], ◌∷◌}
+use Rattle.toml.specs.Data.{Members}
+use Rattle.toml.specs.Parse.{parse_document}
+use Rattle.std.specs.Prelude.{Some}
+use Rattle.panels.specs.declared.fault.TreeFault.{TreeFault}
+use Rattle.panels.specs.declared.fault.TreeFault.TheVariants.{UnknownKey, Missing, BadKind, BadName, TwiceNamed, OutOfPlace, Overlap, NoCode, NoTarget, BadKey, TooMany}
+use Rattle.panels.specs.declared.fault.PanelFault.{PanelFault}
+use Rattle.panels.specs.declared.fault.PanelFault.TheVariants.{Tree}
+use Rattle.panels.specs.declared.part.Part.{Part}
+use Rattle.panels.specs.declared.part.Part.TheVariants.{Top, Panel, Text, Field, Keys}
+use Rattle.panels.specs.declared.place.At.{At}
+use Rattle.panels.specs.Faults.{place_of, IsFaulty}
+
+-- the pass that looks for a fault
+abbrev pub pass_of : TreeFault → ℕ
+pass_of UnknownKey = 1
+pass_of Missing = 1
+pass_of BadKind = 1
+pass_of TooMany = 2
+pass_of BadName = 3
+pass_of BadKey = 3
+pass_of TwiceNamed = 3
+pass_of OutOfPlace = 4
+pass_of NoCode = 4
+pass_of Overlap = 5
+pass_of NoTarget = 6
+
+-- a pass goes from table to table: first the text's own, then panel by panel
+abbrev pub panel_turn : Part → ℕ
+panel_turn Top = 0
+panel_turn (Panel p) = suc p
+panel_turn (Text p i) = suc p
+panel_turn (Field p i) = suc p
+panel_turn (Keys p) = suc p
+
+-- of a panel first its own table, then those of its texts, those of its fields, and that of its keys
+abbrev pub kind_turn : Part → ℕ
+kind_turn Top = 0
+kind_turn (Panel p) = 0
+kind_turn (Text p i) = 1
+kind_turn (Field p i) = 2
+kind_turn (Keys p) = 3
+
+-- texts, and fields, as they stand in the text
+abbrev pub item_turn : Part → ℕ
+item_turn (Text p i) = i
+item_turn (Field p i) = i
+item_turn _ = 0
+
+-- in one table a pass looks for its faults in this order
+abbrev pub fault_turn : TreeFault → ℕ
+fault_turn UnknownKey = 0
+fault_turn Missing = 1
+fault_turn BadKind = 2
+fault_turn TooMany = 0
+fault_turn BadName = 0
+fault_turn BadKey = 1
+fault_turn TwiceNamed = 2
+fault_turn OutOfPlace = 0
+fault_turn NoCode = 1
+fault_turn Overlap = 0
+fault_turn NoTarget = 0
+
+-- when a fault is looked for in a table
+abbrev pub turn_of : TreeFault → Part → List ℕ
+turn_of fault part = pass_of fault ∷ panel_turn part ∷ kind_turn part ∷ item_turn part ∷ fault_turn fault ∷ []
+
+-- of two turns that one is sooner which is lower where they first differ
+abbrev pub IsSooner : List ℕ → List ℕ → Type 0
+IsSooner (x ∷ xs) (y ∷ ys) = (x < y) ⊎ ((x ≡ y) × IsSooner xs ys)
+IsSooner _ _ = ⊥
+
+-- no fault stands whose turn is sooner
+abbrev pub IsClearTo : List ℕ → Members → Type 0
+IsClearTo turn top = (fault : TreeFault) (part : Part) → IsSooner (turn_of fault part) turn → ¬ IsFaulty fault part top
+
+-- the fault stands at the place, and none stands whose turn is sooner
+pub record IsFirstFault (fault : TreeFault) (place : At) (top : Members) : Type 0 where
+  pub part : Part
+  pub at_place : place_of part ≡ place
+  pub stands : IsFaulty fault part top
+  pub sooner : IsClearTo (turn_of fault part) top
+
+-- where a fault of a tree is answered, it is the first
+abbrev pub IsFirstIn : Members → PanelFault → Type 0
+IsFirstIn top (Tree fault place) = IsFirstFault fault place top
+IsFirstIn top _ = Unit {0}
+
+-- the same of a text
+abbrev pub IsFirstOf : List ℕ → PanelFault → Type 0
+IsFirstOf text (Tree fault place) = (top : Members) × (parse_document text ≡ Some top) × IsFirstFault fault place top
+IsFirstOf text _ = Unit {0}
