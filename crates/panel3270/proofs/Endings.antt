@@ -6,7 +6,7 @@ use Rattle.std.proofs.lemmas.List.{length-take-le}
 use Rattle.panel3270.specs.Counting.{Input, Output}
 use Rattle.panel3270.specs.Runs.{ReadWhole, NotRead, too_many_bytes, no_text, most_bytes, RefusesInput, IsInput, EndsPrinting, HasCause}
 use Rattle.panel3270.specs.declared.fault.Fault.{Fault}
-use Rattle.panel3270.specs.declared.fault.Fault.TheVariants.{InputNotRead, Panels, Pool, NotHex, NotUnderstood, NoMemory, OutputFailed}
+use Rattle.panel3270.specs.declared.fault.Fault.TheVariants.{InputNotRead, Panels, Pool, NotHex, NotUnderstood, NoMemory, SocketFailed, TurnsOver, OutputFailed}
 use Rattle.panel3270.specs.declared.task.Task.{Task}
 
 -- what was read is no text
@@ -30,6 +30,8 @@ without_input task (Pool fault) in_old in_new out why = absurd why
 without_input task (NotHex line) in_old in_new out why = absurd why
 without_input task (NotUnderstood line) in_old in_new out why = absurd why
 without_input task NoMemory in_old in_new out why = record { kept = Keeps-refl out.got; sound = refl }
+without_input task SocketFailed in_old in_new out why = absurd why
+without_input task TurnsOver in_old in_new out why = absurd why
 without_input task OutputFailed in_old in_new out why = absurd why
 
 -- where there is one the run ends as its printing does
@@ -42,4 +44,6 @@ with_input task (Some (Pool fault)) in_old in_new out_old out_new text is ends =
 with_input task (Some (NotHex line)) in_old in_new out_old out_new text is ends = (text, is, ends)
 with_input task (Some (NotUnderstood line)) in_old in_new out_old out_new text is ends = (text, is, ends)
 with_input task (Some NoMemory) in_old in_new out_old out_new text is ends = ends
+with_input task (Some SocketFailed) in_old in_new out_old out_new text is ends = absurd ends
+with_input task (Some TurnsOver) in_old in_new out_old out_new text is ends = absurd ends
 with_input task (Some OutputFailed) in_old in_new out_old out_new text is ends = (text, is, ends)

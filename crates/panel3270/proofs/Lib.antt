@@ -10,3 +10,5 @@ pub mod Rounds
 pub mod Typing
 pub mod Playing
 pub mod LuNames
+pub mod ClapJobs
+pub mod TermLines

@@ -102,7 +102,7 @@ module _ (text left front : List ℕ) (so_far : coded (chars text) ≡ codes_beh
 
 -- ---- words
 
-one_word : (line : List ℕ) → position_or_len (λ char. char == blank) line ≡ length line → words_of line ≡ line ∷ []
+pub one_word : (line : List ℕ) → position_or_len (λ char. char == blank) line ≡ length line → words_of line ≡ line ∷ []
 one_word [] none = refl
 one_word (char ∷ line) none = by_test (char == blank) refl (one_word line)
   where
@@ -113,7 +113,7 @@ one_word (char ∷ line) none = by_test (char == blank) refl (one_word line)
         let n = subst (λ (b : Bool). cond (not b) (1 + position_or_len (λ char. char == blank) line) 0 ≡ suc (length line)) is none in
         ap (λ (b : Bool). cond b ([] ∷ words_of line) (onto_first char (words_of line))) is ∙ ap (onto_first char) (others (omega arith))
 
-some_words : (line : List ℕ) → (first : List ℕ) × (others : List (List ℕ)) × (words_of line ≡ first ∷ others)
+pub some_words : (line : List ℕ) → (first : List ℕ) × (others : List (List ℕ)) × (words_of line ≡ first ∷ others)
 some_words [] = ([], [], refl)
 some_words (char ∷ line) = by_test (char == blank) refl (some_words line)
   where
@@ -133,7 +133,7 @@ IsWhole line = position_or_len (λ char. char == blank) line ≡ length line
 abbrev pub IsCut : List ℕ → List ℕ → List ℕ → Type 0
 IsCut line front back = (position_or_len (λ char. char == blank) line < length line) × (front ≡ before_first (λ char. char == blank) line) × (back ≡ behind line)
 
-word_more : (line front back : List ℕ) → IsCut line front back → words_of line ≡ front ∷ words_of back
+pub word_more : (line front back : List ℕ) → IsCut line front back → words_of line ≡ front ∷ words_of back
 word_more line front back cut = slice_split_first (λ char. char == blank) line 0 cut.0 ∙ (λ i. sym cut.1 i ∷ words_of (sym cut.2 i))
 
 pub asks_by_verb : (line : List ℕ) → IsWhole line → asks line ≡ asks_alone line

@@ -4,6 +4,8 @@ pub mod Pages
 pub mod PhaseText
 pub mod KeyNames
 pub mod ScriptLines
+pub mod TermLines
+pub mod Operating
 pub mod Happenings
 pub mod Plays
 pub mod Scripts
@@ -12,3 +14,4 @@ pub mod Counting
 pub mod Counted
 pub mod Runs
 pub mod Words
+pub mod ClapCommands

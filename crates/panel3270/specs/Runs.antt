@@ -5,7 +5,7 @@ use Rattle.panel3270.specs.Faults.{status_of, fault_text}
 use Rattle.panel3270.specs.Pages.{IsPage}
 use Rattle.panel3270.specs.Counting.{Input, Output, more, Untouched, Written, CutShort}
 use Rattle.panel3270.specs.declared.fault.Fault.{Fault}
-use Rattle.panel3270.specs.declared.fault.Fault.TheVariants.{InputNotRead, Panels, Pool, NotHex, NotUnderstood, NoMemory, OutputFailed}
+use Rattle.panel3270.specs.declared.fault.Fault.TheVariants.{InputNotRead, Panels, Pool, NotHex, NotUnderstood, NoMemory, SocketFailed, TurnsOver, OutputFailed}
 use Rattle.panel3270.specs.declared.task.Task.{Task}
 use Rattle.panel3270.specs.declared.task.Task.TheVariants.{Script, Show}
 use Rattle.panel3270.specs.Scripts.{panel_text, HasPanelFault, HasPoolFault, IsScriptPage}
@@ -83,6 +83,8 @@ EndsPrinting Show (Some (NotHex line)) text old new = Writes Show text old new (
 EndsPrinting Script (Some (NotUnderstood line)) text old new = Writes Script text old new (Some line)
 EndsPrinting Show (Some (NotUnderstood line)) text old new = ⊥
 EndsPrinting task (Some NoMemory) text old new = Untouched old new
+EndsPrinting task (Some SocketFailed) text old new = ⊥
+EndsPrinting task (Some TurnsOver) text old new = ⊥
 EndsPrinting task (Some OutputFailed) text old new = WritesInPart task text old new
 
 -- ---- the end of a run

@@ -22,6 +22,10 @@ pub enum Fault {
     NotUnderstood(usize),
     /// A growth was refused.
     NoMemory,
+    /// The socket could not be opened.
+    SocketFailed,
+    /// The turns are used up.
+    TurnsOver,
     /// The output didn't take all that was printed.
     OutputFailed,
 }
@@ -35,6 +39,8 @@ impl Fault {
             Fault::InputNotRead | Fault::Panels(_) | Fault::Pool(_) => 1,
             Fault::NotHex(_) | Fault::NotUnderstood(_) => 1,
             Fault::NoMemory => 3,
+            Fault::SocketFailed => 4,
+            Fault::TurnsOver => 5,
             Fault::OutputFailed => 6,
         }
     }
@@ -55,6 +61,8 @@ impl fmt::Display for Fault {
             Fault::NotHex(line) => write!(f, "line {line}: not hex"),
             Fault::NotUnderstood(line) => write!(f, "line {line}: not understood"),
             Fault::NoMemory => f.write_str("no memory"),
+            Fault::SocketFailed => f.write_str("socket failed"),
+            Fault::TurnsOver => f.write_str("turns over"),
             Fault::OutputFailed => f.write_str("output failed"),
         }
     }

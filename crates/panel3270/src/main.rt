@@ -6,9 +6,12 @@ ghost use Rattle.std.specs.Prelude.{◌≡◌};
 ghost use Rattle.panel3270.specs.Runs.{IsEnd, IsToldIn};
 ghost use Rattle.panel3270.specs.Words.{usage, words_refused};
 
+mod command_line;
 mod fault;
 mod hex_line;
 mod input;
+mod job;
+mod operator;
 mod page;
 mod phase_text;
 mod player;
@@ -21,10 +24,13 @@ mod settling;
 mod show;
 mod streams;
 mod task;
+mod term_line;
 #[cfg(test)]
 mod tests;
 
+pub use command_line::words;
 pub use fault::Fault;
+pub use job::{Job, Port, Turns, WordFault};
 pub use page::{Page, page_of};
 pub use script::run_script;
 use show::end_by;
@@ -35,19 +41,38 @@ use std::io::{self, ErrorKind};
 use std::process::ExitCode;
 pub use streams::{Answer, CountedReader, CountedWriter, Sink, Source, WriteFailed};
 pub use task::Task;
-use task::task_of;
 
 /// The exit status of words that the program doesn't take.
 const WORDS_REFUSED: u8 = 2;
 
-const USAGE: &str = "usage: panel3270 [script | show] < INPUT
-  script  serve panels to terminals: panels in TOML, a line %%, and commands, one a line, that are done in order
-  show    apply commands of the data stream, one a line in hexadecimal, to a blank screen and print it
-status: 0 done, 1 input refused, 2 words not known, 3 no memory, 6 output failed";
+const USAGE: &str = "usage: panel3270 [JOB] < INPUT
+  script                      serve panels to terminals, which do commands; this is the job where no word is given
+  selfrun [--turns N]         do the same over sockets
+  show                        apply commands of the data stream, in hexadecimal, to a blank screen, and print it
+  host --port P [--turns N]   serve panels to terminals that connect to 127.0.0.1, for so many turns
+  serve --port P              serve panels to terminals that connect to 127.0.0.1, without end
+  term --port P [--lu NAME]   be a terminal of the host at 127.0.0.1, and do commands
+P is 1024 to 65535, N 1 to 1000000, and 10000 where it isn't given; NAME has 1 to 8 of A to Z, 0 to 9, @, # and $, the first no digit.
+INPUT is UTF-8 of at most 1048576 bytes, in lines that end with LF, which the last may lack:
+  script, selfrun             panels in TOML, a line %%, and commands, one a line
+  host, serve                 panels in TOML
+  show, term                  commands, one a line
+status: 0 done, 1 input refused, 2 words refused, 3 no memory, 4 socket failed, 5 turns over, 6 output failed";
 
 /// The words behind the program's name.
 fn given_words(rt: &HostRuntime) -> io::Result<Vec<String>> {
     Ok(env::args(rt)?.skip(1).collect(rt.alloc())?)
+}
+
+/// The job that the program is asked to do.
+fn given_job(rt: &HostRuntime) -> Result<Job, WordFault> {
+    match given_words(rt) {
+        Ok(given) => words(rt.alloc(), given.as_slice()),
+        Err(error) => match error.kind() {
+            ErrorKind::OutOfMemory => Err(WordFault::Memory),
+            _ => Err(WordFault::Refused),
+        },
+    }
 }
 
 /// Tells which words the program takes, and answers its exit status. What can't be told is told by the status alone.
@@ -75,21 +100,25 @@ fn run<I: Source, O: Sink, E: Sink>(
     }
 }
 
+/// Does a job with the program's three streams, and answers the exit status.
+fn work<E: Sink>(rt: &HostRuntime, job: Job, faults: &mut E) -> u8 {
+    let mut input = CountedReader::new(rt.stdin());
+    let mut out = CountedWriter::new(rt.stdout());
+    match job {
+        Job::Script => run(rt.alloc(), Task::Script, &mut input, &mut out, faults),
+        Job::Show => run(rt.alloc(), Task::Show, &mut input, &mut out, faults),
+        Job::Term { .. } | Job::Selfrun { .. } | Job::Host { .. } | Job::Serve { .. } => {
+            refuse_words(faults)
+        }
+    }
+}
+
 fn main(rt: HostRuntime) -> ExitCode {
     let mut faults = CountedWriter::new(rt.stderr());
-    let status = match given_words(&rt) {
-        Ok(words) => match task_of(words.as_slice()) {
-            Some(task) => {
-                let mut input = CountedReader::new(rt.stdin());
-                let mut out = CountedWriter::new(rt.stdout());
-                run(rt.alloc(), task, &mut input, &mut out, &mut faults)
-            }
-            None => refuse_words(&mut faults),
-        },
-        Err(error) => match error.kind() {
-            ErrorKind::OutOfMemory => end_by(Fault::NoMemory, &mut faults),
-            _ => refuse_words(&mut faults),
-        },
+    let status = match given_job(&rt) {
+        Ok(job) => work(&rt, job, &mut faults),
+        Err(WordFault::Refused) => refuse_words(&mut faults),
+        Err(WordFault::Memory) => end_by(Fault::NoMemory, &mut faults),
     };
     ExitCode::from(status)
 }

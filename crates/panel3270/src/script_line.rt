@@ -38,7 +38,7 @@ static PF_NAMES: [&str; 24] = [
 static PA_NAMES: [&str; 3] = ["pa1", "pa2", "pa3"];
 
 /// What stands behind the first blank; nothing where there is none.
-fn behind(text: &str) -> &str
+pub(crate) fn behind(text: &str) -> &str
     ensures { result.now ≡ behind text.now }
 {
     match text.split_once(' ') {
@@ -67,7 +67,7 @@ fn is_digits(word: &str) -> bool
 }
 
 /// A decimal number of any length. What is too large for the machine counts as its largest number.
-fn number_of(word: &str) -> Option<usize>
+pub(crate) fn number_of(word: &str) -> Option<usize>
     ensures { result ≡ number_of word.now }
 {
     if !is_digits(word) {
@@ -109,7 +109,7 @@ fn numbered_key(name: &str) -> Option<Key>
 
 /// The key with a name.
 #[tactic(auto, unfolding(crate::specs::KeyNames::key_named))]
-fn key_named(name: &str) -> Option<Key>
+pub(crate) fn key_named(name: &str) -> Option<Key>
     ensures { result ≡ key_named name.now }
 {
     match name {
