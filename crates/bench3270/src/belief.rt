@@ -188,7 +188,7 @@ fn hears(rt: &HostRuntime, scale: Scale, layout: Layout, form: Form) -> io::Resu
 }
 
 /// How many a second.
-fn rate(count: u32, took: Duration) -> u64 {
+pub(crate) fn rate(count: u32, took: Duration) -> u64 {
     let millis = u64::try_from(took.as_millis()).unwrap_or(u64::MAX).max(1);
     u64::from(count).saturating_mul(1000) / millis
 }

@@ -1,9 +1,11 @@
-//! Figures of speed. Without words each case is run once, small, and nothing is printed; with the word `figures` the cases
-//! are run long enough to measure, and a line is printed for each: what was done, how often a second, and the bytes a second.
-//! A last line says how large a terminal is.
+//! Figures of speed. Without words each case is run once, small, and only how many turns were done and how many bytes moved
+//! is printed; with the word `figures` the cases are run long enough to measure, and a line is printed for each: what was done,
+//! how often a second, and the bytes a second. A last line says how large a terminal is. Standard input is a panel text with
+//! 64 LUs (`stdin` is the repository's own).
 #![tactic(auto)]
 
 mod belief;
+mod turns;
 
 ghost use Rattle.std.specs.Prelude.{◌<◌};
 
@@ -272,5 +274,6 @@ fn main(rt: HostRuntime) -> io::Result<()> {
     terminal(&rt, scale, 1)?;
     terminal(&rt, scale, 100)?;
     terminal(&rt, scale, 16_384)?;
+    turns::turns(&rt, scale)?;
     terminal_size(&rt, scale)
 }
