@@ -1,5 +1,5 @@
 -- What is printed, as a walk over the cells finds it.
-use Rattle.std.proofs.Common.{◌≡◌, ℕ, ◌+◌, ◌≤◌, ◌<◌, Bool, List, ◌∷◌, length, get_or, drop, map, arith, sym, ◌∙◌, ap, refl, suc, zero, Option, Some, None}
+use Rattle.std.proofs.Common.{◌≡◌, ℕ, ◌+◌, ◌<◌, Bool, List, ◌∷◌, length, get_or, drop, map, arith, sym, ◌∙◌, ap, refl, suc, zero, Option}
 use Rattle.std.specs.List.{range_with_len}
 use Rattle.std.specs.Option.{option_or}
 use Rattle.std.proofs.lemmas.List.{drop_more, drop_all}
@@ -8,7 +8,7 @@ use Rattle.codes3270.specs.declared.attribute.Cell.TheVariants.{Char, Attr}
 use Rattle.codes3270.specs.declared.attribute.Attr.{Attr as Attribute}
 use Rattle.datastream.specs.Screen.{attribute_in, attribute_over, last_attribute, ring}
 use Rattle.datastream.proofs.Fields.{attribute_over_is, ring_all}
-use Rattle.presentation.specs.Glyph.{is_hidden, hidden_from, shown, glyph_of, glyph_at, glyphs_from, all_glyphs}
+use Rattle.presentation.specs.Glyph.{is_hidden, hidden_from, glyph_at, glyphs_from, all_glyphs}
 
 hidden_is : (cell : Cell) (before : Option Attribute) → hidden_from (is_hidden before) cell ≡ is_hidden (option_or (attribute_in cell) before)
 hidden_is (Char code) before = refl

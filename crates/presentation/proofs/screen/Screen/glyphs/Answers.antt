@@ -1,9 +1,8 @@
 use Rattle.codes3270.specs.Size.{cell_count}
-use Rattle.std.proofs.Common.{◌≡◌, ◌+◌, ◌-◌, ◌<◌, List, length, ap, sym, ◌∙◌, arith}
+use Rattle.std.proofs.Common.{◌≡◌, ◌+◌, ◌-◌, ◌<◌, List, length, ap, ◌∙◌, arith}
 use Rattle.std.proofs.Math.Nat.{mod-eq_of_lt}
 use Rattle.codes3270.specs.declared.attribute.Cell.{Cell}
-use Rattle.datastream.specs.Screen.{Screen, attribute_over}
-use Rattle.presentation.specs.Glyph.{is_hidden}
+use Rattle.datastream.specs.Screen.{Screen}
 use Rattle.presentation.proofs.Printing.{glyphs_walked}
 use Rattle.presentation.proofs.screen.Screen.glyphs.Goals as goal
 
