@@ -12,3 +12,4 @@ pub mod Playing
 pub mod LuNames
 pub mod ClapJobs
 pub mod TermLines
+pub mod TextTyped

@@ -1,5 +1,6 @@
 -- What an operator does at a terminal and reads there, by the lines of a script, and when the host need not be waited for any longer (our profile).
-use Rattle.std.specs.Prelude.{◌≡◌, ◌⊎◌, ℕ, Bool, true, false, List, [], ◌∷◌, ◌++◌, codes}
+use Rattle.std.specs.Prelude.{◌≡◌, ◌⊎◌, ℕ, Bool, true, false, List, [], ◌∷◌, ◌++◌, Option, Some, None, is_some, if◌then◌else◌, codes}
+use Rattle.std.specs.Option.{option_map_or}
 use Rattle.std.specs.Fmt.{decimal}
 use Rattle.keyboard.specs.Names.{refusal_number}
 use Rattle.keyboard.specs.declared.key.Key.TheVariants.{Char}
@@ -17,34 +18,34 @@ use Rattle.panel3270.specs.Counting.{Input, more}
 
 -- ---- keys
 
--- a key that was refused, by the number of the refusal
+-- why a key was refused, if it was
+abbrev pub refusal_in : Pressed → Option Refusal
+refusal_in (Refused why) = Some why
+refusal_in Done = None
+refusal_in (Send aid) = None
+
+-- a refusal, by its number
 abbrev pub refusal_text : Refusal → List ℕ
 refusal_text why = codes "refused " ++ decimal (refusal_number why) ++ newline ∷ []
 
 -- what is said of a key
 abbrev pub said_of_key : Pressed → List ℕ
-said_of_key (Refused why) = refusal_text why
-said_of_key Done = []
-said_of_key (Send aid) = []
+said_of_key pressed = option_map_or refusal_text (refusal_in pressed) []
 
 -- ---- a text is typed
-
-abbrev pub if_refused : {X : Type 0} → Pressed → X → X → X
-if_refused (Refused why) ends goes_on = ends
-if_refused Done ends goes_on = goes_on
-if_refused (Send aid) ends goes_on = goes_on
 
 -- Its characters are pressed in turn, up to the first that is refused: the terminal after that.
 abbrev pub after_text : List ℕ → Terminal → Terminal
 after_text [] old = old
 after_text (char ∷ text) old =
-    if_refused (answer_to_key (Char char) old) (after_key (Char char) old) (after_text text (after_key (Char char) old))
+    if is_some (refusal_in (answer_to_key (Char char) old)) then after_key (Char char) old
+    else after_text text (after_key (Char char) old)
 
--- what is said of them
+-- what is said of that
 abbrev pub said_of_text : List ℕ → Terminal → List ℕ
 said_of_text [] old = []
 said_of_text (char ∷ text) old =
-    if_refused (answer_to_key (Char char) old) (said_of_key (answer_to_key (Char char) old)) (said_of_text text (after_key (Char char) old))
+    option_map_or refusal_text (refusal_in (answer_to_key (Char char) old)) (said_of_text text (after_key (Char char) old))
 
 -- ---- the host is waited for
 

@@ -24,6 +24,7 @@ mod settling;
 mod show;
 mod streams;
 mod task;
+mod term;
 mod term_line;
 #[cfg(test)]
 mod tests;
@@ -41,6 +42,7 @@ use std::io::{self, ErrorKind};
 use std::process::ExitCode;
 pub use streams::{Answer, CountedReader, CountedWriter, Sink, Source, WriteFailed};
 pub use task::Task;
+pub use term::run_term;
 
 /// The exit status of words that the program doesn't take.
 const WORDS_REFUSED: u8 = 2;
@@ -107,9 +109,8 @@ fn work<E: Sink>(rt: &HostRuntime, job: Job, faults: &mut E) -> u8 {
     match job {
         Job::Script => run(rt.alloc(), Task::Script, &mut input, &mut out, faults),
         Job::Show => run(rt.alloc(), Task::Show, &mut input, &mut out, faults),
-        Job::Term { .. } | Job::Selfrun { .. } | Job::Host { .. } | Job::Serve { .. } => {
-            refuse_words(faults)
-        }
+        Job::Term { port, lu } => run_term(rt, port, lu, &mut input, &mut out, faults),
+        Job::Selfrun { .. } | Job::Host { .. } | Job::Serve { .. } => refuse_words(faults),
     }
 }
 

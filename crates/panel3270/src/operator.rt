@@ -1,9 +1,9 @@
 //! An operator at a terminal: what keys do there, and when the host need not be waited for any longer.
-ghost use Rattle.std.specs.Prelude.{◌≡◌, ◌++◌, OnOk, OnErr, [], chars, length, string_bytes};
+ghost use Rattle.std.specs.Prelude.{◌≡◌, ◌++◌, IfOk, OnOk, OnErr, [], chars, length, string_bytes};
 ghost use Rattle.term_core.specs.Presses.{after_key, answer_to_key};
 ghost use Rattle.term_core.specs.State.{phase_of};
 ghost use Rattle.panel3270.specs.Counting.{Writes};
-ghost use Rattle.panel3270.specs.Operating.{HasWaited, after_text, is_settled, refusal_text, said_of_key, said_of_text};
+ghost use Rattle.panel3270.specs.Operating.{HasWaited, after_text, is_settled, refusal_in, refusal_text, said_of_key, said_of_text};
 
 use crate::streams::{Answer, Sink, Source, WriteFailed};
 use keyboard::{Key, Lock, Pressed, Refusal};
@@ -18,6 +18,27 @@ const MOST_READS: usize = 1000;
 const CHUNK: usize = 4096;
 
 // ---- keys
+
+/// Why a key was refused, if it was.
+fn refusal_in(pressed: &Pressed) -> Option<Refusal>
+    ensures { result ≡ refusal_in pressed.now }
+{
+    match pressed {
+        Pressed::Refused(why) => Some(*why),
+        Pressed::Done | Pressed::Send(_) => None,
+    }
+}
+
+/// A key is pressed. Answers why it was refused, if it was.
+fn press_once(terminal: &mut Terminal, key: Key) -> Result<Option<Refusal>, AllocError>
+    ensures pressed { OnOk result (terminal.new ≡ after_key key terminal.old) }
+    ensures refusal { IfOk result (λ refusal. refusal ≡ refusal_in (answer_to_key key terminal.old)) }
+{
+    match terminal.press(key) {
+        Ok(pressed) => Ok(refusal_in(&pressed)),
+        Err(error) => Err(error),
+    }
+}
 
 /// Adds what is said of a key that was refused.
 fn put_refusal(text: &mut String, why: Refusal) -> Result<(), AllocError>
@@ -36,9 +57,9 @@ pub(crate) fn press(
     ensures pressed { OnOk result (terminal.new ≡ after_key key terminal.old) }
     ensures said { OnOk result (string_bytes text.new ≡ string_bytes text.old ++ said_of_key (answer_to_key key terminal.old)) }
 {
-    match terminal.press(key)? {
-        Pressed::Refused(why) => put_refusal(text, why),
-        Pressed::Done | Pressed::Send(_) => Ok(()),
+    match press_once(terminal, key)? {
+        Some(why) => put_refusal(text, why),
+        None => Ok(()),
     }
 }
 
@@ -52,7 +73,7 @@ pub(crate) fn type_text(
     ensures said { OnOk result (string_bytes text.new ≡ string_bytes text.old ++ said_of_text (chars typed.now) terminal.old) }
 {
     for letter in typed.chars() {
-        if let Pressed::Refused(why) = terminal.press(Key::Char(letter))? {
+        if let Some(why) = press_once(terminal, Key::Char(letter))? {
             return put_refusal(text, why);
         }
     }
