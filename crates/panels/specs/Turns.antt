@@ -1,8 +1,7 @@
 -- In which order the faults of a panel text are looked for (our profile).
-use Rattle.std.specs.Prelude.{◌≡◌, ℕ, suc, ◌<◌, ◌⊎◌, List, [], ◌∷◌}
+use Rattle.std.specs.Prelude.{◌≡◌, ℕ, suc, ◌<◌, ◌⊎◌, List, [], ◌∷◌, Some}
 use Rattle.toml.specs.Data.{Members}
 use Rattle.toml.specs.Parse.{parse_document}
-use Rattle.std.specs.Prelude.{Some}
 use Rattle.panels.specs.declared.fault.TreeFault.{TreeFault}
 use Rattle.panels.specs.declared.fault.TreeFault.TheVariants.{UnknownKey, Missing, BadKind, BadName, TwiceNamed, OutOfPlace, Overlap, NoCode, NoTarget, BadKey, TooMany}
 use Rattle.panels.specs.declared.fault.PanelFault.{PanelFault}

@@ -35,13 +35,14 @@ fn read_tree(alloc: Global, top: &Table) -> Result<PanelSet, PanelFault>
 
 impl PanelSet {
     /// The panels that a TOML text defines. Faults are looked for in passes: that it is TOML, then keys and types, numbers,
-    /// names, places and characters, overlaps, and targets; one of the first pass that finds any is answered. `Memory` is
-    /// answered where a growth was refused.
+    /// names, places and characters, overlaps, and targets. A pass goes from table to table: the text's own, then panel by panel
+    /// the panel's, its texts', its fields' and its keys'. The first fault is answered. `Memory` is answered where a growth was
+    /// refused.
     pub fn read(alloc: Global, text: &str) -> Result<PanelSet, PanelFault>
         ensures panels { IfOk result (IsReadFrom text.now) }
         ensures fault { IfErr result (IsReason text.now) }
 
-        // Of several faults the first is answered, pass by pass, in a pass table by table, and in a table fault by fault.
+        // It is the first: nothing that is looked for sooner stands.
         ensures first { IfErr result (IsFirstOf text.now) }
     {
         match toml::table_from_str(alloc, text) {
