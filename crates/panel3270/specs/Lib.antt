@@ -15,3 +15,6 @@ pub mod Counted
 pub mod Runs
 pub mod Words
 pub mod ClapCommands
+pub mod Sockets
+pub mod Notices
+pub mod Selfruns

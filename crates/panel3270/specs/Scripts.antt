@@ -2,6 +2,7 @@
 use Rattle.std.specs.Prelude.{◌≡◌, ⊤, ℕ, ◌+◌, ◌==◌, ◌&&◌, ◌||◌, Bool, true, List, [], ◌∷◌, codes, bytes_eq, nat_eq, Option, take, drop, map, if◌then◌else◌}
 use Rattle.std.specs.List.{after_first, starts_with}
 use Rattle.tn3270e_msg.specs.Lu.{lu_of}
+use Rattle.host_core.specs.State.{Host, new_host}
 use Rattle.lu_pool.specs.Reading.{IsReadFrom as IsPoolReadFrom, IsRight, IsFirstFault}
 use Rattle.lu_pool.specs.declared.entry.Entry.{Entry}
 use Rattle.lu_pool.specs.declared.fault.PoolFault.{PoolFault}
@@ -54,6 +55,19 @@ pub record IsWorldOf (text : List ℕ) (world : ByteWorld) : Type 0 where
   pub pool_read : IsPoolReadFrom (lus_of panels) pool
   pub lus_right : IsRight (lus_of panels)
   pub world_is : world ≡ new_byte_world panels pool terminal_count
+
+-- The text's panels, and a pool of their LUs. Text and names have no fault.
+pub record IsApplicationOf (text : List ℕ) (panels : PanelsRead) (pool : List Entry) : Type 0 where
+  pub panels_read : IsReadFrom text panels
+  pub pool_read : IsPoolReadFrom (lus_of panels) pool
+  pub lus_right : IsRight (lus_of panels)
+
+-- a host of these
+pub record IsHostOf (text : List ℕ) (host : Host) : Type 0 where
+  pub panels : PanelsRead
+  pub pool : List Entry
+  pub is_application : IsApplicationOf text panels pool
+  pub host_is : host ≡ new_host panels pool
 
 -- why a text defines no panels; want of memory is no fault of the text
 abbrev pub HasPanelFault : List ℕ → PanelFault → Type 0

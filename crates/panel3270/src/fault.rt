@@ -4,6 +4,7 @@ ghost use Rattle.panel3270.specs.Faults.{status_of};
 
 use lu_pool::PoolFault;
 use panels::PanelFault;
+use std::alloc::AllocError;
 use std::fmt;
 use thiserror::Error;
 
@@ -22,7 +23,7 @@ pub enum Fault {
     NotUnderstood(usize),
     /// A growth was refused.
     NoMemory,
-    /// The socket could not be opened.
+    /// The system refused a socket.
     SocketFailed,
     /// The turns are used up.
     TurnsOver,
@@ -65,5 +66,16 @@ impl fmt::Display for Fault {
             Fault::TurnsOver => f.write_str("turns over"),
             Fault::OutputFailed => f.write_str("output failed"),
         }
+    }
+}
+
+impl From<AllocError> for Fault {
+    ghost use Rattle.std.specs.Prelude.{◌≡◌};
+    ghost use Rattle.panel3270.specs.declared.fault.Fault.TheVariants.{NoMemory};
+
+    ghost from_gives = { λ _ fault. fault ≡ NoMemory };
+
+    fn from(_: AllocError) -> Fault {
+        Fault::NoMemory
     }
 }

@@ -11,17 +11,24 @@ mod fault;
 mod hex_line;
 mod input;
 mod job;
+mod notice;
 mod operator;
 mod page;
 mod phase_text;
+mod place;
 mod player;
 mod screen_text;
 mod script;
 mod script_line;
 #[cfg(test)]
 mod script_line_tests;
+mod seat;
+mod selfrun;
+mod server;
+mod serving;
 mod settling;
 mod show;
+mod sockets;
 mod streams;
 mod task;
 mod term;
@@ -34,6 +41,8 @@ pub use fault::Fault;
 pub use job::{Job, Port, Turns, WordFault};
 pub use page::{Page, page_of};
 pub use script::run_script;
+pub use selfrun::run_selfrun;
+pub use serving::{run_host, run_serve};
 use show::end_by;
 pub use show::run_show;
 use std::alloc::Global;
@@ -102,22 +111,26 @@ fn run<I: Source, O: Sink, E: Sink>(
     }
 }
 
-/// Does a job with the program's three streams, and answers the exit status.
-fn work<E: Sink>(rt: &HostRuntime, job: Job, faults: &mut E) -> u8 {
+fn main(rt: HostRuntime) -> ExitCode {
+    let alloc = rt.alloc();
     let mut input = CountedReader::new(rt.stdin());
     let mut out = CountedWriter::new(rt.stdout());
-    match job {
-        Job::Script => run(rt.alloc(), Task::Script, &mut input, &mut out, faults),
-        Job::Show => run(rt.alloc(), Task::Show, &mut input, &mut out, faults),
-        Job::Term { port, lu } => run_term(rt, port, lu, &mut input, &mut out, faults),
-        Job::Selfrun { .. } | Job::Host { .. } | Job::Serve { .. } => refuse_words(faults),
-    }
-}
-
-fn main(rt: HostRuntime) -> ExitCode {
     let mut faults = CountedWriter::new(rt.stderr());
     let status = match given_job(&rt) {
-        Ok(job) => work(&rt, job, &mut faults),
+        Ok(job) => match job {
+            Job::Script => run(alloc, Task::Script, &mut input, &mut out, &mut faults),
+            Job::Show => run(alloc, Task::Show, &mut input, &mut out, &mut faults),
+            Job::Selfrun { turns } => {
+                run_selfrun(&rt, alloc, turns, &mut input, &mut out, &mut faults)
+            }
+            Job::Host { port, turns } => {
+                run_host(&rt, alloc, port, turns, &mut input, &mut faults)
+            }
+            Job::Serve { port } => run_serve(&rt, alloc, port, &mut input, &mut faults),
+            Job::Term { port, lu } => {
+                run_term(&rt, port, lu, &mut input, &mut out, &mut faults)
+            }
+        },
         Err(WordFault::Refused) => refuse_words(&mut faults),
         Err(WordFault::Memory) => end_by(Fault::NoMemory, &mut faults),
     };

@@ -9,7 +9,7 @@ use term_core::TermPhase;
 use tn3270e_msg::Cause;
 
 /// The number of a cause, 1 to 9.
-fn cause_number(cause: Cause) -> u8
+pub(crate) fn cause_number(cause: Cause) -> u8
     ensures { result ≡ cause_number cause }
 {
     match cause {
@@ -26,7 +26,7 @@ fn cause_number(cause: Cause) -> u8
 }
 
 /// Adds letters, each of one byte.
-fn put_letters(text: &mut String, letters: &[u8]) -> Result<(), AllocError>
+pub(crate) fn put_letters(text: &mut String, letters: &[u8]) -> Result<(), AllocError>
     ensures { OnOk result (string_bytes text.new ≡ string_bytes text.old ++ flat_map encode_utf8 letters.now) }
 {
     for letter in letters {

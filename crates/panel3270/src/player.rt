@@ -19,7 +19,7 @@ use world3270::{Event, Stepped, World};
 pub(crate) const TERMINALS: usize = 4;
 
 /// Adds what is said of an event: `refused N` of a key, by the number of the refusal, or `skipped`.
-fn put_answer(text: &mut String, answer: Stepped) -> Result<(), AllocError>
+pub(crate) fn put_answer(text: &mut String, answer: Stepped) -> Result<(), AllocError>
     ensures { OnOk result (string_bytes text.new ≡ string_bytes text.old ++ answer_text answer) }
 {
     match answer {
@@ -97,7 +97,7 @@ fn is_in_range(asks: &Asks) -> bool
 }
 
 /// What a line asks for: None where it isn't understood.
-fn asked(line: &str) -> Option<Asks>
+pub(crate) fn asked(line: &str) -> Option<Asks>
     ensures { result ≡ asked terminal_count line.now }
 {
     let asks = asks_of(line)?;

@@ -6,7 +6,7 @@ ghost use Rattle.panels.specs.Defines.{IsReadFrom};
 ghost use Rattle.panels.specs.Panel.{Panels};
 ghost use Rattle.panels.specs.Passes.{IsReason};
 ghost use Rattle.panel3270.specs.Runs.{EndsPrinting, HasCause, IsEnd, ending_of};
-ghost use Rattle.panel3270.specs.Scripts.{HasNoWorld, IsScriptPage, IsWorldOf, behind_line, is_at_mark, lus_of, mark_place, panel_text, script_text};
+ghost use Rattle.panel3270.specs.Scripts.{HasNoWorld, IsApplicationOf, IsHostOf, IsScriptPage, IsWorldOf, behind_line, is_at_mark, lus_of, mark_place, panel_text, script_text};
 ghost use Rattle.panel3270.specs.declared.task.Task.TheVariants.{Script};
 
 use crate::fault::Fault;
@@ -14,6 +14,7 @@ use crate::input::read_whole;
 use crate::player::{TERMINALS, play};
 use crate::show::end_by;
 use crate::streams::{Sink, Source};
+use host_core::Host;
 use lu_pool::{Pool, PoolFault};
 use panels::{PanelFault, PanelSet};
 use std::alloc::Global;
@@ -127,7 +128,7 @@ fn behind_line(text: &str) -> &str
 }
 
 /// The panel text and the script.
-fn parted(input: &str) -> (&str, &str)
+pub(crate) fn parted(input: &str) -> (&str, &str)
     ensures panels { result.0.now ≡ panel_text input.now }
     ensures script { result.1.now ≡ script_text input.now }
 {
@@ -135,7 +136,7 @@ fn parted(input: &str) -> (&str, &str)
     (panels, behind_line(marked))
 }
 
-// ---- the world that a script begins with
+// ---- what a panel text defines
 
 /// The fault of a panel text.
 fn of_panels(fault: PanelFault) -> Fault
@@ -157,9 +158,9 @@ fn of_pool(fault: PoolFault) -> Fault
     }
 }
 
-/// The world of a panel text: its panels, a pool of their LUs, and terminals.
-fn world_of(alloc: Global, text: &str) -> Result<World, Fault>
-    ensures world { IfOk result (IsWorldOf text.now) }
+/// The panels of a panel text, and a pool of their LUs.
+fn application_of(alloc: Global, text: &str) -> Result<(PanelSet, Pool), Fault>
+    ensures application { IfOk result (λ parts. IsApplicationOf text.now parts.0 parts.1) }
     ensures fault { IfErr result (HasNoWorld text.now) }
 {
     let panels = match PanelSet::read(alloc, text) {
@@ -170,8 +171,35 @@ fn world_of(alloc: Global, text: &str) -> Result<World, Fault>
         Ok(pool) => pool,
         Err(fault) => return Err(of_pool(fault)),
     };
+    Ok((panels, pool))
+}
+
+/// The world of a panel text: its panels, a pool of their LUs, and terminals.
+fn world_of(alloc: Global, text: &str) -> Result<World, Fault>
+    ensures world { IfOk result (IsWorldOf text.now) }
+    ensures fault { IfErr result (HasNoWorld text.now) }
+{
+    let (panels, pool) = match application_of(alloc, text) {
+        Ok(parts) => parts,
+        Err(fault) => return Err(fault),
+    };
     match World::new(alloc, panels, pool, TERMINALS) {
         Ok(world) => Ok(world),
+        Err(_) => Err(Fault::NoMemory),
+    }
+}
+
+/// The host of a panel text: its panels, and a pool of their LUs.
+pub(crate) fn host_of(alloc: Global, text: &str) -> Result<Host, Fault>
+    ensures host { IfOk result (IsHostOf text.now) }
+    ensures fault { IfErr result (HasNoWorld text.now) }
+{
+    let (panels, pool) = match application_of(alloc, text) {
+        Ok(parts) => parts,
+        Err(fault) => return Err(fault),
+    };
+    match Host::new(alloc, panels, pool) {
+        Ok(host) => Ok(host),
         Err(_) => Err(Fault::NoMemory),
     }
 }

@@ -1,6 +1,7 @@
 //! Whole runs of `show`: what comes in, what goes out, and the exit status. Each test asks a helper, which owns one run and
 //! answers whether it ended so. Those of `script` are in `script`.
 mod script;
+mod sockets;
 
 use crate::input::{MOST_BYTES, MOST_READS};
 use crate::streams::{CountedReader, CountedWriter};

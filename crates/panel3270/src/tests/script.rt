@@ -31,7 +31,7 @@ fn push_lines(text: &mut String, lines: &[&str]) -> Result<(), AllocError> {
 }
 
 /// These panels, a line `%%`, and a script.
-fn input_of(alloc: Global, script: &[&str]) -> Result<String, AllocError> {
+pub(super) fn input_of(alloc: Global, script: &[&str]) -> Result<String, AllocError> {
     let mut text = String::new(alloc);
     push_lines(&mut text, &PANELS)?;
     push_lines(&mut text, script)?;
@@ -71,9 +71,9 @@ fn prints(alloc: Global, script: &[&str], out: &str, faults: &str) -> Result<boo
     Ok(ends(alloc, input.as_str(), status, out, faults))
 }
 
-const FREE_AT_USER: &str = "cursor 167 lock free aid 60";
+pub(super) const FREE_AT_USER: &str = "cursor 167 lock free aid 60";
 
-const FREE_AT_START: &str = "cursor 0 lock free aid 60";
+pub(super) const FREE_AT_START: &str = "cursor 0 lock free aid 60";
 
 const SIGN_ON: [(usize, &str); 3] = [(1, " SIGN ON"), (3, " USER"), (4, " DEPT")];
 

@@ -1,7 +1,7 @@
 use Rattle.std.proofs.Common.{subst, sym, ap}
 use Rattle.lu_pool.specs.Reading.{IsReadFrom, IsRight, IsFirstFault}
 use Rattle.panel3270.proofs.LuNames.{lus_read}
-use Rattle.panel3270.proofs.script.world_of.Goals as goal
+use Rattle.panel3270.proofs.script.application_of.Goals as goal
 
 pub returns-in-Err-clause-fault : goal.returns-in-Err-clause-fault
 returns-in-Err-clause-fault c = c.of_panels.ensures c.args.text.now c.in-Err.ensures.fault
@@ -11,14 +11,11 @@ returns-in-Err-read-clause-fault c =
     c.of_pool.ensures c.args.text.now c.in-Ok.panels c.in-Ok.ensures.panels
     (subst (λ lus. IsFirstFault lus c.in-Err-read.fault) (lus_read c.lus.result.now c.in-Ok.panels.lus c.lus.ensures) c.in-Err-read.ensures.fault)
 
-pub returns-in-Ok-new-clause-world : goal.returns-in-Ok-new-clause-world
-returns-in-Ok-new-clause-world c =
+pub returns-clause-application : goal.returns-clause-application
+returns-clause-application c =
     let lus = lus_read c.lus.result.now c.in-Ok.panels.lus c.lus.ensures in
     record {
-      panels = c.in-Ok.panels;
       panels_read = c.in-Ok.ensures.panels;
-      pool = c.in-Ok-read.pool;
       pool_read = subst (λ lus. IsReadFrom lus c.in-Ok-read.pool) lus c.in-Ok-read.ensures.read;
       lus_right = subst IsRight lus c.in-Ok-read.ensures.right;
-      world_is = c.in-Ok-new.ensures.begins;
     }

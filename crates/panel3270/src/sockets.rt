@@ -1,0 +1,131 @@
+//! The connections of a host, by their numbers, over sockets.
+ghost use Rattle.std.specs.Prelude.{◌≡◌, ◌<◌, false, IfOk, length, replicate};
+ghost use Rattle.host_core.specs.State.{most_connections};
+ghost use Rattle.panel3270.specs.Sockets.{began, left, new_sockets, place_at, unused, with_place, with_waiting};
+
+use crate::place::Place;
+use host_core::{LinkRead, LinkWrite, Links, MOST_CONNECTIONS};
+use mio::net::TcpStream;
+use std::alloc::{AllocError, Global};
+use std::marker::Model;
+use std::net::SocketAddr;
+
+/// The connections of a host over sockets, and whether a byte crossed since that was asked last.
+///
+/// A read answers NotNow while more bytes wait to be sent on its connection than may. A read or a write that would raise a count
+/// above its last value answers NotNow too.
+#[derive(Drop)]
+pub(crate) struct Sockets {
+    places: Vec<Place>,
+    moved: bool,
+}
+
+impl Model for Sockets {
+    ghost use Rattle.std.specs.Prelude.{◌≡◌, length};
+    ghost use Rattle.host_core.specs.State.{most_connections};
+    ghost use Rattle.panel3270.specs.Sockets.{Sockets as Stand};
+
+    ghost Value = { Stand };
+
+    ghost view = { λ sockets. record { places = sockets.places.items; moved = sockets.moved } };
+
+    ghost invariant = { λ sockets. length sockets.places.items ≡ most_connections };
+}
+
+/// So many numbers without connections.
+fn unused_places(alloc: Global) -> Result<Vec<Place>, AllocError>
+    ensures { IfOk result (λ places. places.items ≡ replicate most_connections unused) }
+{
+    let mut places = Vec::with_capacity(alloc, MOST_CONNECTIONS)?;
+    for _ in 0..MOST_CONNECTIONS {
+        places.push(Place::unused())?;
+    }
+    Ok(places)
+}
+
+impl Sockets {
+    /// No connection yet.
+    pub(crate) fn new(alloc: Global) -> Result<Sockets, AllocError>
+        ensures { IfOk result (λ sockets. sockets ≡ new_sockets) }
+    {
+        Ok(Sockets {
+            places: unused_places(alloc)?,
+            moved: false,
+        })
+    }
+
+    /// Whether a number has a connection.
+    pub(crate) fn is_connected(&self, conn: usize) -> bool
+        requires { conn < most_connections }
+        ensures { result ≡ (place_at conn self.now).connected }
+    {
+        self.places[conn].is_connected()
+    }
+
+    /// Where the peer of a number is, if it has a connection and that is known.
+    pub(crate) fn peer(&self, conn: usize) -> Option<SocketAddr> {
+        self.places.get(conn)?.socket()?.peer_addr().ok()
+    }
+
+    /// A connection begins on a number.
+    pub(crate) fn begin(&mut self, conn: usize, socket: TcpStream)
+        requires { conn < most_connections }
+        ensures { self.new ≡ with_place conn (began (place_at conn self.old)) self.old }
+    {
+        self.places[conn].begin(socket);
+    }
+
+    /// The connection of a number is over: its socket is closed.
+    pub(crate) fn leave(&mut self, conn: usize)
+        requires { conn < most_connections }
+        ensures { self.new ≡ with_place conn (left (place_at conn self.old)) self.old }
+    {
+        self.places[conn].leave();
+    }
+
+    /// So many bytes wait to be sent on a number.
+    pub(crate) fn set_waiting(&mut self, conn: usize, waiting: usize)
+        requires { conn < most_connections }
+        ensures { self.new ≡ with_place conn (with_waiting waiting (place_at conn self.old)) self.old }
+    {
+        self.places[conn].set_waiting(waiting);
+    }
+
+    /// Whether a byte crossed since this was asked last.
+    pub(crate) fn take_moved(&mut self) -> bool
+        ensures moved { result ≡ self.old.moved }
+        ensures taken { self.new ≡ record self.old { moved = false } }
+    {
+        std::mem::replace(&mut self.moved, false)
+    }
+}
+
+impl Links for Sockets {
+    ghost use Rattle.panel3270.specs.Sockets.{GivesAt, TakesAt, ends_at, failures_at};
+
+    ghost ends = { λ sockets conn. ends_at conn sockets };
+
+    ghost failures = { λ sockets conn. failures_at conn sockets };
+
+    ghost gave = { GivesAt };
+
+    ghost took = { TakesAt };
+
+    fn read(&mut self, conn: usize, buffer: &mut [u8]) -> LinkRead {
+        if conn >= self.places.len() {
+            return LinkRead::NotNow;
+        }
+        let answer = self.places[conn].read(buffer);
+        self.moved |= matches!(answer, LinkRead::Got(_));
+        answer
+    }
+
+    fn write(&mut self, conn: usize, bytes: &[u8]) -> LinkWrite {
+        if conn >= self.places.len() {
+            return LinkWrite::NotNow;
+        }
+        let answer = self.places[conn].write(bytes);
+        self.moved |= matches!(answer, LinkWrite::Took(_));
+        answer
+    }
+}

@@ -1,0 +1,138 @@
+//! Whole runs over sockets of this machine.
+use super::script::{FREE_AT_START, FREE_AT_USER, input_of};
+use super::{Outcome, Paper, Pieces, printed};
+use crate::streams::{CountedReader, CountedWriter};
+use crate::{run_host, run_selfrun};
+use std::alloc::{AllocError, Global};
+use std::io;
+use std::net::{Ipv4Addr, Net, OpenListener, SocketAddr, TcpListener};
+use std::test::Fail;
+
+fn paper(alloc: Global) -> CountedWriter<Paper> {
+    CountedWriter::new(Paper {
+        text: Vec::new(alloc),
+        room: usize::MAX,
+    })
+}
+
+/// Whether a run ended so.
+fn is_end(outcome: &Outcome, status: u8, out: &str, faults: &str) -> bool {
+    outcome.status == status
+        && outcome.out.as_slice() == out.as_bytes()
+        && outcome.faults.as_slice() == faults.as_bytes()
+}
+
+/// How a script ends over sockets.
+fn selfrun_by<N: Net>(net: &N, alloc: Global, turns: u32, input: &str) -> Outcome {
+    let mut input = CountedReader::new(Pieces::whole(input.as_bytes()));
+    let mut out = paper(alloc);
+    let mut faults = paper(alloc);
+    let status = run_selfrun(net, alloc, turns, &mut input, &mut out, &mut faults);
+    Outcome {
+        status,
+        out: out.into_inner().text,
+        faults: faults.into_inner().text,
+    }
+}
+
+/// How a host ends that serves at a port for so many turns.
+fn host_by<N: Net>(net: &N, alloc: Global, port: u16, turns: u32, input: &str) -> Outcome {
+    let mut input = CountedReader::new(Pieces::whole(input.as_bytes()));
+    let mut faults = paper(alloc);
+    let status = run_host(net, alloc, port, turns, &mut input, &mut faults);
+    Outcome {
+        status,
+        out: Vec::new(alloc),
+        faults: faults.into_inner().text,
+    }
+}
+
+/// A required field is left out, asked for, and filled in.
+static SESSION: [&str; 11] = [
+    "connect 0 PNL01",
+    "settle",
+    "key 0 tab",
+    "type 0 D7",
+    "key 0 enter",
+    "settle",
+    "show 0",
+    "type 0 ANN",
+    "key 0 enter",
+    "settle",
+    "show 0",
+];
+
+const ASKED: [(usize, &str); 4] = [
+    (1, " SIGN ON"),
+    (3, " USER"),
+    (4, " DEPT  D7"),
+    (24, " REQUIRED: user"),
+];
+
+const GREETED: [(usize, &str); 1] = [(1, " HELLO  ANN")];
+
+fn both_screens(alloc: Global) -> Result<String, AllocError> {
+    let mut text = printed(alloc, &[], &ASKED, FREE_AT_USER)?;
+    text.push_str(printed(alloc, &[], &GREETED, FREE_AT_START)?.as_str())?;
+    Ok(text)
+}
+
+/// The session prints both screens, and nothing where one turn is all that it may take.
+fn plays_the_session<N: Net>(net: &N, alloc: Global) -> Result<bool, AllocError> {
+    let input = input_of(alloc, &SESSION)?;
+    let screens = both_screens(alloc)?;
+    let whole = selfrun_by(net, alloc, 10_000, input.as_str());
+    let cut_short = selfrun_by(net, alloc, 1, input.as_str());
+    Ok(is_end(&whole, 0, screens.as_str(), "") && is_end(&cut_short, 5, "", "turns over\n"))
+}
+
+/// A terminal that is lost is idle at once; its LU is granted to another once the host has seen that. A connection that isn't there is
+/// not lost, and a script over sockets moves no bytes itself.
+fn loses_a_terminal<N: Net>(net: &N, alloc: Global) -> Result<bool, AllocError> {
+    let script = [
+        "connect 0 PNL01",
+        "settle",
+        "lose 0",
+        "status 0",
+        "settle",
+        "connect 1 PNL01",
+        "settle",
+        "status 1",
+        "lose 7",
+        "up 0 1",
+    ];
+    let input = input_of(alloc, &script)?;
+    let outcome = selfrun_by(net, alloc, 10_000, input.as_str());
+    Ok(is_end(
+        &outcome,
+        1,
+        "idle\nbound PNL01\nskipped\n",
+        "line 10: not understood\n",
+    ))
+}
+
+/// A host serves for as many turns as it may, and not at a port that is taken.
+fn serves_or_is_refused<N: Net>(net: &N, alloc: Global, panels: &str) -> io::Result<bool> {
+    let taken = TcpListener::bind(net, SocketAddr::from((Ipv4Addr::LOCALHOST, 0)))?;
+    let port = taken.local_addr()?.port();
+    let refused = host_by(net, alloc, port, 1, panels);
+    let served = host_by(net, alloc, 0, 2, panels);
+    Ok(is_end(&refused, 4, "", "socket failed\n") && is_end(&served, 5, "", "turns over\n"))
+}
+
+#[test]
+fn both_ends_meet(rt: HostRuntime) -> Result<(), Fail> {
+    assert!(rt; plays_the_session(&rt, rt.alloc())? && loses_a_terminal(&rt, rt.alloc())?);
+    Ok(())
+}
+
+#[test]
+fn a_host_takes_its_turns(rt: HostRuntime) -> Result<(), Fail> {
+    let panels = input_of(rt.alloc(), &[])?;
+    let is_served = match panels.as_str().strip_suffix("%%\n") {
+        Some(panels) => serves_or_is_refused(&rt, rt.alloc(), panels)?,
+        None => false,
+    };
+    assert!(rt; is_served);
+    Ok(())
+}
