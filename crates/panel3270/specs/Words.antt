@@ -93,10 +93,10 @@ job_named name options =
     if bytes_eq name (codes "show") then Some job.Show else
     if bytes_eq name (codes "selfrun") then option_map (λ turns. job.Selfrun turns) (given_turns options) else
     if bytes_eq name (codes "host") then
-        option_and_then (λ port. option_map (λ turns. job.Host port turns) (given_turns options)) (given_port options) else
+    option_and_then (λ port. option_map (λ turns. job.Host port turns) (given_turns options)) (given_port options) else
     if bytes_eq name (codes "serve") then option_map (λ port. job.Serve port) (given_port options) else
     if bytes_eq name (codes "term") then
-        option_and_then (λ port. option_map (λ lu. job.Term port lu) (given_lu options)) (given_port options) else
+    option_and_then (λ port. option_map (λ lu. job.Term port lu) (given_lu options)) (given_port options) else
     None
 
 -- no word asks for `script`

@@ -5,7 +5,6 @@ ghost use Rattle.clap.specs.Simple.{subcommand_rows_of};
 ghost use Rattle.clap.specs.Matches.{found_of};
 ghost use Rattle.panel3270.specs.Words.{HasNoJob, program, job_of, job_by, job_named, given_port, given_turns, given_lu, port_rule, turns_rule, lu_rule, script_shape, show_shape, selfrun_shape, host_shape, serve_shape, term_shape};
 ghost use Rattle.panel3270.specs.ClapCommands.{IsOption, IsJob, IsCommand, IsMatch, HasNoMatch, fault_by};
-
 ghost use Rattle.panel3270.specs.declared.job.WordFault.TheVariants.{Memory, Refused};
 ghost use Rattle.clap.specs.Values.{kind_of};
 
@@ -118,13 +117,17 @@ fn job_named(name: &str, options: &ArgMatches<'_>) -> Option<Job>
     match name {
         "script" => Some(Job::Script),
         "show" => Some(Job::Show),
-        "selfrun" => Some(Job::Selfrun { turns: turns_in(options)? }),
+        "selfrun" => Some(Job::Selfrun {
+            turns: turns_in(options)?,
+        }),
         "host" => {
             let port = port_in(options)?;
             let turns = turns_in(options)?;
             Some(Job::Host { port, turns })
         }
-        "serve" => Some(Job::Serve { port: port_in(options)? }),
+        "serve" => Some(Job::Serve {
+            port: port_in(options)?,
+        }),
         "term" => {
             let port = port_in(options)?;
             let lu = lu_in(options)?;

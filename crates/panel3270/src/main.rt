@@ -127,9 +127,7 @@ fn main(rt: HostRuntime) -> ExitCode {
                 run_host(&rt, alloc, port, turns, &mut input, &mut faults)
             }
             Job::Serve { port } => run_serve(&rt, alloc, port, &mut input, &mut faults),
-            Job::Term { port, lu } => {
-                run_term(&rt, port, lu, &mut input, &mut out, &mut faults)
-            }
+            Job::Term { port, lu } => { run_term(&rt, port, lu, &mut input, &mut out, &mut faults) }
         },
         Err(WordFault::Refused) => refuse_words(&mut faults),
         Err(WordFault::Memory) => end_by(Fault::NoMemory, &mut faults),

@@ -49,11 +49,7 @@ fn put_refusal(text: &mut String, why: Refusal) -> Result<(), AllocError>
 }
 
 /// A key is pressed, and `refused N` is added where it was.
-pub(crate) fn press(
-    terminal: &mut Terminal,
-    key: Key,
-    text: &mut String,
-) -> Result<(), AllocError>
+pub(crate) fn press(terminal: &mut Terminal, key: Key, text: &mut String) -> Result<(), AllocError>
     ensures pressed { OnOk result (terminal.new ≡ after_key key terminal.old) }
     ensures said { OnOk result (string_bytes text.new ≡ string_bytes text.old ++ said_of_key (answer_to_key key terminal.old)) }
 {

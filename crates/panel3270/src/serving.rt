@@ -35,7 +35,13 @@ fn serve_turns(server: &mut Server, turns: Turns) -> Result<(), Fault> {
 }
 
 /// Serves so many turns, and answers what ended them.
-fn host<N: Net, I: Source>(net: &N, alloc: Global, port: u16, turns: u32, input: &mut I) -> Fault {
+fn host<N: Net, I: Source>(
+    net: &N,
+    alloc: Global,
+    port: Port,
+    turns: Turns,
+    input: &mut I,
+) -> Fault {
     let mut server = match begin(net, alloc, port, input) {
         Ok(server) => server,
         Err(fault) => return fault,
