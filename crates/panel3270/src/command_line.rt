@@ -1,12 +1,11 @@
 //! The words behind the program's name.
-ghost use Rattle.std.specs.Prelude.{◌≡◌, IfOk, IfErr, OnErr, map, string_bytes, option_map, None, Some, true};
+ghost use Rattle.std.specs.Prelude.{◌≡◌, IfOk, IfErr, Some, map, option_map, string_bytes};
 ghost use Rattle.clap.specs.Walk.{first_of, rows_of};
 ghost use Rattle.clap.specs.Simple.{subcommand_rows_of};
 ghost use Rattle.clap.specs.Matches.{found_of};
-ghost use Rattle.panel3270.specs.Words.{HasNoJob, program, job_of, job_by, job_named, given_port, given_turns, given_lu, port_rule, turns_rule, lu_rule, script_shape, show_shape, selfrun_shape, host_shape, serve_shape, term_shape};
-ghost use Rattle.panel3270.specs.ClapCommands.{IsOption, IsJob, IsCommand, IsMatch, HasNoMatch, fault_by};
-ghost use Rattle.panel3270.specs.declared.job.WordFault.TheVariants.{Memory, Refused};
 ghost use Rattle.clap.specs.Values.{kind_of};
+ghost use Rattle.panel3270.specs.Words.{HasNoJob, program, job_of, job_by, job_named, given_port, given_turns, given_lu, port_rule, turns_rule, lu_rule, selfrun_shape, host_shape, serve_shape, term_shape};
+ghost use Rattle.panel3270.specs.ClapCommands.{IsOption, IsJob, IsCommand, IsMatch, HasNoMatch, fault_by};
 
 use crate::job::{Job, Port, Turns, WordFault};
 use clap::error::ErrorKind;
@@ -16,30 +15,35 @@ use tn3270e_msg::Lu;
 
 // ---- the command line
 
+/// `--port P`, which has to be given.
 fn port_option<'a>(alloc: Global) -> Arg<'a>
     ensures { IsOption port_rule result }
 {
     Arg::new(alloc, "port").long("port").required(true)
 }
 
+/// `--turns N`.
 fn turns_option<'a>(alloc: Global) -> Arg<'a>
     ensures { IsOption turns_rule result }
 {
     Arg::new(alloc, "turns").long("turns")
 }
 
+/// `--lu NAME`.
 fn lu_option<'a>(alloc: Global) -> Arg<'a>
     ensures { IsOption lu_rule result }
 {
     Arg::new(alloc, "lu").long("lu")
 }
 
+/// `selfrun [--turns N]`.
 fn selfrun<'a>(alloc: Global) -> Result<Command<'a>, AllocError>
     ensures { IfOk result (IsJob selfrun_shape) }
 {
     Command::new(alloc, "selfrun").arg(turns_option(alloc))
 }
 
+/// `host --port P [--turns N]`.
 fn host<'a>(alloc: Global) -> Result<Command<'a>, AllocError>
     ensures { IfOk result (IsJob host_shape) }
 {
@@ -47,12 +51,14 @@ fn host<'a>(alloc: Global) -> Result<Command<'a>, AllocError>
     command.arg(turns_option(alloc))
 }
 
+/// `serve --port P`.
 fn serve<'a>(alloc: Global) -> Result<Command<'a>, AllocError>
     ensures { IfOk result (IsJob serve_shape) }
 {
     Command::new(alloc, "serve").arg(port_option(alloc))
 }
 
+/// `term --port P [--lu NAME]`.
 fn term<'a>(alloc: Global) -> Result<Command<'a>, AllocError>
     ensures { IfOk result (IsJob term_shape) }
 {
@@ -173,7 +179,10 @@ fn matches_of<'a>(alloc: Global, words: &'a [String]) -> Result<ArgMatches<'a>, 
     }
 }
 
-/// The job that the words behind the program's name ask for.
+/// The job that the words behind the program's name ask for: `script` where there is none.
+///
+/// Answers Refused where the command line doesn't take them, or a port, a number of turns or an LU's name isn't one; Memory where
+/// a growth was refused.
 pub fn words(alloc: Global, words: &[String]) -> Result<Job, WordFault>
     ensures job { IfOk result (λ job. job_of (map string_bytes words.now) ≡ Some job) }
     ensures fault { IfErr result (HasNoJob (map string_bytes words.now)) }

@@ -1,7 +1,8 @@
 //! `term`: a terminal of a host, whose operator does the commands of a script.
-ghost use Rattle.std.specs.Prelude.{◌≡◌, ◌++◌, OnOk, chars, string_bytes};
+ghost use Rattle.std.specs.Prelude.{◌≡◌, ◌++◌, ℕ, List, OnOk, string_bytes};
 ghost use Rattle.term_core.specs.ScreenText.{screen_text};
 ghost use Rattle.term_core.specs.State.{phase_of};
+ghost use Rattle.panel3270.specs.Operating.{DoesLine};
 ghost use Rattle.panel3270.specs.PhaseText.{phase_line};
 
 use crate::fault::Fault;
@@ -50,7 +51,10 @@ fn do_line<D: Source, U: Sink>(
     asks: TermAsks,
     line: &str,
     text: &mut String,
-) -> Result<(), AllocError> {
+) -> Result<(), AllocError>
+    ensures { OnOk result ((said : List ℕ) × DoesLine asks line.now terminal.old terminal.new (D.seen wire.old.down) (D.seen wire.new.down) said
+        × (string_bytes text.new ≡ string_bytes text.old ++ said)) }
+{
     match asks {
         TermAsks::Nothing => Ok(()),
         TermAsks::Types => type_text(terminal, behind(line), text),

@@ -1,7 +1,9 @@
 //! Whole runs of `show`: what comes in, what goes out, and the exit status. Each test asks a helper, which owns one run and
-//! answers whether it ended so. Those of `script` are in `script`.
+//! answers whether it ended so. Those of `script` are in `script`, those of `term` in `terminals`.
+mod command_words;
 mod script;
 mod sockets;
+mod terminals;
 
 use crate::input::{MOST_BYTES, MOST_READS};
 use crate::streams::{CountedReader, CountedWriter};
