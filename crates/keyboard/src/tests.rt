@@ -1,5 +1,7 @@
 //! Keys on screens that commands laid out: what each key answers, where the cursor goes, and what is read afterwards. A test
 //! makes what is owned and lends it to one helper, which answers whether all is as it should be.
+mod by_search;
+
 use crate::*;
 use codes3270::{Aid, CELLS};
 use datastream::read_command;

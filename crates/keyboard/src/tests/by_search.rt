@@ -1,0 +1,56 @@
+//! Where New Line goes, beside what a search from cell to cell finds.
+ghost use Rattle.std.specs.Prelude.{◌≡◌, length};
+ghost use Rattle.codes3270.specs.Size.{cell_count};
+
+use super::{SIGN_ON, obey};
+use crate::places;
+use codes3270::{Addr, CELLS, COLUMNS, ROWS};
+use presentation::Screen;
+
+/// The first cell behind a row that may be typed into, round the end, each looked up by itself; 0 if there is none.
+fn searched_line(screen: &Screen, row: u16) -> Addr {
+    let behind = Addr::first().forward((row % ROWS) * COLUMNS);
+    for step in 0..CELLS {
+        let place = behind.forward(COLUMNS).forward(step);
+        if places::is_free(screen, place) {
+            return place;
+        }
+    }
+    Addr::first()
+}
+
+/// Whether New Line goes there from the first and the last cell of a row.
+fn goes_to(screen: &Screen, row: u16, wanted: Addr) -> bool
+    requires { length screen.now.cells ≡ cell_count }
+{
+    let first = Addr::first().forward((row % ROWS) * COLUMNS);
+    places::next_line(screen, first) == wanted
+        && places::next_line(screen, first.forward(COLUMNS - 1)) == wanted
+}
+
+/// Whether New Line goes from each row to where a search does, on the screen that a command makes.
+fn goes_as_searched(screen: &mut Screen, command: &[u8]) -> bool {
+    let is_obeyed = obey(screen, command).is_some();
+    let _cursor = screen.cursor();
+    for row in 0..ROWS {
+        if !goes_to(screen, row, searched_line(screen, row)) {
+            return false;
+        }
+    }
+    is_obeyed
+}
+
+/// The last cell holds the only attribute, a protected one.
+static PROTECTED: &[u8] = b"\xF5\xC3\x11\x5D\x7F\x1D\x60";
+
+/// A protected attribute begins the screen, and an unprotected one ends it.
+static ONE_CELL_OPEN: &[u8] = b"\xF5\xC3\x1D\x60\x11\x5D\x7E\x1D\x40";
+
+#[test]
+fn new_line_goes_as_searched(rt: HostRuntime) {
+    let is_so = goes_as_searched(&mut Screen::blank(), b"\xF5\xC3")
+        && goes_as_searched(&mut Screen::blank(), SIGN_ON)
+        && goes_as_searched(&mut Screen::blank(), PROTECTED)
+        && goes_as_searched(&mut Screen::blank(), ONE_CELL_OPEN);
+    assert!(rt; is_so);
+}
