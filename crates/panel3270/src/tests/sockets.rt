@@ -2,7 +2,7 @@
 use super::script::{FREE_AT_START, FREE_AT_USER, input_of};
 use super::{Outcome, Paper, Pieces, printed};
 use crate::streams::{CountedReader, CountedWriter};
-use crate::{run_host, run_selfrun};
+use crate::{Port, Turns, run_host, run_selfrun};
 use std::alloc::{AllocError, Global};
 use std::io;
 use std::net::{Ipv4Addr, Net, OpenListener, SocketAddr, TcpListener};
@@ -23,7 +23,7 @@ fn is_end(outcome: &Outcome, status: u8, out: &str, faults: &str) -> bool {
 }
 
 /// How a script ends over sockets.
-fn selfrun_by<N: Net>(net: &N, alloc: Global, turns: u32, input: &str) -> Outcome {
+fn selfrun_by<N: Net>(net: &N, alloc: Global, turns: Turns, input: &str) -> Outcome {
     let mut input = CountedReader::new(Pieces::whole(input.as_bytes()));
     let mut out = paper(alloc);
     let mut faults = paper(alloc);
@@ -36,7 +36,7 @@ fn selfrun_by<N: Net>(net: &N, alloc: Global, turns: u32, input: &str) -> Outcom
 }
 
 /// How a host ends that serves at a port for so many turns.
-fn host_by<N: Net>(net: &N, alloc: Global, port: u16, turns: u32, input: &str) -> Outcome {
+fn host_by<N: Net>(net: &N, alloc: Global, port: Port, turns: Turns, input: &str) -> Outcome {
     let mut input = CountedReader::new(Pieces::whole(input.as_bytes()));
     let mut faults = paper(alloc);
     let status = run_host(net, alloc, port, turns, &mut input, &mut faults);
@@ -77,13 +77,20 @@ fn both_screens(alloc: Global) -> Result<String, AllocError> {
     Ok(text)
 }
 
-/// The session prints both screens, and nothing where one turn is all that it may take.
+/// Where one turn is all that a script may take, nothing is printed.
+fn is_cut_short<N: Net>(net: &N, alloc: Global, input: &str) -> bool {
+    match Turns::new(1) {
+        Some(one) => is_end(&selfrun_by(net, alloc, one, input), 5, "", "turns over\n"),
+        None => false,
+    }
+}
+
+/// The session prints both screens.
 fn plays_the_session<N: Net>(net: &N, alloc: Global) -> Result<bool, AllocError> {
     let input = input_of(alloc, &SESSION)?;
     let screens = both_screens(alloc)?;
-    let whole = selfrun_by(net, alloc, 10_000, input.as_str());
-    let cut_short = selfrun_by(net, alloc, 1, input.as_str());
-    Ok(is_end(&whole, 0, screens.as_str(), "") && is_end(&cut_short, 5, "", "turns over\n"))
+    let whole = selfrun_by(net, alloc, Turns::usual(), input.as_str());
+    Ok(is_end(&whole, 0, screens.as_str(), "") && is_cut_short(net, alloc, input.as_str()))
 }
 
 /// A terminal that is lost is idle at once; its LU is granted to another once the host has seen that. A connection that isn't there is
@@ -102,7 +109,7 @@ fn loses_a_terminal<N: Net>(net: &N, alloc: Global) -> Result<bool, AllocError> 
         "up 0 1",
     ];
     let input = input_of(alloc, &script)?;
-    let outcome = selfrun_by(net, alloc, 10_000, input.as_str());
+    let outcome = selfrun_by(net, alloc, Turns::usual(), input.as_str());
     Ok(is_end(
         &outcome,
         1,
@@ -111,13 +118,36 @@ fn loses_a_terminal<N: Net>(net: &N, alloc: Global) -> Result<bool, AllocError> 
     ))
 }
 
+/// Whether a host that may serve two turns at a port ends so.
+fn host_ends<N: Net>(
+    net: &N,
+    alloc: Global,
+    number: u16,
+    panels: &str,
+    status: u8,
+    faults: &str,
+) -> bool {
+    match Port::new(number) {
+        Some(port) => match Turns::new(2) {
+            Some(two) => is_end(&host_by(net, alloc, port, two, panels), status, "", faults),
+            None => false,
+        },
+        None => false,
+    }
+}
+
+/// Whether a host is refused a port that is taken; and that port, which is free then.
+fn is_refused_a_port<N: Net>(net: &N, alloc: Global, panels: &str) -> io::Result<(bool, u16)> {
+    let taken = TcpListener::bind(net, SocketAddr::from((Ipv4Addr::LOCALHOST, 0)))?;
+    let number = taken.local_addr()?.port();
+    let is_refused = host_ends(net, alloc, number, panels, 4, "socket failed\n");
+    Ok((is_refused, number))
+}
+
 /// A host serves for as many turns as it may, and not at a port that is taken.
 fn serves_or_is_refused<N: Net>(net: &N, alloc: Global, panels: &str) -> io::Result<bool> {
-    let taken = TcpListener::bind(net, SocketAddr::from((Ipv4Addr::LOCALHOST, 0)))?;
-    let port = taken.local_addr()?.port();
-    let refused = host_by(net, alloc, port, 1, panels);
-    let served = host_by(net, alloc, 0, 2, panels);
-    Ok(is_end(&refused, 4, "", "socket failed\n") && is_end(&served, 5, "", "turns over\n"))
+    let (is_refused, number) = is_refused_a_port(net, alloc, panels)?;
+    Ok(is_refused && host_ends(net, alloc, number, panels, 5, "turns over\n"))
 }
 
 #[test]
