@@ -53,7 +53,7 @@ fields_fresh whole n (Attr a ∷ rest) =
     let others = fields_fresh whole (n + 1) rest in
     cc
 
-both : (bs : List Belief) (fs : List Field) (known : List (Option ℕ)) (text : List ℕ) → bs ≡ map belief_seen fs → known ≡ map Some text → formatted_as bs known ≡ formatted_or fs text
+pub both : (bs : List Belief) (fs : List Field) (known : List (Option ℕ)) (text : List ℕ) → bs ≡ map belief_seen fs → known ≡ map Some text → formatted_as bs known ≡ formatted_or fs text
 both [] [] known text same is = ap Shadow.Unformatted is
 both [] (f ∷ fs) known text same is = absurd (cc)
 both (b ∷ bs) [] known text same is = absurd (cc)

@@ -1,7 +1,7 @@
 -- For proofs alone: the fields that came, one after another (our profile).
 use Rattle.std.specs.Prelude.{◌==◌, ℕ, List, [], ◌∷◌, Option, Some, None, if◌then◌else◌}
 use Rattle.datastream.specs.InboundFields.{Returned}
-use Rattle.shadow.specs.declared.hearing.Came.{Came}
+use Rattle.shadow.specs.declared.came.Came.{Came}
 
 abbrev pub returned_of : Came → Returned
 returned_of came = record { first = came.first; text = came.text.now }

@@ -5,7 +5,6 @@ pub mod Seen
 pub mod Heard
 pub mod Stores
 pub mod Taken
-pub mod Skips
 pub mod Painted
 pub mod Fits
 pub mod Paint
@@ -16,7 +15,9 @@ pub mod Storable
 pub mod Notes
 pub mod Asked
 pub mod Held
-pub mod Store
 pub mod Came
-pub mod State
 pub mod Appending
+pub mod InPlace
+pub mod Since
+pub mod Filled
+pub mod Base

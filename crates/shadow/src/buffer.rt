@@ -1,24 +1,18 @@
 //! Whether a screen that was read can be the one that is believed.
-ghost use Rattle.std.specs.Prelude.{◌≡◌, ◌∷◌, ℕ, List, All, length, map, replicate, Some, None};
+ghost use Rattle.std.specs.Prelude.{◌≡◌, ◌<◌, ◌+◌, ◌++◌, ◌∷◌, [], List, MatchOption, length, drop, slice_index_or};
 ghost use Rattle.codes3270.specs.Size.{cell_count};
 ghost use Rattle.codes3270.specs.declared.attribute.Cell.{Cell as ScreenCell};
-ghost use Rattle.datastream.specs.Fields.{Field as Read, fields as fields_in};
-ghost use Rattle.datastream.specs.InboundFields.{cells_sent};
-ghost use Rattle.datastream.specs.InboundText.{IsCellProper};
-ghost use Rattle.datastream.specs.declared.inbound_part.Part.{Part as SentPart};
-ghost use Rattle.shadow.specs.Belief.Fact.{Exact as ExactText};
-ghost use Rattle.shadow.specs.Seen.{differs, known_chars, belief_seen, is_other as is_other_field, others, same_attr as are_same};
-ghost use Rattle.shadow.specs.Held.{fact_of, belief_of};
-ghost use Rattle.shadow.specs.Taken.{new_cell};
+ghost use Rattle.datastream.specs.Fields.{fields as fields_in};
+ghost use Rattle.shadow.specs.declared.place.Place.TheVariants.{Unknown};
+ghost use Rattle.shadow.specs.InPlace.{chars_known, beliefs_held, known_text, misses_here, other_here, IsHeld};
+ghost use Rattle.shadow.specs.Since.{places_stored};
+ghost use Rattle.shadow.specs.Seen.{differs, others, same_attr as are_same};
 
-use crate::cells::{Cells, fields_of};
-use crate::fields::Fields;
-use crate::held::{Field, Lent, Telling};
-use crate::known::Known;
-use crate::writing::stored_cell;
-use arrayvec::ArrayVec;
-use codes3270::{Attr, Cell, attr_code};
-use datastream::{Part, Parts};
+use crate::place::Place;
+use crate::places::{Ahead, Places};
+use crate::taking::place_of;
+use codes3270::{Attr, attr_code};
+use datastream::Cells;
 
 /// Whether two attributes have the same code without MDT.
 pub(crate) fn same_attr(one: Attr, other: Attr) -> bool
@@ -27,115 +21,87 @@ pub(crate) fn same_attr(one: Attr, other: Attr) -> bool
     attr_code(one.with_mdt(false)) == attr_code(other.with_mdt(false))
 }
 
-/// Whether a text isn't this one.
-fn is_other_text(value: &[u8], text: &[u8]) -> bool
-    ensures { result ≡ differs (map Some value.now) text.now }
+/// The next character that was read, if one stands before the first attribute.
+fn next_char(read: &mut Ahead<'_>) -> Option<u8>
+    ensures { MatchOption result (known_text (chars_known read.old) ≡ []) (λ char. known_text (chars_known read.old) ≡ char ∷ known_text (chars_known read.new)) }
 {
-    let mut rest = text;
-    for c in value {
-        match rest {
-            [first, others @ ..] => {
-                if *first != *c {
-                    return true;
-                }
-                rest = others;
-            }
-            [] => return true,
+    match read.next() {
+        Some(Place::Known(char)) => Some(char),
+        _ => None,
+    }
+}
+
+/// Whether a place shows that a text is another: `char` is its next character.
+fn differs_here(place: Place, char: Option<u8>) -> bool
+    ensures { result ≡ misses_here place char }
+{
+    match (place, char) {
+        (Place::Attr(_, _, _), char) => char.is_some(),
+        (_, None) => true,
+        (Place::Known(known), Some(char)) => char != known,
+        (_, Some(_)) => false,
+    }
+}
+
+/// Whether the characters before the first attribute that are known aren't those that were read.
+fn are_others(known: Ahead<'_>, read: Ahead<'_>) -> bool
+    ensures { result ≡ differs (chars_known known.entry) (known_text (chars_known read.entry)) }
+{
+    let mut read = read;
+    for place in known {
+        let char = next_char(&mut read);
+        if differs_here(place, char) {
+            return true;
+        }
+        match place {
+            Place::Attr(_, _, _) => return false,
+            Place::Known(_) => {}
+            Place::Told(_) => {}
+            Place::Unknown => {}
         }
     }
-    !rest.is_empty()
+    next_char(&mut read).is_some()
 }
 
-/// Whether the known characters aren't a text's.
-fn are_others(known: &[Option<u8>], text: &[u8]) -> bool
-    ensures { result ≡ differs known.now text.now }
+/// Whether what was read at a place shows that a screen isn't the one that is believed.
+fn is_other(places: &Places, read: &Places, place: usize) -> bool
+    requires { place < cell_count }
+    ensures { result ≡ other_here (slice_index_or places.now place Unknown) (slice_index_or read.now place Unknown) (drop (place + 1) places.now ++ places.now) (drop (place + 1) read.now ++ read.now) }
 {
-    let mut rest = text;
-    for char in known {
-        match (char, rest) {
-            (None, [_, others @ ..]) => rest = others,
-            (Some(c), [first, others @ ..]) if *first == *c => rest = others,
-            _ => return true,
+    match (places.get(place), read.get(place)) {
+        (Place::Attr(believed, _, _), Place::Attr(attr, _, _)) => {
+            !same_attr(attr, believed)
+                || believed.protected && are_others(places.ahead(place), read.ahead(place))
         }
+        (Place::Attr(_, _, _), _) => true,
+        (_, Place::Attr(_, _, _)) => true,
+        _ => false,
     }
-    !rest.is_empty()
-}
-
-/// Whether a text hasn't so many characters.
-fn is_other_length(length: usize, text: &[u8]) -> bool
-    ensures { result ≡ differs (replicate length None) text.now }
-{
-    length != text.len()
-}
-
-/// Whether the characters that a fact makes known aren't those that were read.
-fn denies_read(fact: Lent<'_>, length: usize, read: Lent<'_>) -> bool
-    ensures { (text : List ℕ) → fact_of read.entry ≡ ExactText text → result ≡ differs (known_chars length (fact_of fact.entry)) text }
-{
-    let Lent::Told(Telling::Exact, text) = read else {
-        return true;
-    };
-    match fact {
-        Lent::Told(Telling::Exact, value) => is_other_text(value, text),
-        Lent::Told(_, _) => is_other_length(length, text),
-        Lent::Partly(chars) => are_others(chars, text),
-    }
-}
-
-/// Whether a field that was read isn't the one that is believed.
-fn is_other(field: Field<'_>, read: Field<'_>) -> bool
-    ensures { (f : Read) → belief_of read.entry ≡ belief_seen f → result ≡ is_other_field (belief_of field.entry) f }
-{
-    read.place != field.place
-        || !same_attr(read.attr, field.attr)
-        || field.attr.protected && denies_read(field.fact, field.length, read.fact)
 }
 
 /// Whether the fields that were read aren't those that are believed.
-pub(crate) fn any_other(fields: &Fields, read: &Fields) -> bool
-    ensures { (fs : List Read) → read.now ≡ map belief_seen fs → result ≡ others fields.now fs }
+pub(crate) fn any_other(places: &Places, read: &Places) -> bool
+    requires { IsHeld places.now }
+    ensures { (screen : List ScreenCell) → length screen ≡ cell_count → read.now ≡ places_stored screen → result ≡ others (beliefs_held places.now 0 places.now) (fields_in screen) }
 {
-    if fields.len() != read.len() {
-        return true;
-    }
-    for index in 0..fields.len() {
-        if is_other(fields.get(index), read.get(index)) {
+    for place in 0..places.len() {
+        if is_other(places, read, place) {
             return true;
         }
     }
     false
 }
 
-/// The fields of a screen that was read.
-pub(crate) fn fields_read(cells: &[Known]) -> Fields
-    requires { length cells.now ≡ cell_count }
-    ensures { (screen : List ScreenCell) → cells.now ≡ map new_cell screen → result ≡ map belief_seen (fields_in screen) }
+/// The places of a screen that was read.
+pub(crate) fn read_places(cells: Cells<'_>) -> Places
+    requires { length cells ≡ cell_count }
+    ensures { result ≡ places_stored cells.entry }
 {
-    fields_of(&Fields::new(), cells)
-}
-
-/// A cell that came.
-fn cell_read(part: Part) -> Known
-    requires { IsCellProper part }
-    ensures { (more : List SentPart) → map new_cell (cells_sent (part ∷ more)) ≡ result ∷ map new_cell (cells_sent more) }
-{
-    match part {
-        Part::Char(char) => stored_cell(Cell::Char(char)),
-        Part::Attr(attr) => stored_cell(Cell::Attr(attr)),
-        Part::At(_) => Known::default(),
+    let mut places = Places::new(Place::Unknown);
+    let mut at = 0;
+    for cell in cells {
+        places.set(at, place_of(cell));
+        at += 1;
     }
-}
-
-/// The cells of a screen that was read.
-pub(crate) fn read_cells(parts: Parts<'_>) -> Cells
-    requires proper { All IsCellProper parts }
-    requires whole { length parts ≡ cell_count }
-    ensures cells { result.items ≡ map new_cell (cells_sent parts.entry) }
-    ensures whole { length result.items ≡ cell_count }
-{
-    let mut read = ArrayVec::new();
-    for part in parts {
-        read.push(cell_read(part));
-    }
-    read
+    places
 }

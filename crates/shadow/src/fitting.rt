@@ -3,10 +3,13 @@ ghost use Rattle.std.specs.Prelude.{◌≡◌, ◌<◌, ◌≤◌, ◌+◌, ◌&
 ghost use Rattle.std.specs.List.{list_any};
 ghost use Rattle.codes3270.specs.Size.{cell_count};
 ghost use Rattle.shadow.specs.Fits.{is_keep, is_attribute, is_field, fits_field as fits_one, fits_from};
+ghost use Rattle.shadow.specs.InPlace.{beliefs_held, beliefs_of};
 ghost use Rattle.shadow.specs.Painted.{keeps_ahead, count_ahead};
 
+use crate::asking::count_chars;
 use crate::buffer::same_attr;
-use crate::fields::Fields;
+use crate::place::Place;
+use crate::places::Places;
 use codes3270::Attr;
 use datastream::Want;
 
@@ -76,27 +79,40 @@ fn count_round(behind: &[Want], whole: &[Want]) -> usize
 }
 
 /// Whether a field is believed to be.
-fn any_field(fields: &Fields, place: usize, attr: Attr, count: usize) -> bool
-    ensures { result ≡ list_any (is_field place attr count) fields.now }
+fn any_field(held: Option<&Places>, place: usize, attr: Attr, count: usize) -> bool
+    requires { place < cell_count }
+    ensures { result ≡ list_any (is_field place attr count) (beliefs_of held.entry) }
 {
-    for index in 0..fields.len() {
-        let field = fields.get(index);
-        if field.place == place && same_attr(field.attr, attr) && field.length == count {
-            return true;
-        }
+    match held {
+        Some(places) => is_field_at(places, place, attr, count),
+        None => false,
     }
-    false
+}
+
+fn is_field_at(places: &Places, place: usize, attr: Attr, count: usize) -> bool
+    requires { place < cell_count }
+    ensures { result ≡ list_any (is_field place attr count) (beliefs_held places.now 0 places.now) }
+{
+    match places.get(place) {
+        Place::Attr(there, _, _) => {
+            same_attr(there, attr) && count_chars(places.ahead(place)) == count
+        }
+        Place::Known(_) => false,
+        Place::Told(_) => false,
+        Place::Unknown => false,
+    }
 }
 
 /// Whether what is wanted of a cell fits; `behind` is what is wanted behind it.
-fn fits_at(fields: &Fields, place: usize, want: Want, behind: &[Want], whole: &[Want]) -> bool
+fn fits_at(held: Option<&Places>, place: usize, want: Want, behind: &[Want], whole: &[Want]) -> bool
+    requires placed { place < cell_count }
     requires few { length behind.now + length whole.now ≤ 2 * cell_count }
-    ensures { fits_from fields.now whole.now place (want ∷ behind.now) ≡ (result && fits_from fields.now whole.now (place + 1) behind.now) }
+    ensures { fits_from (beliefs_of held.entry) whole.now place (want ∷ behind.now) ≡ (result && fits_from (beliefs_of held.entry) whole.now (place + 1) behind.now) }
 {
     match want {
         Want::Attr(attr) => {
             !keeps_round(behind, whole)
-                || !attr.protected && any_field(fields, place, attr, count_round(behind, whole))
+                || !attr.protected && any_field(held, place, attr, count_round(behind, whole))
         }
         Want::Keep => true,
         Want::Char(_) => true,
@@ -118,13 +134,13 @@ pub(crate) fn wants_behind(wants: &[Want], place: usize) -> &[Want]
 }
 
 /// Whether each wanted field fits.
-fn all_fit(fields: &Fields, wants: &[Want]) -> bool
+fn all_fit(held: Option<&Places>, wants: &[Want]) -> bool
     requires { length wants.now ≡ cell_count }
-    ensures { result ≡ fits_from fields.now wants.now 0 wants.now }
+    ensures { result ≡ fits_from (beliefs_of held.entry) wants.now 0 wants.now }
 {
     for place in 0..wants.len() {
         let want = want_at(wants, place);
-        if !fits_at(fields, place, want, wants_behind(wants, place), wants) {
+        if !fits_at(held, place, want, wants_behind(wants, place), wants) {
             return false;
         }
     }
@@ -146,9 +162,9 @@ fn any_keep(wants: &[Want]) -> bool
 }
 
 /// Whether Keep stands in fields alone, and each of these fits.
-pub(crate) fn fits_fields(fields: &Fields, wants: &[Want]) -> bool
+pub(crate) fn fits_fields(held: Option<&Places>, wants: &[Want]) -> bool
     requires { length wants.now ≡ cell_count }
-    ensures { result ≡ ((not (list_any is_keep wants.now) || list_any is_attribute wants.now) && fits_from fields.now wants.now 0 wants.now) }
+    ensures { result ≡ ((not (list_any is_keep wants.now) || list_any is_attribute wants.now) && fits_from (beliefs_of held.entry) wants.now 0 wants.now) }
 {
-    (!any_keep(wants) || !are_characters(wants)) && all_fit(fields, wants)
+    (!any_keep(wants) || !are_characters(wants)) && all_fit(held, wants)
 }

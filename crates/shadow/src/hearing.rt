@@ -1,186 +1,363 @@
-//! The fields of a shadow after what a terminal sent.
-ghost use Rattle.std.specs.Prelude.{◌≡◌, ◌<◌, ℕ, List, length, slice_index_or, map, MatchOption, Some, None, false};
+//! What a terminal sent, on the places where they stand.
+ghost use Rattle.std.specs.Prelude.{◌≡◌, ◌<◌, ◌+◌, ◌++◌, ◌||◌, true, None, Ok, Err, MatchResult, ℕ, List, length, map, drop, slice_index_or};
 ghost use Rattle.std.specs.List.{list_any};
 ghost use Rattle.codes3270.specs.Size.{cell_count};
-ghost use Rattle.datastream.specs.InboundFields.{Returned};
-ghost use Rattle.shadow.specs.Belief.{next_address};
-ghost use Rattle.shadow.specs.Came.{came_of, text_at as text_first, came_past};
-ghost use Rattle.shadow.specs.Heard.{starts_at, is_nowhere, answers, contradicts, was_erased, after_attention as attention_one, after_long as long_one};
-ghost use Rattle.shadow.specs.Held.{text_of, paired, cells_in};
+ghost use Rattle.shadow.specs.declared.mark.Mark.TheVariants.{On};
+ghost use Rattle.shadow.specs.declared.place.Place.{Place as Held};
+ghost use Rattle.shadow.specs.declared.place.Place.TheVariants.{Unknown as UnknownPlace};
+ghost use Rattle.shadow.specs.Filled.{is_possible as can_be, any_lost, long_after, contradicts_held, lost_held, change_of, key_change, unreturned_at, unreturned_from, or_null_telling, long_change, long_changes, input_change as input_by, unreturned_change as unreturned_by, returned_change as returned_by, last_fill, all_changed, front_filled};
+ghost use Rattle.shadow.specs.Filled.Fill.{Same};
+ghost use Rattle.datastream.specs.InboundFields.{returned};
+ghost use Rattle.shadow.specs.Belief.Shadow.{Formatted as FormattedBelief};
+ghost use Rattle.shadow.specs.Heard.{heard_parts, is_off, starts_at, is_nowhere, denies as denies_text, after_attention as attention_one};
+ghost use Rattle.shadow.specs.Held.{text_of};
+ghost use Rattle.shadow.specs.InPlace.{fact_held, beliefs_held, IsHeld};
 
-use crate::blank::Blank;
-use crate::fields::{CELL_COUNT, Fields};
-use arrayvec::ArrayVec;
-use codes3270::Addr;
-use datastream::ReturnedFields;
+use crate::asking::{all_known, are_null, count_chars, denies, is_attribute};
+use crate::came::{next_behind, next_of, text_for};
+use crate::fault::HeardFault;
+use crate::filling::{Change, Filling, fill_front, filling_behind, place_after};
+use crate::mark::Mark;
+use crate::place::{Place, Telling};
+use crate::places::{CELL_COUNT, Places};
+use codes3270::{Addr, Attr};
+use datastream::{Inbound, ReturnedFields};
 
-/// The text that came for each field.
-pub(crate) type Texts<'a> = ArrayVec<Option<&'a [u8]>, CELL_COUNT>;
-
-/// A field that came: the address of its first cell, and its characters.
+/// What becomes of a field that isn't returned.
 #[derive(Clone, Copy)]
-pub(crate) struct Came<'a> {
-    first: usize,
-    text: &'a [u8],
+pub(crate) enum Unreturned {
+    /// It is held as it was, but that it may be null now.
+    Stays,
+    /// It was known, and is told now.
+    IsTold,
+    IsForgotten,
 }
 
-/// The text that came for the field at an index.
-fn came_for<'a>(texts: &Texts<'a>, index: usize) -> Option<&'a [u8]>
-    requires { index < length texts.now.items }
-    ensures { result ≡ slice_index_or texts.now.items index result }
+/// Whether a field begins at an address.
+fn begins_field(places: &Places, first: Addr) -> bool
+    ensures { result ≡ list_any (λ belief. starts_at cell_count belief first) (beliefs_held places.now 0 places.now) }
 {
-    texts[index]
+    let place = (first.get() as usize + CELL_COUNT - 1) % CELL_COUNT;
+    is_attribute(places.get(place))
 }
 
-/// The address behind an attribute's.
-fn first_address(place: usize) -> usize
-    requires { place < cell_count }
-    ensures { result ≡ next_address cell_count place }
+/// Whether one of the fields that came begins where no field does.
+fn any_nowhere(places: &Places, came: ReturnedFields<'_>) -> bool
+    ensures { result ≡ list_any (is_nowhere cell_count (beliefs_held places.now 0 places.now)) came.entry }
 {
-    (place + 1) % CELL_COUNT
-}
-
-/// For each address, whether a field begins there.
-fn starts_of(fields: &Fields) -> [bool; CELL_COUNT]
-    ensures { (first : ℕ) → first < cell_count → slice_index_or result first false ≡ list_any (λ belief. starts_at cell_count belief first) fields.now }
-{
-    let mut starts = [false; CELL_COUNT];
-    for index in 0..fields.len() {
-        starts[first_address(fields.get(index).place)] = true;
-    }
-    starts
-}
-
-/// Whether a field begins at an address, by what `starts_of` says.
-fn begins_field(starts: &[bool; CELL_COUNT], first: Addr) -> bool
-    ensures begins { result ≡ slice_index_or starts.now first false }
-    ensures in_range { first < cell_count }
-{
-    starts[first.get() as usize]
-}
-
-/// Whether one of those that came begins where no field does.
-pub(crate) fn any_nowhere(fields: &Fields, came: ReturnedFields<'_>) -> bool
-    ensures { result ≡ list_any (is_nowhere cell_count fields.now) came.entry }
-{
-    let starts = starts_of(fields);
     for field in came {
-        if !begins_field(&starts, field.first) {
+        if !begins_field(places, field.first) {
             return true;
         }
     }
     false
 }
 
-/// The text of the next field that came, if that begins at an address.
-fn text_at<'a>(next: Option<Came<'a>>, first: usize) -> Option<&'a [u8]>
-    ensures { (rest : List Returned) → text_of result ≡ text_first first (came_of next.entry rest) }
+/// Whether a protected field with this mark can't have this text.
+fn contradicts_protected(
+    places: &Places,
+    place: usize,
+    mark: Mark,
+    telling: Telling,
+    text: &[u8],
+) -> bool
+    requires { place < cell_count }
+    ensures { result ≡ (is_off mark || denies_text (fact_held telling (drop (place + 1) places.now ++ places.now)) text.now) }
 {
-    match next {
-        Some(field) if first == field.first => Some(field.text),
-        _ => None,
+    mark == Mark::Off || denies(places, place, telling, text)
+}
+
+/// Whether it can't be that a text, or none, came for the field whose attribute is held at a place.
+fn contradicts(places: &Places, place: usize, held: Place, text: Option<&[u8]>) -> bool
+    requires { place < cell_count }
+    ensures { result ≡ contradicts_held held place (drop (place + 1) places.now ++ places.now) (text_of text.entry) }
+{
+    let Place::Attr(attr, mark, telling) = held else {
+        return false;
+    };
+    match text {
+        None => attr.protected && mark == Mark::On,
+        Some(text) => {
+            count_chars(places.ahead(place)) < text.len()
+                || attr.protected && contradicts_protected(places, place, mark, telling, text)
+        }
     }
 }
 
-/// The first of the fields that are left.
-fn next_of<'a>(rest: &mut ReturnedFields<'a>) -> Option<Came<'a>>
-    ensures { came_of result rest.new ≡ rest.old }
+/// Whether the operator erased the input of the field whose attribute is held at a place: it was on, and isn't returned.
+fn was_erased(held: Place, text: Option<&[u8]>) -> bool
+    ensures { (place : ℕ) → (ahead : List Held) → result ≡ lost_held held place ahead (text_of text.entry) }
 {
-    match rest.next() {
-        Some(field) => Some(Came {
-            first: field.first.get() as usize,
-            text: field.text,
-        }),
-        None => None,
+    match held {
+        Place::Attr(attr, mark, _) => text.is_none() && !attr.protected && mark == Mark::On,
+        Place::Known(_) => false,
+        Place::Told(_) => false,
+        Place::Unknown => false,
     }
 }
 
-/// The next field that came, once one that begins at an address is passed.
-fn next_past<'a>(
-    rest: &mut ReturnedFields<'a>,
-    next: Option<Came<'a>>,
-    first: usize,
-) -> Option<Came<'a>>
-    ensures { came_of result rest.new ≡ came_past first (came_of next.entry rest.old) }
-{
-    match next {
-        Some(field) if first == field.first => next_of(rest),
-        _ => next,
-    }
-}
-
-/// Each field's text; None where those that came are out of order, or one comes twice.
-pub(crate) fn texts_of<'a>(fields: &Fields, returned: ReturnedFields<'a>) -> Option<Texts<'a>>
-    ensures { let found = answers cell_count fields.now returned.entry in
-        MatchOption result (found ≡ None) (λ texts. (found ≡ Some (paired fields.now texts.items)) × (length texts.items ≡ length fields.now)) }
+/// Whether the fields that came can be those of a screen that is so believed.
+fn is_possible(places: &Places, returned: ReturnedFields<'_>) -> bool
+    ensures { result ≡ can_be (beliefs_held places.now 0 places.now) returned.entry }
 {
     let mut rest = returned;
     let mut next = next_of(&mut rest);
-    let mut texts = ArrayVec::new();
-    for index in 0..fields.len() {
-        let first = first_address(fields.get(index).place);
-        texts.push(text_at(next, first));
-        next = next_past(&mut rest, next, first);
+    for place in 0..places.len() {
+        let held = places.get(place);
+        if contradicts(places, place, held, text_for(held, place, next)) {
+            return false;
+        }
+        next = next_behind(&mut rest, next, held, place);
     }
-    match next {
-        Some(_) => None,
-        None => Some(texts),
-    }
+    next.is_none()
 }
 
-/// Whether some field can't have what came for it.
-pub(crate) fn any_contradicts(fields: &Fields, texts: &Texts<'_>) -> bool
-    requires { length texts.now.items ≡ length fields.now }
-    ensures { result ≡ list_any contradicts (paired fields.now texts.now.items) }
+/// Whether what came can be of a screen that is so believed, with fields.
+pub(crate) fn check_fields(places: &Places, inbound: &Inbound<'_>) -> Result<(), HeardFault>
+    ensures { let beliefs = beliefs_held places.now 0 places.now in
+        let came = returned inbound.now.parts in
+        let heard = heard_parts cell_count (FormattedBelief beliefs) inbound.now.parts in
+        MatchResult result (λ _. (heard ≡ Ok (FormattedBelief (long_after (any_lost beliefs came) beliefs came))) × (can_be beliefs came ≡ true)) (λ fault. heard ≡ Err fault) }
 {
-    for index in 0..fields.len() {
-        if fields.get(index).contradicts(texts[index]) {
-            return true;
-        }
+    if any_nowhere(places, inbound.returned()) {
+        return Err(HeardFault::NoSuchField);
     }
-    false
+    if !inbound.lead().is_empty() {
+        return Err(HeardFault::Contradiction);
+    }
+    if !is_possible(places, inbound.returned()) {
+        return Err(HeardFault::Contradiction);
+    }
+    Ok(())
 }
 
 /// Whether some field's input was erased.
-fn any_erased(fields: &Fields, texts: &Texts<'_>) -> bool
-    requires { length texts.now.items ≡ length fields.now }
-    ensures { result ≡ list_any was_erased (paired fields.now texts.now.items) }
+fn any_erased(places: &Places, returned: ReturnedFields<'_>) -> bool
+    ensures { result ≡ any_lost (beliefs_held places.now 0 places.now) returned.entry }
 {
-    for index in 0..fields.len() {
-        if fields.get(index).was_erased(texts[index]) {
+    let mut rest = returned;
+    let mut next = next_of(&mut rest);
+    for place in 0..places.len() {
+        let held = places.get(place);
+        if was_erased(held, text_for(held, place, next)) {
             return true;
         }
+        next = next_behind(&mut rest, next, held, place);
     }
     false
 }
 
-/// The fields after data that lists those with MDT on.
-pub(crate) fn after_long(fields: &Fields, texts: &Texts<'_>) -> Fields
-    requires each { length texts.now.items ≡ length fields.now }
-    requires possible { list_any contradicts (paired fields.now texts.now.items) ≡ false }
-    ensures cells { cells_in result ≡ cells_in fields.now }
-    ensures fields { let found = paired fields.now texts.now.items in
-        result ≡ map (long_one (list_any was_erased found)) found }
+/// What becomes of the field whose attribute is held at a place, if it isn't returned.
+fn if_unreturned(places: &Places, place: usize) -> Unreturned
+    requires { place < cell_count }
+    ensures { result ≡ unreturned_at (slice_index_or places.now place UnknownPlace) (drop (place + 1) places.now ++ places.now) }
 {
-    let blank = Blank::new();
-    let erased = any_erased(fields, texts);
-    let mut after = Fields::new();
-    for index in 0..fields.len() {
-        let text = came_for(texts, index);
-        after.push(fields.get(index).after_long(erased, text, &blank));
+    let Place::Attr(_, _, Telling::Cells) = places.get(place) else {
+        return Unreturned::Stays;
+    };
+    if !all_known(places.ahead(place)) {
+        Unreturned::IsForgotten
+    } else if are_null(places.ahead(place)) {
+        Unreturned::Stays
+    } else {
+        Unreturned::IsTold
     }
-    after
 }
 
-/// The fields after a key that sends none.
-pub(crate) fn after_attention(fields: &Fields) -> Fields
-    ensures cells { cells_in result ≡ cells_in fields.now }
-    ensures fields { result ≡ map attention_one fields.now }
+/// The same of each place.
+fn all_unreturned(places: &Places) -> [Unreturned; CELL_COUNT]
+    ensures unreturned { result ≡ unreturned_from places.now places.now }
+    ensures size { length result ≡ cell_count }
 {
-    let blank = Blank::new();
-    let mut after = Fields::new();
-    for index in 0..fields.len() {
-        after.push(fields.get(index).after_attention(&blank));
+    let mut all = [Unreturned::Stays; CELL_COUNT];
+    for place in 0..places.len() {
+        all[place] = if_unreturned(places, place);
     }
-    after
+    all
+}
+
+fn one_of(all: &[Unreturned], place: usize) -> Unreturned
+    requires { place < length all.now }
+    ensures { result ≡ slice_index_or all.now place result }
+{
+    all[place]
+}
+
+/// What becomes of an unprotected field that isn't returned.
+fn unreturned_change<'a>(unreturned: Unreturned, telling: Telling) -> Change<'a>
+    ensures { change_of result ≡ unreturned_by unreturned telling }
+{
+    let (telling, filling) = match unreturned {
+        Unreturned::Stays => (or_nulls(telling), Filling::Same),
+        Unreturned::IsTold => (Telling::ExactOrNulls, Filling::Told),
+        Unreturned::IsForgotten => (Telling::Cells, Filling::Unknown),
+    };
+    Change {
+        mark: Mark::Off,
+        telling,
+        filling,
+    }
+}
+
+fn or_nulls(telling: Telling) -> Telling
+    ensures { result ≡ or_null_telling telling }
+{
+    match telling {
+        Telling::Text => Telling::TextOrNulls,
+        _ => telling,
+    }
+}
+
+/// What becomes of an unprotected field with the text that came for it.
+fn returned_change(text: &[u8]) -> Change<'_>
+    ensures { change_of result ≡ returned_by On text.now }
+{
+    if text.is_empty() {
+        Change {
+            mark: Mark::On,
+            telling: Telling::Cells,
+            filling: Filling::Null,
+        }
+    } else {
+        Change {
+            mark: Mark::On,
+            telling: Telling::Text,
+            filling: Filling::Text(text),
+        }
+    }
+}
+
+/// What becomes of an unprotected field.
+fn input_change<'a>(
+    erased: bool,
+    telling: Telling,
+    unreturned: Unreturned,
+    text: Option<&'a [u8]>,
+) -> Change<'a>
+    ensures { change_of result ≡ input_by erased telling unreturned (text_of text.entry) }
+{
+    match text {
+        Some(text) => returned_change(text),
+        None => lost_change(erased, telling, unreturned),
+    }
+}
+
+/// What becomes of an unprotected field that isn't returned, where the operator may have erased the input.
+fn lost_change<'a>(erased: bool, telling: Telling, unreturned: Unreturned) -> Change<'a>
+    ensures { change_of result ≡ input_by erased telling unreturned None }
+{
+    if erased {
+        Change {
+            mark: Mark::Off,
+            telling: Telling::Cells,
+            filling: Filling::Null,
+        }
+    } else {
+        unreturned_change(unreturned, telling)
+    }
+}
+
+/// What becomes of the field whose attribute is held at a place. Of a character it isn't looked at.
+fn change_after<'a>(
+    erased: bool,
+    held: Place,
+    unreturned: Unreturned,
+    text: Option<&'a [u8]>,
+) -> Change<'a>
+    ensures { change_of result ≡ long_change erased held unreturned (text_of text.entry) }
+{
+    match held {
+        Place::Attr(attr, _, telling) if attr.protected => Change {
+            mark: if text.is_some() { Mark::On } else { Mark::Off },
+            telling,
+            filling: Filling::Same,
+        },
+        Place::Attr(_, _, telling) => input_change(erased, telling, unreturned, text),
+        _ => Change {
+            mark: Mark::Off,
+            telling: Telling::Cells,
+            filling: Filling::Same,
+        },
+    }
+}
+
+/// Takes in data that lists those with MDT on; `erased`: the operator erased the input. Each field's characters go on round
+/// the end.
+fn take_fields<'a>(places: &mut Places, erased: bool, returned: ReturnedFields<'a>)
+    ensures { let changes = long_changes erased 0 returned.entry places.old (unreturned_from places.old places.old) in
+        places.new ≡ front_filled (last_fill Same changes places.old) (all_changed Same changes places.old) }
+{
+    let unreturned = all_unreturned(places);
+    let mut rest = returned;
+    let mut next = next_of(&mut rest);
+    let mut filling = Filling::Same;
+    for place in 0..places.len() {
+        let held = places.get(place);
+        let one = change_after(
+            erased,
+            held,
+            one_of(&unreturned, place),
+            text_for(held, place, next),
+        );
+        places.set(place, place_after(held, filling, one));
+        filling = filling_behind(held, filling, one);
+        next = next_behind(&mut rest, next, held, place);
+    }
+    fill_front(places, filling);
+}
+
+/// Takes in data that is possible, of a screen with fields.
+pub(crate) fn after_long(
+    places: &mut Places,
+    erased: ReturnedFields<'_>,
+    returned: ReturnedFields<'_>,
+)
+    requires same { erased ≡ returned }
+    requires held { IsHeld places.old }
+    requires possible { can_be (beliefs_held places.old 0 places.old) returned ≡ true }
+    ensures fields { let before = beliefs_held places.old 0 places.old in
+        beliefs_held places.new 0 places.new ≡ long_after (any_lost before returned.entry) before returned.entry }
+    ensures held { IsHeld places.new }
+{
+    let erased = any_erased(places, erased);
+    take_fields(places, erased, returned);
+}
+
+/// What becomes of a field after a key that sends none.
+fn key_change_of<'a>(held: Place) -> Change<'a>
+    ensures { change_of result ≡ key_change held }
+{
+    match held {
+        Place::Attr(attr, mark, telling) if attr.protected => Change {
+            mark,
+            telling,
+            filling: Filling::Same,
+        },
+        Place::Attr(_, _, _) => Change {
+            mark: Mark::Unknown,
+            telling: Telling::Cells,
+            filling: Filling::Unknown,
+        },
+        _ => Change {
+            mark: Mark::Unknown,
+            telling: Telling::Cells,
+            filling: Filling::Same,
+        },
+    }
+}
+
+/// Takes in a key that sends no fields.
+pub(crate) fn after_attention(places: &mut Places)
+    requires { IsHeld places.old }
+    ensures fields { beliefs_held places.new 0 places.new ≡ map attention_one (beliefs_held places.old 0 places.old) }
+    ensures held { IsHeld places.new }
+{
+    let mut filling = Filling::Same;
+    for place in 0..places.len() {
+        let held = places.get(place);
+        let one = key_change_of(held);
+        places.set(place, place_after(held, filling, one));
+        filling = filling_behind(held, filling, one);
+    }
+    fill_front(places, filling);
 }

@@ -1,21 +1,22 @@
 //! What a host believes of a terminal's screen, and the writes that paint it.
 #![tactic(auto)]
 
-mod blank;
+mod asking;
 mod buffer;
-mod cells;
+mod came;
 mod fact;
 mod fault;
-mod fields;
+mod filling;
 mod fitting;
 mod hearing;
-mod held;
 mod known;
 mod laws;
 mod mark;
 mod painting;
+mod place;
+mod places;
 mod shadow;
-mod state;
+mod taking;
 mod writing;
 
 pub use fact::Fact;

@@ -1,21 +1,61 @@
 //! The bytes of a paint.
-ghost use Rattle.std.specs.Prelude.{◌≡◌, ◌<◌, ◌∷◌, ◌++◌, [], All, IfSome, Some, None, length};
+ghost use Rattle.std.specs.Prelude.{◌≡◌, ◌<◌, ◌∷◌, ◌++◌, [], All, IfSome, Some, None, false, length, slice_index_or};
 ghost use Rattle.codes3270.specs.Size.{cell_count};
 ghost use Rattle.datastream.specs.declared.order.Order.TheVariants.{Sba, Ic};
 ghost use Rattle.datastream.specs.Wanted.{IsProper};
 ghost use Rattle.codes3270.specs.Storable.{is_storable};
+ghost use Rattle.shadow.specs.InPlace.{cell_known};
+ghost use Rattle.shadow.specs.Base.{known_base, mark_off_if};
 ghost use Rattle.datastream.specs.Writing.{Appends, order_bytes, orders_bytes};
 ghost use Rattle.shadow.specs.Appending.{IsStorableCell};
 ghost use Rattle.shadow.specs.Appending.{AppendsSome};
 ghost use Rattle.shadow.specs.Paint.{is_there as is_there_already, cell_to_store as cell_stored, order_of, is_at, sba_unless, painting, to_store};
 
 use crate::buffer::same_attr;
-use crate::cells::cell_at;
 use crate::fitting::{keeps_round, want_at, wants_behind};
 use crate::known::Known;
 use crate::mark::Mark;
+use crate::place::Place;
+use crate::places::Places;
 use codes3270::{Addr, CELLS, Cell};
 use datastream::{CommandWriter, Memory, Want};
+
+/// What a paint finds on the screen, once it has erased it or set marks off.
+#[derive(Drop)]
+pub(crate) struct Base<'a> {
+    pub places: &'a Places,
+    /// Else it erases.
+    pub formatted: bool,
+    /// Whether it sets marks off.
+    pub reset: bool,
+}
+
+/// What is known of a place.
+fn known_place(place: Place, reset: bool) -> Known
+    ensures { result ≡ mark_off_if reset (cell_known place false) }
+{
+    match place {
+        Place::Attr(attr, mark, _) => Known::Attr(attr, if reset { Mark::Off } else { mark }),
+        Place::Known(char) => Known::Char(Some(char), false),
+        Place::Told(_) => Known::Char(None, false),
+        Place::Unknown => Known::Char(None, false),
+    }
+}
+
+impl<'a> Base<'a> {
+    /// What is known of the cell at an address.
+    fn known(&self, place: usize) -> Known
+        requires { place < cell_count }
+        ensures known { result ≡ slice_index_or (known_base self.now) place result }
+        ensures whole { length (known_base self.now) ≡ cell_count }
+    {
+        if self.formatted {
+            known_place(self.places.get(place), self.reset)
+        } else {
+            Known::Char(Some(0), false)
+        }
+    }
+}
 
 /// Whether a cell is known to be the wanted one.
 fn is_there(known: Known, cell: Cell) -> bool
@@ -122,19 +162,18 @@ fn address_of(place: u16) -> Addr
 pub(crate) fn put_cells(
     writer: &mut CommandWriter<'_>,
     wants: &[Want],
-    known: &[Known],
+    base: &Base<'_>,
     cursor: Addr,
 ) -> Result<(), Memory>
     requires wanted { length wants.now ≡ cell_count }
-    requires known { length known.now ≡ cell_count }
     requires proper { All IsProper wants.now }
-    ensures { AppendsSome writer.old.out writer.new.out result (orders_bytes (painting cell_count cursor None (to_store wants.now 0 wants.now known.now))) }
+    ensures { AppendsSome writer.old.out writer.new.out result (orders_bytes (painting cell_count cursor None (to_store wants.now 0 wants.now (known_base base.now)))) }
 {
     let mut at = None;
     for place in 0..CELLS {
         let address = address_of(place);
         let want = want_at(wants, place as usize);
-        let cell = cell_at(known, place as usize);
+        let cell = base.known(place as usize);
         match cell_to_store(want, cell, wants_behind(wants, place as usize), wants) {
             Some(cell) => match put_store(writer, at, address, cell) {
                 Ok(()) => at = Some(address.next().get()),

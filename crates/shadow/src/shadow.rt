@@ -1,37 +1,54 @@
 //! What a host believes of a terminal's screen.
-ghost use Rattle.std.specs.Prelude.{◌≡◌, ◌<◌, ◌≤◌, ◌+◌, ◌++◌, true, Ok, Err, MatchResult, OnOk, OnErr, length, vec_len, vec_capacity};
+ghost use Rattle.std.specs.Prelude.{◌≡◌, ◌<◌, ◌≤◌, ◌+◌, ◌++◌, true, false, Ok, Err, Some, MatchResult, MatchOption, OnOk, OnErr, length, replicate, vec_len, vec_capacity, if◌then◌else◌};
 ghost use Rattle.codes3270.specs.Size.{cell_count};
+ghost use Rattle.datastream.specs.Grammar.{is_write};
+ghost use Rattle.datastream.specs.InboundFields.{cells_sent};
+ghost use Rattle.datastream.specs.declared.command_code.CommandCode.TheVariants.{Write, EraseWrite};
+ghost use Rattle.datastream.specs.declared.inbound_part.Form.TheVariants.{Buffer};
+ghost use Rattle.shadow.specs.Appending.{AppendsSome};
 ghost use Rattle.shadow.specs.Asked.{known_at, fact_at, value_at};
-ghost use Rattle.shadow.specs.Belief.Shadow.{NothingKnown};
+ghost use Rattle.shadow.specs.Belief.Shadow.{NothingKnown, Unformatted};
 ghost use Rattle.shadow.specs.Fits.{fits};
-ghost use Rattle.shadow.specs.Heard.{heard};
+ghost use Rattle.shadow.specs.Heard.{heard, heard_parts, heard_short, heard_attention};
+ghost use Rattle.shadow.specs.InPlace.{shadow_held, has_fields, IsHeld};
 ghost use Rattle.shadow.specs.Paint.{paint_bytes};
+ghost use Rattle.shadow.specs.Seen.{heard_buffer};
 ghost use Rattle.shadow.specs.Stores.{is_plain};
-ghost use Rattle.shadow.specs.Taken.{taken};
+ghost use Rattle.shadow.specs.Taken.{taken, taken_write, taken_erase};
 
+use crate::asking::{fact_held_at, has_attribute, known_held_at, value_held_at};
+use crate::buffer::{any_other, read_places};
 use crate::fact::Fact;
 use crate::fault::HeardFault;
-use crate::state::State;
-use codes3270::{Addr, Cell};
-use datastream::{Command, CommandWriter, Inbound, Memory, Wanted};
+use crate::fitting::fits_fields;
+use crate::hearing::{after_attention, after_long, check_fields};
+use crate::painting::{Base, put_cells};
+use crate::place::Place;
+use crate::places::Places;
+use crate::taking::{erase_over, write_over};
+use crate::writing::stores_unplaced;
+use codes3270::{Addr, Aid, Cell, Wcc};
+use datastream::{Command, CommandCode, CommandWriter, Form, Inbound, Memory, Wanted};
 use std::marker::Model;
 
 /// What a host believes of a terminal's screen: nothing, the characters of an unformatted screen, or its fields. Contracts
-/// see it as data.
+/// see it as data. It is held place by place, and changed where it stands.
 #[derive(Drop)]
 pub struct Shadow {
-    state: State,
+    /// Whether something is known.
+    knows: bool,
+    places: Places,
 }
 
 impl Model for Shadow {
     ghost use Rattle.shadow.specs.Belief.{Shadow as Knowledge};
-    ghost use Rattle.shadow.specs.State.{shadow_of, IsWhole};
+    ghost use Rattle.shadow.specs.InPlace.{shadow_held, IsHeld};
 
     ghost Value = { Knowledge };
 
-    ghost view = { λ shadow. shadow_of shadow.state };
+    ghost view = { λ shadow. shadow_held shadow.knows shadow.places };
 
-    ghost invariant = { λ shadow. IsWhole shadow.state };
+    ghost invariant = { λ shadow. IsHeld shadow.places };
 }
 
 impl Shadow {
@@ -40,7 +57,8 @@ impl Shadow {
         ensures { result ≡ NothingKnown }
     {
         Shadow {
-            state: State::Nothing,
+            knows: false,
+            places: Places::new(Place::Unknown),
         }
     }
 
@@ -49,7 +67,15 @@ impl Shadow {
         requires { is_plain command.now ≡ true }
         ensures { self.new ≡ taken cell_count command.now self.old }
     {
-        self.state = self.state.taken(command);
+        match command.code() {
+            CommandCode::Write => self.take_write(command),
+            CommandCode::EraseWrite => self.take_erase(command),
+            CommandCode::EraseWriteAlternate => self.take_erase(command),
+            CommandCode::ReadBuffer => {}
+            CommandCode::ReadModified => {}
+            CommandCode::ReadModifiedAll => {}
+            CommandCode::EraseAllUnprotected => {}
+        }
     }
 
     /// Takes in what a terminal sent. A refusal changes nothing. It is `NoSuchField` where an address is the first of no
@@ -58,25 +84,38 @@ impl Shadow {
         ensures { let heard = heard cell_count self.old inbound.now in
             MatchResult result (λ _. heard ≡ Ok self.new) (λ fault. (heard ≡ Err fault) × (self.new ≡ self.old)) }
     {
-        let next = self.state.heard(inbound)?;
-        self.state = next;
-        Ok(())
+        match inbound.form() {
+            Form::Modified => {
+                if inbound.aid().is_short() {
+                    self.hear_key(inbound.aid());
+                    Ok(())
+                } else {
+                    self.hear_fields(inbound)
+                }
+            }
+            Form::All => self.hear_fields(inbound),
+            Form::Buffer => self.hear_buffer(inbound),
+        }
     }
 
     /// The cell at an address, where it is known. An attribute whose MDT isn't known has it off here.
     pub fn known(&self, addr: Addr) -> Option<Cell>
         ensures { result ≡ known_at cell_count self.now addr }
     {
-        self.state.known(addr.get() as usize)
+        match self.held() {
+            Some(places) => known_held_at(places, addr.get() as usize),
+            None => None,
+        }
     }
 
     /// What is believed of the characters of the field whose attribute is at an address. None where no field is believed to be.
     pub fn fact(&self, attr: Addr) -> Option<Fact>
         ensures { result ≡ fact_at attr self.now }
     {
-        self.state
-            .field(attr.get() as usize)
-            .map(|field| field.fact.kind())
+        match self.held() {
+            Some(places) => fact_held_at(places, attr.get() as usize),
+            None => None,
+        }
     }
 
     /// The character with an index of the text that the fact of a field speaks of. None past its end, and where the fact is
@@ -84,8 +123,8 @@ impl Shadow {
     pub fn value(&self, attr: Addr, index: usize) -> Option<u8>
         ensures { result ≡ value_at attr index self.now }
     {
-        match self.state.field(attr.get() as usize) {
-            Some(field) => field.fact.character(index),
+        match self.held() {
+            Some(places) => value_held_at(places, attr.get() as usize, index),
             None => None,
         }
     }
@@ -95,7 +134,7 @@ impl Shadow {
     pub fn fits(&self, wanted: &Wanted) -> bool
         ensures { result ≡ fits self.now wanted.now }
     {
-        self.state.fits(wanted.cells())
+        fits_fields(self.held(), wanted.cells())
     }
 
     /// Appends the write that makes a wanted screen: an Erase/Write where nothing is known or the screen is unformatted, else
@@ -110,12 +149,164 @@ impl Shadow {
     {
         let len = out.len();
         let mut writer = CommandWriter::new(out);
-        match self.state.put_paint(&mut writer, wanted) {
+        match self.put_paint(&mut writer, wanted) {
             Ok(()) => Ok(()),
             Err(error) => {
                 writer.out.truncate(len);
                 Err(error)
             }
         }
+    }
+    /// The places, if something is known.
+    fn held(&self) -> Option<&Places>
+        ensures { MatchOption result (self.now ≡ NothingKnown) (λ places. (self.now ≡ shadow_held true places.now) × IsHeld places.now) }
+    {
+        if self.knows { Some(&self.places) } else { None }
+    }
+
+    /// Whether something is known, and the screen has fields.
+    fn is_formatted(&self) -> bool
+        ensures { result ≡ has_fields self.now }
+    {
+        self.knows && has_attribute(&self.places)
+    }
+}
+
+// What becomes of it.
+impl Shadow {
+    /// Takes in a plain write that doesn't erase.
+    fn take_write(&mut self, command: &Command<'_>)
+        ensures { self.new ≡ taken_write cell_count command.now.wcc command.now.orders self.old }
+    {
+        if !self.knows {
+            return;
+        }
+        if stores_unplaced(command.orders()) {
+            self.knows = false;
+            return;
+        }
+        write_over(&mut self.places, command);
+    }
+
+    /// Takes in a plain write that erases.
+    fn take_erase(&mut self, command: &Command<'_>)
+        requires { is_plain command.now ≡ true }
+        ensures { self.new ≡ taken_erase cell_count command.now }
+    {
+        erase_over(&mut self.places, command);
+        self.knows = true;
+    }
+
+    /// Takes in a key that stands alone.
+    fn hear_key(&mut self, aid: Aid)
+        ensures { self.new ≡ heard_short cell_count aid self.old }
+    {
+        match aid {
+            Aid::Clear => self.hear_clear(),
+            Aid::Pa(_) => self.hear_attention(),
+            Aid::NoAid => self.hear_attention(),
+            Aid::Enter => self.hear_attention(),
+            Aid::Pf(_) => self.hear_attention(),
+        }
+    }
+
+    /// Takes in the Clear key.
+    fn hear_clear(&mut self)
+        ensures { self.new ≡ Unformatted (replicate cell_count (Some 0)) }
+    {
+        self.places.fill(Place::Known(0));
+        self.knows = true;
+    }
+
+    /// Takes in a key that sends no fields.
+    fn hear_attention(&mut self)
+        ensures { self.new ≡ heard_attention self.old }
+    {
+        if self.is_formatted() {
+            after_attention(&mut self.places);
+        } else {
+            self.knows = false;
+        }
+    }
+
+    /// Takes in the fields that came.
+    fn hear_fields(&mut self, inbound: &Inbound<'_>) -> Result<(), HeardFault>
+        ensures { let heard = heard_parts cell_count self.old inbound.now.parts in
+            MatchResult result (λ _. heard ≡ Ok self.new) (λ fault. (heard ≡ Err fault) × (self.new ≡ self.old)) }
+    {
+        if !self.is_formatted() {
+            return self.hear_unformatted(inbound);
+        }
+        check_fields(&self.places, inbound)?;
+        after_long(&mut self.places, inbound.returned(), inbound.returned());
+        Ok(())
+    }
+
+    /// Takes in the fields that came, where none is believed to be.
+    fn hear_unformatted(&mut self, inbound: &Inbound<'_>) -> Result<(), HeardFault>
+        requires { has_fields self.old ≡ false }
+        ensures { let heard = heard_parts cell_count self.old inbound.now.parts in
+            MatchResult result (λ _. heard ≡ Ok self.new) (λ fault. (heard ≡ Err fault) × (self.new ≡ self.old)) }
+    {
+        match inbound.returned().next() {
+            Some(_) => Err(HeardFault::NoSuchField),
+            None if self.knows && self.places.len() < inbound.lead().len() => {
+                Err(HeardFault::Contradiction)
+            }
+            None => {
+                self.knows = false;
+                Ok(())
+            }
+        }
+    }
+
+    /// Takes in every cell.
+    fn hear_buffer(&mut self, inbound: &Inbound<'_>) -> Result<(), HeardFault>
+        requires { inbound.now.form ≡ Buffer }
+        ensures { let heard = heard_buffer self.old (cells_sent inbound.now.parts) in
+            MatchResult result (λ _. heard ≡ Ok self.new) (λ fault. (heard ≡ Err fault) × (self.new ≡ self.old)) }
+    {
+        let read = read_places(inbound.cells());
+        if self.knows && any_other(&self.places, &read) {
+            return Err(HeardFault::Contradiction);
+        }
+        self.places = read;
+        self.knows = true;
+        Ok(())
+    }
+
+    /// Puts the command that paints a wanted screen.
+    fn put_paint(&self, writer: &mut CommandWriter<'_>, wanted: &Wanted) -> Result<(), Memory>
+        ensures { AppendsSome writer.old.out writer.new.out result (paint_bytes cell_count self.now wanted.now) }
+    {
+        let formatted = self.is_formatted();
+        let reset = wanted.reset();
+        let _count = self.places.len();
+        let wcc = Wcc {
+            alarm: false,
+            restore: true,
+            reset,
+        };
+        let base = Base {
+            places: &self.places,
+            formatted,
+            reset,
+        };
+        match writer.begin(paint_code(formatted), wcc) {
+            Ok(()) => put_cells(writer, wanted.cells(), &base, wanted.cursor()),
+            Err(error) => Err(error),
+        }
+    }
+}
+
+/// The code of a paint: an erase where nothing is known, or the screen is unformatted.
+fn paint_code(formatted: bool) -> CommandCode
+    ensures code { result ≡ (if formatted then Write else EraseWrite) }
+    ensures write { is_write result ≡ true }
+{
+    if formatted {
+        CommandCode::Write
+    } else {
+        CommandCode::EraseWrite
     }
 }

@@ -1,25 +1,40 @@
-use Rattle.std.proofs.Common.{arith, ap, sym, ◌∙◌, length, ◌||◌, Bool, ◌+◌, drop}
-use Rattle.std.proofs.lemmas.List.{length-map}
-use Rattle.shadow.specs.Seen.{belief_seen, others}
-use Rattle.shadow.specs.Held.{belief_of}
-use Rattle.shadow.proofs.Others.{uneven, one_more}
+use Rattle.std.proofs.Common.{◌≡◌, ◌∙◌, ◌+◌, ◌++◌, ◌||◌, ap, sym, arith, drop, get_or, length, List, [], Bool}
+use Rattle.std.proofs.lemmas.List.{at_drop_all}
+use Rattle.codes3270.specs.Size.{cell_count}
+use Rattle.codes3270.specs.declared.attribute.Cell.{Cell}
+use Rattle.datastream.specs.Fields.{fields_from}
+use Rattle.shadow.specs.declared.place.Place.{Place}
+use Rattle.shadow.specs.declared.place.Place.TheVariants.{Unknown}
+use Rattle.shadow.specs.InPlace.{beliefs_held, other_here}
+use Rattle.shadow.specs.Seen.{others}
+use Rattle.shadow.specs.Since.{places_stored}
+use Rattle.shadow.proofs.Reading.{other_step}
 use Rattle.shadow.proofs.buffer.any_other.Goals as goal
 
-pub returns-then-len : goal.returns-then-len
-returns-then-len c = λ fs e. uneven c.args.fields.now fs (λ same. let even = ap length e ∙ length-map fs belief_seen in c.if-len.true (omega arith))
-
 pub returns-then-is_other : goal.returns-then-is_other
-returns-then-is_other c = λ fs e.
-    let i = c.loop-index.index in
-    let bs = c.args.fields.now in
-    sym (c.loop-index.invariant fs e
-    ∙ one_more bs c.args.read.now fs i (belief_of c.get.result) (belief_of c.get-in-loop-index.result) c.is_other.result (omega arith) (omega arith) c.get.ensures c.get-in-loop-index.ensures e c.is_other.ensures
-    ∙ ap (λ (t : Bool). t || others (drop (i + 1) bs) (drop (i + 1) fs)) c.if-is_other.true)
+returns-then-is_other c = λ screen size is.
+    let whole = c.args.places.now in
+    let n = c.loop-place.place in
+    let ahead = drop (n + 1) whole ++ whole in
+    let later = others (beliefs_held whole (n + 1) (drop (n + 1) whole)) (fields_from screen (n + 1) (drop (n + 1) screen)) in
+    sym (c.loop-place.invariant screen size is ∙ other_step whole screen n (omega arith) (omega arith) c.requires
+    ∙ ap (λ (read : List Place). other_here (get_or whole n Unknown) (get_or read n Unknown) ahead (drop (n + 1) read ++ read) || later) (sym is)
+    ∙ ap (λ (t : Bool). t || later) (sym c.is_other.ensures ∙ c.if-is_other.true))
 
-pub loop-index-preserved : goal.loop-index-preserved
-loop-index-preserved c = λ fs e.
-    let i = c.loop-index.index in
-    let bs = c.args.fields.now in
-    c.loop-index.invariant fs e
-    ∙ one_more bs c.args.read.now fs i (belief_of c.get.result) (belief_of c.get-in-loop-index.result) c.is_other.result (omega arith) (omega arith) c.get.ensures c.get-in-loop-index.ensures e c.is_other.ensures
-    ∙ ap (λ (t : Bool). t || others (drop (i + 1) bs) (drop (i + 1) fs)) c.if-is_other.false
+pub loop-place-preserved : goal.loop-place-preserved
+loop-place-preserved c = λ screen size is.
+    let whole = c.args.places.now in
+    let n = c.loop-place.place in
+    let ahead = drop (n + 1) whole ++ whole in
+    let later = others (beliefs_held whole (n + 1) (drop (n + 1) whole)) (fields_from screen (n + 1) (drop (n + 1) screen)) in
+    c.loop-place.invariant screen size is ∙ other_step whole screen n (omega arith) (omega arith) c.requires
+    ∙ ap (λ (read : List Place). other_here (get_or whole n Unknown) (get_or read n Unknown) ahead (drop (n + 1) read ++ read) || later) (sym is)
+    ∙ ap (λ (t : Bool). t || later) (sym c.is_other.ensures ∙ c.if-is_other.false)
+
+pub returns : goal.returns
+returns c = λ screen size is.
+    let whole = c.args.places.now in
+    let n = c.loop-place.place in
+    sym (c.loop-place.invariant screen size is
+    ∙ at_drop_all (λ (ps : List Place). others (beliefs_held whole n ps) (fields_from screen n (drop n screen))) whole n (omega arith)
+    ∙ at_drop_all (λ (cs : List Cell). others (beliefs_held whole n []) (fields_from screen n cs)) screen n (omega arith))

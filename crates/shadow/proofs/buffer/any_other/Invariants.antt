@@ -1,7 +1,12 @@
-use Rattle.std.proofs.Common.{◌≡◌, List, map, drop}
-use Rattle.shadow.specs.Seen.{others, belief_seen}
-use Rattle.datastream.specs.Fields.{Field}
+use Rattle.std.proofs.Common.{◌≡◌, List, length, drop}
+use Rattle.codes3270.specs.Size.{cell_count}
+use Rattle.codes3270.specs.declared.attribute.Cell.{Cell}
+use Rattle.datastream.specs.Fields.{fields, fields_from}
+use Rattle.shadow.specs.InPlace.{beliefs_held}
+use Rattle.shadow.specs.Seen.{others}
+use Rattle.shadow.specs.Since.{places_stored}
 use Rattle.shadow.proofs.buffer.any_other.Given as goal
 
-abbrev pub invariant-loop-index : goal.invariant-loop-index
-invariant-loop-index l = (fs : List Field) → l.read ≡ map belief_seen fs → others l.fields fs ≡ others (drop l.index l.fields) (drop l.index fs)
+abbrev pub invariant-loop-place : goal.invariant-loop-place
+invariant-loop-place l = (screen : List Cell) → length screen ≡ cell_count → l.read ≡ places_stored screen
+    → others (beliefs_held l.places 0 l.places) (fields screen) ≡ others (beliefs_held l.places l.place (drop l.place l.places)) (fields_from screen l.place (drop l.place screen))

@@ -1,6 +1,7 @@
-use Rattle.std.proofs.Common.{◌≡◌, drop}
+use Rattle.std.proofs.Common.{◌≡◌}
+use Rattle.shadow.specs.InPlace.{chars_known, known_text}
 use Rattle.shadow.specs.Seen.{differs}
 use Rattle.shadow.proofs.buffer.are_others.Given as goal
 
-abbrev pub invariant-loop-char : goal.invariant-loop-char
-invariant-loop-char l = differs l.known l.text ≡ differs (drop l.char-index l.known) l.rest
+abbrev pub invariant-loop-place : goal.invariant-loop-place
+invariant-loop-place l = differs (chars_known l.fn.known) (known_text (chars_known l.fn.read)) ≡ differs (chars_known l.place-iterator) (known_text (chars_known l.read))

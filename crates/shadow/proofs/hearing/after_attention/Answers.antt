@@ -1,22 +1,25 @@
-use Rattle.std.proofs.Common.{subst, sym, arith, ap, ◌∙◌, map, suc}
-use Rattle.std.proofs.lemmas.List.Elements.{All-get_or}
-use Rattle.std.proofs.lemmas.List.{take_all}
-use Rattle.shadow.specs.Belief.{Belief}
-use Rattle.shadow.specs.Heard.{after_attention}
-use Rattle.shadow.specs.Held.{Sized, cells_in}
-use Rattle.shadow.proofs.Kept.{room_left, cells_map, sized_attention, length_attention}
+use Rattle.std.proofs.Common.{◌≡◌, ◌∙◌, ap, sym, arith, List, refl}
+use Rattle.std.proofs.lemmas.List.{at_drop_all}
+use Rattle.shadow.specs.declared.place.Place.{Place}
+use Rattle.shadow.specs.Filled.{Fill, fill_of, key_changes, all_changed, last_fill, front_filled}
+use Rattle.shadow.proofs.Changes.{all_changed as all_passed}
+use Rattle.shadow.proofs.Changing.{key_changed}
 use Rattle.shadow.proofs.hearing.after_attention.Goals as goal
 
-pub push-requires-clause-sized : goal.push-requires-clause-sized
-push-requires-clause-sized c =
-    subst Sized (sym c.after_attention.ensures)
-    (sized_attention _ (subst Sized (sym c.get.ensures) (All-get_or Sized c.args.fields.now c.loop-index.index _ (omega arith) c.len-index-end.ensures.sized)))
+pub returns-clause-fields : goal.returns-clause-fields
+returns-clause-fields c =
+    let f = fill_of c.loop-place.filling in
+    let now = c.loop-place.places in
+    let i = c.loop-place.place in
+    let passed = c.loop-place.invariant.changed ∙ all_passed (λ (ps : List Place). all_changed f (key_changes ps) ps) now i (omega arith) refl in
+    let last = c.loop-place.invariant.last ∙ at_drop_all (λ (ps : List Place). last_fill f (key_changes ps) ps) now i (omega arith) in
+    (key_changed c.args.places.now c.fill_front.new.places c.requires (c.fill_front.ensures ∙ ap (λ (g : Fill). front_filled g now) (sym last) ∙ ap (front_filled _) (sym passed))).0
 
-pub push-requires-clause-room : goal.push-requires-clause-room
-push-requires-clause-room c =
-    room_left after_attention _ length_attention c.args.fields.now c.loop-index.index _ (omega arith) c.get.ensures c.len-index-end.ensures.room _ c.loop-index.invariant _ c.after_attention.ensures
-
-pub returns-clause-cells : goal.returns-clause-cells
-returns-clause-cells c =
-    let bs = c.args.fields.now in
-    ap cells_in (c.loop-index.invariant ∙ ap (map after_attention) (take_all c.loop-index.index bs (omega arith))) ∙ cells_map after_attention (λ (b : Belief). suc b.length) length_attention bs
+pub returns-clause-held : goal.returns-clause-held
+returns-clause-held c =
+    let f = fill_of c.loop-place.filling in
+    let now = c.loop-place.places in
+    let i = c.loop-place.place in
+    let passed = c.loop-place.invariant.changed ∙ all_passed (λ (ps : List Place). all_changed f (key_changes ps) ps) now i (omega arith) refl in
+    let last = c.loop-place.invariant.last ∙ at_drop_all (λ (ps : List Place). last_fill f (key_changes ps) ps) now i (omega arith) in
+    (key_changed c.args.places.now c.fill_front.new.places c.requires (c.fill_front.ensures ∙ ap (λ (g : Fill). front_filled g now) (sym last) ∙ ap (front_filled _) (sym passed))).1

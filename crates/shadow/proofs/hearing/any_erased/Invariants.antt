@@ -1,8 +1,8 @@
 use Rattle.std.proofs.Common.{◌≡◌, drop}
-use Rattle.std.specs.List.{list_any}
-use Rattle.shadow.specs.Heard.{was_erased}
-use Rattle.shadow.specs.Held.{paired}
+use Rattle.shadow.specs.Came.{came_of}
+use Rattle.shadow.specs.Filled.{any_lost}
+use Rattle.shadow.specs.InPlace.{beliefs_held}
 use Rattle.shadow.proofs.hearing.any_erased.Given as goal
 
-abbrev pub invariant-loop-index : goal.invariant-loop-index
-invariant-loop-index l = list_any was_erased (paired l.fields l.texts.items) ≡ list_any was_erased (paired (drop l.index l.fields) (drop l.index l.texts.items))
+abbrev pub invariant-loop-place : goal.invariant-loop-place
+invariant-loop-place l = any_lost (beliefs_held l.places 0 l.places) l.fn.returned ≡ any_lost (beliefs_held l.places l.place (drop l.place l.places)) (came_of l.next l.rest)

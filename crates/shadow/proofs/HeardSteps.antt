@@ -1,0 +1,128 @@
+-- What came, field by field, in a walk over the places.
+use Rattle.std.proofs.Common.{◌≡◌, ℕ, zero, suc, ◌+◌, ◌<◌, ◌≤◌, Bool, true, false, not, ◌&&◌, ◌||◌, List, [], ◌∷◌, ◌++◌, length, map, drop, get_or, Option, Some, None, Ok, Err, refl, ap, sym, subst, arith, ◌∙◌, if◌then◌else◌, option_map}
+use Rattle.std.specs.Prelude.{⊤, Result, nat_lt}
+use Rattle.std.specs.List.{list_any}
+use Rattle.std.proofs.lemmas.List.{at_drop_more}
+use Rattle.codes3270.specs.Size.{cell_count}
+use Rattle.datastream.specs.InboundFields.{Returned}
+use Rattle.shadow.specs.declared.fault.HeardFault.{HeardFault}
+use Rattle.shadow.specs.declared.fault.HeardFault.TheVariants.{Contradiction}
+use Rattle.shadow.specs.declared.place.Place.{Place}
+use Rattle.shadow.specs.declared.place.Place.TheVariants.{Attr, Known, Told, Unknown}
+use Rattle.shadow.specs.Belief.{Belief, Shadow, next_address}
+use Rattle.shadow.specs.Came.{text_at, came_past}
+use Rattle.shadow.specs.Filled.{text_came, came_behind, is_possible, any_lost, long_after, contradicts_held, lost_held}
+use Rattle.shadow.specs.Heard.{Answer, answers, is_nowhere, heard_long, contradicts, contradicts_text, lost_text, was_erased, after_long, settled}
+use Rattle.shadow.specs.Held.{answer}
+use Rattle.shadow.specs.InPlace.{beliefs_held}
+use Rattle.shadow.proofs.Paired.{answers_step}
+
+-- ---- one place further
+
+possible_on : (whole : List Place) (n : ℕ) (held : Place) (rest : List Place) (came : List Returned)
+    → is_possible (beliefs_held whole n (held ∷ rest)) came ≡ (not (contradicts_held held n (rest ++ whole) (text_came held n came)) && is_possible (beliefs_held whole (n + 1) rest) (came_behind held n came))
+possible_on whole n (Attr a m t) rest [] = refl
+possible_on whole n (Attr a m t) rest (c ∷ came) = refl
+possible_on whole n (Known c) rest came = refl
+possible_on whole n (Told c) rest came = refl
+possible_on whole n Unknown rest came = refl
+
+pub possible_step : (whole : List Place) (n : ℕ) (held : Place) (came : List Returned) → n < length whole → held ≡ get_or whole n held
+    → is_possible (beliefs_held whole n (drop n whole)) came
+    ≡ (not (contradicts_held held n (drop (n + 1) whole ++ whole) (text_came held n came)) && is_possible (beliefs_held whole (n + 1) (drop (n + 1) whole)) (came_behind held n came))
+possible_step whole n held came within is =
+    at_drop_more (λ rest. is_possible (beliefs_held whole n rest) came) whole n held within
+    ∙ ap (λ x. is_possible (beliefs_held whole n (x ∷ drop (n + 1) whole)) came) (sym is)
+    ∙ possible_on whole n held (drop (n + 1) whole) came
+
+pub possible_end : (came : List Returned) → is_possible [] came ≡ is_possible [] came
+possible_end came = refl
+
+lost_on : (whole : List Place) (n : ℕ) (held : Place) (rest : List Place) (came : List Returned)
+    → any_lost (beliefs_held whole n (held ∷ rest)) came ≡ (lost_held held n (rest ++ whole) (text_came held n came) || any_lost (beliefs_held whole (n + 1) rest) (came_behind held n came))
+lost_on whole n (Attr a m t) rest came = refl
+lost_on whole n (Known c) rest came = refl
+lost_on whole n (Told c) rest came = refl
+lost_on whole n Unknown rest came = refl
+
+pub lost_step : (whole : List Place) (n : ℕ) (held : Place) (came : List Returned) → n < length whole → held ≡ get_or whole n held
+    → any_lost (beliefs_held whole n (drop n whole)) came
+    ≡ (lost_held held n (drop (n + 1) whole ++ whole) (text_came held n came) || any_lost (beliefs_held whole (n + 1) (drop (n + 1) whole)) (came_behind held n came))
+lost_step whole n held came within is =
+    at_drop_more (λ rest. any_lost (beliefs_held whole n rest) came) whole n held within
+    ∙ ap (λ x. any_lost (beliefs_held whole n (x ∷ drop (n + 1) whole)) came) (sym is)
+    ∙ lost_on whole n held (drop (n + 1) whole) came
+
+-- ---- all fields with what came for them
+
+-- what is asked of the answers
+abbrev Answered : List Belief → List Returned → Option (List Answer) → Type 0
+Answered bs rs None = is_possible bs rs ≡ false
+Answered bs rs (Some found) =
+    (is_possible bs rs ≡ not (list_any contradicts found)) × (any_lost bs rs ≡ list_any was_erased found) × ((erased : Bool) → long_after erased bs rs ≡ map (after_long erased) found)
+
+possible_next : (b : Belief) (bs : List Belief) (rs : List Returned) → is_possible (b ∷ bs) rs ≡ (not (contradicts_text b (text_at (next_address cell_count b.place) rs)) && is_possible bs (came_past (next_address cell_count b.place) rs))
+possible_next b bs [] = refl
+possible_next b bs (r ∷ rs) = refl
+
+and_false : (p : Bool) → (p && false) ≡ false
+and_false true = refl
+and_false false = refl
+
+not_or : (p q : Bool) → (not p && not q) ≡ not (p || q)
+not_or true q = refl
+not_or false q = refl
+
+answered_next : (b : Belief) (bs : List Belief) (rs : List Returned) (found : Option (List Answer)) → Answered bs (came_past (next_address cell_count b.place) rs) found
+    → Answered (b ∷ bs) rs (option_map (λ more. answer b (text_at (next_address cell_count b.place) rs) ∷ more) found)
+answered_next b bs rs None h =
+    let text = text_at (next_address cell_count b.place) rs in
+    possible_next b bs rs ∙ ap (λ t. not (contradicts_text b text) && t) h ∙ and_false (not (contradicts_text b text))
+answered_next b bs rs (Some found) h =
+    let text = text_at (next_address cell_count b.place) rs in (
+      possible_next b bs rs ∙ ap (λ t. not (contradicts_text b text) && t) h.0 ∙ not_or (contradicts_text b text) (list_any contradicts found),
+      ap (λ t. lost_text b text || t) h.1,
+      λ erased. ap (λ as_. after_long erased (answer b text) ∷ as_) (h.2 erased),
+    )
+
+answered : (bs : List Belief) (rs : List Returned) → Answered bs rs (answers cell_count bs rs)
+answered [] [] = (refl, refl, λ erased. refl)
+answered [] (r ∷ rs) = refl
+answered (b ∷ bs) rs =
+    subst (Answered (b ∷ bs) rs) (sym (answers_step b bs rs))
+    (answered_next b bs rs (answers cell_count bs (came_past (next_address cell_count b.place) rs)) (answered bs (came_past (next_address cell_count b.place) rs)))
+
+heard_after : List Belief → List Returned → Bool → Result Shadow HeardFault
+heard_after bs rs t = if t then Ok (Shadow.Formatted (long_after (any_lost bs rs) bs rs)) else Err Contradiction
+
+abbrev failed : Result Shadow HeardFault
+failed = Err Contradiction
+
+pub settled_possible : (bs : List Belief) (rs : List Returned) → is_possible bs rs ≡ true → settled (answers cell_count bs rs) ≡ Ok (Shadow.Formatted (long_after (any_lost bs rs) bs rs))
+settled_possible bs rs e = cases (answers cell_count bs rs) (answered bs rs)
+  where
+    inner : (found : List Answer) (t : Bool) → Answered bs rs (Some found) → list_any contradicts found ≡ t
+        → (if t then Err Contradiction else Ok (Shadow.Formatted (map (after_long (list_any was_erased found)) found))) ≡ Ok (Shadow.Formatted (long_after (any_lost bs rs) bs rs))
+    inner found true h is = absurd (let bad = sym e ∙ h.0 ∙ ap not is in cc)
+    inner found false h is = ap (λ b. Ok (Shadow.Formatted (map (after_long b) found))) (sym h.1) ∙ ap (λ bs_. Ok (Shadow.Formatted bs_)) (sym (h.2 (any_lost bs rs)))
+
+    cases : (found : Option (List Answer)) → Answered bs rs found → settled found ≡ Ok (Shadow.Formatted (long_after (any_lost bs rs) bs rs))
+    cases None h = absurd (let bad = sym e ∙ h in cc)
+    cases (Some found) h = inner found (list_any contradicts found) h refl
+
+pub settled_impossible : (bs : List Belief) (rs : List Returned) → is_possible bs rs ≡ false → settled (answers cell_count bs rs) ≡ Err Contradiction
+settled_impossible bs rs e = cases (answers cell_count bs rs) (answered bs rs)
+  where
+    inner : (found : List Answer) (t : Bool) → Answered bs rs (Some found) → list_any contradicts found ≡ t
+        → (if t then Err Contradiction else Ok (Shadow.Formatted (map (after_long (list_any was_erased found)) found))) ≡ failed
+    inner found true h is = refl
+    inner found false h is = absurd (let bad = sym e ∙ h.0 ∙ ap not is in cc)
+
+    cases : (found : Option (List Answer)) → Answered bs rs found → settled found ≡ failed
+    cases None h = refl
+    cases (Some found) h = inner found (list_any contradicts found) h refl
+
+-- where each text is a field's, and none stands before them
+pub fields_heard : (bs : List Belief) (lead : List ℕ) (rs : List Returned) → list_any (is_nowhere cell_count bs) rs ≡ false → nat_lt 0 (length lead) ≡ false
+    → heard_long cell_count (Shadow.Formatted bs) lead rs ≡ settled (answers cell_count bs rs)
+fields_heard bs lead rs somewhere none = rw (somewhere, none) refl

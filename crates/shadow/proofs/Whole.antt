@@ -1,0 +1,118 @@
+-- What is believed, and the places that hold it.
+use Rattle.std.proofs.Common.{◌≡◌, ℕ, zero, suc, ◌+◌, ◌<◌, ◌≤◌, Bool, true, false, not, List, [], ◌∷◌, length, map, replicate, Option, Some, None, Ok, Err, refl, ap, sym, subst, arith, ◌∙◌, if◌then◌else◌}
+use Rattle.std.specs.Prelude.{Result, nat_lt}
+use Rattle.std.proofs.lemmas.List.{length-map}
+use Rattle.std.proofs.lemmas.Bool.{lt-ltb, le-ltb}
+use Rattle.codes3270.specs.Size.{cell_count}
+use Rattle.codes3270.specs.declared.attribute.Cell.{Cell}
+use Rattle.datastream.specs.Fields.{Field, fields}
+use Rattle.datastream.specs.InboundFields.{Returned}
+use Rattle.datastream.specs.declared.command_code.CommandCode.{CommandCode}
+use Rattle.datastream.specs.declared.command_code.CommandCode.TheVariants.{Write, EraseWrite}
+use Rattle.shadow.specs.declared.fault.HeardFault.{HeardFault}
+use Rattle.shadow.specs.declared.fault.HeardFault.TheVariants.{Contradiction}
+use Rattle.shadow.specs.declared.known.Known.{Known}
+use Rattle.shadow.specs.declared.place.Place.{Place}
+use Rattle.shadow.specs.Belief.{Belief, Shadow, next_address}
+use Rattle.shadow.specs.Filled.{long_after}
+use Rattle.shadow.specs.Heard.{heard_long, heard_attention, after_attention}
+use Rattle.shadow.specs.InPlace.{chars_known, cells_known, beliefs_held, shadow_held, has_attribute, has_fields, IsHeld}
+use Rattle.shadow.specs.Paint.{known_nulls, known_before, paint_code}
+use Rattle.shadow.specs.Seen.{others, is_formatted, denies_buffer, heard_buffer, seen}
+use Rattle.shadow.specs.Taken.{formatted_as, marks_off_if}
+use Rattle.shadow.proofs.Placed.{formatted_held, unformatted_held, no_beliefs, bare_known, base_known, has_held, length-cells}
+
+pub formatted_parts : (knows : Bool) (places : List Place) → has_fields (shadow_held knows places) ≡ true → (knows ≡ true) × (has_attribute places ≡ true)
+formatted_parts false places e = absurd (cc)
+formatted_parts true places e = cases (has_attribute places) refl
+  where
+    cases : (t : Bool) → has_attribute places ≡ t → (true ≡ true) × (has_attribute places ≡ true)
+    cases true is = (refl, is)
+    cases false is = absurd (let bad : false ≡ true = sym (ap has_fields (unformatted_held places is)) ∙ e in cc)
+
+pub formatted_is : (knows : Bool) (places : List Place) → has_fields (shadow_held knows places) ≡ true → shadow_held knows places ≡ Shadow.Formatted (beliefs_held places 0 places)
+formatted_is knows places e =
+    let parts = formatted_parts knows places e in
+    ap (λ (k : Bool). shadow_held k places) parts.0 ∙ formatted_held places parts.1
+
+-- a screen that is known, without fields
+pub bare_is : (places : List Place) → has_fields (shadow_held true places) ≡ false → (shadow_held true places ≡ Shadow.Unformatted (chars_known places)) × (length (chars_known places) ≡ length places)
+bare_is places e = cases (has_attribute places) refl
+  where
+    cases : (t : Bool) → has_attribute places ≡ t → (shadow_held true places ≡ Shadow.Unformatted (chars_known places)) × (length (chars_known places) ≡ length places)
+    cases true is = absurd (let bad : true ≡ false = sym (ap has_fields (formatted_held places is)) ∙ e in cc)
+    cases false is = (
+      unformatted_held places is,
+      sym (length-map (chars_known places) _) ∙ ap length (bare_known places is) ∙ length-cells places,
+    )
+
+some_belief : (places : List Place) → has_attribute places ≡ true → (bs : List Belief) → beliefs_held places 0 places ≡ bs → (b : Belief) × (more : List Belief) × (bs ≡ b ∷ more)
+some_belief places e [] is = absurd (let bad : Shadow.Unformatted (chars_known places) ≡ Shadow.Formatted [] = sym (ap (λ bs. formatted_as bs (chars_known places)) is) ∙ formatted_held places e ∙ ap Shadow.Formatted is in cc)
+some_belief places e (b ∷ more) is = (b, more, refl)
+
+-- what long data leaves of a screen with fields has fields
+pub long_formatted : (places after : List Place) (erased : Bool) (came : List Returned) → has_attribute places ≡ true → beliefs_held after 0 after ≡ long_after erased (beliefs_held places 0 places) came
+    → shadow_held true after ≡ Shadow.Formatted (long_after erased (beliefs_held places 0 places) came)
+long_formatted places after erased came e is =
+    let some = some_belief places e (beliefs_held places 0 places) refl in
+    ap (λ bs. formatted_as bs (chars_known after)) is
+    ∙ ap (λ bs. formatted_as (long_after erased bs came) (chars_known after)) some.2
+    ∙ ap (λ bs. Shadow.Formatted (long_after erased bs came)) (sym some.2)
+
+pub key_formatted : (places after : List Place) → has_attribute places ≡ true → beliefs_held after 0 after ≡ map after_attention (beliefs_held places 0 places)
+    → shadow_held true after ≡ Shadow.Formatted (map after_attention (beliefs_held places 0 places))
+key_formatted places after e is =
+    let some = some_belief places e (beliefs_held places 0 places) refl in
+    ap (λ bs. formatted_as bs (chars_known after)) is
+    ∙ ap (λ bs. formatted_as (map after_attention bs) (chars_known after)) some.2
+    ∙ ap (λ bs. Shadow.Formatted (map after_attention bs)) (sym some.2)
+
+-- a key that sends no fields leaves nothing known where there are none
+pub key_forgets : (shadow : Shadow) → has_fields shadow ≡ false → heard_attention shadow ≡ Shadow.NothingKnown
+key_forgets Shadow.NothingKnown e = refl
+key_forgets (Shadow.Unformatted known) e = refl
+key_forgets (Shadow.Formatted beliefs) e = absurd (cc)
+
+others_none : (fs : List Field) → others [] fs ≡ is_formatted fs
+others_none [] = refl
+others_none (f ∷ fs) = refl
+
+pub denies_held : (places : List Place) (cells : List Cell) → denies_buffer (shadow_held true places) cells ≡ others (beliefs_held places 0 places) (fields cells)
+denies_held places cells = cases (has_attribute places) refl
+  where
+    cases : (t : Bool) → has_attribute places ≡ t → denies_buffer (shadow_held true places) cells ≡ others (beliefs_held places 0 places) (fields cells)
+    cases true is = ap (λ s. denies_buffer s cells) (formatted_held places is)
+    cases false is =
+        ap (λ s. denies_buffer s cells) (unformatted_held places is) ∙ sym (others_none (fields cells)) ∙ ap (λ bs. others bs (fields cells)) (sym (no_beliefs places 0 places is))
+
+-- ---- what a paint finds
+
+pub base_is : (knows resets : Bool) (places : List Place) → length places ≡ cell_count → IsHeld places → (formatted : Bool) → formatted ≡ has_fields (shadow_held knows places)
+    → (if formatted then marks_off_if resets (cells_known places) else known_nulls cell_count) ≡ known_before cell_count resets (shadow_held knows places)
+base_is false resets places even held formatted is = ap (λ t. if t then marks_off_if resets (cells_known places) else known_nulls cell_count) is
+base_is true resets places even held formatted is =
+    ap (λ t. if t then marks_off_if resets (cells_known places) else known_nulls cell_count) (is ∙ has_held places) ∙ sym (base_known cell_count resets places even held)
+
+pub code_is : (shadow : Shadow) (formatted : Bool) → formatted ≡ has_fields shadow → (if formatted then Write else EraseWrite) ≡ paint_code shadow
+code_is shadow formatted is = ap (λ t. if t then Write else EraseWrite) is ∙ by_shadow shadow
+  where
+    by_shadow : (shadow : Shadow) → (if has_fields shadow then Write else EraseWrite) ≡ paint_code shadow
+    by_shadow Shadow.NothingKnown = refl
+    by_shadow (Shadow.Unformatted known) = refl
+    by_shadow (Shadow.Formatted beliefs) = refl
+
+-- ---- long data where there are no fields
+
+pub bare_refused : (places : List Place) (lead : List ℕ) → has_fields (shadow_held true places) ≡ false → length places < length lead → heard_long cell_count (shadow_held true places) lead [] ≡ Err Contradiction
+bare_refused places lead e longer =
+    let bare = bare_is places e in
+    let test : nat_lt (length (chars_known places)) (length lead) ≡ true = lt-ltb _ _ (omega (arith, bare.1)) in
+    ap (λ (s : Shadow). heard_long cell_count s lead []) bare.0 ∙ ap (λ (t : Bool). if t then Err Contradiction else Ok Shadow.NothingKnown) test
+
+pub bare_forgotten : (knows : Bool) (places : List Place) (lead : List ℕ) → has_fields (shadow_held knows places) ≡ false → (knows ≡ true → length lead ≤ length places) → heard_long cell_count (shadow_held knows places) lead [] ≡ Ok Shadow.NothingKnown
+bare_forgotten false places lead e short = refl
+bare_forgotten true places lead e short =
+    let bare = bare_is places e in
+    let few = short refl in
+    let test : nat_lt (length (chars_known places)) (length lead) ≡ false = le-ltb _ _ (omega (arith, bare.1)) in
+    ap (λ (s : Shadow). heard_long cell_count s lead []) bare.0 ∙ ap (λ (t : Bool). if t then Err Contradiction else Ok Shadow.NothingKnown) test

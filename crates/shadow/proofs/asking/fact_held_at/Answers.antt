@@ -1,0 +1,23 @@
+use Rattle.std.proofs.Common.{ap, sym, ◌∙◌, arith, refl, Some}
+use Rattle.shadow.specs.Asked.{kind_of}
+use Rattle.std.specs.Prelude.{option_map}
+use Rattle.shadow.specs.Belief.{Belief}
+use Rattle.shadow.specs.declared.place.Place.TheVariants.{Known, Told, Unknown}
+use Rattle.shadow.proofs.Placed.{with_found, with_missed}
+use Rattle.shadow.proofs.asking.fact_held_at.Goals as goal
+
+pub returns-in-Attr : goal.returns-in-Attr
+returns-in-Attr c =
+    ap Some c.kind.ensures ∙ sym (ap (option_map (λ (b : Belief). kind_of b.fact)) (with_found c.args.place c.args.places.now c.in-Attr.field-0 c.in-Attr.field-1 c.in-Attr.telling (omega arith) c.in-Attr.ensures.place))
+
+pub returns-in-Known : goal.returns-in-Known
+returns-in-Known c =
+    sym (ap (option_map (λ (b : Belief). kind_of b.fact)) (with_missed c.args.place c.args.places.now (Known c.in-Known.field-0) refl (omega arith) c.in-Known.ensures.place))
+
+pub returns-in-Told : goal.returns-in-Told
+returns-in-Told c =
+    sym (ap (option_map (λ (b : Belief). kind_of b.fact)) (with_missed c.args.place c.args.places.now (Told c.in-Told.field-0) refl (omega arith) c.in-Told.ensures.place))
+
+pub returns-in-Unknown : goal.returns-in-Unknown
+returns-in-Unknown c =
+    sym (ap (option_map (λ (b : Belief). kind_of b.fact)) (with_missed c.args.place c.args.places.now Unknown refl (omega arith) c.in-Unknown.ensures.place))

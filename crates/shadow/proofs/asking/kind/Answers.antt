@@ -1,0 +1,14 @@
+use Rattle.std.proofs.Common.{ap, sym, ◌∙◌}
+use Rattle.shadow.specs.declared.place.Telling.TheVariants.{Cells}
+use Rattle.shadow.specs.Asked.{kind_of}
+use Rattle.shadow.specs.InPlace.{fact_held}
+use Rattle.shadow.proofs.Placed.{exact_held, any_held}
+use Rattle.shadow.proofs.asking.kind.Goals as goal
+
+pub returns-then-all_known : goal.returns-then-all_known
+returns-then-all_known c =
+    rw (c.in-Cells.is, ← c.ahead.ensures.places) (sym (ap kind_of (exact_held c.ahead.result (sym c.all_known.ensures ∙ c.if-all_known.true))))
+
+pub returns-else-all_known : goal.returns-else-all_known
+returns-else-all_known c =
+    rw (c.in-Cells.is, ← c.ahead.ensures.places) (sym (ap kind_of (any_held c.ahead.result (sym c.all_known.ensures ∙ c.if-all_known.false))))

@@ -1,0 +1,33 @@
+use Rattle.std.proofs.Common.{◌≡◌, ◌∙◌, ◌&&◌, ap, sym, refl, arith, length, List, Bool, ℕ, nat_eq, ◌++◌, ◌+◌, drop}
+use Rattle.shadow.specs.declared.place.Place.{Place}
+use Rattle.shadow.specs.declared.place.Place.TheVariants.{Known, Told, Unknown}
+use Rattle.shadow.specs.InPlace.{chars_known}
+use Rattle.shadow.proofs.Placed.{field_found, field_missed}
+use Rattle.shadow.proofs.fitting.is_field_at.Goals as goal
+
+pub returns-then-same_attr : goal.returns-then-same_attr
+returns-then-same_attr c =
+    let whole = c.args.places.now in
+    let p = c.args.place in
+    let count = c.args.count in
+    ap (λ (n : ℕ). nat_eq n count) (c.count_chars.ensures ∙ ap (λ (ps : List Place). length (chars_known ps)) c.ahead.ensures.places)
+    ∙ ap (λ (t : Bool). t && nat_eq (length (chars_known (drop (p + 1) whole ++ whole))) count) (sym (sym c.same_attr.ensures ∙ c.if-same_attr.true))
+    ∙ sym (field_found p c.args.attr count whole c.in-Attr.there c.in-Attr.field-1 c.in-Attr.field-2 (omega arith) c.in-Attr.ensures.place)
+
+pub returns-else-same_attr : goal.returns-else-same_attr
+returns-else-same_attr c =
+    let whole = c.args.places.now in
+    let p = c.args.place in
+    let count = c.args.count in
+    c.if-same_attr.false
+    ∙ ap (λ (t : Bool). t && nat_eq (length (chars_known (drop (p + 1) whole ++ whole))) count) (sym (sym c.same_attr.ensures ∙ c.if-same_attr.false))
+    ∙ sym (field_found p c.args.attr count whole c.in-Attr.there c.in-Attr.field-1 c.in-Attr.field-2 (omega arith) c.in-Attr.ensures.place)
+
+pub returns-in-Known : goal.returns-in-Known
+returns-in-Known c = sym (field_missed c.args.place c.args.attr c.args.count c.args.places.now (Known c.in-Known.field-0) refl (omega arith) c.in-Known.ensures.place)
+
+pub returns-in-Told : goal.returns-in-Told
+returns-in-Told c = sym (field_missed c.args.place c.args.attr c.args.count c.args.places.now (Told c.in-Told.field-0) refl (omega arith) c.in-Told.ensures.place)
+
+pub returns-in-Unknown : goal.returns-in-Unknown
+returns-in-Unknown c = sym (field_missed c.args.place c.args.attr c.args.count c.args.places.now Unknown refl (omega arith) c.in-Unknown.ensures.place)

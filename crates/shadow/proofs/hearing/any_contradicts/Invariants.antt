@@ -1,8 +1,0 @@
-use Rattle.std.proofs.Common.{◌≡◌, drop}
-use Rattle.std.specs.List.{list_any}
-use Rattle.shadow.specs.Heard.{contradicts}
-use Rattle.shadow.specs.Held.{paired}
-use Rattle.shadow.proofs.hearing.any_contradicts.Given as goal
-
-abbrev pub invariant-loop-index : goal.invariant-loop-index
-invariant-loop-index l = list_any contradicts (paired l.fields l.texts.items) ≡ list_any contradicts (paired (drop l.index l.fields) (drop l.index l.texts.items))

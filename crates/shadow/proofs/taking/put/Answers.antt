@@ -1,0 +1,15 @@
+use Rattle.std.proofs.Common.{◌≡◌, ◌∙◌, ap, sym, refl, List, set, true}
+use Rattle.shadow.specs.Since.{Since, cells_written, place_stored}
+use Rattle.shadow.specs.declared.place.Place.{Place}
+use Rattle.shadow.specs.declared.place.Past.{Past}
+use Rattle.shadow.proofs.Changes.{cells_put, since_put}
+use Rattle.shadow.proofs.taking.put.Goals as goal
+
+pub returns-clause-cells : goal.returns-clause-cells
+returns-clause-cells c =
+    let q : Past = record { telling = c.past_at.result.telling; fresh = true } in
+    rw (c.set.ensures.places, c.get-place.ensures.value, c.place_of.ensures) (cells_put c.args.places.now c.args.pasts.now c.args.at c.args.cell q refl)
+
+pub returns-clause-since : goal.returns-clause-since
+returns-clause-since c = λ old since.
+    rw (c.set.ensures.places, c.get-place.ensures.value) (since_put old c.args.places.now c.args.pasts.now c.args.at c.place_of.result c.past_at.result (rw c.get-place.ensures.value at c.past_at.ensures) since)

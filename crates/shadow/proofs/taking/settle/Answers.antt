@@ -1,0 +1,27 @@
+use Rattle.std.proofs.Common.{◌≡◌, ◌∙◌, ◌++◌, ◌+◌, ◌∷◌, ap, sym, refl, arith, List, length, drop, Bool, get_or}
+use Rattle.shadow.specs.Since.{cells_written, is_touched, settled, place_settled, never}
+use Rattle.shadow.specs.declared.known.Known.{Known}
+use Rattle.shadow.specs.declared.place.Past.{Past}
+use Rattle.shadow.specs.declared.place.Place.{Place}
+use Rattle.shadow.specs.declared.place.Place.TheVariants.{Unknown}
+use Rattle.shadow.proofs.Changes.{changed_here, all_changed, cells_same, cells_drop, settled_step}
+use Rattle.shadow.proofs.taking.settle.Goals as goal
+
+pub loop-at-preserved : goal.loop-at-preserved
+loop-at-preserved c =
+    let now = c.loop-at.places in
+    let qs = c.args.pasts.now in
+    let ks = cells_written c.args.places.now qs in
+    let i = c.loop-at.at in
+    let step = settled_step ks now qs i c.settled_at-place.result (omega arith) (omega arith) c.loop-at.invariant.cells c.settled_at-place.ensures in
+    record {
+      size = omega arith;
+      cells = ap (λ (ps : List Place). cells_written ps qs) c.set.ensures.places ∙ step.0 ∙ c.loop-at.invariant.cells;
+      settled_ = c.loop-at.invariant.settled_ ∙ step.1 ∙ rw c.set.ensures.places refl;
+    }
+
+pub returns : goal.returns
+returns c =
+    let qs = c.args.pasts.now in
+    let ks = cells_written c.args.places.now qs in
+    sym (c.loop-at.invariant.settled_ ∙ all_changed (λ (ps : List Place). settled ks qs ps (drop c.loop-at.at qs)) c.loop-at.places c.loop-at.at (omega arith) refl)

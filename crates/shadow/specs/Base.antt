@@ -1,0 +1,14 @@
+-- For proofs alone: what a paint finds on the screen (our profile).
+use Rattle.std.specs.Prelude.{Bool, List, if◌then◌else◌}
+use Rattle.codes3270.specs.Size.{cell_count}
+use Rattle.shadow.specs.declared.known.Known.{Known}
+use Rattle.shadow.specs.declared.painting.Base.{Base}
+use Rattle.shadow.specs.InPlace.{cells_known}
+use Rattle.shadow.specs.Paint.{known_nulls}
+use Rattle.shadow.specs.Taken.{mark_off, marks_off_if}
+
+abbrev pub mark_off_if : Bool → Known → Known
+mark_off_if resets known = if resets then mark_off known else known
+
+abbrev pub known_base : Base → List Known
+known_base base = if base.formatted then marks_off_if base.reset (cells_known base.places.now) else known_nulls cell_count

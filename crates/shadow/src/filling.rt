@@ -1,0 +1,112 @@
+//! What becomes of the places of a field.
+ghost use Rattle.std.specs.Prelude.{◌≡◌, length};
+ghost use Rattle.codes3270.specs.Size.{cell_count};
+ghost use Rattle.shadow.specs.Filled.{fill_of, filled, place_told, fill_next, change_of, changed, fill_behind, front_filled};
+
+use crate::mark::Mark;
+use crate::place::{Place, Telling};
+use crate::places::Places;
+
+/// What becomes of the characters of a field, one after another.
+#[derive(Clone, Copy)]
+pub(crate) enum Filling<'a> {
+    /// They stay as they are held.
+    Same,
+    /// Nothing is known of them.
+    Unknown,
+    /// They are null.
+    Null,
+    /// They tell a text, and behind it nothing is known.
+    Text(&'a [u8]),
+    /// Those that are known tell a text.
+    Told,
+}
+
+/// What becomes of a field.
+#[derive(Clone, Copy)]
+pub(crate) struct Change<'a> {
+    pub mark: Mark,
+    pub telling: Telling,
+    pub filling: Filling<'a>,
+}
+
+fn told(place: Place) -> Place
+    ensures { result ≡ place_told place }
+{
+    match place {
+        Place::Known(char) => Place::Told(char),
+        Place::Attr(_, _, _) => place,
+        Place::Told(_) => place,
+        Place::Unknown => place,
+    }
+}
+
+/// What becomes of a character's place.
+pub(crate) fn fill(place: Place, filling: Filling<'_>) -> Place
+    ensures { result ≡ filled (fill_of filling.entry) place }
+{
+    match filling {
+        Filling::Same => place,
+        Filling::Unknown => Place::Unknown,
+        Filling::Null => Place::Known(0),
+        Filling::Text([char, ..]) => Place::Told(*char),
+        Filling::Text([]) => Place::Unknown,
+        Filling::Told => told(place),
+    }
+}
+
+/// What becomes of the next one.
+pub(crate) fn filling_next(filling: Filling<'_>) -> Filling<'_>
+    ensures { fill_of result ≡ fill_next (fill_of filling.entry) }
+{
+    match filling {
+        Filling::Text([_, rest @ ..]) => Filling::Text(rest),
+        _ => filling,
+    }
+}
+
+/// What becomes of a place: of an attribute by its change, of a character by what its field is filled with.
+pub(crate) fn place_after(held: Place, filling: Filling<'_>, change: Change<'_>) -> Place
+    ensures { result ≡ changed held (fill_of filling.entry) (change_of change.entry) }
+{
+    match held {
+        Place::Attr(attr, _, _) => Place::Attr(attr, change.mark, change.telling),
+        Place::Known(_) => fill(held, filling),
+        Place::Told(_) => fill(held, filling),
+        Place::Unknown => fill(held, filling),
+    }
+}
+
+/// What the place behind it is filled with.
+pub(crate) fn filling_behind<'a>(
+    held: Place,
+    filling: Filling<'a>,
+    change: Change<'a>,
+) -> Filling<'a>
+    ensures { fill_of result ≡ fill_behind held (fill_of filling.entry) (change_of change.entry) }
+{
+    match held {
+        Place::Attr(_, _, _) => change.filling,
+        Place::Known(_) => filling_next(filling),
+        Place::Told(_) => filling_next(filling),
+        Place::Unknown => filling_next(filling),
+    }
+}
+
+/// Fills the places before the first attribute: the last field goes on at address 0.
+pub(crate) fn fill_front(places: &mut Places, filling: Filling<'_>)
+    ensures { places.new ≡ front_filled (fill_of filling.entry) places.old }
+{
+    let mut filling = filling;
+    for place in 0..places.len() {
+        let held = places.get(place);
+        match held {
+            Place::Attr(_, _, _) => return,
+            Place::Known(_) => {}
+            Place::Told(_) => {}
+            Place::Unknown => {}
+        }
+        places.set(place, fill(held, filling));
+        filling = filling_next(filling);
+    }
+}

@@ -1,0 +1,257 @@
+//! A plain write, on the places where they stand.
+ghost use Rattle.std.specs.Prelude.{◌≡◌, ◌<◌, ◌+◌, ◌++◌, ◌∷◌, true, false, List, Some, None, length, map, drop, slice_index_or, slice_set, unwrap_or, if◌then◌else◌};
+ghost use Rattle.codes3270.specs.Size.{cell_count};
+ghost use Rattle.datastream.specs.declared.order.Order.{Order as PlainOrder};
+ghost use Rattle.shadow.specs.declared.known.Known.{Known as KnownCell};
+ghost use Rattle.shadow.specs.declared.place.Place.{Place as Held};
+ghost use Rattle.shadow.specs.declared.place.Place.TheVariants.{Unknown};
+ghost use Rattle.shadow.specs.declared.place.Past.{Past as PastPlace};
+ghost use Rattle.shadow.specs.InPlace.{cell_known, cells_known, beliefs_held, shadow_held, IsHeld};
+ghost use Rattle.shadow.specs.Since.{place_stored, place_off, telling_of, never, cells_written, Since, is_touched, telling_after as telling_then, place_settled, settled};
+ghost use Rattle.shadow.specs.Stores.{is_plain, stores};
+ghost use Rattle.shadow.specs.Taken.{believed, known_after, known_stored, new_cell, resets as resets_marks, taken_erase};
+
+use crate::mark::Mark;
+use crate::place::{Past, Place, Telling};
+use crate::places::{CELL_COUNT, Places};
+use crate::writing::{mark_seen, resets};
+use codes3270::{Addr, Cell, Wcc};
+use datastream::{Command, Order, Orders};
+
+/// A place in which a cell was stored, or read.
+pub(crate) fn place_of(cell: Cell) -> Place
+    ensures { result ≡ place_stored cell }
+{
+    match cell {
+        Cell::Attr(attr) => Place::Attr(attr.with_mdt(false), mark_seen(attr.mdt), Telling::Cells),
+        Cell::Char(char) => Place::Known(char),
+    }
+}
+
+fn past_at(pasts: &[Past], place: usize) -> Past
+    requires { place < length pasts.now }
+    ensures { result ≡ slice_index_or pasts.now place result }
+{
+    pasts[place]
+}
+
+fn past_of(place: Place) -> Past
+    ensures { result ≡ record { telling = telling_of place; fresh = false } }
+{
+    Past {
+        telling: match place {
+            Place::Attr(_, _, telling) => Some(telling),
+            Place::Known(_) => None,
+            Place::Told(_) => None,
+            Place::Unknown => None,
+        },
+        fresh: false,
+    }
+}
+
+/// What the places are before a write.
+fn pasts_of(places: &Places) -> [Past; CELL_COUNT]
+    ensures since { Since places.now places.now result }
+    ensures cells { cells_written places.now result ≡ cells_known places.now }
+    ensures size { length result ≡ cell_count }
+{
+    let mut pasts = [Past {
+        telling: None,
+        fresh: false,
+    }; CELL_COUNT];
+    for place in 0..places.len() {
+        pasts[place] = past_of(places.get(place));
+    }
+    pasts
+}
+
+/// Stores a cell.
+fn put(places: &mut Places, pasts: &mut [Past], at: Addr, cell: Cell)
+    requires { length pasts.old ≡ cell_count }
+    ensures cells { cells_written places.new pasts.new ≡ slice_set (cells_written places.old pasts.old) at (new_cell cell) }
+    ensures since { (old : List Held) → Since old places.old pasts.old → Since old places.new pasts.new }
+    ensures size { length pasts.new ≡ cell_count }
+{
+    let place = at.get() as usize;
+    places.set(place, place_of(cell));
+    pasts[place] = Past {
+        telling: past_at(pasts, place).telling,
+        fresh: true,
+    };
+}
+
+/// Carries out an order at an address, and answers the next address.
+fn store_one(places: &mut Places, pasts: &mut [Past], at: Addr, order: Order) -> Addr
+    requires { length pasts.old ≡ cell_count }
+    ensures cells { (more : List PlainOrder) → known_stored (stores cell_count at (order ∷ more)) (cells_written places.old pasts.old) ≡ known_stored (stores cell_count result more) (cells_written places.new pasts.new) }
+    ensures since { (old : List Held) → Since old places.old pasts.old → Since old places.new pasts.new }
+    ensures size { length pasts.new ≡ cell_count }
+{
+    match order {
+        Order::Sf(attr) => {
+            put(places, pasts, at, Cell::Attr(attr));
+            at.next()
+        }
+        Order::Char(char) => {
+            put(places, pasts, at, Cell::Char(char));
+            at.next()
+        }
+        Order::Sba(to) => to,
+        Order::Ic => at,
+        Order::Pt => at,
+        Order::Ra(_, _) => at,
+        Order::Eua(_) => at,
+    }
+}
+
+/// Stores what the orders store.
+fn store(places: &mut Places, pasts: &mut [Past], orders: Orders<'_>)
+    requires { length pasts.old ≡ cell_count }
+    ensures cells { cells_written places.new pasts.new ≡ known_stored (stores cell_count 0 orders.entry) (cells_written places.old pasts.old) }
+    ensures since { (old : List Held) → Since old places.old pasts.old → Since old places.new pasts.new }
+    ensures size { length pasts.new ≡ cell_count }
+{
+    let mut at = Addr::first();
+    for order in orders {
+        at = store_one(places, pasts, at, order);
+    }
+}
+
+fn with_mark_off(place: Place) -> Place
+    ensures { result ≡ place_off place }
+{
+    match place {
+        Place::Attr(attr, _, telling) => Place::Attr(attr, Mark::Off, telling),
+        Place::Known(_) => place,
+        Place::Told(_) => place,
+        Place::Unknown => place,
+    }
+}
+
+/// Sets each attribute's mark off.
+fn marks_off(places: &mut Places)
+    ensures { places.new ≡ map place_off places.old }
+{
+    for index in 0..places.len() {
+        let place = places.get(index);
+        places.set(index, with_mark_off(place));
+    }
+}
+
+/// Sets each attribute's mark off, where the write does.
+fn reset_marks(places: &mut Places, wcc: Option<Wcc>)
+    ensures { places.new ≡ (if resets_marks wcc then map place_off places.old else places.old) }
+{
+    if resets(wcc) {
+        marks_off(places);
+    }
+}
+
+/// Whether a place shows if the field before it was touched: by a stored character it was, and by an attribute just where
+/// none was there.
+fn touch(place: Place, past: Past) -> Option<bool>
+    ensures { (cells : List KnownCell) → (pasts : List PastPlace) → is_touched (cell_known place past.fresh ∷ cells) (past ∷ pasts) ≡ unwrap_or result (is_touched cells pasts) }
+{
+    match place {
+        Place::Attr(_, _, _) => Some(past.telling.is_none()),
+        Place::Known(_) => fresh_touch(past),
+        Place::Told(_) => fresh_touch(past),
+        Place::Unknown => fresh_touch(past),
+    }
+}
+
+fn fresh_touch(past: Past) -> Option<bool>
+    ensures { result ≡ (if past.fresh then Some true else None) }
+{
+    if past.fresh { Some(true) } else { None }
+}
+
+/// Whether the field of an attribute was touched.
+fn is_field_touched(places: &Places, pasts: &[Past], place: usize) -> bool
+    requires placed { place < cell_count }
+    requires size { length pasts.now ≡ cell_count }
+    ensures { let cells = cells_written places.now pasts.now in
+        result ≡ is_touched (drop (place + 1) cells ++ cells) (drop (place + 1) pasts.now ++ pasts.now) }
+{
+    for at in place + 1..places.len() {
+        match touch(places.get(at), past_at(pasts, at)) {
+            Some(touched) => return touched,
+            None => {}
+        }
+    }
+    for at in 0..places.len() {
+        match touch(places.get(at), past_at(pasts, at)) {
+            Some(touched) => return touched,
+            None => {}
+        }
+    }
+    false
+}
+
+/// How the field of an attribute is told after the write.
+fn telling_after(past: Past, touched: bool) -> Telling
+    ensures { result ≡ telling_then past touched }
+{
+    match past.telling {
+        Some(telling) if !touched => telling,
+        _ => Telling::Cells,
+    }
+}
+
+/// A place after the write.
+fn settled_at(places: &Places, pasts: &[Past], at: usize) -> Place
+    requires placed { at < cell_count }
+    requires size { length pasts.now ≡ cell_count }
+    ensures { let cells = cells_written places.now pasts.now in
+        result ≡ place_settled (slice_index_or places.now at Unknown) (slice_index_or pasts.now at never) (is_touched (drop (at + 1) cells ++ cells) (drop (at + 1) pasts.now ++ pasts.now)) }
+{
+    let place = places.get(at);
+    match place {
+        Place::Attr(attr, mark, _) => {
+            let touched = is_field_touched(places, pasts, at);
+            Place::Attr(attr, mark, telling_after(past_at(pasts, at), touched))
+        }
+        Place::Known(_) => place,
+        Place::Told(_) => place,
+        Place::Unknown => place,
+    }
+}
+
+/// Lets each attribute tell its field as it is after the write.
+fn settle(places: &mut Places, pasts: &[Past])
+    requires { length pasts.now ≡ cell_count }
+    ensures { places.new ≡ settled (cells_written places.old pasts.now) pasts.now places.old pasts.now }
+{
+    for at in 0..places.len() {
+        let place = settled_at(places, pasts, at);
+        places.set(at, place);
+    }
+}
+
+/// Carries out a write that doesn't erase.
+pub(crate) fn write_over(places: &mut Places, command: &Command<'_>)
+    requires { IsHeld places.old }
+    ensures shadow { shadow_held true places.new ≡ believed (beliefs_held places.old 0 places.old) (known_after cell_count command.now.wcc command.now.orders (cells_known places.old)) }
+    ensures held { IsHeld places.new }
+    ensures whole { length places.old ≡ cell_count }
+{
+    let mut pasts = pasts_of(places);
+    reset_marks(places, command.wcc());
+    store(places, &mut pasts, command.orders());
+    settle(places, &pasts);
+}
+
+/// Carries out a write that erases.
+pub(crate) fn erase_over(places: &mut Places, command: &Command<'_>)
+    requires { is_plain command.now ≡ true }
+    ensures shadow { shadow_held true places.new ≡ taken_erase cell_count command.now }
+    ensures held { IsHeld places.new }
+{
+    places.fill(Place::Known(0));
+    let mut pasts = [Past {
+        telling: None,
+        fresh: true,
+    }; CELL_COUNT];
+    store(places, &mut pasts, command.orders());
+    settle(places, &pasts);
+}
