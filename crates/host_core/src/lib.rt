@@ -1,4 +1,38 @@
-//! The host: what it makes of what terminals send, and what it does in its turn.
+//! The host: what it makes of what terminals send, and what it does in its turn. It owns no connection and waits for nothing: who
+//! owns some numbers them, feeds it what comes on each, lets it act, and sends what it has to send.
+//!
+//! ```rust
+//! let panels = PanelSet::read(alloc, text)?;
+//! let pool = Pool::read(alloc, panels.lus())?;
+//! let mut host = Host::new(alloc, panels, pool)?;
+//!
+//! // A client comes: the host has DO TN3270E to send.
+//! host.open(0)?;
+//! assert_eq!(rt; host.out(0), b"\xff\xfd\x28".as_slice());
+//! host.sent(0, 3);
+//!
+//! // The client says WILL TN3270E, asks for a device of model 2 and for RESPONSES, and is granted an LU.
+//! let talk = b"\xff\xfb\x28\xff\xfa\x28\x02\x07IBM-3278-2\xff\xf0\xff\xfa\x28\x03\x07\x02\xff\xf0";
+//! assert!(rt; host.feed(0, talk).stop == Stop::Going);
+//! assert!(rt; matches!(host.phase(0), Phase::Bound(_)));
+//!
+//! // The turn is the host's: it shows its first panel, here one with WHO? at row 1 and column 2.
+//! assert!(rt; host.act(0) == Acted::Sent);
+//! let count = host.out(0).len();
+//! host.sent(0, count);
+//!
+//! // Nothing of it is believed before the client's positive response to record 0.
+//! host.feed(0, b"\x02\x00\x00\x00\x00\x00\xff\xef");
+//! assert!(rt; host.shadow(0).known(Addr::first().next()) == Some(Cell::Char(0xe6)));
+//!
+//! // The connection is gone: its LU is free, and its number may be opened again.
+//! host.closed(0);
+//! ```
+//!
+//! [`serve_turn`] does a turn of this on connections of any kind, by the trait [`Links`]: a read, an act, and a write.
+//! `specs/State` says what a host is, `Feeds`, `Bytes`, `Items` and `Takes` what bytes make of it, `Does` and `Acts` what it does in its
+//! turn, `Notes` what a note is, and `Serves` what a turn of serving is. [`one_machine`] and the other laws have what follows from
+//! these as their contracts. Whole dialogues, byte for byte, are the `stdin` of the repository's `dialogue3270`.
 #![tactic(auto)]
 
 mod acted;

@@ -1,8 +1,8 @@
-//! Pools of few LUs: what is printed, the talk of a host that asks one, and refused memory.
+//! Pools of few LUs: what is printed, who holds one, and refused memory. The talk of a host that asks its pool is told by dialogue3270's
+//! dialogues.
 use super::*;
 use std::alloc::{AllocError, Global};
-use telnet_wire::{Item, Verb};
-use tn3270e_msg::{After, Cause, Device, HostTalk, Lu, Reason, Reply, Sending, put_sub_message};
+use tn3270e_msg::{Lu, Reason};
 
 fn add_text(alloc: Global, texts: &mut Vec<String>, name: &str) -> Result<(), AllocError> {
     texts.push(String::from_str(alloc, name)?)?;
@@ -140,90 +140,11 @@ fn frees_all(pool: &mut Pool, first: Lu) -> bool {
     pool.lu_held_by(7).is_none() && grants(pool, 9, None, first)
 }
 
-// What a host replies that asks its pool for the LU of this request, if it asks.
-fn answered(host: &mut HostTalk, pool: &mut Pool, request: &[u8]) -> Reply {
-    let asked = host.take(&Item::Sub(request));
-    let Reply::AskPool(name) = asked else {
-        return asked;
-    };
-    if !host.asking() {
-        return Reply::Nothing;
-    }
-    let answer = match &name {
-        Some(lu) => ask(pool, 1, Some(lu.as_bytes())),
-        None => ask(pool, 1, None),
-    };
-    host.answered(answer)
-}
-
-// Whether a reply sends a message, in these bytes.
-fn sends(alloc: Global, reply: Reply, bytes: &[u8]) -> bool {
-    let Reply::Sub(sending, _) = reply else {
-        return false;
-    };
-    let mut out = Vec::new(alloc);
-    put_sub_message(&mut out, &sending.message()).is_ok() && out.as_slice() == bytes
-}
-
-// Whether a new host asks for the terminal's type.
-fn asks(host: &mut HostTalk) -> bool {
-    let item = Item::Opt {
-        verb: Verb::Will,
-        code: 40,
-    };
-    host.take(&item) == Reply::Sub(Sending::SendType, After::Going)
-}
-
-/// Requests of model 2, for a held LU, for one that the pool hasn't, and for a free one, and what a host sends.
-static REQUESTS: [(&[u8], &[u8]); 3] = [
-    (
-        b"\x28\x02\x07IBM-3278-2\x01PNL01",
-        b"\xff\xfa\x28\x02\x06\x05\x01\xff\xf0",
-    ),
-    (
-        b"\x28\x02\x07IBM-3278-2\x01PNL09",
-        b"\xff\xfa\x28\x02\x06\x05\x03\xff\xf0",
-    ),
-    (
-        b"\x28\x02\x07IBM-3278-2\x01PNL02",
-        b"\xff\xfa\x28\x02\x04\x49\x42\x4d\x2d\x33\x32\x37\x38\x2d\x32\x01\x50\x4e\x4c\x30\x32\xff\xf0",
-    ),
-];
-
-// Whether a host sends what it is to, at each of these requests.
-fn answers_requests(alloc: Global, host: &mut HostTalk, pool: &mut Pool) -> bool {
-    for (request, bytes) in &REQUESTS {
-        if !sends(alloc, answered(host, pool, request), bytes) {
-            return false;
-        }
-    }
-    true
-}
-
-// Whether a host counters other functions once, and then agrees.
-fn counters(alloc: Global, host: &mut HostTalk) -> bool {
-    let countered = host.take(&Item::Sub(b"\x28\x03\x07\x00\x02\x04"));
-    countered == Reply::Sub(Sending::FunRequest, After::Going)
-        && sends(alloc, countered, b"\xff\xfa\x28\x03\x07\x02\xff\xf0")
-        && host.take(&Item::Sub(b"\x28\x03\x04\x02")) == Reply::Agreed
-}
-
-// Whether a host asks its pool, of PNL01, which another holds, and PNL02, and holds what it was granted.
-fn asks_its_pool(alloc: Global, host: &mut HostTalk, pool: &mut Pool) -> bool {
-    pool.free_all();
-    ask(pool, 0, Some(b"PNL01")).is_ok()
-        && asks(host)
-        && answers_requests(alloc, host, pool)
-        && counters(alloc, host)
-        && host.lu() == pool.lu_held_by(1)
-}
-
 // Whether all of this is so of such a pool.
-fn has_one_holder_each(alloc: Global, pool: &mut Pool, first: Lu, second: Lu) -> bool {
+fn has_one_holder_each(pool: &mut Pool, first: Lu, second: Lu) -> bool {
     grants_each_once(pool, first, second)
         && frees_one(pool, first, second)
         && frees_all(pool, first)
-        && asks_its_pool(alloc, &mut HostTalk::new(), pool)
 }
 
 // Whether it is so of a pool of PNL01 and PNL02.
@@ -232,7 +153,7 @@ fn two_are_held_once(alloc: Global) -> bool {
         return false;
     };
     match pool_of(alloc, &["PNL01", "pnl02"]) {
-        Ok(mut pool) => has_one_holder_each(alloc, &mut pool, first, second),
+        Ok(mut pool) => has_one_holder_each(&mut pool, first, second),
         Err(_) => false,
     }
 }
@@ -240,66 +161,6 @@ fn two_are_held_once(alloc: Global) -> bool {
 #[test]
 fn an_lu_has_one_holder(rt: HostRuntime) {
     assert!(rt; two_are_held_once(rt.alloc()));
-}
-
-// Whether a host rejects a device that isn't served, as its pool is never asked; `after` is how it stands then.
-fn rejects(alloc: Global, host: &mut HostTalk, pool: &mut Pool, after: After) -> bool {
-    let reply = answered(host, pool, b"\x28\x02\x07X");
-    let rejected = Reply::Sub(Sending::TypeReject(Reason::INV_DEVICE_TYPE), after);
-    reply == rejected && sends(alloc, rejected, b"\xff\xfa\x28\x02\x06\x05\x04\xff\xf0")
-}
-
-/// How a host stands after each of the devices that it rejects.
-static AFTER_EACH: [After; 8] = [
-    After::Going,
-    After::Going,
-    After::Going,
-    After::Going,
-    After::Going,
-    After::Going,
-    After::Going,
-    After::Close(Cause::TooMany),
-];
-
-// Whether it rejects eight, the last of which closes it, and its pool grants nothing.
-fn rejects_eight(alloc: Global, host: &mut HostTalk, pool: &mut Pool) -> bool {
-    let is_asked = asks(host);
-    for after in &AFTER_EACH {
-        if !rejects(alloc, host, pool, *after) {
-            return false;
-        }
-    }
-    is_asked && pool.lu_held_by(1).is_none()
-}
-
-// Whether a host grants a model 5 with extensions this LU, the first that is free.
-fn grants_first(host: &mut HostTalk, pool: &mut Pool, first: Lu) -> bool {
-    let is = Reply::Sub(Sending::TypeIs(Device::Model5E, first), After::Going);
-    asks(host)
-        && answered(host, pool, b"\x28\x02\x07ibm-3278-5-e") == is
-        && host.device() == Some(Device::Model5E)
-}
-
-// Whether a host grants what is free, after another rejected what isn't served.
-fn grants_after_rejections(alloc: Global, pool: &mut Pool, first: Lu) -> bool {
-    rejects_eight(alloc, &mut HostTalk::new(), pool)
-        && grants_first(&mut HostTalk::new(), pool, first)
-}
-
-// Whether that is so of a pool of B and A.
-fn grants_the_first_at_last(alloc: Global) -> bool {
-    let Some(first) = Lu::read(b"B") else {
-        return false;
-    };
-    match pool_of(alloc, &["B", "A"]) {
-        Ok(mut pool) => grants_after_rejections(alloc, &mut pool, first),
-        Err(_) => false,
-    }
-}
-
-#[test]
-fn eight_devices_that_are_none_and_one_that_is(rt: HostRuntime) {
-    assert!(rt; grants_the_first_at_last(rt.alloc()));
 }
 
 // Whether the pool of these texts grants an LU.

@@ -1,4 +1,25 @@
 //! What a host believes of a terminal's screen, and the writes that paint it.
+//!
+//! ```rust
+//! let mut shadow = Shadow::blank();
+//!
+//! // The write that makes the screen that is wanted. Nothing is known yet, so it's an Erase/Write.
+//! let mut write = Vec::new(alloc);
+//! shadow.paint(&mut write, &wanted)?;
+//!
+//! // The terminal's positive response has come. Here WHO? stands at row 1 and column 2, and a field behind its attribute at 6.
+//! shadow.sent_taken(&read_command(write.as_slice())?);
+//! assert!(rt; shadow.known(Addr::first().next()) == Some(Cell::Char(0xe6)));
+//!
+//! // The operator pressed Enter with ANN in that field, which is sent without nulls: where its letters stand isn't known.
+//! let inbound = read_inbound(b"\x7d\x40\xc9\x11\x40\xc7\xc1\xd5\xd5", Form::Modified)?;
+//! assert!(rt; shadow.heard(&inbound).is_ok());
+//! assert!(rt; shadow.fact(attr) == Some(Fact::Text));
+//! assert!(rt; shadow.value(attr, 0) == Some(0xc1));
+//! ```
+//!
+//! `specs/Belief` says what a belief is, `Meets` which screens it allows, `Heard` and `Seen` what inbound data makes of it, `Taken` what a
+//! write does, and `Paint` what is written. The laws say what follows: what is known is on the screen, whatever was sent and heard.
 #![tactic(auto)]
 
 mod asking;
