@@ -121,7 +121,7 @@ HasNoJob words Memory = ⊤
 
 -- what is told of them
 abbrev pub usage : List ℕ
-usage = codes "usage: panel3270 [JOB] < INPUT\n  script                      serve panels to terminals, which do commands; this is the job where no word is given\n  selfrun [--turns N]         do the same over sockets\n  show                        apply commands of the data stream, in hexadecimal, to a blank screen, and print it\n  host --port P [--turns N]   serve panels to terminals that connect to 127.0.0.1, for so many turns\n  serve --port P              serve panels to terminals that connect to 127.0.0.1, without end\n  term --port P [--lu NAME]   be a terminal of the host at 127.0.0.1, and do commands\nP is 1024 to 65535, N 1 to 1000000, and 10000 where it isn't given; NAME has 1 to 8 of A to Z, 0 to 9, @, # and $, the first no digit.\nINPUT is UTF-8 of at most 1048576 bytes, in lines that end with LF, which the last may lack:\n  script, selfrun             panels in TOML, a line %%, and commands, one a line\n  host, serve                 panels in TOML\n  show, term                  commands, one a line\nstatus: 0 done, 1 input refused, 2 words refused, 3 no memory, 4 socket failed, 5 turns over, 6 output failed"
+usage = codes "usage: panel3270 [JOB] < INPUT\n  script                      serve panels to terminals, which do commands; this is the job where no word is given\n  selfrun [--turns N]         do the same over sockets\n  show                        apply commands of the data stream, in hexadecimal, to a blank screen, and print it\n  host --port P [--turns N]   serve panels to terminals that connect to 127.0.0.1, for so many turns\n  serve --port P              serve panels to terminals that connect to 127.0.0.1, without end\n  term --port P [--lu NAME]   be a terminal of the host at 127.0.0.1, and do commands\nP is 1024 to 65535, N 1 to 1000000, and 10000 where it isn't given; NAME has 1 to 8 of A to Z, 0 to 9, @, # and $, the first no digit.\nINPUT is UTF-8 of at most 1048576 bytes, in lines that end with LF, which the last may lack:\n  script, selfrun             panels in TOML, a line %%, and commands, one a line\n  host, serve                 panels in TOML\n  term                        commands, one a line\n  show                        commands, one a line: pairs of hexadecimal digits, and blanks; no tab, CR or comment\nstatus: 0 done, 1 input refused, 2 words refused, 3 no memory, 4 socket failed, 5 turns over, 6 output failed"
 
 -- their exit status
 abbrev pub words_refused : ℕ

@@ -67,7 +67,8 @@ P is 1024 to 65535, N 1 to 1000000, and 10000 where it isn't given; NAME has 1 t
 INPUT is UTF-8 of at most 1048576 bytes, in lines that end with LF, which the last may lack:
   script, selfrun             panels in TOML, a line %%, and commands, one a line
   host, serve                 panels in TOML
-  show, term                  commands, one a line
+  term                        commands, one a line
+  show                        commands, one a line: pairs of hexadecimal digits, and blanks; no tab, CR or comment
 status: 0 done, 1 input refused, 2 words refused, 3 no memory, 4 socket failed, 5 turns over, 6 output failed";
 
 /// The words behind the program's name.
