@@ -41,3 +41,4 @@ pub mod Passing
 pub mod Changing
 pub mod Reading
 pub mod Whole
+pub mod Keeping

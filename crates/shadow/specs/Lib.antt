@@ -21,3 +21,4 @@ pub mod InPlace
 pub mod Since
 pub mod Filled
 pub mod Base
+pub mod Rows

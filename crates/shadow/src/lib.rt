@@ -36,6 +36,7 @@ mod mark;
 mod painting;
 mod place;
 mod places;
+mod row;
 mod shadow;
 mod taking;
 mod writing;

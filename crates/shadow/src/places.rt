@@ -1,30 +1,112 @@
-//! The places of a screen.
+//! The places of a screen, kept by bits and bytes.
 ghost use Rattle.std.specs.Prelude.{◌≡◌, ◌<◌, ◌≤◌, ◌+◌, ◌++◌, ◌*◌, length, replicate, slice_index_or, slice_set, drop};
 ghost use Rattle.codes3270.specs.Size.{cell_count};
+ghost use Rattle.shadow.specs.InPlace.{is_attribute as is_attribute_held};
+ghost use Rattle.shadow.specs.Rows.{head_of as head_held, is_known as is_known_held, is_told as is_told_held, place_kept};
 
-use crate::place::Place;
-use codes3270::CELLS;
+use crate::asking::is_attribute;
+use crate::mark::Mark;
+use crate::place::{Place, Telling};
+use crate::row::Row;
+use codes3270::{Attr, CELLS, attr_code};
 use std::marker::Model;
 
 /// The number of cells of a screen.
 pub(crate) const CELL_COUNT: usize = CELLS as usize;
 
+/// What is held with an attribute.
+#[derive(Clone, Copy)]
+struct Head {
+    mark: Mark,
+    telling: Telling,
+}
+
 /// What is held of each place of a screen. Contracts see the list, by address.
 #[derive(Drop)]
 pub(crate) struct Places {
-    cells: [Place; CELL_COUNT],
+    /// Characters, and the codes of attributes.
+    bytes: [u8; CELL_COUNT],
+    heads: [Head; CELL_COUNT],
+    attributes: Row,
+    /// The attributes, and the characters that are known.
+    known: Row,
+    told: Row,
 }
 
 impl Model for Places {
     ghost use Rattle.std.specs.Prelude.{◌≡◌, List, length};
     ghost use Rattle.codes3270.specs.Size.{cell_count};
     ghost use Rattle.shadow.specs.declared.place.Place.{Place};
+    ghost use Rattle.shadow.specs.Rows.{kept, place_by, MarksKnown};
 
     ghost Value = { List Place };
 
-    ghost view = { λ places. places.cells };
+    ghost view = { λ places. kept (place_by places.heads places.attributes places.known places.told) 0 places.bytes };
 
-    ghost invariant = { λ places. length places.cells ≡ cell_count };
+    ghost invariant = { λ places. (length places.bytes ≡ cell_count) × (length places.heads ≡ cell_count) × MarksKnown places.known (kept (place_by places.heads places.attributes places.known places.told) 0 places.bytes) };
+}
+
+/// What is kept of a place in its byte.
+fn byte_of(place: Place) -> u8
+    ensures { place_kept (head_held place) (is_attribute_held place) (is_known_held place) (is_told_held place) result ≡ place }
+{
+    match place {
+        Place::Attr(attr, _, _) => attr_code(attr),
+        Place::Known(char) => char,
+        Place::Told(char) => char,
+        Place::Unknown => 0,
+    }
+}
+
+fn head_of(place: Place) -> Head
+    ensures { result ≡ head_held place }
+{
+    match place {
+        Place::Attr(_, mark, telling) => Head { mark, telling },
+        Place::Known(_) => NO_HEAD,
+        Place::Told(_) => NO_HEAD,
+        Place::Unknown => NO_HEAD,
+    }
+}
+
+/// What is kept where no attribute is.
+const NO_HEAD: Head = Head {
+    mark: Mark::Unknown,
+    telling: Telling::Cells,
+};
+
+fn is_known(place: Place) -> bool
+    ensures { result ≡ is_known_held place }
+{
+    match place {
+        Place::Attr(_, _, _) => true,
+        Place::Known(_) => true,
+        Place::Told(_) => false,
+        Place::Unknown => false,
+    }
+}
+
+fn is_told(place: Place) -> bool
+    ensures { result ≡ is_told_held place }
+{
+    match place {
+        Place::Attr(_, _, _) => false,
+        Place::Known(_) => false,
+        Place::Told(_) => true,
+        Place::Unknown => false,
+    }
+}
+
+fn same_bytes(byte: u8) -> [u8; CELL_COUNT]
+    ensures { result ≡ replicate cell_count byte }
+{
+    [byte; CELL_COUNT]
+}
+
+fn same_heads(head: Head) -> [Head; CELL_COUNT]
+    ensures { result ≡ replicate cell_count head }
+{
+    [head; CELL_COUNT]
 }
 
 impl Places {
@@ -33,7 +115,11 @@ impl Places {
         ensures { result ≡ replicate cell_count place }
     {
         Places {
-            cells: [place; CELL_COUNT],
+            bytes: same_bytes(byte_of(place)),
+            heads: same_heads(head_of(place)),
+            attributes: Row::all(is_attribute(place)),
+            known: Row::all(is_known(place)),
+            told: Row::all(is_told(place)),
         }
     }
 
@@ -42,7 +128,7 @@ impl Places {
         ensures len { result ≡ length self.now }
         ensures whole { result ≡ cell_count }
     {
-        self.cells.as_slice().len()
+        self.bytes.as_slice().len()
     }
 
     /// What is held at an address.
@@ -51,7 +137,17 @@ impl Places {
         ensures place { result ≡ slice_index_or self.now at result }
         ensures whole { length self.now ≡ cell_count }
     {
-        self.cells[at]
+        let byte = self.bytes[at];
+        if self.attributes.has(at) {
+            let head = self.heads[at];
+            Place::Attr(Attr::from_code(byte), head.mark, head.telling)
+        } else if self.known.has(at) {
+            Place::Known(byte)
+        } else if self.told.has(at) {
+            Place::Told(byte)
+        } else {
+            Place::Unknown
+        }
     }
 
     /// Holds a place at an address.
@@ -60,14 +156,18 @@ impl Places {
         ensures places { self.new ≡ slice_set self.old at place }
         ensures whole { length self.new ≡ cell_count }
     {
-        self.cells[at] = place;
+        self.bytes[at] = byte_of(place);
+        self.heads[at] = head_of(place);
+        self.attributes.put(at, is_attribute(place));
+        self.known.put(at, is_known(place));
+        self.told.put(at, is_told(place));
     }
 
     /// Holds the same place everywhere.
     pub(crate) fn fill(&mut self, place: Place)
         ensures { self.new ≡ replicate cell_count place }
     {
-        self.cells = [place; CELL_COUNT];
+        *self = Places::new(place);
     }
 
     /// The places behind an address, and then all places.

@@ -1,0 +1,244 @@
+-- Places that are kept by bits and bytes.
+use Rattle.std.proofs.Common.{◌≡◌, ℕ, zero, suc, ◌+◌, ◌*◌, ◌^◌, ◌/◌, ◌%◌, ◌<◌, ◌≤◌, Bool, true, false, List, [], ◌∷◌, length, replicate, take, set, get_or, refl, ap, sym, subst, arith, ◌∙◌, ne_eqb, eq-eqb, inl, inr, if◌then◌else◌}
+use Rattle.std.specs.Prelude.{nat_eq, bit_and, bit_or}
+use Rattle.std.specs.Int.{bit_at, w64, bit_not}
+use Rattle.std.proofs.Math.Nat.{div-add-mod, mod-lt}
+use Rattle.std.proofs.lemmas.Bool.{cases_eq}
+use Rattle.std.proofs.lemmas.List.{get_or-set_other, get_or-set_same, get_or-replicate, get_or_default, length-set, length-replicate}
+use Rattle.std.proofs.lemmas.Nat.Bits.{bit_at_set_same, bit_at_set_other, bit_at_clear_same, bit_at_clear_other}
+use Rattle.codes3270.specs.declared.attribute.Attr.{Attr as Attribute}
+use Rattle.codes3270.specs.Attribute.{attr_of}
+use Rattle.shadow.specs.declared.place.Place.{Place}
+use Rattle.shadow.specs.declared.place.Place.TheVariants.{Attr, Known, Told, Unknown}
+use Rattle.shadow.specs.declared.places.Head.{Head}
+use Rattle.shadow.specs.InPlace.{is_attribute}
+use Rattle.shadow.specs.Rows.{bit_of, has_bit, no_head, head_of, is_known, is_told, place_kept, kept, place_by, MarksKnown}
+
+-- ---- one word
+
+pub bit_set : (n k other : ℕ) → k < 64 → bit_at (bit_or n (1 * 2 ^ k % 2 ^ 64)) other ≡ (if nat_eq other k then bit_of true else bit_at n other)
+bit_set n k other low = elim (cases_eq other k) [
+    | inl same ↦ rw (eq-eqb other k same) (ap (bit_at (bit_or n (1 * 2 ^ k % 2 ^ 64))) same ∙ bit_at_set_same w64 n k low)
+    | inr apart ↦ rw (ne_eqb other k apart) (bit_at_set_other w64 n k low other apart)
+  ]
+
+pub bit_cleared : (n k other : ℕ) → k < 64 → other < 64 → bit_at (bit_and n (bit_not w64 (1 * 2 ^ k % 2 ^ 64))) other ≡ (if nat_eq other k then bit_of false else bit_at n other)
+bit_cleared n k other low few = elim (cases_eq other k) [
+    | inl same ↦ rw (eq-eqb other k same) (ap (bit_at (bit_and n (bit_not w64 (1 * 2 ^ k % 2 ^ 64)))) same ∙ bit_at_clear_same w64 n k low)
+    | inr apart ↦ rw (ne_eqb other k apart) (bit_at_clear_other w64 n k low other few apart)
+  ]
+
+-- ---- a row
+
+bit_is : (b : Bool) → nat_eq (bit_of b) 1 ≡ b
+bit_is true = refl
+bit_is false = refl
+
+choose : (t b : Bool) (n : ℕ) → nat_eq (if t then bit_of b else n) 1 ≡ (if t then b else nat_eq n 1)
+choose true b n = bit_is b
+choose false b n = refl
+
+same_test : (t u : Bool) (b c : Bool) → t ≡ u → (if t then b else c) ≡ (if u then b else c)
+same_test t u b c e = ap (λ v. if v then b else c) e
+
+pub row_put : (words : List ℕ) (cell x : ℕ) (b : Bool) → cell / 64 < length words → ((o : ℕ) → o < 64 → bit_at x o ≡ (if nat_eq o (cell % 64) then bit_of b else bit_at (get_or words (cell / 64) 0) o))
+    → (other : ℕ) → has_bit (set words (cell / 64) x) other ≡ (if nat_eq other cell then b else has_bit words other)
+row_put words cell x b within is other = elim (cases_eq (other / 64) (cell / 64)) [
+    | inl same ↦
+        let o : ℕ = other % 64 in
+        let word : get_or (set words (cell / 64) x) (other / 64) 0 ≡ x =
+        ap (λ n. get_or (set words (cell / 64) x) n 0) same ∙ get_or-set_same words (cell / 64) x 0 within in
+        let test : nat_eq o (cell % 64) ≡ nat_eq other cell = elim (cases_eq o (cell % 64)) [
+          | inl alike ↦ eq-eqb o (cell % 64) alike ∙ sym (eq-eqb other cell (omega (arith, div-add-mod other 64, div-add-mod cell 64)))
+          | inr apart ↦ ne_eqb o (cell % 64) apart ∙ sym (ne_eqb other cell (λ e. apart (ap (λ n. n % 64) e)))
+        ] in
+        ap (λ n. nat_eq (bit_at n o) 1) word ∙ ap (λ n. nat_eq n 1) (is o (mod-lt other (omega arith)))
+        ∙ choose (nat_eq o (cell % 64)) b (bit_at (get_or words (cell / 64) 0) o)
+        ∙ same_test (nat_eq o (cell % 64)) (nat_eq other cell) b (nat_eq (bit_at (get_or words (cell / 64) 0) o) 1) test
+        ∙ ap (λ n. if nat_eq other cell then b else nat_eq (bit_at (get_or words n 0) o) 1) (sym same)
+    | inr apart ↦
+        let differ : nat_eq other cell ≡ false = ne_eqb other cell (λ e. apart (ap (λ n. n / 64) e)) in
+        ap (λ n. nat_eq (bit_at n (other % 64)) 1) (get_or-set_other words (cell / 64) (other / 64) x 0 apart)
+        ∙ sym (ap (λ t. if t then b else has_bit words other) differ)
+  ]
+
+pub alike : (word count cell : ℕ) (b : Bool) → cell / 64 < count → ((i : ℕ) → i < 64 → bit_at word i ≡ bit_of b) → has_bit (replicate count word) cell ≡ b
+alike word count cell b within is =
+    ap (λ w. nat_eq (bit_at w (cell % 64)) 1) (get_or-replicate count (cell / 64) word 0 within) ∙ ap (λ n. nat_eq n 1) (is (cell % 64) (mod-lt cell (omega arith))) ∙ bit_is b
+
+-- ---- places
+
+pub length_kept : (f : ℕ → ℕ → Place) (at : ℕ) (bytes : List ℕ) → length (kept f at bytes) ≡ length bytes
+length_kept f at [] = refl
+length_kept f at (b ∷ bytes) = ap suc (length_kept f (at + 1) bytes)
+
+kept_from : (f : ℕ → ℕ → Place) (at : ℕ) (bytes : List ℕ) (i : ℕ) (byte : ℕ) (d : Place) → i < length bytes → byte ≡ get_or bytes i byte → get_or (kept f at bytes) i d ≡ f (at + i) byte
+kept_from f at [] i byte d within is = absurd (omega arith)
+kept_from f at (b ∷ bytes) zero byte d within is = let same : at ≡ at + 0 = omega arith in ap (λ n. f n b) same ∙ ap (f (at + 0)) (sym is)
+kept_from f at (b ∷ bytes) (suc i) byte d within is =
+    let further : (at + 1) + i ≡ at + suc i = omega arith in
+    kept_from f (at + 1) bytes i byte d (omega arith) is ∙ ap (λ n. f n byte) further
+
+pub kept_at : (f : ℕ → ℕ → Place) (bytes : List ℕ) (i : ℕ) (byte : ℕ) (d : Place) → i < length bytes → byte ≡ get_or bytes i byte → get_or (kept f 0 bytes) i d ≡ f i byte
+kept_at f bytes i byte d within is = let same : 0 + i ≡ i = omega arith in kept_from f 0 bytes i byte d within is ∙ ap (λ n. f n byte) same
+
+kept_alike : (f g : ℕ → ℕ → Place) (at : ℕ) (bytes : List ℕ) → ((j byte : ℕ) → at ≤ j → g j byte ≡ f j byte) → kept g at bytes ≡ kept f at bytes
+kept_alike f g at [] same = refl
+kept_alike f g at (b ∷ bytes) same =
+    ap (λ p. p ∷ kept g (at + 1) bytes) (same at b (omega arith)) ∙ ap (λ ps. f at b ∷ ps) (kept_alike f g (at + 1) bytes (λ j byte later. same j byte (omega arith)))
+
+kept_set_from : (f g : ℕ → ℕ → Place) (at : ℕ) (bytes : List ℕ) (i byte : ℕ) → ((j other : ℕ) → (j ≡ at + i → ⊥) → g j other ≡ f j other) → kept g at (set bytes i byte) ≡ set (kept f at bytes) i (g (at + i) byte)
+kept_set_from f g at [] i byte same = refl
+kept_set_from f g at (b ∷ bytes) zero byte same =
+    let here : at ≡ at + 0 = omega arith in
+    ap (λ p. p ∷ kept g (at + 1) bytes) (ap (λ n. g n byte) here) ∙ ap (λ ps. g (at + 0) byte ∷ ps) (kept_alike f g (at + 1) bytes (λ j other later. same j other (λ e. omega arith)))
+kept_set_from f g at (b ∷ bytes) (suc i) byte same =
+    let further : (at + 1) + i ≡ at + suc i = omega arith in
+    ap (λ p. p ∷ kept g (at + 1) (set bytes i byte)) (same at b (λ e. omega arith))
+    ∙ ap (λ ps. f at b ∷ ps) (kept_set_from f g (at + 1) bytes i byte (λ j other apart. same j other (λ e. apart (omega arith))) ∙ ap (λ n. set (kept f (at + 1) bytes) i (g n byte)) further)
+
+pub kept_set : (f g : ℕ → ℕ → Place) (bytes : List ℕ) (i byte : ℕ) (p : Place) → ((j other : ℕ) → (j ≡ i → ⊥) → g j other ≡ f j other) → g i byte ≡ p → kept g 0 (set bytes i byte) ≡ set (kept f 0 bytes) i p
+kept_set f g bytes i byte p same is =
+    let here : 0 + i ≡ i = omega arith in
+    kept_set_from f g 0 bytes i byte (λ j other apart. same j other (λ e. apart (omega arith))) ∙ ap (λ n. set (kept f 0 bytes) i (g n byte)) here ∙ ap (set (kept f 0 bytes) i) is
+
+-- one place is kept anew
+module _ (heads : List Head) (attributes known told attributes_ known_ told_ : List ℕ) (at : ℕ) (p : Place) (within : at < length heads)
+    (attribute_bits : (other : ℕ) → has_bit attributes_ other ≡ (if nat_eq other at then is_attribute p else has_bit attributes other))
+    (known_bits : (other : ℕ) → has_bit known_ other ≡ (if nat_eq other at then is_known p else has_bit known other))
+    (told_bits : (other : ℕ) → has_bit told_ other ≡ (if nat_eq other at then is_told p else has_bit told other)) where
+  new_heads : List Head
+  new_heads = set heads at (head_of p)
+
+  apart_same : (j byte : ℕ) → (j ≡ at → ⊥) → place_by (set heads at (head_of p)) attributes_ known_ told_ j byte ≡ place_by heads attributes known told j byte
+  apart_same j byte apart =
+      let no = ne_eqb j at apart in
+      let a = attribute_bits j ∙ ap (λ t. if t then is_attribute p else has_bit attributes j) no in
+      let k = known_bits j ∙ ap (λ t. if t then is_known p else has_bit known j) no in
+      let t = told_bits j ∙ ap (λ u. if u then is_told p else has_bit told j) no in
+      ap (λ h. place_kept h (has_bit attributes_ j) (has_bit known_ j) (has_bit told_ j) byte) (get_or-set_other heads at j (head_of p) no_head apart)
+      ∙ ap (λ b. place_kept (get_or heads j no_head) b (has_bit known_ j) (has_bit told_ j) byte) a
+      ∙ ap (λ b. place_kept (get_or heads j no_head) (has_bit attributes j) b (has_bit told_ j) byte) k
+      ∙ ap (λ b. place_kept (get_or heads j no_head) (has_bit attributes j) (has_bit known j) b byte) t
+
+  here_is : (byte : ℕ) → place_kept (head_of p) (is_attribute p) (is_known p) (is_told p) byte ≡ p → place_by (set heads at (head_of p)) attributes_ known_ told_ at byte ≡ p
+  here_is byte is =
+      let yes = eq-eqb at at refl in
+      let a = attribute_bits at ∙ ap (λ t. if t then is_attribute p else has_bit attributes at) yes in
+      let k = known_bits at ∙ ap (λ t. if t then is_known p else has_bit known at) yes in
+      let t = told_bits at ∙ ap (λ u. if u then is_told p else has_bit told at) yes in
+      ap (λ h. place_kept h (has_bit attributes_ at) (has_bit known_ at) (has_bit told_ at) byte) (get_or-set_same heads at (head_of p) no_head within)
+      ∙ ap (λ b. place_kept (head_of p) b (has_bit known_ at) (has_bit told_ at) byte) a
+      ∙ ap (λ b. place_kept (head_of p) (is_attribute p) b (has_bit told_ at) byte) k
+      ∙ ap (λ b. place_kept (head_of p) (is_attribute p) (is_known p) b byte) t
+      ∙ is
+
+  pub set_kept : (bytes : List ℕ) (byte : ℕ) → place_kept (head_of p) (is_attribute p) (is_known p) (is_told p) byte ≡ p
+      → kept (place_by (set heads at (head_of p)) attributes_ known_ told_) 0 (set bytes at byte) ≡ set (kept (place_by heads attributes known told) 0 bytes) at p
+  set_kept bytes byte is = kept_set (place_by heads attributes known told) (place_by (set heads at (head_of p)) attributes_ known_ told_) bytes at byte p apart_same (here_is byte is)
+
+-- a bit that is put is the one that a function answers
+pub bits_by : (b answer : Bool) → answer ≡ b → (words words_ : List ℕ) (at : ℕ) → ((other : ℕ) → has_bit words_ other ≡ (if nat_eq other at then answer else has_bit words other))
+    → (other : ℕ) → has_bit words_ other ≡ (if nat_eq other at then b else has_bit words other)
+bits_by b answer e words words_ at bits other = bits other ∙ ap (λ v. if nat_eq other at then v else has_bit words other) e
+
+-- the bits of what is known
+
+pub marked_set : (known known_ : List ℕ) (places : List Place) (at : ℕ) (p : Place) → at < length places → MarksKnown known places
+    → ((other : ℕ) → has_bit known_ other ≡ (if nat_eq other at then is_known p else has_bit known other)) → MarksKnown known_ (set places at p)
+marked_set known known_ places at p within marked bits = λ cell inside. elim (cases_eq cell at) [
+    | inl same ↦ bits cell ∙ ap (λ t. if t then is_known p else has_bit known cell) (eq-eqb cell at same)
+        ∙ sym (ap is_known (ap (λ n. get_or (set places at p) n Unknown) same ∙ get_or-set_same places at p Unknown within))
+    | inr apart ↦ bits cell ∙ ap (λ t. if t then is_known p else has_bit known cell) (ne_eqb cell at apart)
+        ∙ marked cell (subst (λ n. cell < n) (length-set places at p) inside)
+        ∙ sym (ap is_known (get_or-set_other places at cell p Unknown apart))
+  ]
+
+-- the same, by what functions answer
+module _ (heads : List Head) (attributes known told bytes : List ℕ) (at : ℕ) (p : Place) (inside : at < length heads) (within : at < length bytes)
+    (head : Head) (is_head : head ≡ head_of p) (byte : ℕ) (is_byte : place_kept (head_of p) (is_attribute p) (is_known p) (is_told p) byte ≡ p)
+    (attributes_ known_ told_ : List ℕ) (a k t : Bool) (is_a : a ≡ is_attribute p) (is_k : k ≡ is_known p) (is_t : t ≡ is_told p)
+    (a_bits : (other : ℕ) → has_bit attributes_ other ≡ (if nat_eq other at then a else has_bit attributes other))
+    (k_bits : (other : ℕ) → has_bit known_ other ≡ (if nat_eq other at then k else has_bit known other))
+    (t_bits : (other : ℕ) → has_bit told_ other ≡ (if nat_eq other at then t else has_bit told other)) where
+  abbrev old_places : List Place
+  old_places = kept (place_by heads attributes known told) 0 bytes
+
+  pub put_kept : kept (place_by (set heads at head) attributes_ known_ told_) 0 (set bytes at byte) ≡ set (kept (place_by heads attributes known told) 0 bytes) at p
+  put_kept =
+      ap (λ h. kept (place_by (set heads at h) attributes_ known_ told_) 0 (set bytes at byte)) is_head
+      ∙ set_kept heads attributes known told attributes_ known_ told_ at p inside
+        (bits_by (is_attribute p) a is_a attributes attributes_ at a_bits)
+        (bits_by (is_known p) k is_k known known_ at k_bits)
+        (bits_by (is_told p) t is_t told told_ at t_bits)
+        bytes byte is_byte
+
+  pub put_marked : MarksKnown known (kept (place_by heads attributes known told) 0 bytes) → MarksKnown known_ (kept (place_by (set heads at head) attributes_ known_ told_) 0 (set bytes at byte))
+  put_marked marked =
+      let before : at < length old_places = subst (λ n. at < n) (sym (length_kept (place_by heads attributes known told) 0 bytes)) within in
+      subst (MarksKnown known_) (sym put_kept) (marked_set known known_ old_places at p before marked (bits_by (is_known p) k is_k known known_ at k_bits))
+
+-- the same place everywhere
+kept_all : (f : ℕ → ℕ → Place) (at n byte : ℕ) (p : Place) → ((j : ℕ) → at ≤ j → j < at + n → f j byte ≡ p) → kept f at (replicate n byte) ≡ replicate n p
+kept_all f at zero byte p is = refl
+kept_all f at (suc n) byte p is =
+    ap (λ q. q ∷ kept f (at + 1) (replicate n byte)) (is at (omega arith) (omega arith)) ∙ ap (λ ps. p ∷ ps) (kept_all f (at + 1) n byte p (λ j later before. is j (omega arith) (omega arith)))
+
+module _ (n : ℕ) (attributes known told : List ℕ) (p : Place) (byte : ℕ)
+    (attribute_bits : (cell : ℕ) → cell < n → has_bit attributes cell ≡ is_attribute p)
+    (known_bits : (cell : ℕ) → cell < n → has_bit known cell ≡ is_known p)
+    (told_bits : (cell : ℕ) → cell < n → has_bit told cell ≡ is_told p)
+    (is : place_kept (head_of p) (is_attribute p) (is_known p) (is_told p) byte ≡ p) where
+  each_is : (cell : ℕ) → cell < n → place_by (replicate n (head_of p)) attributes known told cell byte ≡ p
+  each_is cell few =
+      ap (λ h. place_kept h (has_bit attributes cell) (has_bit known cell) (has_bit told cell) byte) (get_or-replicate n cell (head_of p) no_head few)
+      ∙ ap (λ b. place_kept (head_of p) b (has_bit known cell) (has_bit told cell) byte) (attribute_bits cell few)
+      ∙ ap (λ b. place_kept (head_of p) (is_attribute p) b (has_bit told cell) byte) (known_bits cell few)
+      ∙ ap (λ b. place_kept (head_of p) (is_attribute p) (is_known p) b byte) (told_bits cell few)
+      ∙ is
+
+  module _ (heads : List Head) (bytes : List ℕ) (is_heads : heads ≡ replicate n (head_of p)) (is_bytes : bytes ≡ replicate n byte) where
+    pub new_kept : kept (place_by heads attributes known told) 0 bytes ≡ replicate n p
+    new_kept =
+        ap (λ (xs : List ℕ). kept (place_by heads attributes known told) 0 xs) is_bytes
+        ∙ ap (λ (hs : List Head). kept (place_by hs attributes known told) 0 (replicate n byte)) is_heads
+        ∙ kept_all (place_by (replicate n (head_of p)) attributes known told) 0 n byte p (λ j later before. each_is j (omega arith))
+
+    pub new_marked : MarksKnown known (kept (place_by heads attributes known told) 0 bytes)
+    new_marked = subst (MarksKnown known) (sym new_kept) (λ cell inside.
+        let few : cell < n = subst (λ m. cell < m) (length-replicate n p) inside in
+        known_bits cell few ∙ sym (ap is_known (get_or-replicate n cell p Unknown few)))
+
+-- ---- what is read at an address
+
+module _ (heads : List Head) (attributes known told bytes : List ℕ) (at : ℕ) (within : at < length bytes) (now : List Place)
+    (view : kept (place_by heads attributes known told) 0 bytes ≡ now) where
+  place_read : (p : Place) → p ≡ place_kept (get_or heads at no_head) (has_bit attributes at) (has_bit known at) (has_bit told at) (get_or bytes at 0) → p ≡ get_or now at p
+  place_read p is =
+      is ∙ sym (kept_at (place_by heads attributes known told) bytes at (get_or bytes at 0) p within (get_or_default bytes at 0 (get_or bytes at 0) within))
+      ∙ ap (λ (ps : List Place). get_or ps at p) view
+
+  pub attribute_read : at < length heads → (d : Head) (attribute : Attribute) → attribute ≡ attr_of (get_or bytes at 0) → has_bit attributes at ≡ true
+      → Attr attribute (get_or heads at d).mark (get_or heads at d).telling ≡ get_or now at (Attr attribute (get_or heads at d).mark (get_or heads at d).telling)
+  attribute_read inside d attribute is a =
+      place_read (Attr attribute (get_or heads at d).mark (get_or heads at d).telling)
+      (ap (λ (x : Attribute). Attr x (get_or heads at d).mark (get_or heads at d).telling) is
+       ∙ ap (λ (h : Head). Attr (attr_of (get_or bytes at 0)) h.mark h.telling) (get_or_default heads at d no_head inside)
+       ∙ sym (ap (λ b. place_kept (get_or heads at no_head) b (has_bit known at) (has_bit told at) (get_or bytes at 0)) a))
+
+  pub known_read : has_bit attributes at ≡ false → has_bit known at ≡ true → Known (get_or bytes at 0) ≡ get_or now at (Known (get_or bytes at 0))
+  known_read a k = place_read (Known (get_or bytes at 0))
+      (sym (ap (λ b. place_kept (get_or heads at no_head) b (has_bit known at) (has_bit told at) (get_or bytes at 0)) a
+       ∙ ap (λ b. place_kept (get_or heads at no_head) false b (has_bit told at) (get_or bytes at 0)) k))
+
+  pub told_read : has_bit attributes at ≡ false → has_bit known at ≡ false → has_bit told at ≡ true → Told (get_or bytes at 0) ≡ get_or now at (Told (get_or bytes at 0))
+  told_read a k t = place_read (Told (get_or bytes at 0))
+      (sym (ap (λ b. place_kept (get_or heads at no_head) b (has_bit known at) (has_bit told at) (get_or bytes at 0)) a
+       ∙ ap (λ b. place_kept (get_or heads at no_head) false b (has_bit told at) (get_or bytes at 0)) k
+       ∙ ap (λ b. place_kept (get_or heads at no_head) false false b (get_or bytes at 0)) t))
+
+  pub unknown_read : has_bit attributes at ≡ false → has_bit known at ≡ false → has_bit told at ≡ false → Unknown ≡ get_or now at Unknown
+  unknown_read a k t = place_read Unknown
+      (sym (ap (λ b. place_kept (get_or heads at no_head) b (has_bit known at) (has_bit told at) (get_or bytes at 0)) a
+       ∙ ap (λ b. place_kept (get_or heads at no_head) false b (has_bit told at) (get_or bytes at 0)) k
+       ∙ ap (λ b. place_kept (get_or heads at no_head) false false b (get_or bytes at 0)) t))
