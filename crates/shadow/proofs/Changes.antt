@@ -1,8 +1,7 @@
 -- Places that are changed one after another, where they stand.
-use Rattle.std.proofs.Common.{◌≡◌, ℕ, zero, suc, ◌+◌, ◌<◌, ◌≤◌, Bool, true, false, List, [], ◌∷◌, ◌++◌, length, map, take, drop, set, get_or, Option, Some, None, refl, ap, sym, subst, arith, ◌∙◌, append_assoc, append-nil, if◌then◌else◌}
-use Rattle.std.specs.Prelude.{⊤, unwrap_or}
-use Rattle.std.proofs.lemmas.List.{at_drop_more, take_more_set, drop-set-lt, length-set, length-map, drop_more, at_drop_all, take_all}
-use Rattle.codes3270.specs.declared.attribute.Attr.{Attr as Attribute}
+use Rattle.std.proofs.Common.{◌≡◌, ℕ, zero, suc, ◌+◌, ◌<◌, ◌≤◌, Bool, true, false, List, [], ◌∷◌, ◌++◌, length, map, take, drop, set, get_or, Option, refl, ap, sym, arith, ◌∙◌, append_assoc, append-nil, if◌then◌else◌}
+use Rattle.std.specs.Prelude.{unwrap_or}
+use Rattle.std.proofs.lemmas.List.{at_drop_more, take_more_set, drop-set-lt, drop_more, at_drop_all, take_all}
 use Rattle.codes3270.specs.declared.attribute.Cell.{Cell}
 use Rattle.codes3270.specs.declared.attribute.Cell.TheVariants.{Char, Attr as AttrCell}
 use Rattle.shadow.specs.declared.known.Known.{Known}
@@ -10,7 +9,7 @@ use Rattle.shadow.specs.declared.place.Place.{Place}
 use Rattle.shadow.specs.declared.place.Place.TheVariants.{Attr, Known as KnownPlace, Told, Unknown}
 use Rattle.shadow.specs.declared.place.Past.{Past}
 use Rattle.shadow.specs.InPlace.{cell_known, cells_known}
-use Rattle.shadow.specs.Since.{place_stored, place_off, telling_of, never, cells_written, IsAsItWas, Since, is_touched, telling_after, place_settled, settled}
+use Rattle.shadow.specs.Since.{place_stored, place_off, telling_of, never, cells_written, IsAsItWas, Since, is_touched, place_settled, settled}
 use Rattle.shadow.specs.Taken.{mark_off, marks_off_if, new_cell}
 
 -- one more of a walk that changes what it passes

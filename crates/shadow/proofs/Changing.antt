@@ -1,5 +1,5 @@
 -- What each change makes of what is believed of a field.
-use Rattle.std.proofs.Common.{◌≡◌, ℕ, zero, suc, ◌+◌, ◌<◌, ◌≤◌, Bool, true, false, not, ◌&&◌, ◌||◌, List, [], ◌∷◌, ◌++◌, length, map, replicate, Option, Some, None, refl, ap, sym, subst, arith, ◌∙◌, drop, get_or, if◌then◌else◌, append-nil, option_map}
+use Rattle.std.proofs.Common.{◌≡◌, ℕ, zero, suc, ◌+◌, ◌<◌, ◌≤◌, Bool, true, false, not, ◌&&◌, List, [], ◌∷◌, ◌++◌, length, map, replicate, Option, Some, None, refl, ap, sym, subst, arith, ◌∙◌, drop, get_or, if◌then◌else◌, append-nil, option_map}
 use Rattle.std.specs.Prelude.{⊤, nat_eq, nat_lt, bytes_eq}
 use Rattle.std.proofs.lemmas.List.{length-replicate}
 use Rattle.std.proofs.lemmas.Bool.{ltb-false}
@@ -10,15 +10,15 @@ use Rattle.datastream.specs.InboundFields.{Returned}
 use Rattle.shadow.specs.declared.hearing.Unreturned.{Unreturned}
 use Rattle.shadow.specs.declared.hearing.Unreturned.TheVariants.{Stays, IsTold, IsForgotten}
 use Rattle.shadow.specs.declared.mark.Mark.{Mark}
-use Rattle.shadow.specs.declared.mark.Mark.TheVariants.{On, Off, Unknown as UnknownMark}
+use Rattle.shadow.specs.declared.mark.Mark.TheVariants.{Unknown as UnknownMark}
 use Rattle.shadow.specs.declared.place.Telling.{Telling}
 use Rattle.shadow.specs.declared.place.Telling.TheVariants.{Cells, ExactOrNulls, Text, TextOrNulls}
 use Rattle.shadow.specs.declared.place.Place.{Place}
 use Rattle.shadow.specs.declared.place.Place.TheVariants.{Attr, Known, Told, Unknown}
 use Rattle.shadow.specs.Belief.{Fact, Belief, nulls, next_address}
 use Rattle.shadow.specs.Came.{text_at, came_past}
-use Rattle.shadow.specs.Filled.{Fill, Change, filled, fill_next, came_behind, key_change, key_changes, after_key, of_known, unreturned_by, unreturned_at, unreturned_from, or_null_telling, with_mark, unreturned_change, returned_change, input_change, field_change, long_change, long_changes, is_possible, long_after, all_changed, last_fill, front_filled}
-use Rattle.shadow.specs.Heard.{after_attention, after_long, or_nulls, text_fact, unknown_fact, unprotected_fact, contradicts_text, mark_of}
+use Rattle.shadow.specs.Filled.{Fill, Change, filled, fill_next, came_behind, key_changes, after_key, unreturned_by, unreturned_at, unreturned_from, unreturned_change, input_change, field_change, long_changes, is_possible, long_after, all_changed, last_fill, front_filled}
+use Rattle.shadow.specs.Heard.{after_attention, after_long, or_nulls, text_fact, unknown_fact, contradicts_text, mark_of}
 use Rattle.shadow.specs.Held.{answer}
 use Rattle.shadow.specs.InPlace.{chars_known, text_told, fact_told, fact_held, belief_held, beliefs_held, SaysCells, AreHeld, IsHeld, is_whole, known_text}
 use Rattle.shadow.specs.Seen.{known_chars}

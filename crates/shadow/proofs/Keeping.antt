@@ -1,8 +1,8 @@
 -- Places that are kept by bits and bytes.
-use Rattle.std.proofs.Common.{◌≡◌, ℕ, zero, suc, ◌+◌, ◌*◌, ◌^◌, ◌/◌, ◌%◌, ◌<◌, ◌≤◌, Bool, true, false, List, [], ◌∷◌, length, replicate, take, set, get_or, refl, ap, sym, subst, arith, ◌∙◌, ne_eqb, eq-eqb, inl, inr, if◌then◌else◌}
+use Rattle.std.proofs.Common.{◌≡◌, ℕ, zero, suc, ◌+◌, ◌*◌, ◌^◌, ◌/◌, ◌%◌, ◌<◌, ◌≤◌, Bool, true, false, List, [], ◌∷◌, length, replicate, set, get_or, refl, ap, sym, subst, arith, ◌∙◌, ne_eqb, eq-eqb, inl, inr, if◌then◌else◌}
 use Rattle.std.specs.Prelude.{nat_eq, bit_and, bit_or}
 use Rattle.std.specs.Int.{bit_at, w64, bit_not}
-use Rattle.std.proofs.Math.Nat.{div-add-mod, mod-lt}
+use Rattle.std.proofs.Math.Nat.{mod-lt}
 use Rattle.std.proofs.lemmas.Bool.{cases_eq}
 use Rattle.std.proofs.lemmas.List.{get_or-set_other, get_or-set_same, get_or-replicate, get_or_default, length-set, length-replicate}
 use Rattle.std.proofs.lemmas.Nat.Bits.{bit_at_set_same, bit_at_set_other, bit_at_clear_same, bit_at_clear_other}
@@ -18,49 +18,21 @@ use Rattle.shadow.specs.Rows.{bit_of, has_bit, no_head, head_of, is_known, is_to
 
 pub bit_set : (n k other : ℕ) → k < 64 → bit_at (bit_or n (1 * 2 ^ k % 2 ^ 64)) other ≡ (if nat_eq other k then bit_of true else bit_at n other)
 bit_set n k other low = elim (cases_eq other k) [
-    | inl same ↦ rw (eq-eqb other k same) (ap (bit_at (bit_or n (1 * 2 ^ k % 2 ^ 64))) same ∙ bit_at_set_same w64 n k low)
-    | inr apart ↦ rw (ne_eqb other k apart) (bit_at_set_other w64 n k low other apart)
-  ]
+  | inl same ↦ rw (eq-eqb other k same) (ap (bit_at (bit_or n (1 * 2 ^ k % 2 ^ 64))) same ∙ bit_at_set_same w64 n k low)
+  | inr apart ↦ rw (ne_eqb other k apart) (bit_at_set_other w64 n k low other apart)
+]
 
 pub bit_cleared : (n k other : ℕ) → k < 64 → other < 64 → bit_at (bit_and n (bit_not w64 (1 * 2 ^ k % 2 ^ 64))) other ≡ (if nat_eq other k then bit_of false else bit_at n other)
 bit_cleared n k other low few = elim (cases_eq other k) [
-    | inl same ↦ rw (eq-eqb other k same) (ap (bit_at (bit_and n (bit_not w64 (1 * 2 ^ k % 2 ^ 64)))) same ∙ bit_at_clear_same w64 n k low)
-    | inr apart ↦ rw (ne_eqb other k apart) (bit_at_clear_other w64 n k low other few apart)
-  ]
+  | inl same ↦ rw (eq-eqb other k same) (ap (bit_at (bit_and n (bit_not w64 (1 * 2 ^ k % 2 ^ 64)))) same ∙ bit_at_clear_same w64 n k low)
+  | inr apart ↦ rw (ne_eqb other k apart) (bit_at_clear_other w64 n k low other few apart)
+]
 
 -- ---- a row
 
 bit_is : (b : Bool) → nat_eq (bit_of b) 1 ≡ b
 bit_is true = refl
 bit_is false = refl
-
-choose : (t b : Bool) (n : ℕ) → nat_eq (if t then bit_of b else n) 1 ≡ (if t then b else nat_eq n 1)
-choose true b n = bit_is b
-choose false b n = refl
-
-same_test : (t u : Bool) (b c : Bool) → t ≡ u → (if t then b else c) ≡ (if u then b else c)
-same_test t u b c e = ap (λ v. if v then b else c) e
-
-pub row_put : (words : List ℕ) (cell x : ℕ) (b : Bool) → cell / 64 < length words → ((o : ℕ) → o < 64 → bit_at x o ≡ (if nat_eq o (cell % 64) then bit_of b else bit_at (get_or words (cell / 64) 0) o))
-    → (other : ℕ) → has_bit (set words (cell / 64) x) other ≡ (if nat_eq other cell then b else has_bit words other)
-row_put words cell x b within is other = elim (cases_eq (other / 64) (cell / 64)) [
-    | inl same ↦
-        let o : ℕ = other % 64 in
-        let word : get_or (set words (cell / 64) x) (other / 64) 0 ≡ x =
-        ap (λ n. get_or (set words (cell / 64) x) n 0) same ∙ get_or-set_same words (cell / 64) x 0 within in
-        let test : nat_eq o (cell % 64) ≡ nat_eq other cell = elim (cases_eq o (cell % 64)) [
-          | inl alike ↦ eq-eqb o (cell % 64) alike ∙ sym (eq-eqb other cell (omega (arith, div-add-mod other 64, div-add-mod cell 64)))
-          | inr apart ↦ ne_eqb o (cell % 64) apart ∙ sym (ne_eqb other cell (λ e. apart (ap (λ n. n % 64) e)))
-        ] in
-        ap (λ n. nat_eq (bit_at n o) 1) word ∙ ap (λ n. nat_eq n 1) (is o (mod-lt other (omega arith)))
-        ∙ choose (nat_eq o (cell % 64)) b (bit_at (get_or words (cell / 64) 0) o)
-        ∙ same_test (nat_eq o (cell % 64)) (nat_eq other cell) b (nat_eq (bit_at (get_or words (cell / 64) 0) o) 1) test
-        ∙ ap (λ n. if nat_eq other cell then b else nat_eq (bit_at (get_or words n 0) o) 1) (sym same)
-    | inr apart ↦
-        let differ : nat_eq other cell ≡ false = ne_eqb other cell (λ e. apart (ap (λ n. n / 64) e)) in
-        ap (λ n. nat_eq (bit_at n (other % 64)) 1) (get_or-set_other words (cell / 64) (other / 64) x 0 apart)
-        ∙ sym (ap (λ t. if t then b else has_bit words other) differ)
-  ]
 
 pub alike : (word count cell : ℕ) (b : Bool) → cell / 64 < count → ((i : ℕ) → i < 64 → bit_at word i ≡ bit_of b) → has_bit (replicate count word) cell ≡ b
 alike word count cell b within is =
@@ -107,9 +79,6 @@ module _ (heads : List Head) (attributes known told attributes_ known_ told_ : L
     (attribute_bits : (other : ℕ) → has_bit attributes_ other ≡ (if nat_eq other at then is_attribute p else has_bit attributes other))
     (known_bits : (other : ℕ) → has_bit known_ other ≡ (if nat_eq other at then is_known p else has_bit known other))
     (told_bits : (other : ℕ) → has_bit told_ other ≡ (if nat_eq other at then is_told p else has_bit told other)) where
-  new_heads : List Head
-  new_heads = set heads at (head_of p)
-
   apart_same : (j byte : ℕ) → (j ≡ at → ⊥) → place_by (set heads at (head_of p)) attributes_ known_ told_ j byte ≡ place_by heads attributes known told j byte
   apart_same j byte apart =
       let no = ne_eqb j at apart in
@@ -147,12 +116,12 @@ bits_by b answer e words words_ at bits other = bits other ∙ ap (λ v. if nat_
 pub marked_set : (known known_ : List ℕ) (places : List Place) (at : ℕ) (p : Place) → at < length places → MarksKnown known places
     → ((other : ℕ) → has_bit known_ other ≡ (if nat_eq other at then is_known p else has_bit known other)) → MarksKnown known_ (set places at p)
 marked_set known known_ places at p within marked bits = λ cell inside. elim (cases_eq cell at) [
-    | inl same ↦ bits cell ∙ ap (λ t. if t then is_known p else has_bit known cell) (eq-eqb cell at same)
-        ∙ sym (ap is_known (ap (λ n. get_or (set places at p) n Unknown) same ∙ get_or-set_same places at p Unknown within))
-    | inr apart ↦ bits cell ∙ ap (λ t. if t then is_known p else has_bit known cell) (ne_eqb cell at apart)
-        ∙ marked cell (subst (λ n. cell < n) (length-set places at p) inside)
-        ∙ sym (ap is_known (get_or-set_other places at cell p Unknown apart))
-  ]
+  | inl same ↦ bits cell ∙ ap (λ t. if t then is_known p else has_bit known cell) (eq-eqb cell at same)
+      ∙ sym (ap is_known (ap (λ n. get_or (set places at p) n Unknown) same ∙ get_or-set_same places at p Unknown within))
+  | inr apart ↦ bits cell ∙ ap (λ t. if t then is_known p else has_bit known cell) (ne_eqb cell at apart)
+      ∙ marked cell (subst (λ n. cell < n) (length-set places at p) inside)
+      ∙ sym (ap is_known (get_or-set_other places at cell p Unknown apart))
+]
 
 -- the same, by what functions answer
 module _ (heads : List Head) (attributes known told bytes : List ℕ) (at : ℕ) (p : Place) (inside : at < length heads) (within : at < length bytes)
@@ -168,10 +137,10 @@ module _ (heads : List Head) (attributes known told bytes : List ℕ) (at : ℕ)
   put_kept =
       ap (λ h. kept (place_by (set heads at h) attributes_ known_ told_) 0 (set bytes at byte)) is_head
       ∙ set_kept heads attributes known told attributes_ known_ told_ at p inside
-        (bits_by (is_attribute p) a is_a attributes attributes_ at a_bits)
-        (bits_by (is_known p) k is_k known known_ at k_bits)
-        (bits_by (is_told p) t is_t told told_ at t_bits)
-        bytes byte is_byte
+      (bits_by (is_attribute p) a is_a attributes attributes_ at a_bits)
+      (bits_by (is_known p) k is_k known known_ at k_bits)
+      (bits_by (is_told p) t is_t told told_ at t_bits)
+      bytes byte is_byte
 
   pub put_marked : MarksKnown known (kept (place_by heads attributes known told) 0 bytes) → MarksKnown known_ (kept (place_by (set heads at head) attributes_ known_ told_) 0 (set bytes at byte))
   put_marked marked =
@@ -223,22 +192,22 @@ module _ (heads : List Head) (attributes known told bytes : List ℕ) (at : ℕ)
   attribute_read inside d attribute is a =
       place_read (Attr attribute (get_or heads at d).mark (get_or heads at d).telling)
       (ap (λ (x : Attribute). Attr x (get_or heads at d).mark (get_or heads at d).telling) is
-       ∙ ap (λ (h : Head). Attr (attr_of (get_or bytes at 0)) h.mark h.telling) (get_or_default heads at d no_head inside)
-       ∙ sym (ap (λ b. place_kept (get_or heads at no_head) b (has_bit known at) (has_bit told at) (get_or bytes at 0)) a))
+      ∙ ap (λ (h : Head). Attr (attr_of (get_or bytes at 0)) h.mark h.telling) (get_or_default heads at d no_head inside)
+      ∙ sym (ap (λ b. place_kept (get_or heads at no_head) b (has_bit known at) (has_bit told at) (get_or bytes at 0)) a))
 
   pub known_read : has_bit attributes at ≡ false → has_bit known at ≡ true → Known (get_or bytes at 0) ≡ get_or now at (Known (get_or bytes at 0))
   known_read a k = place_read (Known (get_or bytes at 0))
       (sym (ap (λ b. place_kept (get_or heads at no_head) b (has_bit known at) (has_bit told at) (get_or bytes at 0)) a
-       ∙ ap (λ b. place_kept (get_or heads at no_head) false b (has_bit told at) (get_or bytes at 0)) k))
+      ∙ ap (λ b. place_kept (get_or heads at no_head) false b (has_bit told at) (get_or bytes at 0)) k))
 
   pub told_read : has_bit attributes at ≡ false → has_bit known at ≡ false → has_bit told at ≡ true → Told (get_or bytes at 0) ≡ get_or now at (Told (get_or bytes at 0))
   told_read a k t = place_read (Told (get_or bytes at 0))
       (sym (ap (λ b. place_kept (get_or heads at no_head) b (has_bit known at) (has_bit told at) (get_or bytes at 0)) a
-       ∙ ap (λ b. place_kept (get_or heads at no_head) false b (has_bit told at) (get_or bytes at 0)) k
-       ∙ ap (λ b. place_kept (get_or heads at no_head) false false b (get_or bytes at 0)) t))
+      ∙ ap (λ b. place_kept (get_or heads at no_head) false b (has_bit told at) (get_or bytes at 0)) k
+      ∙ ap (λ b. place_kept (get_or heads at no_head) false false b (get_or bytes at 0)) t))
 
   pub unknown_read : has_bit attributes at ≡ false → has_bit known at ≡ false → has_bit told at ≡ false → Unknown ≡ get_or now at Unknown
   unknown_read a k t = place_read Unknown
       (sym (ap (λ b. place_kept (get_or heads at no_head) b (has_bit known at) (has_bit told at) (get_or bytes at 0)) a
-       ∙ ap (λ b. place_kept (get_or heads at no_head) false b (has_bit told at) (get_or bytes at 0)) k
-       ∙ ap (λ b. place_kept (get_or heads at no_head) false false b (get_or bytes at 0)) t))
+      ∙ ap (λ b. place_kept (get_or heads at no_head) false b (has_bit told at) (get_or bytes at 0)) k
+      ∙ ap (λ b. place_kept (get_or heads at no_head) false false b (get_or bytes at 0)) t))

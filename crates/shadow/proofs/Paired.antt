@@ -1,5 +1,5 @@
 -- A field with what came for it.
-use Rattle.std.proofs.Common.{◌≡◌, ℕ, Bool, true, false, List, [], ◌∷◌, Some, None, refl, if◌then◌else◌, nat_eq, option_map}
+use Rattle.std.proofs.Common.{◌≡◌, Bool, true, false, List, [], ◌∷◌, Some, None, refl, if◌then◌else◌, nat_eq, option_map}
 use Rattle.codes3270.specs.Size.{cell_count}
 use Rattle.datastream.specs.InboundFields.{Returned}
 use Rattle.shadow.specs.Belief.{Belief, next_address}

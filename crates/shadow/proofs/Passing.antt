@@ -1,16 +1,9 @@
 -- Fields changed in one walk over the places, which goes on round the end.
-use Rattle.std.proofs.Common.{◌≡◌, ℕ, zero, suc, ◌+◌, ◌<◌, ◌≤◌, Bool, true, false, not, ◌&&◌, ◌||◌, List, [], ◌∷◌, ◌++◌, length, map, replicate, Option, Some, None, refl, ap, sym, subst, arith, ◌∙◌, if◌then◌else◌, append-nil}
-use Rattle.std.specs.Prelude.{⊤, nat_eq, bytes_eq}
-use Rattle.codes3270.specs.Size.{cell_count}
-use Rattle.codes3270.specs.declared.attribute.Attr.{Attr as Attribute}
-use Rattle.shadow.specs.declared.mark.Mark.{Mark}
-use Rattle.shadow.specs.declared.place.Telling.{Telling}
-use Rattle.shadow.specs.declared.place.Telling.TheVariants.{Cells, ExactOrNulls, Text, TextOrNulls}
+use Rattle.std.proofs.Common.{◌≡◌, ℕ, suc, ◌≤◌, Bool, true, false, List, [], ◌∷◌, ◌++◌, length, replicate, Option, Some, None, refl, ap, arith}
 use Rattle.shadow.specs.declared.place.Place.{Place}
 use Rattle.shadow.specs.declared.place.Place.TheVariants.{Attr, Known, Told, Unknown}
-use Rattle.shadow.specs.Belief.{Fact, Belief, nulls}
-use Rattle.shadow.specs.Filled.{Fill, Change, filled, fill_next, first_told, text_behind, changed, fill_behind, front_filled, all_changed, last_fill}
-use Rattle.shadow.specs.InPlace.{chars_known, text_told, fact_told, fact_held, belief_held, beliefs_held, is_attribute, has_attribute, SaysCells, AreHeld, IsHeld, is_whole, known_text}
+use Rattle.shadow.specs.Filled.{Fill, Change, filled, fill_next, first_told, text_behind, front_filled, all_changed, last_fill}
+use Rattle.shadow.specs.InPlace.{chars_known, text_told, is_attribute, has_attribute, AreHeld, is_whole, known_text}
 
 -- ---- what fills one place
 

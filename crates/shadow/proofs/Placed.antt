@@ -1,25 +1,22 @@
 -- What is held place by place, and the fields that it makes.
-use Rattle.std.proofs.Common.{◌≡◌, ℕ, zero, suc, ◌+◌, ◌<◌, ◌≤◌, Bool, true, false, not, ◌&&◌, ◌||◌, List, [], ◌∷◌, ◌++◌, length, drop, get_or, Option, Some, None, refl, ap, sym, subst, arith, ◌∙◌, ne_eqb, eq-eqb, inl, inr, ◌-◌, ◌%◌, map, flat_map, take, if◌then◌else◌, option_map, append_assoc, append-nil, length-append}
-use Rattle.std.specs.Prelude.{◌==◌, ⊤, bytes_eq, slice_get, option_and_then}
+use Rattle.std.proofs.Common.{◌≡◌, ℕ, zero, suc, ◌+◌, ◌<◌, ◌≤◌, Bool, true, false, ◌&&◌, ◌||◌, List, [], ◌∷◌, ◌++◌, length, drop, get_or, Option, Some, None, refl, ap, sym, subst, arith, ◌∙◌, ne_eqb, eq-eqb, inl, inr, ◌-◌, ◌%◌, map, flat_map, take, if◌then◌else◌, option_map, append_assoc, append-nil, length-append}
+use Rattle.std.specs.Prelude.{◌==◌, slice_get, option_and_then}
 use Rattle.std.specs.List.{list_any}
 use Rattle.std.proofs.Math.Nat.{add-mod_right, mod_self, mod-eq_of_lt, mod-lt}
-use Rattle.std.proofs.lemmas.Bool.{cases_lt, cases_eq}
+use Rattle.std.proofs.lemmas.Bool.{cases_lt}
 use Rattle.std.proofs.lemmas.List.{at_drop_more, length-drop, drop_at, take_at, length-map}
 use Rattle.codes3270.specs.declared.attribute.Attr.{Attr as Attribute}
-use Rattle.datastream.specs.Inbound.{without_nulls}
 use Rattle.shadow.specs.declared.mark.Mark.{Mark}
-use Rattle.shadow.specs.declared.fact.Fact.{Fact as FactKind}
-use Rattle.shadow.specs.declared.fact.Fact.TheVariants.{Exact, Any}
 use Rattle.shadow.specs.declared.place.Telling.{Telling}
-use Rattle.shadow.specs.declared.place.Telling.TheVariants.{Cells, ExactOrNulls, Text, TextOrNulls}
+use Rattle.shadow.specs.declared.place.Telling.TheVariants.{Cells}
 use Rattle.shadow.specs.declared.place.Place.{Place}
 use Rattle.shadow.specs.declared.place.Place.TheVariants.{Attr, Known, Told, Unknown}
 use Rattle.shadow.specs.Asked.{belief_with, known_cells, known_at, known_cell}
 use Rattle.shadow.specs.Belief.{Fact, Belief, Shadow, fields_of, next_address}
 use Rattle.shadow.specs.Fits.{is_field}
 use Rattle.shadow.specs.Seen.{same_attr}
-use Rattle.shadow.specs.InPlace.{chars_known, text_told, fact_held, belief_held, beliefs_held, is_whole, known_text, is_attribute, has_attribute, has_fields, cell_known, cells_known, shadow_held, AreHeld, IsHeld}
-use Rattle.shadow.specs.Taken.{whole_text, exact_or_any, fact_known, old_char, field_cells, first_place, laid_out, formatted_as, after_write, taken_write, mark_off, marks_off_if}
+use Rattle.shadow.specs.InPlace.{chars_known, fact_held, belief_held, beliefs_held, is_whole, known_text, is_attribute, has_attribute, has_fields, cell_known, cells_known, shadow_held, AreHeld, IsHeld}
+use Rattle.shadow.specs.Taken.{whole_text, exact_or_any, old_char, field_cells, first_place, laid_out, formatted_as, after_write, taken_write, mark_off, marks_off_if}
 use Rattle.shadow.specs.Base.{mark_off_if}
 use Rattle.shadow.specs.Paint.{known_nulls, known_before}
 use Rattle.shadow.specs.declared.known.Known.{Known as KnownCell}

@@ -1,21 +1,19 @@
 -- A screen that was read, beside the places that are held.
-use Rattle.std.proofs.Common.{◌≡◌, ℕ, zero, suc, ◌+◌, ◌<◌, ◌≤◌, Bool, true, false, not, ◌&&◌, ◌||◌, List, [], ◌∷◌, ◌++◌, length, map, take, drop, set, get_or, Option, Some, None, refl, ap, sym, subst, arith, ◌∙◌, ne_eqb, eq-eqb, append_assoc, append-nil}
-use Rattle.std.specs.Prelude.{⊤, MatchOption, is_some}
-use Rattle.std.proofs.lemmas.List.{drop_more, take_more_set, length-map, length-set}
+use Rattle.std.proofs.Common.{◌≡◌, ℕ, zero, suc, ◌+◌, ◌<◌, Bool, true, false, not, ◌&&◌, ◌||◌, List, [], ◌∷◌, ◌++◌, length, map, take, drop, set, get_or, Option, Some, None, refl, ap, sym, subst, arith, ◌∙◌, ne_eqb, eq-eqb, append_assoc}
+use Rattle.std.specs.Prelude.{MatchOption, is_some}
+use Rattle.std.proofs.lemmas.List.{drop_more, take_more_set, length-map}
 use Rattle.codes3270.specs.declared.attribute.Attr.{Attr as Attribute}
 use Rattle.codes3270.specs.declared.attribute.Cell.{Cell}
 use Rattle.codes3270.specs.declared.attribute.Cell.TheVariants.{Char, Attr as AttrCell}
 use Rattle.datastream.specs.Screen.{text_before_attribute}
 use Rattle.datastream.specs.Fields.{Field, fields, fields_from}
 use Rattle.datastream.specs.Held.{without_mdt}
-use Rattle.shadow.specs.declared.mark.Mark.{Mark}
-use Rattle.shadow.specs.declared.place.Telling.{Telling}
 use Rattle.shadow.specs.declared.place.Telling.TheVariants.{Cells}
 use Rattle.shadow.specs.declared.place.Place.{Place}
 use Rattle.shadow.specs.declared.place.Place.TheVariants.{Attr, Known, Told, Unknown}
-use Rattle.shadow.specs.Belief.{Fact, Belief, Shadow}
-use Rattle.shadow.specs.InPlace.{chars_known, text_told, fact_held, belief_held, beliefs_held, shadow_held, known_text, misses_here, other_here, AreHeld, IsHeld}
-use Rattle.shadow.specs.Seen.{differs, is_other, others, same_attr, mark_seen, belief_seen, seen, known_chars}
+use Rattle.shadow.specs.Belief.{Fact, Belief}
+use Rattle.shadow.specs.InPlace.{chars_known, fact_held, belief_held, beliefs_held, shadow_held, known_text, misses_here, other_here, AreHeld, IsHeld}
+use Rattle.shadow.specs.Seen.{differs, others, same_attr, mark_seen, belief_seen, seen}
 use Rattle.shadow.specs.Since.{place_stored, places_stored}
 use Rattle.shadow.specs.Taken.{fact_known, exact_or_any}
 use Rattle.shadow.proofs.Seen.{both, whole_fresh}

@@ -1,21 +1,21 @@
 -- The fields after a write are those that its cells make.
-use Rattle.std.proofs.Common.{◌≡◌, ℕ, zero, suc, ◌+◌, ◌<◌, ◌≤◌, Bool, true, false, not, ◌&&◌, ◌||◌, List, [], ◌∷◌, ◌++◌, length, map, Option, Some, None, refl, ap, sym, subst, arith, ◌∙◌, ne_eqb, eq-eqb, if◌then◌else◌, append-nil}
-use Rattle.std.specs.Prelude.{⊤, unwrap_or, is_some, option_map}
+use Rattle.std.proofs.Common.{◌≡◌, ℕ, suc, ◌+◌, ◌<◌, ◌≤◌, Bool, true, false, not, ◌||◌, List, [], ◌∷◌, ◌++◌, length, map, Option, Some, None, refl, ap, sym, subst, arith, ◌∙◌, ne_eqb, eq-eqb, if◌then◌else◌, append-nil}
+use Rattle.std.specs.Prelude.{unwrap_or, is_some, option_map}
 use Rattle.std.proofs.lemmas.Option.{same_Some}
 use Rattle.codes3270.specs.declared.attribute.Attr.{Attr as Attribute}
 use Rattle.shadow.specs.declared.known.Known.{Known}
-use Rattle.shadow.specs.declared.known.Known.TheVariants.{Attr as KnownAttr, Char as KnownChar}
+use Rattle.shadow.specs.declared.known.Known.TheVariants.{Char as KnownChar}
 use Rattle.shadow.specs.declared.mark.Mark.{Mark}
 use Rattle.shadow.specs.declared.place.Telling.{Telling}
-use Rattle.shadow.specs.declared.place.Telling.TheVariants.{Cells, ExactOrNulls, Text, TextOrNulls}
+use Rattle.shadow.specs.declared.place.Telling.TheVariants.{Cells}
 use Rattle.shadow.specs.declared.place.Place.{Place}
 use Rattle.shadow.specs.declared.place.Place.TheVariants.{Attr, Known as KnownPlace, Told, Unknown}
 use Rattle.shadow.specs.declared.place.Past.{Past}
-use Rattle.shadow.specs.Belief.{Fact, Belief, Shadow}
+use Rattle.shadow.specs.Belief.{Fact, Belief}
 use Rattle.shadow.specs.Seen.{known_chars}
 use Rattle.shadow.specs.InPlace.{cell_known, cells_known, chars_known, text_told, fact_told, fact_held, belief_held, beliefs_held, shadow_held, SaysCells, AreHeld, IsHeld}
-use Rattle.shadow.specs.Since.{telling_of, cells_written, IsAsItWas, Since, is_touched, telling_after, place_settled, settled}
-use Rattle.shadow.specs.Taken.{known_ahead, fresh_ahead, whole_text, exact_or_any, fact_known, fact_before, fact_after, belief_after, beliefs_from, formatted_as, believed}
+use Rattle.shadow.specs.Since.{telling_of, cells_written, Since, is_touched, telling_after, settled}
+use Rattle.shadow.specs.Taken.{known_ahead, fresh_ahead, whole_text, exact_or_any, fact_known, fact_before, fact_after, beliefs_from, formatted_as, believed}
 
 -- ---- lists one behind the other
 

@@ -1,24 +1,21 @@
 -- What is believed, and the places that hold it.
-use Rattle.std.proofs.Common.{◌≡◌, ℕ, zero, suc, ◌+◌, ◌<◌, ◌≤◌, Bool, true, false, not, List, [], ◌∷◌, length, map, replicate, Option, Some, None, Ok, Err, refl, ap, sym, subst, arith, ◌∙◌, if◌then◌else◌}
-use Rattle.std.specs.Prelude.{Result, nat_lt}
+use Rattle.std.proofs.Common.{◌≡◌, ℕ, ◌<◌, ◌≤◌, Bool, true, false, List, [], ◌∷◌, length, map, Ok, Err, refl, ap, sym, arith, ◌∙◌, if◌then◌else◌}
+use Rattle.std.specs.Prelude.{nat_lt}
 use Rattle.std.proofs.lemmas.List.{length-map}
 use Rattle.std.proofs.lemmas.Bool.{lt-ltb, le-ltb}
 use Rattle.codes3270.specs.Size.{cell_count}
 use Rattle.codes3270.specs.declared.attribute.Cell.{Cell}
 use Rattle.datastream.specs.Fields.{Field, fields}
 use Rattle.datastream.specs.InboundFields.{Returned}
-use Rattle.datastream.specs.declared.command_code.CommandCode.{CommandCode}
 use Rattle.datastream.specs.declared.command_code.CommandCode.TheVariants.{Write, EraseWrite}
-use Rattle.shadow.specs.declared.fault.HeardFault.{HeardFault}
 use Rattle.shadow.specs.declared.fault.HeardFault.TheVariants.{Contradiction}
-use Rattle.shadow.specs.declared.known.Known.{Known}
 use Rattle.shadow.specs.declared.place.Place.{Place}
-use Rattle.shadow.specs.Belief.{Belief, Shadow, next_address}
+use Rattle.shadow.specs.Belief.{Belief, Shadow}
 use Rattle.shadow.specs.Filled.{long_after}
 use Rattle.shadow.specs.Heard.{heard_long, heard_attention, after_attention}
 use Rattle.shadow.specs.InPlace.{chars_known, cells_known, beliefs_held, shadow_held, has_attribute, has_fields, IsHeld}
 use Rattle.shadow.specs.Paint.{known_nulls, known_before, paint_code}
-use Rattle.shadow.specs.Seen.{others, is_formatted, denies_buffer, heard_buffer, seen}
+use Rattle.shadow.specs.Seen.{others, is_formatted, denies_buffer}
 use Rattle.shadow.specs.Taken.{formatted_as, marks_off_if}
 use Rattle.shadow.proofs.Placed.{formatted_held, unformatted_held, no_beliefs, bare_known, base_known, has_held, length-cells}
 

@@ -1,11 +1,9 @@
 -- For proofs alone: a bit for each cell, and the places that are kept by such bits (our profile).
-use Rattle.std.specs.Prelude.{◌≡◌, ◌<◌, ◌+◌, ◌/◌, ◌%◌, ℕ, length, Bool, true, false, List, [], ◌∷◌, slice_index_or, nat_eq, if◌then◌else◌}
+use Rattle.std.specs.Prelude.{◌≡◌, ◌<◌, ◌+◌, ◌/◌, ◌%◌, ℕ, length, Bool, true, false, List, [], ◌∷◌, slice_index_or, nat_eq}
 use Rattle.std.specs.Int.{bit_at}
 use Rattle.codes3270.specs.Attribute.{attr_of}
 use Rattle.codes3270.specs.Size.{cell_count}
-use Rattle.shadow.specs.declared.mark.Mark.{Mark}
 use Rattle.shadow.specs.declared.mark.Mark.TheVariants.{Unknown as UnknownMark}
-use Rattle.shadow.specs.declared.place.Telling.{Telling}
 use Rattle.shadow.specs.declared.place.Telling.TheVariants.{Cells}
 use Rattle.shadow.specs.declared.place.Place.{Place}
 use Rattle.shadow.specs.declared.place.Place.TheVariants.{Attr, Known, Told, Unknown}

@@ -1,4 +1,4 @@
-use Rattle.std.proofs.Common.{ap, sym, ◌∙◌, List, ℕ}
+use Rattle.std.proofs.Common.{ap, sym, ◌∙◌, List}
 use Rattle.std.specs.Prelude.{slice_get}
 use Rattle.shadow.specs.Asked.{value_of}
 use Rattle.shadow.specs.Belief.{Fact}

@@ -1,7 +1,5 @@
 use Rattle.std.proofs.Common.{ap, sym, ◌∙◌}
-use Rattle.shadow.specs.declared.place.Telling.TheVariants.{Cells}
 use Rattle.shadow.specs.Asked.{kind_of}
-use Rattle.shadow.specs.InPlace.{fact_held}
 use Rattle.shadow.proofs.Placed.{exact_held, any_held}
 use Rattle.shadow.proofs.asking.kind.Goals as goal
 

@@ -1,4 +1,4 @@
-use Rattle.std.proofs.Common.{◌≡◌, ◌∙◌, sym, arith}
+use Rattle.std.proofs.Common.{◌∙◌, sym, arith}
 use Rattle.codes3270.specs.Size.{cell_count}
 use Rattle.shadow.proofs.Placed.{known_there}
 use Rattle.shadow.proofs.asking.known_held_at.Goals as goal

@@ -1,4 +1,4 @@
-use Rattle.std.proofs.Common.{ap, sym, ◌∙◌, arith, refl, Some}
+use Rattle.std.proofs.Common.{ap, sym, ◌∙◌, arith, refl}
 use Rattle.shadow.specs.Asked.{value_of}
 use Rattle.std.specs.Prelude.{option_and_then, slice_get}
 use Rattle.shadow.specs.Belief.{Belief}

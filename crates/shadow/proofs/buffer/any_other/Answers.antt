@@ -1,13 +1,11 @@
-use Rattle.std.proofs.Common.{◌≡◌, ◌∙◌, ◌+◌, ◌++◌, ◌||◌, ap, sym, arith, drop, get_or, length, List, [], Bool}
+use Rattle.std.proofs.Common.{◌∙◌, ◌+◌, ◌++◌, ◌||◌, ap, sym, arith, drop, get_or, List, [], Bool}
 use Rattle.std.proofs.lemmas.List.{at_drop_all}
-use Rattle.codes3270.specs.Size.{cell_count}
 use Rattle.codes3270.specs.declared.attribute.Cell.{Cell}
 use Rattle.datastream.specs.Fields.{fields_from}
 use Rattle.shadow.specs.declared.place.Place.{Place}
 use Rattle.shadow.specs.declared.place.Place.TheVariants.{Unknown}
 use Rattle.shadow.specs.InPlace.{beliefs_held, other_here}
 use Rattle.shadow.specs.Seen.{others}
-use Rattle.shadow.specs.Since.{places_stored}
 use Rattle.shadow.proofs.Reading.{other_step}
 use Rattle.shadow.proofs.buffer.any_other.Goals as goal
 

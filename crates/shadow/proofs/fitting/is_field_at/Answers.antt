@@ -1,4 +1,4 @@
-use Rattle.std.proofs.Common.{◌≡◌, ◌∙◌, ◌&&◌, ap, sym, refl, arith, length, List, Bool, ℕ, nat_eq, ◌++◌, ◌+◌, drop}
+use Rattle.std.proofs.Common.{◌∙◌, ◌&&◌, ap, sym, refl, arith, length, List, Bool, ℕ, nat_eq, ◌++◌, ◌+◌, drop}
 use Rattle.shadow.specs.declared.place.Place.{Place}
 use Rattle.shadow.specs.declared.place.Place.TheVariants.{Known, Told, Unknown}
 use Rattle.shadow.specs.InPlace.{chars_known}

@@ -1,4 +1,4 @@
-use Rattle.std.proofs.Common.{◌≡◌, ◌∙◌, ap, sym, arith, List, refl}
+use Rattle.std.proofs.Common.{◌∙◌, ap, sym, arith, List, refl}
 use Rattle.std.proofs.lemmas.List.{at_drop_all}
 use Rattle.shadow.specs.declared.place.Place.{Place}
 use Rattle.shadow.specs.Filled.{Fill, fill_of, key_changes, all_changed, last_fill, front_filled}

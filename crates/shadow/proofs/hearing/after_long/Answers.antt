@@ -1,5 +1,4 @@
-use Rattle.std.proofs.Common.{◌≡◌, ◌∙◌, ap, sym, subst, arith, List, Bool}
-use Rattle.datastream.specs.InboundFields.{Returned}
+use Rattle.std.proofs.Common.{◌∙◌, ap, Bool}
 use Rattle.shadow.specs.Filled.{any_lost, long_after}
 use Rattle.shadow.specs.InPlace.{beliefs_held}
 use Rattle.shadow.proofs.Changing.{long_changed}

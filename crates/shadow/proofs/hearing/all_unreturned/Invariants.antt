@@ -1,4 +1,4 @@
-use Rattle.std.proofs.Common.{◌≡◌, length, take, drop}
+use Rattle.std.proofs.Common.{◌≡◌, length, take}
 use Rattle.codes3270.specs.Size.{cell_count}
 use Rattle.shadow.specs.Filled.{unreturned_from}
 use Rattle.shadow.proofs.hearing.all_unreturned.Given as goal

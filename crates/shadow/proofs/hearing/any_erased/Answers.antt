@@ -1,7 +1,6 @@
-use Rattle.std.proofs.Common.{◌≡◌, ◌∙◌, ◌+◌, ◌++◌, ◌||◌, ap, sym, arith, drop, List, Bool, Option, ℕ}
-use Rattle.datastream.specs.InboundFields.{Returned}
+use Rattle.std.proofs.Common.{◌∙◌, ◌+◌, ◌++◌, ◌||◌, ap, sym, arith, drop, Bool}
 use Rattle.shadow.specs.Came.{came_of}
-use Rattle.shadow.specs.Filled.{any_lost, lost_held, text_came, came_behind}
+use Rattle.shadow.specs.Filled.{any_lost, lost_held, came_behind}
 use Rattle.shadow.specs.InPlace.{beliefs_held}
 use Rattle.shadow.proofs.HeardSteps.{lost_step}
 use Rattle.shadow.proofs.hearing.any_erased.Goals as goal

@@ -1,4 +1,4 @@
-use Rattle.std.proofs.Common.{◌≡◌, ◌∙◌, ap, sym, subst, arith, ℕ, get_or}
+use Rattle.std.proofs.Common.{◌≡◌, ◌∙◌, subst, arith, ℕ, get_or}
 use Rattle.codes3270.specs.Size.{cell_count}
 use Rattle.shadow.proofs.Placed.{starts_there, address_before}
 use Rattle.shadow.proofs.hearing.begins_field.Goals as goal

@@ -1,4 +1,3 @@
-use Rattle.std.proofs.Common.{ap, sym, ◌∙◌, nat_eq}
 use Rattle.shadow.proofs.Keeping.{bit_set, bit_cleared}
 use Rattle.shadow.proofs.row.with_bit.Goals as goal
 

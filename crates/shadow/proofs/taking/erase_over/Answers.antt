@@ -1,9 +1,9 @@
-use Rattle.std.proofs.Common.{◌≡◌, ◌∙◌, ap, sym, subst, List, map, replicate, true, Option}
+use Rattle.std.proofs.Common.{◌∙◌, ap, sym, subst, List, map, replicate, true}
 use Rattle.codes3270.specs.Size.{cell_count}
 use Rattle.datastream.specs.declared.order.Order.{Order}
 use Rattle.shadow.specs.declared.place.Place.{Place}
 use Rattle.shadow.specs.InPlace.{shadow_held, beliefs_held, IsHeld}
-use Rattle.shadow.specs.Since.{Since, cells_written}
+use Rattle.shadow.specs.Since.{cells_written}
 use Rattle.shadow.specs.Stores.{stores}
 use Rattle.shadow.specs.Taken.{known_stored, new_cell}
 use Rattle.shadow.proofs.Blanks.{null_place, stored_past, since_nulls, held_nulls, no_beliefs, cells_nulls}

@@ -1,4 +1,4 @@
-use Rattle.std.proofs.Common.{◌≡◌, ◌∙◌, ◌++◌, ◌+◌, [], ap, sym, refl, arith, List, length, drop, Bool, Option, Some, None, append-nil, true}
+use Rattle.std.proofs.Common.{◌∙◌, ◌++◌, ◌+◌, [], ap, sym, arith, List, drop, Bool, Option, append-nil}
 use Rattle.std.specs.Prelude.{unwrap_or}
 use Rattle.std.proofs.lemmas.List.{at_drop_all}
 use Rattle.shadow.specs.Since.{cells_written, is_touched}

@@ -1,4 +1,4 @@
-use Rattle.std.proofs.Common.{◌∙◌, ap, sym, arith, map, List, refl, ◌∷◌, drop, ◌+◌}
+use Rattle.std.proofs.Common.{◌∙◌, ap, sym, arith, map, refl, ◌∷◌, drop, ◌+◌}
 use Rattle.shadow.specs.Since.{place_off}
 use Rattle.shadow.specs.declared.place.Place.{Place}
 use Rattle.shadow.proofs.Changes.{changed_here, all_changed}

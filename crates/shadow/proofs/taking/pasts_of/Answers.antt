@@ -1,9 +1,7 @@
-use Rattle.std.proofs.Common.{◌≡◌, ◌∙◌, ap, sym, subst, arith, map, length, List, take}
+use Rattle.std.proofs.Common.{◌≡◌, ◌∙◌, ap, sym, subst, arith, map, List}
 use Rattle.std.proofs.lemmas.List.{take_all}
-use Rattle.shadow.specs.InPlace.{cells_known}
 use Rattle.shadow.specs.Since.{Since, cells_written}
 use Rattle.shadow.specs.declared.place.Past.{Past}
-use Rattle.shadow.specs.declared.place.Place.{Place}
 use Rattle.shadow.proofs.Changes.{past_kept, since_start, cells_start}
 use Rattle.shadow.proofs.taking.pasts_of.Goals as goal
 

@@ -1,6 +1,4 @@
-use Rattle.std.proofs.Common.{◌≡◌, ◌∙◌, ap, sym, refl, List, set, true}
-use Rattle.shadow.specs.Since.{Since, cells_written, place_stored}
-use Rattle.shadow.specs.declared.place.Place.{Place}
+use Rattle.std.proofs.Common.{refl, true}
 use Rattle.shadow.specs.declared.place.Past.{Past}
 use Rattle.shadow.proofs.Changes.{cells_put, since_put}
 use Rattle.shadow.proofs.taking.put.Goals as goal

@@ -1,10 +1,7 @@
-use Rattle.std.proofs.Common.{◌≡◌, ◌∙◌, ◌++◌, ◌+◌, ◌∷◌, ap, sym, refl, arith, List, length, drop, Bool, get_or}
-use Rattle.shadow.specs.Since.{cells_written, is_touched, settled, place_settled, never}
-use Rattle.shadow.specs.declared.known.Known.{Known}
-use Rattle.shadow.specs.declared.place.Past.{Past}
+use Rattle.std.proofs.Common.{◌∙◌, ap, sym, refl, arith, List, drop}
+use Rattle.shadow.specs.Since.{cells_written, settled}
 use Rattle.shadow.specs.declared.place.Place.{Place}
-use Rattle.shadow.specs.declared.place.Place.TheVariants.{Unknown}
-use Rattle.shadow.proofs.Changes.{changed_here, all_changed, cells_same, cells_drop, settled_step}
+use Rattle.shadow.proofs.Changes.{all_changed, settled_step}
 use Rattle.shadow.proofs.taking.settle.Goals as goal
 
 pub loop-at-preserved : goal.loop-at-preserved

@@ -1,11 +1,10 @@
-use Rattle.std.proofs.Common.{◌≡◌, ◌∙◌, ap, sym, subst, List, map, if◌then◌else◌, true, Option}
+use Rattle.std.proofs.Common.{◌≡◌, ◌∙◌, ap, sym, subst, List, true, Option}
 use Rattle.codes3270.specs.Size.{cell_count}
 use Rattle.codes3270.specs.declared.write_control.Wcc.{Wcc}
 use Rattle.datastream.specs.declared.order.Order.{Order}
 use Rattle.shadow.specs.declared.place.Place.{Place}
-use Rattle.shadow.specs.declared.known.Known.{Known}
 use Rattle.shadow.specs.InPlace.{shadow_held, beliefs_held, cells_known, IsHeld}
-use Rattle.shadow.specs.Since.{Since, cells_written, place_off}
+use Rattle.shadow.specs.Since.{cells_written}
 use Rattle.shadow.specs.Stores.{stores}
 use Rattle.shadow.specs.Taken.{resets, believed, known_stored, marks_off_if}
 use Rattle.shadow.proofs.Changes.{reset_cells, since_reset}

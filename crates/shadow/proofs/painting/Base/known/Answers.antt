@@ -1,6 +1,5 @@
-use Rattle.std.proofs.Common.{◌≡◌, ◌∙◌, ap, sym, arith, length, get_or, if◌then◌else◌, Bool, List}
+use Rattle.std.proofs.Common.{◌∙◌, ap, sym, arith, length, get_or, if◌then◌else◌, Bool}
 use Rattle.codes3270.specs.Size.{cell_count}
-use Rattle.shadow.specs.declared.known.Known.{Known}
 use Rattle.shadow.specs.InPlace.{cells_known}
 use Rattle.shadow.specs.Paint.{known_nulls}
 use Rattle.shadow.specs.Taken.{marks_off_if}

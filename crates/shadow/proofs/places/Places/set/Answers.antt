@@ -1,4 +1,4 @@
-use Rattle.std.proofs.Common.{◌≡◌, arith, ap, sym, ◌∙◌, length, set, List}
+use Rattle.std.proofs.Common.{arith, ap, ◌∙◌, set, List}
 use Rattle.std.proofs.lemmas.List.{length-set}
 use Rattle.shadow.specs.declared.place.Place.{Place}
 use Rattle.shadow.specs.Rows.{place_by}
@@ -21,9 +21,11 @@ returns-clause-whole c =
 
 pub invariant_of-self : goal.invariant_of-self
 invariant_of-self c =
-    let i = c.self.inside in
-    (length-set i.bytes c.args.at c.byte_of.result ∙ c.self.invariant.0, length-set i.heads c.args.at c.head_of.result ∙ c.self.invariant.1,
+    let i = c.self.inside in (
+      length-set i.bytes c.args.at c.byte_of.result ∙ c.self.invariant.0,
+      length-set i.heads c.args.at c.head_of.result ∙ c.self.invariant.1,
       put_marked i.heads i.attributes i.known i.told i.bytes c.args.at c.args.place (omega (arith, c.self.invariant.1)) (omega (arith, c.self.invariant.0))
-      c.head_of.result c.head_of.ensures c.byte_of.result c.byte_of.ensures c.put.new.self c.put-2.new.self c.put-3.new.self
-      c.is_attribute.result c.is_known.result c.is_told.result c.is_attribute.ensures c.is_known.ensures c.is_told.ensures c.put.ensures c.put-2.ensures c.put-3.ensures
-      c.self.invariant.2)
+          c.head_of.result c.head_of.ensures c.byte_of.result c.byte_of.ensures c.put.new.self c.put-2.new.self c.put-3.new.self
+          c.is_attribute.result c.is_known.result c.is_told.result c.is_attribute.ensures c.is_known.ensures c.is_told.ensures c.put.ensures c.put-2.ensures c.put-3.ensures
+          c.self.invariant.2,
+    )

@@ -1,9 +1,7 @@
-use Rattle.std.proofs.Common.{◌≡◌, ◌∙◌, ap, sym, subst, arith, Bool, true, false, List, Ok, Err, Result, length, if◌then◌else◌}
-use Rattle.codes3270.specs.declared.attribute.Cell.{Cell}
+use Rattle.std.proofs.Common.{◌≡◌, ◌∙◌, ap, sym, subst, Bool, true, false, Ok, Err, Result, length, if◌then◌else◌}
 use Rattle.datastream.specs.InboundFields.{cells_sent}
 use Rattle.shadow.specs.declared.fault.HeardFault.{HeardFault}
 use Rattle.shadow.specs.declared.fault.HeardFault.TheVariants.{Contradiction}
-use Rattle.shadow.specs.declared.place.Place.{Place}
 use Rattle.shadow.specs.Belief.{Shadow}
 use Rattle.shadow.specs.InPlace.{shadow_held, IsHeld}
 use Rattle.shadow.specs.Seen.{denies_buffer, seen}

@@ -1,4 +1,4 @@
-use Rattle.std.proofs.Common.{◌≡◌, ◌∙◌, ap, true}
+use Rattle.std.proofs.Common.{◌∙◌, ap, true}
 use Rattle.codes3270.specs.Size.{cell_count}
 use Rattle.shadow.specs.InPlace.{shadow_held}
 use Rattle.shadow.proofs.Blanks.{unformatted_nulls}

@@ -1,4 +1,4 @@
-use Rattle.std.proofs.Common.{◌≡◌, ◌∙◌, ◌<◌, ◌≤◌, ap, sym, arith, Bool, true, false, List, ℕ, [], length, refl}
+use Rattle.std.proofs.Common.{◌≡◌, ◌∙◌, ◌<◌, ◌≤◌, ap, sym, arith, Bool, true, false, List, [], length, refl}
 use Rattle.codes3270.specs.Size.{cell_count}
 use Rattle.datastream.specs.InboundFields.{Returned, returned, lead}
 use Rattle.shadow.specs.Belief.{Shadow}

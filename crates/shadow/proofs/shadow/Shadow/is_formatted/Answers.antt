@@ -1,4 +1,4 @@
-use Rattle.std.proofs.Common.{◌≡◌, ◌∙◌, ap, sym, Bool}
+use Rattle.std.proofs.Common.{◌∙◌, ap, sym, Bool}
 use Rattle.shadow.specs.InPlace.{shadow_held, has_fields}
 use Rattle.shadow.proofs.Placed.{has_held}
 use Rattle.shadow.proofs.shadow.Shadow.is_formatted.Goals as goal

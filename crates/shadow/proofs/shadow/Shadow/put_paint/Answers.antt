@@ -4,8 +4,7 @@ use Rattle.datastream.specs.Writing.{orders_bytes, write_bytes}
 use Rattle.datastream.specs.declared.command_code.CommandCode.{CommandCode}
 use Rattle.datastream.specs.declared.wanted.Want.{Want}
 use Rattle.shadow.specs.declared.known.Known.{Known}
-use Rattle.shadow.specs.Belief.{Shadow}
-use Rattle.shadow.specs.InPlace.{shadow_held, has_fields, cells_known}
+use Rattle.shadow.specs.InPlace.{has_fields, cells_known}
 use Rattle.shadow.specs.Paint.{painting, to_store, paint_bytes, paint_code, known_before, known_nulls}
 use Rattle.shadow.specs.Taken.{marks_off_if}
 use Rattle.shadow.proofs.Appendings.{begun, ends}

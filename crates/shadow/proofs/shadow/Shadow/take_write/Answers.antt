@@ -1,6 +1,5 @@
-use Rattle.std.proofs.Common.{◌≡◌, ◌∙◌, ap, sym, Bool, false, List, if◌then◌else◌}
+use Rattle.std.proofs.Common.{◌≡◌, ◌∙◌, ap, sym, Bool, false, if◌then◌else◌}
 use Rattle.codes3270.specs.Size.{cell_count}
-use Rattle.datastream.specs.declared.order.Order.{Order}
 use Rattle.shadow.specs.Belief.{Shadow}
 use Rattle.shadow.specs.InPlace.{shadow_held, beliefs_held, cells_known}
 use Rattle.shadow.specs.Stores.{stores_unplaced}
