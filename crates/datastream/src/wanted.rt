@@ -1,5 +1,5 @@
 //! What a screen is wanted to be.
-ghost use Rattle.std.specs.Prelude.{◌≡◌, ◌<◌, All, length, slice_get, Some};
+ghost use Rattle.std.specs.Prelude.{◌≡◌, ◌<◌, All, false, length, replicate, slice_get, slice_set, Some};
 ghost use Rattle.codes3270.specs.Size.{cell_count};
 ghost use Rattle.datastream.specs.Wanted.{IsProper, WantedScreen};
 
@@ -41,6 +41,13 @@ impl Model for Wanted {
     ghost inverse = { λ screen. record { cells = screen.cells; cursor = screen.cursor; reset = screen.reset } };
 }
 
+/// The same of each cell.
+fn same(want: Want) -> [Want; SIZE]
+    ensures { result ≡ replicate cell_count want }
+{
+    [want; SIZE]
+}
+
 impl Wanted {
     /// The wanted screen of these parts, each wanted character being storable.
     pub fn new(cells: [Want; SIZE], cursor: Addr, reset: bool) -> Wanted
@@ -53,6 +60,41 @@ impl Wanted {
             cursor,
             reset,
         }
+    }
+
+    /// The same of each cell, and the cursor at the first.
+    pub fn filled(want: Want) -> Wanted
+        requires { IsProper want }
+        ensures { result ≡ record { cells = replicate cell_count want; cursor = 0; reset = false } }
+    {
+        let cells = same(want);
+        let cursor = Addr::first();
+        let _position = cursor.get();
+        Wanted {
+            cells,
+            cursor,
+            reset: false,
+        }
+    }
+
+    /// Wants this of the cell with an address.
+    pub fn put(&mut self, cell: usize, want: Want)
+        requires in_range { cell < cell_count }
+        requires proper { IsProper want }
+        ensures put { self.new ≡ record self.old { cells = slice_set self.old.cells cell want } }
+        ensures size { length self.new.cells ≡ cell_count }
+        ensures proper { All IsProper self.new.cells }
+    {
+        self.cells[cell] = want;
+    }
+
+    /// Wants the cursor at an address, and all fields marked as unmodified first, or not.
+    pub fn aim(&mut self, cursor: Addr, reset: bool)
+        ensures { self.new ≡ record self.old { cursor = cursor; reset = reset } }
+    {
+        let _position = cursor.get();
+        self.cursor = cursor;
+        self.reset = reset;
     }
 
     /// What each cell is wanted to have, by address.

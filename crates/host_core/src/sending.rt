@@ -20,7 +20,7 @@ use crate::pending::Pending;
 use crate::session::Session;
 use crate::turn::Turn;
 use codes3270::Wcc;
-use datastream::{CommandCode, CommandWriter, Wanted};
+use datastream::{CommandCode, CommandWriter, Want, Wanted};
 use panels::{Message, Panel, PanelSet, Values};
 use shadow::what_is_wanted_is_painted;
 use telnet_wire::put_record;
@@ -94,53 +94,54 @@ impl Session {
         self.number = next_seq(self.number);
     }
 
-    /// The screen that is wanted: one that keeps fields where that fits what is believed, else a whole one.
-    fn wanted_by(
+    /// Puts the screen that is wanted: one that keeps fields where that fits what is believed, else a whole one.
+    fn put_wanted(
         &self,
+        wanted: &mut Wanted,
         panels: &PanelSet,
         panel: usize,
         message: Message,
         keep: bool,
         values: &Values,
-    ) -> Wanted
+    )
         requires panel { panel < length panels.now.panels }
         requires fresh { message ≡ Fresh → keep ≡ false }
-        ensures { result ≡ wanted_by (application_of panels.now) self.now panel message keep values.now }
+        ensures { wanted.new ≡ wanted_by (application_of panels.now) self.now panel message keep values.now }
     {
         let shown = panel_in(panels, panel);
         if !keep {
-            return shown.wanted(values, message, false);
+            shown.put_wanted(wanted, values, message, false);
+            return;
         }
-        let kept = shown.wanted(values, message, true);
-        if self.shadow.fits(&kept) {
-            kept
-        } else {
-            shown.wanted(values, message, false)
+        shown.put_wanted(wanted, values, message, true);
+        if self.shadow.fits(wanted) {
+            return;
         }
+        shown.put_wanted(wanted, values, message, false);
     }
 
     /// The same. It fits what is believed, and is a screen of the profile.
-    fn fitting_screen(
+    fn put_fitting(
         &self,
+        wanted: &mut Wanted,
         panels: &PanelSet,
         panel: usize,
         message: Message,
         keep: bool,
         values: &Values,
-    ) -> Wanted
+    )
         requires panel { panel < length panels.now.panels }
         requires fresh { message ≡ Fresh → keep ≡ false }
-        ensures wanted { result ≡ wanted_by (application_of panels.now) self.now panel message keep values.now }
-        ensures fits { fits self.now.shadow result ≡ true }
-        ensures screen { IsScreen result }
+        ensures wanted { wanted.new ≡ wanted_by (application_of panels.now) self.now panel message keep values.now }
+        ensures fits { fits self.now.shadow wanted.new ≡ true }
+        ensures screen { IsScreen wanted.new }
     {
         what_is_shown_fits();
         panels_are_shown();
         panels.panels_are_sound();
-        let wanted = self.wanted_by(panels, panel, message, keep, values);
+        self.put_wanted(wanted, panels, panel, message, keep, values);
         let _cells = wanted.cells();
         let _cursor = wanted.cursor();
-        wanted
     }
 
     /// Shows a panel with a message and these values of fields.
@@ -159,7 +160,8 @@ impl Session {
         ensures { IsSentOn (done (application_of panels.now) self.old (Doing.Show panel message keep values)) out.old out.new self.new }
     {
         what_is_wanted_is_painted();
-        let wanted = self.fitting_screen(panels, panel, message, keep, &values);
+        let mut wanted = Wanted::filled(Want::Keep);
+        self.put_fitting(&mut wanted, panels, panel, message, keep, &values);
         begin_record(&mut self.sent, ALWAYS_RESPONSE, self.number);
         self.shadow.paint(&mut self.sent, &wanted).unwrap();
         send_record(self.sent.as_slice(), out);

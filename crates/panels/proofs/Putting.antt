@@ -70,6 +70,15 @@ put_more start n f base old size within before cell default below =
           ∙ ap (λ b. unwrap_or (cond b (Some (f (cell - start))) None) (get_or base cell default)) (sym (others_within start n cell other))
     ]
 
+all_within : (n cell : ℕ) → n ≡ cell_count → cell < cell_count → (nat_le 0 cell && nat_lt cell (0 + n)) ≡ true
+all_within n cell is below = grind (arith, nat_tests)
+
+pub nulls_put : (n : ℕ) (base now : List Want) → n ≡ cell_count → IsPutFrom 0 n (λ distance. want.Char 0) base now
+    → (cell : ℕ) (default : Want) → cell < cell_count → get_or now cell default ≡ want.Char 0
+nulls_put n base now is put cell default below =
+    put cell default below
+    ∙ ap (λ o. unwrap_or o (get_or base cell default)) (if_true (nat_le 0 cell && nat_lt cell (0 + n)) (Some (want.Char 0)) None (all_within n cell is below))
+
 -- ---- the message
 
 pub text_is : (fields : List Field) (message : Message) → text_with (name_spoken fields message) message ≡ message_text fields message

@@ -1,9 +1,11 @@
 //! The screen that a panel asks for.
-ghost use Rattle.std.specs.Prelude.{◌≡◌, ◌==◌, ◌<◌, position, true, false, IfSome, All, length, option_map, slice_index_or, option_copied, unwrap_or};
+ghost use Rattle.std.specs.Prelude.{◌≡◌, ◌==◌, ◌<◌, ℕ, position, true, false, IfSome, All, length, option_map, slice_index_or, option_copied, unwrap_or};
 ghost use Rattle.codes3270.specs.Size.{cell_count};
 ghost use Rattle.codes3270.specs.CodePage.{code_of};
 ghost use Rattle.codes3270.specs.Storable.{is_storable};
 ghost use Rattle.datastream.specs.Wanted.{IsProper};
+ghost use Rattle.datastream.specs.declared.wanted.Want.{Want as Wish};
+ghost use Rattle.datastream.specs.declared.wanted.Want.TheVariants.{Char};
 ghost use Rattle.panels.specs.Characters.{AreCharacters};
 ghost use Rattle.panels.specs.Screen.{distance_in, item_cell, autoskip_attr, text_cell, shown, first_some, field_attr, is_filled, field_content, field_cell, stopper_cell, coded, message_cell, field_numbered, wanted_cursor};
 ghost use Rattle.panels.specs.Put.{IsPut, cell_with, name_spoken, text_with};
@@ -18,6 +20,19 @@ use datastream::{Want, Wanted};
 
 /// How many cells a screen has, as a length.
 const SIZE: usize = CELLS as usize;
+
+/// Puts nulls into all cells.
+fn put_nulls(wanted: &mut Wanted)
+    requires size { length wanted.old.cells ≡ cell_count }
+    requires proper { All IsProper wanted.old.cells }
+    ensures put { (cell : ℕ) (default : Wish) → cell < cell_count → slice_index_or wanted.new.cells cell default ≡ Char 0 }
+    ensures size { length wanted.new.cells ≡ cell_count }
+    ensures proper { All IsProper wanted.new.cells }
+{
+    for cell in 0..SIZE {
+        wanted.put(cell, Want::Char(0));
+    }
+}
 
 /// A byte of a text, a null behind its end.
 fn byte_at(content: &[u8], index: usize) -> u8
@@ -47,16 +62,20 @@ fn cell_of(attr: Attr, content: Option<&[u8]>, distance: u16) -> Want
 }
 
 /// Puts the cells of an item, its attribute first, over what stood there.
-fn put_item(cells: &mut [Want], extent: Extent, attr: Attr, content: Option<&[u8]>)
-    requires size { length cells.old ≡ cell_count }
+fn put_item(wanted: &mut Wanted, extent: Extent, attr: Attr, content: Option<&[u8]>)
+    requires size { length wanted.old.cells ≡ cell_count }
     requires characters { IfSome content (λ bytes. AreCharacters bytes.now) }
-    requires proper { All IsProper cells.old }
-    ensures put { IsPut (λ cell. option_map (cell_with attr (option_map (λ bytes. bytes.now) content.entry)) (distance_in extent cell)) cells.old cells.new }
-    ensures proper { All IsProper cells.new }
+    requires proper { All IsProper wanted.old.cells }
+    ensures put { IsPut (λ cell. option_map (cell_with attr (option_map (λ bytes. bytes.now) content.entry)) (distance_in extent cell)) wanted.old.cells wanted.new.cells }
+    ensures size { length wanted.new.cells ≡ cell_count }
+    ensures proper { All IsProper wanted.new.cells }
 {
     let start = extent.first - 1;
     for distance in 0..extent.length + 1 {
-        cells[(start + distance) as usize] = cell_of(attr, content, distance);
+        wanted.put(
+            (start + distance) as usize,
+            cell_of(attr, content, distance),
+        );
     }
 }
 
@@ -91,25 +110,32 @@ fn shown_bytes<'a>(values: &'a Values, content: &'a Content) -> &'a [u8]
 }
 
 /// Puts the cells of a text.
-fn put_text(cells: &mut [Want], values: &Values, text: &TextItem)
-    requires size { length cells.old ≡ cell_count }
-    requires proper { All IsProper cells.old }
-    ensures put { IsPut (λ cell. text_cell values.now cell text.now) cells.old cells.new }
-    ensures proper { All IsProper cells.new }
+fn put_text(wanted: &mut Wanted, values: &Values, text: &TextItem)
+    requires size { length wanted.old.cells ≡ cell_count }
+    requires proper { All IsProper wanted.old.cells }
+    ensures put { IsPut (λ cell. text_cell values.now cell text.now) wanted.old.cells wanted.new.cells }
+    ensures size { length wanted.new.cells ≡ cell_count }
+    ensures proper { All IsProper wanted.new.cells }
 {
     let content = shown_bytes(values, &text.content);
-    put_item(cells, text.extent, skipped_attr(text.bright), Some(content));
+    put_item(
+        wanted,
+        text.extent,
+        skipped_attr(text.bright),
+        Some(content),
+    );
 }
 
 /// Puts the cells of texts, the first over all others.
-fn put_texts(cells: &mut [Want], values: &Values, texts: &[TextItem])
-    requires size { length cells.old ≡ cell_count }
-    requires proper { All IsProper cells.old }
-    ensures put { IsPut (λ cell. first_some (text_cell values.now cell) texts.now) cells.old cells.new }
-    ensures proper { All IsProper cells.new }
+fn put_texts(wanted: &mut Wanted, values: &Values, texts: &[TextItem])
+    requires size { length wanted.old.cells ≡ cell_count }
+    requires proper { All IsProper wanted.old.cells }
+    ensures put { IsPut (λ cell. first_some (text_cell values.now cell) texts.now) wanted.old.cells wanted.new.cells }
+    ensures size { length wanted.new.cells ≡ cell_count }
+    ensures proper { All IsProper wanted.new.cells }
 {
     for index in (0..texts.len()).rev() {
-        put_text(cells, values, &texts[index]);
+        put_text(wanted, values, &texts[index]);
     }
 }
 
@@ -154,11 +180,12 @@ fn content_of_field<'a>(values: &'a Values, message: Message, field: &'a Field) 
 }
 
 /// Puts the cells of a field.
-fn put_field(cells: &mut [Want], values: &Values, message: Message, keep: bool, field: &Field)
-    requires size { length cells.old ≡ cell_count }
-    requires proper { All IsProper cells.old }
-    ensures put { IsPut (λ cell. field_cell values.now message keep cell field.now) cells.old cells.new }
-    ensures proper { All IsProper cells.new }
+fn put_field(wanted: &mut Wanted, values: &Values, message: Message, keep: bool, field: &Field)
+    requires size { length wanted.old.cells ≡ cell_count }
+    requires proper { All IsProper wanted.old.cells }
+    ensures put { IsPut (λ cell. field_cell values.now message keep cell field.now) wanted.old.cells wanted.new.cells }
+    ensures size { length wanted.new.cells ≡ cell_count }
+    ensures proper { All IsProper wanted.new.cells }
 {
     let attr = attr_of_field(values, message, keep, field);
     let content = if keep {
@@ -166,41 +193,44 @@ fn put_field(cells: &mut [Want], values: &Values, message: Message, keep: bool, 
     } else {
         Some(content_of_field(values, message, field))
     };
-    put_item(cells, field.extent, attr, content);
+    put_item(wanted, field.extent, attr, content);
 }
 
 /// Puts the cells of fields, the first over all others.
-fn put_fields(cells: &mut [Want], values: &Values, message: Message, keep: bool, fields: &[Field])
-    requires size { length cells.old ≡ cell_count }
-    requires proper { All IsProper cells.old }
-    ensures put { IsPut (λ cell. first_some (field_cell values.now message keep cell) fields.now) cells.old cells.new }
-    ensures proper { All IsProper cells.new }
+fn put_fields(wanted: &mut Wanted, values: &Values, message: Message, keep: bool, fields: &[Field])
+    requires size { length wanted.old.cells ≡ cell_count }
+    requires proper { All IsProper wanted.old.cells }
+    ensures put { IsPut (λ cell. first_some (field_cell values.now message keep cell) fields.now) wanted.old.cells wanted.new.cells }
+    ensures size { length wanted.new.cells ≡ cell_count }
+    ensures proper { All IsProper wanted.new.cells }
 {
     for index in (0..fields.len()).rev() {
-        put_field(cells, values, message, keep, &fields[index]);
+        put_field(wanted, values, message, keep, &fields[index]);
     }
 }
 
 /// Puts the attribute behind a field, where it ends.
-fn put_stopper(cells: &mut [Want], field: &Field)
-    requires size { length cells.old ≡ cell_count }
-    requires proper { All IsProper cells.old }
-    ensures put { IsPut (λ cell. stopper_cell cell field.now) cells.old cells.new }
-    ensures proper { All IsProper cells.new }
+fn put_stopper(wanted: &mut Wanted, field: &Field)
+    requires size { length wanted.old.cells ≡ cell_count }
+    requires proper { All IsProper wanted.old.cells }
+    ensures put { IsPut (λ cell. stopper_cell cell field.now) wanted.old.cells wanted.new.cells }
+    ensures size { length wanted.new.cells ≡ cell_count }
+    ensures proper { All IsProper wanted.new.cells }
 {
     let end = field.extent.first + field.extent.length;
-    cells[end as usize] = Want::Attr(skipped_attr(false));
+    wanted.put(end as usize, Want::Attr(skipped_attr(false)));
 }
 
 /// Puts the attributes behind fields.
-fn put_stoppers(cells: &mut [Want], fields: &[Field])
-    requires size { length cells.old ≡ cell_count }
-    requires proper { All IsProper cells.old }
-    ensures put { IsPut (λ cell. first_some (stopper_cell cell) fields.now) cells.old cells.new }
-    ensures proper { All IsProper cells.new }
+fn put_stoppers(wanted: &mut Wanted, fields: &[Field])
+    requires size { length wanted.old.cells ≡ cell_count }
+    requires proper { All IsProper wanted.old.cells }
+    ensures put { IsPut (λ cell. first_some (stopper_cell cell) fields.now) wanted.old.cells wanted.new.cells }
+    ensures size { length wanted.new.cells ≡ cell_count }
+    ensures proper { All IsProper wanted.new.cells }
 {
     for index in (0..fields.len()).rev() {
-        put_stopper(cells, &fields[index]);
+        put_stopper(wanted, &fields[index]);
     }
 }
 
@@ -291,15 +321,17 @@ fn cell_of_message(message: Message, name: &[u8], distance: u16) -> Want
 }
 
 /// Puts the message's row.
-fn put_message(cells: &mut [Want], fields: &[Field], message: Message)
-    requires size { length cells.old ≡ cell_count }
-    requires proper { All IsProper cells.old }
-    ensures put { IsPut (message_cell fields.now message) cells.old cells.new }
-    ensures proper { All IsProper cells.new }
+fn put_message(wanted: &mut Wanted, fields: &[Field], message: Message)
+    requires size { length wanted.old.cells ≡ cell_count }
+    requires proper { All IsProper wanted.old.cells }
+    ensures put { IsPut (message_cell fields.now message) wanted.old.cells wanted.new.cells }
+    ensures size { length wanted.new.cells ≡ cell_count }
+    ensures proper { All IsProper wanted.new.cells }
 {
     let name = name_in(message, fields);
     for distance in 0..CELLS - MESSAGE_START {
-        cells[(MESSAGE_START + distance) as usize] = cell_of_message(message, name, distance);
+        let cell = (MESSAGE_START + distance) as usize;
+        wanted.put(cell, cell_of_message(message, name, distance));
     }
 }
 
@@ -327,12 +359,24 @@ impl Panel {
         ensures wanted { IsWantedOf self.now values.now message keep result }
         ensures screen { result ≡ screen_of self.now values.now message keep }
     {
+        let mut wanted = Wanted::filled(Want::Keep);
+        self.put_wanted(&mut wanted, values, message, keep);
+        wanted
+    }
+
+    /// Puts that screen in place of another. A wanted screen takes some 10 KB; where it is put into one that is there, none is copied.
+    pub fn put_wanted(&self, wanted: &mut Wanted, values: &Values, message: Message, keep: bool)
+        requires { (message ≡ Fresh) → keep ≡ false }
+        ensures wanted { IsWantedOf self.now values.now message keep wanted.new }
+        ensures screen { wanted.new ≡ screen_of self.now values.now message keep }
+    {
         let fields = self.fields.as_slice();
-        let mut cells = [Want::Char(0); SIZE];
-        put_stoppers(&mut cells, fields);
-        put_message(&mut cells, fields, message);
-        put_fields(&mut cells, values, message, keep, fields);
-        put_texts(&mut cells, values, self.texts.as_slice());
-        Wanted::new(cells, self.cursor_for(message), message == Message::Fresh)
+        let _replaced = wanted.cells();
+        put_nulls(wanted);
+        put_stoppers(wanted, fields);
+        put_message(wanted, fields, message);
+        put_fields(wanted, values, message, keep, fields);
+        put_texts(wanted, values, self.texts.as_slice());
+        wanted.aim(self.cursor_for(message), message == Message::Fresh);
     }
 }

@@ -8,5 +8,6 @@ loop-index-preserved c = record {
   put =
       put_back (field_cell c.args.values.now c.args.message c.args.keep) c.args.fields.now c.loop-index.index c.index-fields-index.result _ _ _ (omega arith) (omega arith) c.index-fields-index.is
       c.loop-index.invariant.put c.put_field.ensures.put;
+  size = c.put_field.ensures.size;
   proper = c.put_field.ensures.proper;
 }

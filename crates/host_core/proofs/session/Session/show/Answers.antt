@@ -10,10 +10,10 @@ pub invariant_of-self : goal.invariant_of-self
 invariant_of-self c =
     let laws = c.what_is_wanted_is_painted.ensures in
     let begun = rw c.unwrap.ensures at c.paint.ensures.painted in (
-      paint_is_kept cell_count c.self.inside.number c.self.inside.shadow c.fitting_screen-wanted.result c.paint.new.out.items
-          (laws.spelt c.self.inside.shadow c.fitting_screen-wanted.result c.fitting_screen-wanted.ensures.screen)
-          (laws.plain cell_count c.self.inside.shadow c.fitting_screen-wanted.result)
-          (begun ∙ ap (λ (bytes : List ℕ). bytes ++ paint_bytes cell_count c.self.inside.shadow c.fitting_screen-wanted.result) c.begin_record.ensures.begun),
+      paint_is_kept cell_count c.self.inside.number c.self.inside.shadow c.put_fitting.new.wanted c.paint.new.out.items
+          (laws.spelt c.self.inside.shadow c.put_fitting.new.wanted c.put_fitting.ensures.screen)
+          (laws.plain cell_count c.self.inside.shadow c.put_fitting.new.wanted)
+          (begun ∙ ap (λ (bytes : List ℕ). bytes ++ paint_bytes cell_count c.self.inside.shadow c.put_fitting.new.wanted) c.begin_record.ensures.begun),
       omega arith,
       c.self.invariant.2,
     )
@@ -23,9 +23,9 @@ returns c =
     let laws = c.what_is_wanted_is_painted.ensures in
     let begun = rw c.unwrap.ensures at c.paint.ensures.painted in
     let sized : cells_in c.args.self.now.shape ≡ cell_count = rw (← c.self.view_is) refl in
-    shows (application_of c.args.panels.now) c.args.self.now _ cell_count c.args.panel c.args.message c.args.keep c.args.values c.fitting_screen-wanted.result c.paint.new.out.items c.args.out.now c.send_record.new.out
-    sized c.fitting_screen-wanted.ensures.screen.size c.fitting_screen-wanted.ensures.wanted
-    (laws.spelt c.args.self.now.shadow c.fitting_screen-wanted.result c.fitting_screen-wanted.ensures.screen)
-    (rw (← c.self.view_is) (begun ∙ ap (λ (bytes : List ℕ). bytes ++ paint_bytes cell_count c.self.inside.shadow c.fitting_screen-wanted.result) c.begin_record.ensures.begun))
+    shows (application_of c.args.panels.now) c.args.self.now _ cell_count c.args.panel c.args.message c.args.keep c.args.values c.put_fitting.new.wanted c.paint.new.out.items c.args.out.now c.send_record.new.out
+    sized c.put_fitting.ensures.screen.size c.put_fitting.ensures.wanted
+    (laws.spelt c.args.self.now.shadow c.put_fitting.new.wanted c.put_fitting.ensures.screen)
+    (rw (← c.self.view_is) (begun ∙ ap (λ (bytes : List ℕ). bytes ++ paint_bytes cell_count c.self.inside.shadow c.put_fitting.new.wanted) c.begin_record.ensures.begun))
     (rw (← c.self.view_is, c.next_seq-self-inside.ensures) refl)
     (c.send_record.ensures ∙ ap (λ (bytes : List ℕ). c.args.out.now.items ++ sent_bytes (Record bytes ∷ [])) c.as_slice.ensures.value)

@@ -1,9 +1,9 @@
 use Rattle.host_core.specs.Acts.{Act}
 use Rattle.host_core.specs.Application.{application_of}
-use Rattle.host_core.proofs.session.Session.fitting_screen.Goals as goal
+use Rattle.host_core.proofs.session.Session.put_fitting.Goals as goal
 
 pub returns-clause-fits : goal.returns-clause-fits
 returns-clause-fits c =
     let app = c.panels_are_shown.ensures.application c.args.panels.now c.panels_are_sound.ensures.cursors c.panels_are_sound.ensures.apart in
     let act = Act.Show c.args.panel c.args.message c.args.keep c.args.values.now in
-    rw c.wanted_by-wanted.ensures (c.what_is_shown_fits.ensures (application_of c.args.panels.now) c.args.self.now act app).0.fits
+    rw c.put_wanted.ensures (c.what_is_shown_fits.ensures (application_of c.args.panels.now) c.args.self.now act app).0.fits
