@@ -1,5 +1,5 @@
 -- The screen as text (our profile).
-use Rattle.std.specs.Prelude.{ℕ, ◌+◌, ◌*◌, ◌/◌, ◌%◌, ◌==◌, Bool, true, false, List, [], ◌∷◌, ◌++◌, if◌then◌else◌, codes, slice_index, suc, zero}
+use Rattle.std.specs.Prelude.{ℕ, ◌+◌, ◌*◌, ◌/◌, ◌%◌, ◌==◌, Bool, true, false, List, [], ◌∷◌, ◌++◌, if◌then◌else◌, codes, slice_index, replicate, suc, zero}
 use Rattle.std.specs.List.{flat_map}
 use Rattle.std.specs.Char.{encode_utf8}
 use Rattle.std.specs.Fmt.{decimal}
@@ -30,9 +30,13 @@ abbrev pub trimmed : List ℕ → List ℕ
 trimmed [] = []
 trimmed (char ∷ text) = before_trimmed char (trimmed text)
 
--- a row's line, in UTF-8
+-- the line of a row with these characters, in UTF-8
+abbrev pub line_of : List ℕ → List ℕ
+line_of row = flat_map encode_utf8 (trimmed row) ++ newline ∷ []
+
+-- a row's line
 abbrev pub line : List Cell → ℕ → List ℕ
-line cells row = flat_map encode_utf8 (trimmed (glyphs cells (row * columns) columns)) ++ newline ∷ []
+line cells row = line_of (glyphs cells (row * columns) columns)
 
 -- the lines of the first rows
 unfoldable pub lines : List Cell → ℕ → List ℕ
@@ -59,3 +63,13 @@ status_line screen keyboard =
 
 abbrev pub screen_text : Station → List ℕ
 screen_text station = lines station.screen.cells rows ++ status_line station.screen station.keyboard
+
+-- ---- for private functions: the same text, a character at a time; blanks wait until another character comes
+
+-- what is added where a character comes
+abbrev pub let_out : ℕ → ℕ → List ℕ
+let_out waiting glyph = if glyph == blank then [] else replicate waiting blank ++ glyph ∷ []
+
+-- how many blanks wait behind it
+abbrev pub waiting_behind : ℕ → ℕ → ℕ
+waiting_behind waiting glyph = if glyph == blank then waiting + 1 else 0

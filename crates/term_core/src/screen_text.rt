@@ -1,13 +1,15 @@
 //! A terminal's screen as text.
-ghost use Rattle.std.specs.Prelude.{◌≡◌, ◌<◌, ◌≤◌, ◌+◌, ◌*◌, ◌++◌, ◌==◌, if◌then◌else◌, IfOk, OnOk, string_bytes};
+ghost use Rattle.std.specs.Prelude.{◌≡◌, ◌<◌, ◌≤◌, ◌+◌, ◌++◌, length, take, drop, replicate, IfOk, OnOk, string_bytes};
+ghost use Rattle.std.specs.List.{flat_map};
+ghost use Rattle.std.specs.Char.{encode_utf8};
 ghost use Rattle.codes3270.specs.Size.{rows, columns};
-ghost use Rattle.presentation.specs.Glyph.{glyph_at, blank};
-ghost use Rattle.term_core.specs.ScreenText.{glyphs, trimmed, line, lines, insert_word, status_line, screen_text};
+ghost use Rattle.presentation.specs.Glyph.{blank};
+ghost use Rattle.term_core.specs.ScreenText.{let_out, waiting_behind, line_of, lines, insert_word, status_line, screen_text};
 
 use crate::Terminal;
-use codes3270::{Addr, COLUMNS, ROWS, aid_byte};
+use codes3270::{COLUMNS, ROWS, aid_byte};
 use keyboard::Keyboard;
-use presentation::Screen;
+use presentation::{Glyphs, Screen};
 use std::alloc::Global;
 use telnet_wire::Memory;
 
@@ -15,49 +17,47 @@ const HEXADECIMAL: [char; 16] = [
     '0', '1', '2', '3', '4', '5', '6', '7', '8', '9', 'A', 'B', 'C', 'D', 'E', 'F',
 ];
 
-/// The character that is printed in a row and a column.
-fn glyph_in(screen: &Screen, row: u16, column: u16) -> char
-    requires row { row < rows }
-    requires column { column < columns }
-    ensures { result ≡ glyph_at screen.now.cells (row * columns + column) }
+/// Adds blanks.
+fn put_blanks(text: &mut String, count: u16) -> Result<(), Memory>
+    ensures { OnOk result (string_bytes text.new ≡ string_bytes text.old ++ flat_map encode_utf8 (replicate count blank)) }
 {
-    match Addr::new(row * COLUMNS + column) {
-        Some(at) => screen.glyph_at(at),
-        None => unreachable!(),
+    for _ in 0..count {
+        text.push(' ')?;
     }
+    Ok(())
 }
 
-/// The width of a row up to a column and with it, if this is what stands there and the columns before it have this width.
-fn width_with(glyph: char, column: u16, width: u16) -> u16
-    requires before { width ≤ column }
-    requires column { column < columns }
-    ensures width { result ≡ (if glyph == blank then width else column + 1) }
-    ensures within { result ≤ column + 1 }
+/// Adds a character of a row, and before it the blanks that wait. A blank is not added: it waits.
+fn put_glyph(text: &mut String, waiting: u16, glyph: char) -> Result<(), Memory>
+    ensures { OnOk result (string_bytes text.new ≡ string_bytes text.old ++ flat_map encode_utf8 (let_out waiting glyph)) }
 {
-    if glyph == ' ' { width } else { column + 1 }
-}
-
-/// How many columns a row has without the blanks at its end.
-fn width_of(screen: &Screen, row: u16) -> u16
-    requires { row < rows }
-    ensures wide { trimmed (glyphs screen.now.cells (row * columns) columns) ≡ glyphs screen.now.cells (row * columns) result }
-    ensures within { result ≤ columns }
-{
-    let mut width = 0;
-    for column in 0..COLUMNS {
-        width = width_with(glyph_in(screen, row, column), column, width);
+    if glyph == ' ' {
+        return Ok(());
     }
-    width
+    put_blanks(text, waiting)?;
+    text.push(glyph)
 }
 
-/// Adds a row without the blanks at its end, and a newline.
-fn put_line(text: &mut String, screen: &Screen, row: u16) -> Result<(), Memory>
-    requires { row < rows }
-    ensures { OnOk result (string_bytes text.new ≡ string_bytes text.old ++ line screen.now.cells row) }
+/// How many blanks wait behind a character of a row, if so many wait before it.
+fn waiting_behind(waiting: u16, glyph: char) -> u16
+    requires { waiting < columns }
+    ensures count { result ≡ waiting_behind waiting glyph }
+    ensures few { result ≤ waiting + 1 }
 {
-    let width = width_of(screen, row);
-    for column in 0..width {
-        text.push(glyph_in(screen, row, column))?;
+    if glyph == ' ' { waiting + 1 } else { 0 }
+}
+
+/// Adds the row that comes next without the blanks at its end, and a newline.
+fn put_line(text: &mut String, glyphs: &mut Glyphs<'_>) -> Result<(), Memory>
+    requires { columns ≤ length glyphs.old }
+    ensures text { OnOk result (string_bytes text.new ≡ string_bytes text.old ++ line_of (take columns glyphs.old)) }
+    ensures left { OnOk result (glyphs.new ≡ drop columns glyphs.old) }
+{
+    let mut waiting = 0;
+    for _ in 0..COLUMNS {
+        let glyph = glyphs.next().unwrap_or(' ');
+        put_glyph(text, waiting, glyph)?;
+        waiting = waiting_behind(waiting, glyph);
     }
     text.push('\n')
 }
@@ -66,8 +66,10 @@ fn put_line(text: &mut String, screen: &Screen, row: u16) -> Result<(), Memory>
 fn put_lines(text: &mut String, screen: &Screen) -> Result<(), Memory>
     ensures { OnOk result (string_bytes text.new ≡ string_bytes text.old ++ lines screen.now.cells rows) }
 {
-    for row in 0..ROWS {
-        put_line(text, screen, row)?;
+    let _cursor = screen.cursor();
+    let mut glyphs = screen.glyphs();
+    for _ in 0..ROWS {
+        put_line(text, &mut glyphs)?;
     }
     Ok(())
 }

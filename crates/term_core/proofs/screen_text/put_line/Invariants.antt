@@ -1,9 +1,14 @@
-use Rattle.std.proofs.Common.{◌≡◌, ◌++◌, ◌*◌, string_bytes}
+use Rattle.std.proofs.Common.{◌≡◌, ◌≤◌, ◌++◌, take, drop, string_bytes}
 use Rattle.std.specs.List.{flat_map}
 use Rattle.std.specs.Char.{encode_utf8}
-use Rattle.codes3270.specs.Size.{columns}
-use Rattle.term_core.specs.ScreenText.{glyphs}
+use Rattle.term_core.specs.ScreenText.{trimmed}
+use Rattle.term_core.proofs.Rows.{Waits}
 use Rattle.term_core.proofs.screen_text.put_line.Given as goal
 
-abbrev pub invariant-loop-column : goal.invariant-loop-column
-invariant-loop-column l = string_bytes l.text ≡ string_bytes l.initial.text ++ flat_map encode_utf8 (glyphs l.screen.cells (l.row * columns) l.column)
+abbrev pub invariant-loop : goal.invariant-loop
+invariant-loop l = record {
+  written : string_bytes l.text ≡ string_bytes l.initial.text ++ flat_map encode_utf8 (trimmed (take l.counter l.initial.glyphs));
+  waits : Waits (take l.counter l.initial.glyphs) l.waiting;
+  few : l.waiting ≤ l.counter;
+  left : l.glyphs ≡ drop l.counter l.initial.glyphs;
+}
