@@ -1,18 +1,20 @@
 //! The character buffer of a screen, with its cursor and its AID.
-ghost use Rattle.std.specs.Prelude.{◌≡◌};
+ghost use Rattle.std.specs.Prelude.{◌≡◌, replicate};
 ghost use Rattle.codes3270.specs.Size.{cell_count};
+ghost use Rattle.codes3270.specs.declared.attribute.Cell.TheVariants.{Char};
 ghost use Rattle.codes3270.specs.Aid.{IsRealAid};
 ghost use Rattle.datastream.specs.Screen.{blank_screen};
 
+use crate::packed_cell::PackedCell;
 use crate::screen::SIZE;
-use codes3270::{Addr, Aid, Cell};
+use codes3270::{Addr, Aid};
 use std::marker::Model;
 
 /// The cells of a screen (GA23-0059-07 on the character buffer), the cursor and the AID. Its characters are storable. Contracts
 /// see it as the list of its cells, the cursor's address and the AID.
 #[derive(Clone, Debug, Drop, PartialEq, Eq)]
 pub(crate) struct Buffer {
-    pub(crate) cells: [Cell; SIZE],
+    pub(crate) cells: [PackedCell; SIZE],
     pub(crate) cursor: Addr,
     pub(crate) aid: Aid,
 }
@@ -50,13 +52,20 @@ pub(crate) fn with_real_key(aid: Aid) -> Aid
     }
 }
 
+/// A null in each cell.
+pub(crate) fn nulls() -> [PackedCell; SIZE]
+    ensures { result ≡ replicate cell_count (Char 0) }
+{
+    [PackedCell::character(0); SIZE]
+}
+
 impl Buffer {
     /// All cells null, the cursor at 0, no AID.
     pub(crate) fn blank() -> Buffer
         ensures { result ≡ blank_screen cell_count }
     {
         Buffer {
-            cells: [Cell::Char(0); SIZE],
+            cells: nulls(),
             cursor: Addr::first(),
             aid: Aid::NoAid,
         }

@@ -1,15 +1,17 @@
 //! What is read off cells, and what is changed in them.
-ghost use Rattle.std.specs.Prelude.{◌≡◌, ◌<◌, ◌≤◌, ◌-◌, map, zip, length, position, IfSome, if◌then◌else◌};
+ghost use Rattle.std.specs.Prelude.{◌≡◌, ◌<◌, ◌≤◌, ◌-◌, drop, map, zip, length, position, IfSome, if◌then◌else◌};
 ghost use Rattle.codes3270.specs.Size.{cell_count};
+ghost use Rattle.codes3270.specs.declared.attribute.Cell.TheVariants.{Char};
 ghost use Rattle.std.specs.List.{list_all, prefix_len};
 ghost use Rattle.datastream.specs.Span.{distance};
 ghost use Rattle.datastream.specs.Screen.{last_attribute, is_char, is_open_attribute, ring, attribute_in, protects};
 ghost use Rattle.datastream.specs.Meaning.{filled, opened, erased, unmodified, modified, open_unmodified, tab_stop, home, is_start};
 
+use crate::packed_cell::PackedCell;
 use codes3270::{Addr, Attr, CELLS, Cell};
 
 /// Turns MDT off in each attribute.
-pub(crate) fn reset_mdt(cells: &mut [Cell])
+pub(crate) fn reset_mdt(cells: &mut [PackedCell])
     ensures { cells.new ≡ map unmodified cells.old }
 {
     for cell in cells.iter_mut() {
@@ -17,22 +19,22 @@ pub(crate) fn reset_mdt(cells: &mut [Cell])
     }
 }
 
-fn without_mdt(cell: Cell) -> Cell
+fn without_mdt(cell: PackedCell) -> PackedCell
     ensures { result ≡ unmodified cell }
 {
-    match cell {
-        Cell::Char(byte) => Cell::Char(byte),
-        Cell::Attr(attr) => Cell::Attr(attr.with_mdt(false)),
+    match cell.get() {
+        Cell::Char(_) => cell,
+        Cell::Attr(attr) => PackedCell::new(Cell::Attr(attr.with_mdt(false))),
     }
 }
 
 /// MDT on, where the cell holds an attribute.
-pub(crate) fn with_mdt(cell: Cell) -> Cell
+pub(crate) fn with_mdt(cell: PackedCell) -> PackedCell
     ensures { result ≡ modified cell }
 {
-    match cell {
-        Cell::Char(byte) => Cell::Char(byte),
-        Cell::Attr(attr) => Cell::Attr(attr.with_mdt(true)),
+    match cell.get() {
+        Cell::Char(_) => cell,
+        Cell::Attr(attr) => PackedCell::new(Cell::Attr(attr.with_mdt(true))),
     }
 }
 
@@ -48,30 +50,30 @@ pub(crate) fn distance_to(from: Addr, stop: Addr) -> u16
     }
 }
 
-/// Writes a cell into `count` places from `from` on, round the end.
-pub(crate) fn fill(cells: &mut [Cell], from: Addr, count: u16, new: Cell)
+/// Writes a character into `count` places from `from` on, round the end.
+pub(crate) fn fill(cells: &mut [PackedCell], from: Addr, count: u16, code: u8)
     requires size { length cells.old ≡ cell_count }
     requires count { count ≤ cell_count }
-    ensures { cells.new ≡ filled from count new cells.old }
+    ensures { cells.new ≡ filled from count (Char code) cells.old }
 {
     for step in 0..count {
-        cells[from.forward(step).get() as usize] = new;
+        cells[from.forward(step).get() as usize] = PackedCell::character(code);
     }
 }
 
 /// The last attribute in a list of cells.
-pub(crate) fn last_attribute_in(cells: &[Cell]) -> Option<Attr>
+pub(crate) fn last_attribute_in(cells: &[PackedCell]) -> Option<Attr>
     ensures { result ≡ last_attribute cells.now }
 {
     let mut last = None;
     for cell in cells {
-        last = attribute_of(*cell).or(last);
+        last = cell.attribute().or(last);
     }
     last
 }
 
 /// The attribute that governs a cell at `at`, unless that cell holds one.
-pub(crate) fn attribute_before(cells: &[Cell], at: Addr) -> Option<Attr>
+pub(crate) fn attribute_before(cells: &[PackedCell], at: Addr) -> Option<Attr>
     requires { length cells.now ≡ cell_count }
     ensures value { result ≡ last_attribute (ring at cells.now) }
     ensures in_range { at < cell_count }
@@ -99,17 +101,17 @@ fn protects_cells(over: Option<Attr>) -> bool
 }
 
 /// A null in place of a character.
-fn without_character(cell: Cell) -> Cell
+fn without_character(cell: PackedCell) -> PackedCell
     ensures { result ≡ erased cell }
 {
-    match cell {
-        Cell::Char(_) => Cell::Char(0),
-        Cell::Attr(attr) => Cell::Attr(attr),
+    match cell.get() {
+        Cell::Char(_) => PackedCell::character(0),
+        Cell::Attr(_) => cell,
     }
 }
 
 /// A null in place of a character that isn't protected.
-fn opened_under(over: Option<Attr>, cell: Cell) -> Cell
+fn opened_under(over: Option<Attr>, cell: PackedCell) -> PackedCell
     ensures { result ≡ (if protects over then cell else erased cell) }
 {
     if protects_cells(over) {
@@ -120,7 +122,7 @@ fn opened_under(over: Option<Attr>, cell: Cell) -> Cell
 }
 
 /// Nulls the unprotected cells among `count` places from `from` on, round the end.
-pub(crate) fn erase_unprotected_in(cells: &mut [Cell], from: Addr, count: u16)
+pub(crate) fn erase_unprotected_in(cells: &mut [PackedCell], from: Addr, count: u16)
     requires size { length cells.old ≡ cell_count }
     requires count { count ≤ cell_count }
     ensures { cells.new ≡ opened from count cells.old }
@@ -129,47 +131,29 @@ pub(crate) fn erase_unprotected_in(cells: &mut [Cell], from: Addr, count: u16)
     for step in 0..count {
         let place = from.forward(step).get() as usize;
         let cell = cells[place];
-        over = attribute_of(cell).or(over);
+        over = cell.attribute().or(over);
         cells[place] = opened_under(over, cell);
     }
 }
 
 /// How many characters come before the first attribute.
-pub(crate) fn characters_before_attribute(cells: &[Cell]) -> usize
+fn characters_before_attribute(cells: &[PackedCell]) -> usize
     ensures value { result ≡ prefix_len is_char cells.now }
     ensures bound { result ≤ length cells.now }
 {
-    cells.iter().take_while(|cell| is_character(**cell)).count()
-}
-
-pub(crate) fn is_character(cell: Cell) -> bool
-    ensures { result ≡ is_char cell }
-{
-    match cell {
-        Cell::Char(_) => true,
-        Cell::Attr(_) => false,
-    }
-}
-
-fn is_open(cell: Cell) -> bool
-    ensures { result ≡ is_open_attribute cell }
-{
-    match cell {
-        Cell::Char(_) => false,
-        Cell::Attr(attr) => !attr.protected,
-    }
+    cells.iter().take_while(|cell| cell.is_character()).count()
 }
 
 /// Where the first attribute of an unprotected field stands.
-fn first_open(cells: &[Cell]) -> Option<usize>
+fn first_open(cells: &[PackedCell]) -> Option<usize>
     ensures place { result ≡ position is_open_attribute cells.now }
     ensures in_range { IfSome result (λ place. place < length cells.now) }
 {
-    cells.iter().position(|cell| is_open(*cell))
+    cells.iter().position(|cell| cell.is_open())
 }
 
 /// Where a PT goes from `at`: behind the next unprotected attribute up to the last cell, else 0.
-pub(crate) fn tab_stop_from(cells: &[Cell], at: Addr) -> Addr
+pub(crate) fn tab_stop_from(cells: &[PackedCell], at: Addr) -> Addr
     requires { length cells.now ≡ cell_count }
     ensures { result ≡ tab_stop cells.now at }
 {
@@ -179,15 +163,32 @@ pub(crate) fn tab_stop_from(cells: &[Cell], at: Addr) -> Addr
     }
 }
 
-/// Whether no attribute stands from `at` through the last cell.
-pub(crate) fn has_only_characters(cells: &[Cell]) -> bool
+/// Whether no attribute stands in a list of cells.
+pub(crate) fn has_only_characters(cells: &[PackedCell]) -> bool
     ensures { result ≡ list_all is_char cells.now }
 {
-    cells.iter().all(|cell| is_character(*cell))
+    cells.iter().all(|cell| cell.is_character())
+}
+
+/// Whether no attribute stands from `at` through the last cell.
+pub(crate) fn has_only_characters_from(cells: &[PackedCell], at: Addr) -> bool
+    requires { length cells.now ≡ cell_count }
+    ensures { result ≡ list_all is_char (drop at cells.now) }
+{
+    has_only_characters(&cells[at.get() as usize..])
+}
+
+/// How many characters come from `at` on, before an attribute or the end.
+pub(crate) fn characters_ahead(cells: &[PackedCell], at: Addr) -> u16
+    requires { length cells.now ≡ cell_count }
+    ensures value { result ≡ prefix_len is_char (drop at cells.now) }
+    ensures bound { result ≤ cell_count }
+{
+    characters_before_attribute(&cells[at.get() as usize..]) as u16
 }
 
 /// Turns MDT off in the attribute of each unprotected field.
-pub(crate) fn reset_open_mdt(cells: &mut [Cell])
+pub(crate) fn reset_open_mdt(cells: &mut [PackedCell])
     ensures { cells.new ≡ map open_unmodified cells.old }
 {
     for cell in cells.iter_mut() {
@@ -195,10 +196,10 @@ pub(crate) fn reset_open_mdt(cells: &mut [Cell])
     }
 }
 
-fn without_open_mdt(cell: Cell) -> Cell
+fn without_open_mdt(cell: PackedCell) -> PackedCell
     ensures { result ≡ open_unmodified cell }
 {
-    if is_open(cell) {
+    if cell.is_open() {
         without_mdt(cell)
     } else {
         cell
@@ -206,7 +207,7 @@ fn without_open_mdt(cell: Cell) -> Cell
 }
 
 /// The least start: a character behind the attribute of an unprotected field, round the end; else 0.
-pub(crate) fn home_of(cells: &[Cell]) -> Addr
+pub(crate) fn home_of(cells: &[PackedCell]) -> Addr
     requires { length cells.now ≡ cell_count }
     ensures value { result ≡ home cells.now }
     ensures in_range { result < cell_count }
@@ -217,7 +218,7 @@ pub(crate) fn home_of(cells: &[Cell]) -> Addr
     }
 }
 
-fn first_start(cells: &[Cell]) -> Option<usize>
+fn first_start(cells: &[PackedCell]) -> Option<usize>
     requires { 0 < length cells.now }
     ensures place { let before = ring (length cells.now - 1) cells.now in
         result ≡ position is_start (zip before cells.now) }
@@ -233,8 +234,8 @@ fn first_start(cells: &[Cell]) -> Option<usize>
     None
 }
 
-fn is_start_behind(before: Cell, cell: Cell) -> bool
+fn is_start_behind(before: PackedCell, cell: PackedCell) -> bool
     ensures { result ≡ is_start (before, cell) }
 {
-    is_open(before) && is_character(cell)
+    before.is_open() && cell.is_character()
 }

@@ -4,6 +4,7 @@ ghost use Rattle.codes3270.specs.Size.{cell_count};
 ghost use Rattle.presentation.specs.Glyph.{glyph_at, glyph_of, glyph_of_code, is_hidden, hidden_from, shown, all_glyphs};
 
 use crate::Screen;
+use crate::packed_cell::PackedCell;
 use codes3270::{Addr, Attr, Cell, Display, to_latin1};
 use std::marker::Model;
 
@@ -56,7 +57,7 @@ fn shown_glyph(hidden: bool, glyph: char) -> char
 /// The characters that are printed for the cells that are left, by address. Contracts see their list.
 #[derive(Drop)]
 pub struct Glyphs<'a> {
-    cells: &'a [Cell],
+    cells: &'a [PackedCell],
     /// Whether the cells up to the next attribute are hidden.
     hidden: bool,
 }
@@ -84,8 +85,8 @@ impl<'a> Iterator for Glyphs<'a> {
             [] => None,
             [cell, rest @ ..] => {
                 self.cells = rest;
-                self.hidden = is_hidden_from(self.hidden, *cell);
-                Some(shown_glyph(self.hidden, glyph_of(*cell)))
+                self.hidden = is_hidden_from(self.hidden, cell.get());
+                Some(shown_glyph(self.hidden, glyph_of(cell.get())))
             }
         }
     }

@@ -18,6 +18,7 @@ mod cells;
 mod fields;
 mod glyph;
 mod index;
+mod packed_cell;
 mod read;
 mod screen;
 #[cfg(test)]

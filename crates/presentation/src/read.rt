@@ -12,6 +12,7 @@ ghost use Rattle.presentation.specs.Answering.{form_of};
 ghost use Rattle.presentation.specs.Appending.{Appends, AppendsOrStops};
 
 use crate::buffer::Buffer;
+use crate::packed_cell::PackedCell;
 use crate::{Screen, cells};
 use codes3270::{Addr, Aid, CELLS, Cell, addr_to_bytes, aid_byte, attr_code};
 use datastream::{Memory, SET_BUFFER_ADDRESS, START_FIELD};
@@ -40,11 +41,11 @@ fn put_unless_null(out: &mut Vec<u8>, byte: u8) -> Result<(), Memory>
 }
 
 /// The characters before the first attribute, without nulls.
-fn put_text(out: &mut Vec<u8>, cells: &[Cell]) -> Result<(), Memory>
+fn put_text(out: &mut Vec<u8>, cells: &[PackedCell]) -> Result<(), Memory>
     ensures { AppendsOrStops (is_ok result) out.old out.new (without_nulls (text_before_attribute cells.now)) }
 {
     for cell in cells {
-        let Cell::Char(byte) = *cell else {
+        let Cell::Char(byte) = cell.get() else {
             return Ok(());
         };
         put_unless_null(out, byte)?;
@@ -53,7 +54,7 @@ fn put_text(out: &mut Vec<u8>, cells: &[Cell]) -> Result<(), Memory>
 }
 
 /// The text of the field whose attribute stands at `at`, round the end, without nulls.
-fn put_field_text(out: &mut Vec<u8>, cells: &[Cell], at: Addr) -> Result<(), Memory>
+fn put_field_text(out: &mut Vec<u8>, cells: &[PackedCell], at: Addr) -> Result<(), Memory>
     requires { length cells.now ≡ cell_count }
     ensures { AppendsOrStops (is_ok result) out.old out.new (without_nulls (field_text cells.now at)) }
 {
@@ -67,7 +68,7 @@ fn put_field_text(out: &mut Vec<u8>, cells: &[Cell], at: Addr) -> Result<(), Mem
 }
 
 /// SBA, the field's first address and its text.
-fn put_field(out: &mut Vec<u8>, cells: &[Cell], at: Addr) -> Result<(), Memory>
+fn put_field(out: &mut Vec<u8>, cells: &[PackedCell], at: Addr) -> Result<(), Memory>
     requires { length cells.now ≡ cell_count }
     ensures { AppendsOrStops (is_ok result) out.old out.new (modified_field cells.now at) }
 {
@@ -76,16 +77,16 @@ fn put_field(out: &mut Vec<u8>, cells: &[Cell], at: Addr) -> Result<(), Memory>
     put_field_text(out, cells, at)
 }
 
-fn is_modified_attribute(cell: Cell) -> bool
+fn is_modified_attribute(cell: PackedCell) -> bool
     ensures { result ≡ is_modified cell }
 {
-    match cell {
+    match cell.get() {
         Cell::Char(_) => false,
         Cell::Attr(attr) => attr.mdt,
     }
 }
 
-fn put_field_if_modified(out: &mut Vec<u8>, cells: &[Cell], at: Addr) -> Result<(), Memory>
+fn put_field_if_modified(out: &mut Vec<u8>, cells: &[PackedCell], at: Addr) -> Result<(), Memory>
     requires { length cells.now ≡ cell_count }
     ensures { let places = places_from is_modified at (take 1 (drop at cells.now)) in
         AppendsOrStops (is_ok result) out.old out.new (flat_map (modified_field cells.now) places) }
@@ -98,7 +99,7 @@ fn put_field_if_modified(out: &mut Vec<u8>, cells: &[Cell], at: Addr) -> Result<
 }
 
 /// The modified fields, by the addresses of their attributes.
-fn put_modified_fields(out: &mut Vec<u8>, cells: &[Cell]) -> Result<(), Memory>
+fn put_modified_fields(out: &mut Vec<u8>, cells: &[PackedCell]) -> Result<(), Memory>
     requires { length cells.now ≡ cell_count }
     ensures { let places = places_from is_modified 0 cells.now in
         AppendsOrStops (is_ok result) out.old out.new (flat_map (modified_field cells.now) places) }
@@ -109,7 +110,7 @@ fn put_modified_fields(out: &mut Vec<u8>, cells: &[Cell]) -> Result<(), Memory>
     Ok(())
 }
 
-fn put_modified_text(out: &mut Vec<u8>, cells: &[Cell]) -> Result<(), Memory>
+fn put_modified_text(out: &mut Vec<u8>, cells: &[PackedCell]) -> Result<(), Memory>
     requires { length cells.now ≡ cell_count }
     ensures { AppendsOrStops (is_ok result) out.old out.new (modified_text cells.now) }
 {
@@ -127,16 +128,16 @@ fn is_short_form(aid: Aid, all: bool) -> bool
     aid.is_short() && !all
 }
 
-fn put_cell(out: &mut Vec<u8>, cell: Cell) -> Result<(), Memory>
+fn put_cell(out: &mut Vec<u8>, cell: PackedCell) -> Result<(), Memory>
     ensures { AppendsOrStops (is_ok result) out.old out.new (cell_bytes cell) }
 {
-    match cell {
+    match cell.get() {
         Cell::Char(byte) => put_byte(out, byte),
         Cell::Attr(attr) => put_bytes(out, &[START_FIELD, attr_code(attr)]),
     }
 }
 
-fn put_cells(out: &mut Vec<u8>, cells: &[Cell]) -> Result<(), Memory>
+fn put_cells(out: &mut Vec<u8>, cells: &[PackedCell]) -> Result<(), Memory>
     ensures { AppendsOrStops (is_ok result) out.old out.new (flat_map cell_bytes cells.now) }
 {
     for cell in cells {

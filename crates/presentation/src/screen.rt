@@ -10,6 +10,7 @@ ghost use Rattle.datastream.specs.InboundFields.{IsSendable, IsStorableCell};
 ghost use Rattle.presentation.specs.Applied.{asked_by};
 
 use crate::buffer::{Buffer, with_real_key};
+use crate::packed_cell::PackedCell;
 use crate::{Applied, cells, index};
 use arrayvec::ArrayVec;
 use codes3270::{Addr, Aid, CELLS, Cell};
@@ -64,7 +65,7 @@ impl Screen {
         ensures sendable { IsSendable self.now }
     {
         let buffer = &self.buffer;
-        buffer.cells[at.get() as usize]
+        buffer.cells[at.get() as usize].get()
     }
 
     /// Where the cursor is.
@@ -98,7 +99,7 @@ impl Screen {
     {
         let place = at.get() as usize;
         let buffer = &mut self.buffer;
-        buffer.cells[place] = Cell::Char(byte);
+        buffer.cells[place] = PackedCell::character(byte);
     }
 
     /// Turns MDT on in a cell that holds an attribute; `cell` tells.

@@ -7,8 +7,9 @@ ghost use Rattle.datastream.specs.Meaning.{Draft, stored, ordered, nulls_after, 
 ghost use Rattle.presentation.specs.Applied.{asked_by, asked_by_wcc};
 ghost use Rattle.datastream.specs.InboundFields.{IsStorableCell};
 
-use crate::buffer::Buffer;
+use crate::buffer::{Buffer, nulls};
 use crate::cells;
+use crate::packed_cell::PackedCell;
 use codes3270::{Addr, Aid, CELLS, Cell, Wcc};
 use datastream::{Command, CommandCode, Order, Orders};
 
@@ -67,7 +68,7 @@ impl Buffer {
     pub(crate) fn clear(&mut self)
         ensures { self.new ≡ cleared self.old }
     {
-        cells::fill(&mut self.cells, Addr::first(), CELLS, Cell::Char(0));
+        self.cells = nulls();
         self.cursor = Addr::first();
     }
 
@@ -161,8 +162,11 @@ impl Buffer {
     {
         let address = pen.address;
         match order {
-            Order::Char(byte) => Pen::after_data(self.store(address, Cell::Char(byte))),
-            Order::Sf(attr) => Pen::moved_to(self.store(address, Cell::Attr(attr))),
+            Order::Char(byte) => Pen::after_data(self.store(address, PackedCell::character(byte))),
+            Order::Sf(attr) => Pen::moved_to(self.store(
+                address,
+                PackedCell::new(Cell::Attr(attr)),
+            )),
             Order::Sba(address) => Pen::moved_to(address),
             Order::Ic => {
                 self.place_cursor(address);
@@ -180,7 +184,7 @@ impl Buffer {
         }
     }
 
-    fn store(&mut self, address: Addr, cell: Cell) -> Addr
+    fn store(&mut self, address: Addr, cell: PackedCell) -> Addr
         requires { IsStorableCell cell }
         ensures { record { screen = self.new; address = result } ≡ stored (record { screen = self.old; address = address }) cell }
     {
@@ -200,7 +204,7 @@ impl Buffer {
         ensures { record { screen = self.new; address = stop } ≡ ordered (Ra stop byte) false (record { screen = self.old; address = address }) }
     {
         let count = cells::distance_to(address, stop);
-        cells::fill(&mut self.cells, address, count, Cell::Char(byte));
+        cells::fill(&mut self.cells, address, count, byte);
     }
 
     fn erase_up_to(&mut self, address: Addr, stop: Addr)
@@ -216,12 +220,11 @@ impl Buffer {
         ensures nulls { let draft : Draft = record { screen = self.old; address = pen.address } in
             result.nulls ≡ nulls_after Pt pen.nulls draft }
     {
-        let from = pen.address.get() as usize;
         let stop = cells::tab_stop_from(&self.cells, pen.address);
-        let to_end = cells::has_only_characters(&self.cells[from..]);
+        let to_end = cells::has_only_characters_from(&self.cells, pen.address);
         if pen.nulls {
-            let count = cells::characters_before_attribute(&self.cells[from..]);
-            cells::fill(&mut self.cells, pen.address, count as u16, Cell::Char(0));
+            let count = cells::characters_ahead(&self.cells, pen.address);
+            cells::fill(&mut self.cells, pen.address, count, 0);
         }
         Pen {
             address: stop,

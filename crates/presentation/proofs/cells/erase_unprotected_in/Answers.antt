@@ -2,7 +2,6 @@ use Rattle.codes3270.specs.Size.{cell_count}
 use Rattle.std.proofs.Common.{◌≡◌, ◌+◌, ◌%◌, ◌<◌, ℕ, List, cond, length, get_or, sym, ◌∙◌, arith, add-zero, add_assoc}
 use Rattle.std.proofs.Math.Nat.{mod-eq_of_lt, mod-add-mod}
 use Rattle.codes3270.specs.declared.attribute.Cell.{Cell}
-use Rattle.codes3270.specs.declared.attribute.Cell.TheVariants.{Char}
 use Rattle.datastream.specs.Screen.{attribute_over, is_protected}
 use Rattle.datastream.specs.Meaning.{erased}
 use Rattle.datastream.proofs.Places.{across_none, across_more, get_or-across_end}
@@ -27,16 +26,17 @@ loop-step-preserved c =
     let from_below : c.args.from < length cells = rw size c.forward.ensures.in_range in
     let step_below : c.loop-step.step < length cells = omega arith in
     let below : place < length cells = rw (← at_place, size) c.get-place.ensures.in_range in
-    let read : get_or c.loop-step.cells place (Char 0) ≡ get_or cells place (Char 0) =
-    rw c.loop-step.invariant.so_far (get_or-across_end c.args.from c.loop-step.step rule cells (Char 0) from_below step_below) in
+    let old : Cell = c.index-cells-place.result in
+    let read : old ≡ get_or cells place old =
+    c.index-cells-place.is ∙ rw (at_place, c.loop-step.invariant.so_far) (get_or-across_end c.args.from c.loop-step.step rule cells old from_below step_below) in
     let over : c.or-over.result ≡ attribute_over cells place =
-    rw (c.or-over.ensures, c.attribute_of.ensures, at_place, read, c.loop-step.invariant.over, ← size)
-    (sym (attribute_over_is cells place (Char 0) below)) in
+    rw (c.or-over.ensures, c.attribute.ensures, read, c.loop-step.invariant.over, ← size)
+    (sym (attribute_over_is cells place old below)) in
     let onward : (c.args.from + (c.loop-step.step + 1)) % length cells ≡ (place + 1) % length cells =
     rw (← add_assoc c.args.from c.loop-step.step 1) (sym (mod-add-mod (c.args.from + c.loop-step.step) (length cells) 1)) in
     record {
       so_far =
           rw (c.opened_under.ensures, at_place, read, over, c.loop-step.invariant.so_far)
-          (across_more c.args.from c.loop-step.step rule cells (Char 0) from_below step_below);
+          (across_more c.args.from c.loop-step.step rule cells old from_below step_below);
       over = rw (over, ← size, onward) (sym (attribute_before_next cells place below));
     }

@@ -1,0 +1,99 @@
+//! A cell in two bytes.
+ghost use Rattle.std.specs.Prelude.{◌≡◌};
+ghost use Rattle.codes3270.specs.declared.attribute.Cell.TheVariants.{Char};
+ghost use Rattle.datastream.specs.Screen.{attribute_in, is_char, is_open_attribute};
+
+use crate::cells;
+use codes3270::{Attr, Cell, attr_code};
+use std::marker::Model;
+
+/// What a cell of the screen has, in two bytes. Contracts see the cell.
+#[derive(Clone, Copy, Debug, PartialEq, Eq)]
+pub(crate) struct PackedCell {
+    /// The code of its character, or that which its attribute is written as.
+    code: u8,
+    is_attribute: bool,
+}
+
+impl Model for PackedCell {
+    ghost use Rattle.std.specs.Prelude.{◌≡◌, ℕ, Bool, not};
+    ghost use Rattle.std.proofs.Common.{ap, ◌∙◌};
+    ghost use Rattle.codes3270.specs.declared.attribute.Cell.{Cell};
+    ghost use Rattle.datastream.specs.Screen.{is_char};
+    ghost use Rattle.presentation.specs.TwoBytes.{code_in, cell_of, has_attribute};
+
+    ghost Value = { Cell };
+
+    ghost view = { λ packed. cell_of packed.is_attribute packed.code };
+
+    ghost invariant = { λ packed. code_in (cell_of packed.is_attribute packed.code) ≡ packed.code };
+
+    ghost inverse = { λ cell. record { code = code_in cell; is_attribute = not (is_char cell) } };
+
+    ghost inverse_ok = { λ packed coded.
+        ap (λ (code : ℕ). record { code = code; is_attribute = not (is_char (cell_of packed.is_attribute packed.code)) }) coded
+        ∙ ap (λ (is : Bool). record { code = packed.code; is_attribute = is }) (has_attribute packed.is_attribute packed.code) };
+}
+
+impl PackedCell {
+    /// A cell with a character.
+    pub(crate) const fn character(code: u8) -> PackedCell
+        ensures { result ≡ Char code }
+    {
+        PackedCell {
+            code,
+            is_attribute: false,
+        }
+    }
+
+    /// A cell with what is given.
+    pub(crate) fn new(cell: Cell) -> PackedCell
+        ensures { result ≡ cell }
+    {
+        match cell {
+            Cell::Char(code) => PackedCell::character(code),
+            Cell::Attr(attr) => PackedCell {
+                code: attr_code(attr),
+                is_attribute: true,
+            },
+        }
+    }
+
+    /// What it has.
+    pub(crate) fn get(self) -> Cell
+        ensures { result ≡ self }
+    {
+        if self.is_attribute {
+            Cell::Attr(Attr::from_code(self.code))
+        } else {
+            Cell::Char(self.code)
+        }
+    }
+
+    /// Its attribute.
+    pub(crate) fn attribute(self) -> Option<Attr>
+        ensures { result ≡ attribute_in self }
+    {
+        cells::attribute_of(self.get())
+    }
+
+    /// Whether it has a character.
+    pub(crate) fn is_character(self) -> bool
+        ensures { result ≡ is_char self }
+    {
+        match self.get() {
+            Cell::Char(_) => true,
+            Cell::Attr(_) => false,
+        }
+    }
+
+    /// Whether it has the attribute of an unprotected field.
+    pub(crate) fn is_open(self) -> bool
+        ensures { result ≡ is_open_attribute self }
+    {
+        match self.get() {
+            Cell::Char(_) => false,
+            Cell::Attr(attr) => !attr.protected,
+        }
+    }
+}
