@@ -1,6 +1,6 @@
 -- What panels ask for are screens, each cell of which can hold what is wanted of it, where panels and values are of characters.
 use Rattle.std.proofs.Common.{◌≡◌, ◌==◌, nat_lt, ◌<◌, ◌-◌, ◌+◌, ℕ, zero, suc, Bool, true, false, not, Option, None, Some, List, [], ◌∷◌, ◌++◌, map, refl, IfSome, IsTrue, if◌then◌else◌}
-use Rattle.std.specs.Prelude.{⊤, codes, slice_get, slice_index_or, string_bytes, option_map, unwrap_or}
+use Rattle.std.specs.Prelude.{⊤, codes, slice_get, slice_index_or, option_map, unwrap_or}
 use Rattle.std.specs.List.{All, range_with_len}
 use Rattle.std.specs.Option.{option_or, option_map_or}
 use Rattle.std.specs.BTreeMap.{is_at}
@@ -75,7 +75,7 @@ message_stored : (fields : List Field) (message : Message) → AreStorable (mess
 message_stored fields Fresh = All-nil IsStored
 message_stored fields Plain = All-nil IsStored
 message_stored fields KeyNotActive = coded_stored (codes "KEY NOT ACTIVE")
-message_stored fields (Required number) = coded_stored (codes "REQUIRED: " ++ option_map_or (λ (field : Field). string_bytes field.name) (field_numbered number fields) [])
+message_stored fields (Required number) = coded_stored (codes "REQUIRED: " ++ option_map_or (λ (field : Field). field.name) (field_numbered number fields) [])
 
 shown_characters : (values : Values) (content : Content) → AreTexts values → HasCharacters content → AreCharacters (shown values content)
 shown_characters values (Literal text) texts is = is

@@ -17,3 +17,4 @@ pub mod MessageRow
 pub mod Answering
 pub mod KeptFields
 pub mod NothingElseKept
+pub mod DefinedOnce

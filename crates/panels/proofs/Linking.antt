@@ -1,6 +1,6 @@
 -- The panels and fields that names stand for.
 use Rattle.std.proofs.Common.{◌≡◌, ◌<◌, ◌≤◌, ◌+◌, ◌*◌, ℕ, codes, List, length, get_or, Option, Some, None, refl, ap, ◌∙◌, subst, add-one, arith}
-use Rattle.std.specs.Prelude.{slice_get, unwrap_or, [], string_bytes}
+use Rattle.std.specs.Prelude.{slice_get, unwrap_or, []}
 use Rattle.panels.specs.declared.fault.TreeFault.TheVariants as fault
 use Rattle.panels.specs.declared.panel.Field.{Field as FieldItem}
 use Rattle.panels.proofs.Overlapping.{there_or_past}
@@ -77,7 +77,7 @@ number_below top panel p firsts are there =
 -- a cursor's name is of a field that was built
 field_of_name : (top panel : Members) (p i : ℕ) (name : List ℕ) (fields : List FieldItem) → IsEachOf (λ i. IsFieldOf (fields_before p top + i)) (codes "field") panel fields
     → option_and_then (text_under (codes "name")) (table_under (codes "field") i panel) ≡ Some name
-    → (field : FieldItem) × (slice_get fields i ≡ Some field) × (string_bytes field.name ≡ name)
+    → (field : FieldItem) × (slice_get fields i ≡ Some field) × (field.name ≡ name)
 field_of_name top panel p i name fields are has =
     let below : i < count_under (codes "field") panel = table_below (codes "field") i panel (named_table (table_under (codes "field") i panel) name has) in
     let fits : i < length fields = omega (arith, are.size) in
@@ -88,7 +88,7 @@ field_of_name top panel p i name fields are has =
 
 pub cursor_is_there : (top panel : Members) (p : ℕ) (name : List ℕ) (fields : List FieldItem) → IsFaultless top → table_under (codes "panel") p top ≡ Some panel
     → IsEachOf (λ i. IsFieldOf (fields_before p top + i)) (codes "field") panel fields → text_under (codes "cursor") panel ≡ Some name
-    → ((i : ℕ) (field : FieldItem) → slice_get fields i ≡ Some field → ¬ (string_bytes field.name ≡ name)) → ⊥
+    → ((i : ℕ) (field : FieldItem) → slice_get fields i ≡ Some field → ¬ (field.name ≡ name)) → ⊥
 cursor_is_there top panel p name fields clean there are named none =
     no_fault top panel (Panel p) fault.NoTarget clean there (
       name,

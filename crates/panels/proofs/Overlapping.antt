@@ -123,7 +123,7 @@ meets_list key panel table all some n x are first is (j, other, less, there, ove
     ap (λ o. meets_any (Some o) some) x_is ∙ list_any-from_Any (meets ext) some (j, Some other_ext, inside, at_j, met)
 
 -- where a part stands, in pieces
-and_then_parts : {X Y : Type 0} (f : X → Option Y) (o : Option X) (y : Y) → option_and_then f o ≡ Some y → (x : X) × (o ≡ Some x) × (f x ≡ Some y)
+pub and_then_parts : {X Y : Type 0} (f : X → Option Y) (o : Option X) (y : Y) → option_and_then f o ≡ Some y → (x : X) × (o ≡ Some x) × (f x ≡ Some y)
 and_then_parts f None y is = cc
 and_then_parts f (Some x) y is = (x, refl, is)
 

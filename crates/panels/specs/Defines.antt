@@ -1,5 +1,5 @@
 -- The panels that a tree defines (our profile).
-use Rattle.std.specs.Prelude.{◌≡◌, codes, ℕ, ◌+◌, List, [], ◌∷◌, length, Option, Some, None, option_and_then, slice_get, string_bytes, IsTrue, IsFalse}
+use Rattle.std.specs.Prelude.{◌≡◌, codes, ℕ, ◌+◌, List, [], ◌∷◌, length, Option, Some, None, option_and_then, slice_get, IsTrue, IsFalse}
 use Rattle.codes3270.specs.declared.attention.Aid.{Aid}
 use Rattle.toml.specs.Data.{Members}
 use Rattle.toml.specs.Parse.{parse_document}
@@ -12,7 +12,7 @@ use Rattle.panels.specs.Characters.{codes_of}
 use Rattle.panels.specs.Tree.{text_under, count_under, table_under, texts_under, key_table, name_of, fields_before}
 use Rattle.panels.specs.Items.{characters_at, text_or_empty, is_set}
 use Rattle.panels.specs.Shape.{has_key}
-use Rattle.panels.specs.Keys.{name_of_key, IsKey}
+use Rattle.panels.specs.Keys.{key_names, name_of_key, IsKey}
 use Rattle.panels.specs.Survey.{AreEach, IsExtentOf}
 use Rattle.panels.specs.Panel.{PanelParts, target_of, Panels}
 use Rattle.panels.specs.Passes.{IsFaultless}
@@ -37,7 +37,7 @@ pub record IsTextOf (top table : Members) (text : TextItem) : Type 0 where
 
 pub record IsFieldOf (n : ℕ) (table : Members) (field : Field) : Type 0 where
   pub number : field.number ≡ n
-  pub name : string_bytes field.name ≡ text_or_empty (codes "name") table
+  pub name : field.name ≡ text_or_empty (codes "name") table
   pub extent : IsExtentOf table field.extent
   pub numeric : field.numeric ≡ is_set (codes "numeric") table
   pub hidden : field.hidden ≡ is_set (codes "hidden") table
@@ -53,7 +53,7 @@ pub record IsEachOf {X : Type 0} (IsOf : ℕ → Members → X → Type 0) (key 
 -- where the cursor is: at the first cell of the field that `cursor` names; without it, of the first field; without fields, at 0
 abbrev pub IsCursorBy : Option (List ℕ) → List Field → ℕ → Type 0
 IsCursorBy (Some name) fields cursor =
-    (i : ℕ) × (field : Field) × (slice_get fields i ≡ Some field) × (string_bytes field.name ≡ name) × (cursor ≡ field.extent.first)
+    (i : ℕ) × (field : Field) × (slice_get fields i ≡ Some field) × (field.name ≡ name) × (cursor ≡ field.extent.first)
 IsCursorBy None [] cursor = cursor ≡ 0
 IsCursorBy None (first ∷ more) cursor = cursor ≡ first.extent.first
 
@@ -70,6 +70,7 @@ pub record IsPanelOf (top : Members) (p : ℕ) (table : Members) (panel : PanelP
   pub texts : IsEachOf (λ i. IsTextOf top) (codes "text") table panel.texts
   pub fields : IsEachOf (λ i. IsFieldOf (fields_before p top + i)) (codes "field") table panel.fields
   pub cursor : IsCursorBy (text_under (codes "cursor") table) panel.fields panel.cursor
+  pub places : length panel.targets ≡ length key_names
   pub targets : (aid : Aid) → IsKey aid → IsTargetBy top (text_of_key table (name_of_key aid)) (target_of panel aid)
 
 -- the first panel is the one that `start` names
@@ -85,3 +86,7 @@ pub record Defines (top : Members) (set : Panels) : Type 0 where
 -- the text is that of a tree without a fault, which defines the panels
 abbrev pub IsReadFrom : List ℕ → Panels → Type 0
 IsReadFrom text set = (top : Members) × (parse_document text ≡ Some top) × IsFaultless top × Defines top set
+
+-- a text defines its panels once
+abbrev pub DefinesOnce : Type 0
+DefinesOnce = (text : List ℕ) (set other : Panels) → IsReadFrom text set → IsReadFrom text other → set ≡ other

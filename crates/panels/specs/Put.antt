@@ -1,5 +1,5 @@
 -- What is put on a wanted screen, one thing over another (our profile; only for the contracts of private functions).
-use Rattle.std.specs.Prelude.{◌≡◌, codes, ℕ, ◌<◌, List, [], ◌++◌, Option, Some, None, unwrap_or, slice_index_or, string_bytes}
+use Rattle.std.specs.Prelude.{◌≡◌, codes, ℕ, ◌<◌, List, [], ◌++◌, Option, Some, None, unwrap_or, slice_index_or}
 use Rattle.std.specs.Option.{option_map_or}
 use Rattle.codes3270.specs.Size.{cell_count}
 use Rattle.codes3270.specs.declared.attribute.Attr.{Attr}
@@ -20,7 +20,7 @@ cell_with attr None distance = kept_cell attr distance
 
 -- the name of the field that a message speaks of
 abbrev pub name_spoken : List Field → Message → List ℕ
-name_spoken fields (Required number) = option_map_or (λ field. string_bytes field.name) (field_numbered number fields) []
+name_spoken fields (Required number) = option_map_or (λ field. field.name) (field_numbered number fields) []
 name_spoken fields Fresh = []
 name_spoken fields Plain = []
 name_spoken fields KeyNotActive = []

@@ -1,5 +1,5 @@
 -- The screen that a panel asks for (our profile).
-use Rattle.std.specs.Prelude.{◌≡◌, codes, ℕ, ◌+◌, ◌-◌, ◌<◌, ◌==◌, nat_lt, Bool, true, false, not, ◌&&◌, ◌||◌, List, [], ◌∷◌, ◌++◌, map, Option, Some, None, option_map, option_and_then, unwrap_or, slice_get, slice_index_or, string_bytes, if◌then◌else◌}
+use Rattle.std.specs.Prelude.{◌≡◌, codes, ℕ, ◌+◌, ◌-◌, ◌<◌, ◌==◌, nat_lt, Bool, true, false, not, ◌&&◌, ◌||◌, List, [], ◌∷◌, ◌++◌, map, Option, Some, None, option_map, option_and_then, unwrap_or, slice_get, slice_index_or, if◌then◌else◌}
 use Rattle.std.specs.List.{position, range_with_len}
 use Rattle.std.specs.Option.{option_or, option_map_or}
 use Rattle.std.specs.Int.{is_in_range}
@@ -95,7 +95,7 @@ abbrev pub message_text : List Field → Message → List ℕ
 message_text fields Fresh = []
 message_text fields Plain = []
 message_text fields KeyNotActive = coded (codes "KEY NOT ACTIVE")
-message_text fields (Required number) = coded (codes "REQUIRED: " ++ option_map_or (λ field. string_bytes field.name) (field_numbered number fields) [])
+message_text fields (Required number) = coded (codes "REQUIRED: " ++ option_map_or (λ field. field.name) (field_numbered number fields) [])
 
 -- the message takes the last row
 abbrev pub message_cell : List Field → Message → ℕ → Option Want

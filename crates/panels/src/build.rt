@@ -13,6 +13,7 @@ ghost use Rattle.panels.specs.Defines.{IsFieldNamed, IsContentOf, IsTextOf, IsFi
 
 use crate::characters::Characters;
 use crate::extent::{Extent, home};
+use crate::field_name::FieldName;
 use crate::items::{extent_of, is_true_at};
 use crate::link::{field_named, first_numbers, panel_named, targets};
 use crate::names::{KEY_NAMES, text_of};
@@ -95,7 +96,7 @@ fn field_item(alloc: Global, table: &Table, number: usize) -> Result<Field, Allo
     requires { is_on_screen (table_view table.now) ≡ true }
     ensures { IfOk result (IsFieldOf number (table_view table.now)) }
 {
-    let name = String::from_str(alloc, text_of(table, "name"))?;
+    let name = FieldName::of_text(alloc, text_of(table, "name"))?;
     let fill = Characters::of_text(alloc, text_of(table, "fill"))?;
     Ok(Field {
         number,
@@ -169,7 +170,7 @@ fn first_place(fields: &[Field]) -> Addr
 
 /// The first cell of the first of some fields that has a name.
 fn place_named(fields: &[Field], name: &str) -> Option<Addr>
-    ensures { MatchOption result ((i : ℕ) (field : Field) → slice_get fields.now i ≡ Some field → ¬ (string_bytes field.name ≡ name.now)) (IsCursorBy (Some name.now) fields.now) }
+    ensures { MatchOption result ((i : ℕ) (field : Field) → slice_get fields.now i ≡ Some field → ¬ (field.name ≡ name.now)) (IsCursorBy (Some name.now) fields.now) }
 {
     for field in fields {
         if is_named(field, name) {
@@ -181,7 +182,7 @@ fn place_named(fields: &[Field], name: &str) -> Option<Addr>
 
 /// Whether a field has a name.
 fn is_named(field: &Field, name: &str) -> bool
-    ensures { IsTrue result ↔ (string_bytes field.now.name ≡ name.now) }
+    ensures { IsTrue result ↔ (field.now.name ≡ name.now) }
 {
     field.name.as_str() == name
 }

@@ -1,4 +1,5 @@
 //! What holds of all panels' screens.
+ghost use Rattle.panels.specs.Defines.{DefinesOnce};
 ghost use Rattle.panels.specs.KeptFields.{FieldsAreKeptWhole, NothingElseIsKept};
 ghost use Rattle.panels.specs.MessageRow.{PanelsLeaveTheRow, TheRowIsTheMessage, TheRoomIsTheRow};
 
@@ -17,4 +18,9 @@ pub fn the_last_row_is_for_messages()
 pub fn kept_fields_are_whole()
     ensures whole { FieldsAreKeptWhole }
     ensures nothing_else { NothingElseIsKept }
+{}
+
+/// Does nothing: its contract says that a text defines its panels once: what is read of it is told by the text alone.
+pub fn a_text_defines_its_panels_once()
+    ensures { DefinesOnce }
 {}

@@ -32,6 +32,7 @@ mod characters;
 mod checks;
 mod extent;
 mod fault;
+mod field_name;
 mod index;
 mod items;
 mod kinds;
@@ -57,7 +58,10 @@ mod values;
 pub use characters::Characters;
 pub use extent::Extent;
 pub use fault::{PanelFault, TreeFault};
-pub use laws::{kept_fields_are_whole, the_last_row_is_for_messages};
+pub use field_name::FieldName;
+pub use laws::{
+    a_text_defines_its_panels_once, kept_fields_are_whole, the_last_row_is_for_messages,
+};
 pub use message::Message;
 pub use next::Next;
 pub use panel::{Field, Panel};

@@ -1,6 +1,7 @@
 //! What a panel has.
 use crate::characters::Characters;
 use crate::extent::Extent;
+use crate::field_name::FieldName;
 use codes3270::Addr;
 use std::marker::Model;
 
@@ -26,7 +27,7 @@ pub struct Field {
     /// Its number, from 0 on, among the fields of the whole text.
     pub number: usize,
     /// 1 to 16 of `a` to `z`, `0` to `9` and `_`, unique over the whole text.
-    pub name: String,
+    pub name: FieldName,
     pub extent: Extent,
     pub numeric: bool,
     pub hidden: bool,

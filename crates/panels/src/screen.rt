@@ -284,7 +284,7 @@ fn name_in(message: Message, fields: &[Field]) -> &[u8]
     match message {
         Message::Fresh | Message::Plain | Message::KeyNotActive => &[],
         Message::Required(number) => match numbered(number, fields) {
-            Some(field) => field.name.as_bytes(),
+            Some(field) => field.name.as_str().as_bytes(),
             None => &[],
         },
     }

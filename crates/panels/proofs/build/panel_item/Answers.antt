@@ -27,5 +27,6 @@ returns c = record {
   texts = c.in_ok-texts.ensures;
   fields = c.in_ok-fields.ensures;
   cursor = subst (λ fields. IsCursorBy (text_under (codes "cursor") (table_view c.args.panel.now)) fields c.cursor_of-cursor.result) c.as_slice.ensures.value c.cursor_of-cursor.ensures;
+  places = c.in_ok-targets.ensures.size;
   targets = targets_lead (table_view c.args.top.now) (table_view c.args.panel.now) c.in_ok-targets.targets.items c.in_ok-targets.ensures;
 }

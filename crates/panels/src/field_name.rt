@@ -1,0 +1,36 @@
+//! Names of fields.
+ghost use Rattle.std.specs.Prelude.{◌≡◌, IfOk};
+
+use std::alloc::{AllocError, Global};
+use std::marker::Model;
+
+/// The name of a field. What it is known by is its text alone, wherever that lies.
+#[derive(Debug, Drop)]
+pub struct FieldName {
+    text: String,
+}
+
+impl Model for FieldName {
+    ghost use Rattle.std.specs.Prelude.{List, ℕ, string_bytes};
+
+    ghost Value = { List ℕ };
+
+    ghost view = { λ name. string_bytes name.text };
+}
+
+impl FieldName {
+    /// The name that a text says.
+    pub(crate) fn of_text(alloc: Global, text: &str) -> Result<FieldName, AllocError>
+        ensures { IfOk result (λ name. name ≡ text.now) }
+    {
+        Ok(FieldName {
+            text: String::from_str(alloc, text)?,
+        })
+    }
+
+    pub fn as_str(&self) -> &str
+        ensures { result.now ≡ self.now }
+    {
+        self.text.as_str()
+    }
+}
