@@ -57,3 +57,4 @@ pub mod Joinings
 pub mod HostAnew
 pub mod ByteEnds
 pub mod Unbroken
+pub mod OneWorld

@@ -1,13 +1,8 @@
 -- A small host for the example's runs: readers and proofs need it, and nothing rests on it (our profile). Its screens have two rows
 -- of 16 cells, the second one for messages; and its pool has two LUs.
-use Rattle.std.specs.Prelude.{codes, ℕ, suc, zero, ◌+◌, ◌==◌, Bool, true, false, ◌<◌, ◌^◌, List, [], ◌∷◌, ◌++◌, length, map, replicate, None, String, if◌then◌else◌}
+use Rattle.std.specs.Prelude.{codes, ℕ, suc, zero, ◌+◌, ◌==◌, Bool, true, false, List, [], ◌∷◌, ◌++◌, map, replicate, None, if◌then◌else◌}
 use Rattle.std.specs.List.{range_with_len}
-use Rattle.std.specs.declared.alloc.Global.{Global}
-use Rattle.std.specs.Str.{IsUtf8}
-use Rattle.std.proofs.Common.{refl, lit≤, lit<}
-use native.Mathlib.Nat.{le_refl}
-use lib.Utf8.{encode}
-use denote.RawPtr.{null_ptr}
+use Rattle.std.proofs.Common.{lit≤}
 use Rattle.codes3270.specs.declared.attention.Aid.{Aid}
 use Rattle.codes3270.specs.declared.attention.Aid.TheVariants.{Enter, Clear, Pf}
 use Rattle.codes3270.specs.declared.attribute.Attr.{Attr as Attribute}
@@ -26,34 +21,11 @@ use Rattle.host_core.specs.Application.{Application}
 
 -- ---- the fields of the sign-on panel
 
--- a text as a `String`, wherever it lies
-abbrev pub spelt : (bytes : List ℕ) → IsUtf8 bytes → length bytes < 2 ^ 63 → String Global
-spelt bytes is_text small = record {
-  bytes = record {
-    ptr = null_ptr;
-    len = length bytes;
-    cap = length bytes;
-    alloc = record { memory = record { seal = tt } };
-    items = bytes;
-    ok = (refl, le_refl (length bytes));
-    small = small;
-  };
-  ok = ∣ is_text ∣₁;
-}
-
-pub name_is_text : IsUtf8 (codes "name")
-unfolding encode
-name_is_text = (codes "name", (refl, refl))
-
-pub letter_is_text : IsUtf8 (codes "letter")
-unfolding encode
-letter_is_text = (codes "letter", (refl, refl))
-
 -- a name of three characters, which has to be filled in
 abbrev pub name_field : Field
 name_field = record {
   number = 0;
-  name = spelt (codes "name") name_is_text (lit< tt);
+  name = codes "name";
   extent = record { first = 6; length = 3; after_attribute = lit≤ tt; has_cells = lit≤ tt; above_message = lit≤ tt };
   numeric = false;
   hidden = false;
@@ -66,7 +38,7 @@ name_field = record {
 abbrev pub letter_field : Field
 letter_field = record {
   number = 1;
-  name = spelt (codes "letter") letter_is_text (lit< tt);
+  name = codes "letter";
   extent = record { first = 11; length = 1; after_attribute = lit≤ tt; has_cells = lit≤ tt; above_message = lit≤ tt };
   numeric = false;
   hidden = false;

@@ -40,5 +40,6 @@ pub mod Standing
 pub mod Refines
 pub mod SeenBytes
 pub mod ByteRuns
+pub mod OneOutcome
 pub mod Known
 pub mod Unbroken

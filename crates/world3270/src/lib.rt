@@ -11,6 +11,7 @@ ghost use Rattle.world3270.specs.Known.{Known};
 ghost use Rattle.world3270.specs.Losses.{LostTakesNothing};
 ghost use Rattle.world3270.specs.Numbers.{NumbersFit};
 ghost use Rattle.world3270.specs.Occasions.{ActsOnTheKey, KnowsTheCleared, LeavesNothingOpen};
+ghost use Rattle.world3270.specs.OneOutcome.{EventsAreOne, RunsAreOne, StepsAreOne};
 ghost use Rattle.world3270.specs.Places.{EndsAgree, UpIsHeld, HoldersAreHere, LinksStay, HoldersStay, PoolIsSound};
 ghost use Rattle.world3270.specs.Refines.{BeginIsReached, HeadlineIsSeen, RunsGoOn, SkipsAreThose, StepsGoOn};
 ghost use Rattle.world3270.specs.Seats.{HistoryFollows};
@@ -264,4 +265,15 @@ pub fn bytes_follow_messages()
     ensures none_refused { NothingIsRefused }
 {
     what_is_known();
+}
+
+/// Does nothing: its contract says that a world over bytes is one machine. From one world an event to which memory isn't refused
+/// has one answer, and leads to one world; so do events one after another, and runs of them.
+pub fn one_machine()
+    ensures step { StepsAreOne }
+    ensures events { EventsAreOne }
+    ensures runs { RunsAreOne }
+{
+    host_core::one_machine();
+    term_core::one_machine();
 }
