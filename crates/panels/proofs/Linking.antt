@@ -1,19 +1,21 @@
 -- The panels and fields that names stand for.
-use Rattle.std.proofs.Common.{◌≡◌, ◌<◌, ◌≤◌, ◌+◌, ◌*◌, ℕ, codes, List, length, get_or, Option, Some, None, refl, ap, ◌∙◌, subst, add-one, arith}
-use Rattle.std.specs.Prelude.{slice_get, unwrap_or, []}
+use Rattle.std.proofs.Common.{◌≡◌, ◌<◌, ◌≤◌, ◌+◌, ◌*◌, ℕ, codes, List, length, get_or, Option, Some, None, true, false, refl, ap, sym, ◌∙◌, subst, add-one, arith}
+use Rattle.std.specs.Prelude.{slice_get, unwrap_or, [], MatchOption}
 use Rattle.panels.specs.declared.fault.TreeFault.TheVariants as fault
 use Rattle.panels.specs.declared.panel.Field.{Field as FieldItem}
 use Rattle.panels.proofs.Overlapping.{there_or_past}
 use Rattle.std.specs.Option.{option_and_then}
+use Rattle.std.proofs.lemmas.Bool.{false≢true}
 use Rattle.std.proofs.lemmas.Option.{slice_get-get_or}
 use Rattle.toml.specs.Data.{Members}
 use Rattle.panels.specs.declared.part.Part.{Part}
 use Rattle.panels.specs.declared.part.Part.TheVariants.{Top, Panel, Text, Field, Keys}
-use Rattle.panels.specs.Tree.{name_of, text_under, table_under, count_under, fields_of, fields_before}
+use Rattle.panels.specs.Tree.{name_of, text_under, table_under, key_table, count_under, fields_of, fields_before}
 use Rattle.panels.specs.Faults.{IsNamedBefore}
-use Rattle.panels.specs.Index.{panels_end, fields_end}
+use Rattle.panels.specs.Index.{panels_end, fields_end, is_unknown}
+use Rattle.panels.specs.declared.index.NameIndex.{NameIndex}
 use Rattle.panels.specs.Link.{panel_in, number_in, HasNumber, AreFirstNumbers}
-use Rattle.panels.specs.Defines.{IsPanelNamed, IsFieldNamed, IsFieldOf, IsEachOf}
+use Rattle.panels.specs.Defines.{IsPanelNamed, IsFieldNamed, IsFieldOf, IsEachOf, IsTargetBy, text_of_key}
 use Rattle.panels.specs.Passes.{IsFaultless}
 use Rattle.panels.proofs.Trees.{table_below, some_part}
 use Rattle.panels.proofs.Indexing.{named_table}
@@ -99,3 +101,19 @@ cursor_is_there top panel p name fields clean there are named none =
           let found = field_of_name top panel p i name fields are inside in
           none i found.0 found.1 found.2,
     )
+
+-- what is known to be found is found
+pub found_or : (P : ℕ → Type 0) (Q : Type 0) (o : Option ℕ) (other : ℕ) → ¬ Q → MatchOption o Q P → P (unwrap_or o other)
+found_or P Q None other found is = absurd (found is)
+found_or P Q (Some n) other found is = is
+
+target_found : (top : Members) (name : List ℕ) (index : NameIndex) (o : Option ℕ) → is_unknown index (Some name) ≡ false
+    → MatchOption o (is_unknown index (Some name) ≡ true) (IsPanelNamed top name) → IsTargetBy top (Some name) o
+target_found top name index None known is = false≢true (sym known ∙ is)
+target_found top name index (Some p) known is = is
+
+pub target_is : (top panel : Members) (key : List ℕ) (keys : Members) (name : List ℕ) (index : NameIndex) (o : Option ℕ) → key_table panel ≡ Some keys
+    → text_under key keys ≡ Some name → is_unknown index (Some name) ≡ false → MatchOption o (is_unknown index (Some name) ≡ true) (IsPanelNamed top name)
+    → IsTargetBy top (text_of_key panel (Some key)) o
+target_is top panel key keys name index o table text known is =
+    subst (λ t. IsTargetBy top t o) (sym (ap (option_and_then (text_under key)) table ∙ text)) (target_found top name index o known is)

@@ -1,5 +1,5 @@
 -- Turns that pass, table by table.
-use Rattle.std.proofs.Common.{◌≡◌, ◌<◌, ◌≤◌, ◌+◌, ℕ, zero, suc, codes, List, [], ◌∷◌, length, get_or, Some, None, IsSome, refl, ap, sym, subst, inl, inr, ◌∙◌, add-one, arith}
+use Rattle.std.proofs.Common.{◌≡◌, ◌<◌, ◌≤◌, ◌+◌, ℕ, zero, suc, true, codes, List, [], ◌∷◌, length, get_or, Some, None, IsSome, refl, ap, sym, subst, inl, inr, ◌∙◌, add-one, arith}
 use Rattle.std.specs.Prelude.{◌⊎◌, ◌==◌, All, Contains, slice_get, if◌then◌else◌}
 use Rattle.std.specs.Option.{option_and_then}
 use Rattle.std.proofs.lemmas.Bool.{cases_Bool, false≢true}
@@ -12,10 +12,10 @@ use Rattle.panels.specs.declared.part.Part.{Part}
 use Rattle.panels.specs.declared.part.Part.TheVariants.{Top, Panel, Text, Field, Keys}
 use Rattle.panels.specs.Tree.{count_under, table_under, key_table, table_of}
 use Rattle.panels.specs.declared.place.At.{At}
-use Rattle.panels.specs.Faults.{IsFaulty, place_of, faults_of}
+use Rattle.panels.specs.Faults.{IsFaulty, place_of, faults_of, is_item}
 use Rattle.panels.specs.Passes.{IsFirst, IsFaultless}
 use Rattle.panels.specs.Turns.{pass_of, panel_turn, kind_turn, item_turn, fault_turn, turn_of, IsSooner, IsClearTo, IsFirstFault}
-use Rattle.panels.specs.Walk.{turn_at, IsCleanAt, IsFirstListed}
+use Rattle.panels.specs.Walk.{turn_at, item_at, IsCleanAt, IsFirstListed}
 use Rattle.panels.proofs.Trees.{table_below, some_part}
 
 -- ---- turns, as numbers
@@ -174,7 +174,7 @@ text_clear_suc pass p i top clear clean fault part soon faulty =
       | inr (at_pass, at_panel, at_kind, at_item) ↦ clean_there pass part (Text p i) top fault clean at_pass (same_part part (Text p i) at_panel at_kind at_item) faulty
     ]
 
-pub text_clear : (pass p i : ℕ) (top : Members) → IsClearTo (turn_at pass (Text p i)) top → IsCleanAt pass (Text p i) top → IsClearTo (turn_at pass (Text p (i + 1))) top
+text_clear : (pass p i : ℕ) (top : Members) → IsClearTo (turn_at pass (Text p i)) top → IsCleanAt pass (Text p i) top → IsClearTo (turn_at pass (Text p (i + 1))) top
 text_clear pass p i top clear clean = subst (λ n. IsClearTo (turn_at pass (Text p n)) top) (sym (add-one i)) (text_clear_suc pass p i top clear clean)
 
 field_clear_suc : (pass p i : ℕ) (top : Members) → IsClearTo (turn_at pass (Field p i)) top → IsCleanAt pass (Field p i) top → IsClearTo (turn_at pass (Field p (suc i))) top
@@ -184,8 +184,16 @@ field_clear_suc pass p i top clear clean fault part soon faulty =
       | inr (at_pass, at_panel, at_kind, at_item) ↦ clean_there pass part (Field p i) top fault clean at_pass (same_part part (Field p i) at_panel at_kind at_item) faulty
     ]
 
-pub field_clear : (pass p i : ℕ) (top : Members) → IsClearTo (turn_at pass (Field p i)) top → IsCleanAt pass (Field p i) top → IsClearTo (turn_at pass (Field p (i + 1))) top
+field_clear : (pass p i : ℕ) (top : Members) → IsClearTo (turn_at pass (Field p i)) top → IsCleanAt pass (Field p i) top → IsClearTo (turn_at pass (Field p (i + 1))) top
 field_clear pass p i top clear clean = subst (λ n. IsClearTo (turn_at pass (Field p n)) top) (sym (add-one i)) (field_clear_suc pass p i top clear clean)
+
+pub item_clear : (pass : ℕ) (item : Part) (i : ℕ) (top : Members) → is_item item ≡ true → IsClearTo (turn_at pass (item_at item i)) top
+    → IsCleanAt pass (item_at item i) top → IsClearTo (turn_at pass (item_at item (i + 1))) top
+item_clear pass Top i top is clear clean = cc
+item_clear pass (Panel p) i top is clear clean = cc
+item_clear pass (Text p j) i top is clear clean = text_clear pass p i top clear clean
+item_clear pass (Field p j) i top is clear clean = field_clear pass p i top clear clean
+item_clear pass (Keys p) i top is clear clean = cc
 
 -- the table whose turn it is
 from_turns : (part : Part) (panel kind : ℕ) → panel_turn part ≡ panel → kind_turn part ≡ kind → part ≡ part_from panel kind (item_turn part)

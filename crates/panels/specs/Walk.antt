@@ -3,8 +3,17 @@ use Rattle.std.specs.Prelude.{◌≡◌, ℕ, ◌<◌, List, [], ◌∷◌, Some
 use Rattle.toml.specs.Data.{Members}
 use Rattle.panels.specs.declared.fault.TreeFault.{TreeFault}
 use Rattle.panels.specs.declared.part.Part.{Part}
+use Rattle.panels.specs.declared.part.Part.TheVariants.{Top, Panel, Text, Field, Keys}
 use Rattle.panels.specs.Faults.{IsFaulty}
 use Rattle.panels.specs.Turns.{pass_of, panel_turn, kind_turn, item_turn}
+
+-- the item at another index of the same array
+abbrev pub item_at : Part → ℕ → Part
+item_at (Text p i) j = Text p j
+item_at (Field p i) j = Field p j
+item_at Top j = Top
+item_at (Panel p) j = Panel p
+item_at (Keys p) j = Keys p
 
 -- before anything is looked for in a table
 abbrev pub turn_at : ℕ → Part → List ℕ

@@ -4,7 +4,7 @@ ghost use Rattle.toml.specs.Data.{item, no_items};
 ghost use Rattle.toml.specs.View.{view, table_view, items_view};
 ghost use Rattle.panels.specs.declared.panel.Field.{Field};
 ghost use Rattle.panels.specs.Tree.{text_under, texts_under, texts_in, table_under, fields_before};
-ghost use Rattle.panels.specs.Items.{is_on_screen, text_or_empty};
+ghost use Rattle.panels.specs.Items.{text_or_empty};
 ghost use Rattle.panels.specs.Shape.{has_key};
 ghost use Rattle.panels.specs.Link.{AreFirstNumbers, IsTextIn};
 ghost use Rattle.panels.specs.Passes.{IsFaultless};
@@ -16,25 +16,14 @@ use crate::extent::{Extent, home};
 use crate::field_name::FieldName;
 use crate::items::{extent_of, is_true_at};
 use crate::link::{field_named, first_numbers, panel_named, targets};
-use crate::names::{KEY_NAMES, text_of};
+use crate::names::KEY_NAMES;
 use crate::panel::{Content, Field, Panel, TextItem};
 use crate::panel_set::PanelSet;
 use crate::survey::Survey;
-use crate::tree::{count_at, stands_at, table_at, text_at, value_at};
+use crate::tree::{count_at, stands_at, table_at, text_at, text_of, value_at};
 use codes3270::Addr;
 use std::alloc::{AllocError, Global};
 use toml::{Table, Value};
-
-/// The extent of an item, which lies on the screen.
-fn extent_on_screen(table: &Table) -> Extent
-    requires { is_on_screen (table_view table.now) ≡ true }
-    ensures { IsExtentOf (table_view table.now) result }
-{
-    match extent_of(table) {
-        Some(extent) => extent,
-        None => unreachable!(),
-    }
-}
 
 /// The number of the field that a text item without a text of its own shows.
 fn shown_field(table: &Table, top: &Table, survey: &Survey, firsts: &[usize]) -> usize
@@ -45,7 +34,7 @@ fn shown_field(table: &Table, top: &Table, survey: &Survey, firsts: &[usize]) ->
     requires firsts { AreFirstNumbers (table_view top.now) firsts.now }
     ensures { IsFieldNamed (table_view top.now) (text_or_empty (codes "show") (table_view table.now)) result }
 {
-    field_named(text_of(table, "show"), top, &survey.field_names, firsts)
+    field_named(text_of(table, "show"), top, &survey.field_names, firsts).unwrap_or(0)
 }
 
 /// What a text item shows.
@@ -73,6 +62,7 @@ fn content_of(
 fn text_item(
     alloc: Global,
     table: &Table,
+    extent: Extent,
     top: &Table,
     survey: &Survey,
     firsts: &[usize],
@@ -81,19 +71,25 @@ fn text_item(
     requires is_text { IsTextIn (table_view top.now) (table_view table.now) }
     requires survey { IsSurveyOf (table_view top.now) survey.now }
     requires firsts { AreFirstNumbers (table_view top.now) firsts.now }
+    requires extent { IsExtentOf (table_view table.now) extent }
     ensures { IfOk result (IsTextOf (table_view top.now) (table_view table.now)) }
 {
     let content = content_of(alloc, table, top, survey, firsts)?;
     Ok(TextItem {
-        extent: extent_on_screen(table),
+        extent,
         bright: is_true_at(table, "bright"),
         content,
     })
 }
 
 /// The field of a table, with its number.
-fn field_item(alloc: Global, table: &Table, number: usize) -> Result<Field, AllocError>
-    requires { is_on_screen (table_view table.now) ≡ true }
+fn field_item(
+    alloc: Global,
+    table: &Table,
+    extent: Extent,
+    number: usize,
+) -> Result<Field, AllocError>
+    requires { IsExtentOf (table_view table.now) extent }
     ensures { IfOk result (IsFieldOf number (table_view table.now)) }
 {
     let name = FieldName::of_text(alloc, text_of(table, "name"))?;
@@ -101,7 +97,7 @@ fn field_item(alloc: Global, table: &Table, number: usize) -> Result<Field, Allo
     Ok(Field {
         number,
         name,
-        extent: extent_on_screen(table),
+        extent,
         numeric: is_true_at(table, "numeric"),
         hidden: is_true_at(table, "hidden"),
         required: is_true_at(table, "required"),
@@ -127,10 +123,13 @@ fn texts_of(
 {
     let mut texts = Vec::new(alloc);
     for index in 0..count_at(panel, "text") {
-        match table_at(panel, "text", index) {
-            Some(table) => texts.push(text_item(alloc, table, top, survey, firsts)?)?,
-            None => unreachable!(),
-        }
+        let Some(table) = table_at(panel, "text", index) else {
+            continue;
+        };
+        let Some(extent) = extent_of(table) else {
+            continue;
+        };
+        texts.push(text_item(alloc, table, extent, top, survey, firsts)?)?;
     }
     Ok(texts)
 }
@@ -150,10 +149,13 @@ fn fields_from(
 {
     let mut fields = Vec::new(alloc);
     for index in 0..count_at(panel, "field") {
-        match table_at(panel, "field", index) {
-            Some(table) => fields.push(field_item(alloc, table, first + index)?)?,
-            None => unreachable!(),
-        }
+        let Some(table) = table_at(panel, "field", index) else {
+            continue;
+        };
+        let Some(extent) = extent_of(table) else {
+            continue;
+        };
+        fields.push(field_item(alloc, table, extent, first + index)?)?;
     }
     Ok(fields)
 }
@@ -195,10 +197,7 @@ fn cursor_of(panel: &Table, top: &Table, number: usize, fields: &[Field]) -> Add
     ensures { IsCursorBy (text_under (codes "cursor") (table_view panel.now)) fields.now result }
 {
     match text_at(panel, "cursor") {
-        Some(name) => match place_named(fields, name) {
-            Some(place) => place,
-            None => unreachable!(),
-        },
+        Some(name) => place_named(fields, name).unwrap_or(home()),
         None => first_place(fields),
     }
 }
@@ -239,17 +238,11 @@ fn panels_of(alloc: Global, top: &Table, survey: &Survey) -> Result<Vec<Panel>, 
     let firsts = first_numbers(alloc, top)?;
     let mut panels = Vec::new(alloc);
     for index in 0..count_at(top, "panel") {
-        match table_at(top, "panel", index) {
-            Some(table) => panels.push(panel_item(
-                alloc,
-                table,
-                top,
-                index,
-                survey,
-                firsts.as_slice(),
-            )?)?,
-            None => unreachable!(),
-        }
+        let Some(table) = table_at(top, "panel", index) else {
+            continue;
+        };
+        let firsts = firsts.as_slice();
+        panels.push(panel_item(alloc, table, top, index, survey, firsts)?)?;
     }
     Ok(panels)
 }
@@ -280,11 +273,8 @@ fn texts_among(alloc: Global, values: &[Value]) -> Result<Vec<String>, AllocErro
 fn lus_of(alloc: Global, top: &Table) -> Result<Vec<String>, AllocError>
     ensures { IfOk result (λ lus. map string_bytes lus.items ≡ texts_under (codes "lus") (table_view top.now)) }
 {
-    match value_at(top, "lus") {
-        Some(value) => match value.as_array() {
-            Some(values) => texts_among(alloc, values.as_slice()),
-            None => Ok(Vec::new(alloc)),
-        },
+    match value_at(top, "lus").and_then(|value| value.as_array()) {
+        Some(values) => texts_among(alloc, values.as_slice()),
         None => Ok(Vec::new(alloc)),
     }
 }
@@ -295,7 +285,7 @@ fn start_of(top: &Table, survey: &Survey) -> usize
     requires survey { IsSurveyOf (table_view top.now) survey.now }
     ensures { IsStartOf (table_view top.now) result }
 {
-    panel_named(text_of(top, "start"), top, &survey.panel_names)
+    panel_named(text_of(top, "start"), top, &survey.panel_names).unwrap_or(0)
 }
 
 /// The panels of a text, with what they need of it.

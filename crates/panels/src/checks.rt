@@ -1,5 +1,5 @@
 //! The faults of a panel text, table by table.
-ghost use Rattle.std.specs.Prelude.{◌≡◌, ◌↔◌, codes, ℕ, List, ◌+◌, Some, IsTrue, All, MatchOption, MatchResult, option_map, option_and_then};
+ghost use Rattle.std.specs.Prelude.{◌≡◌, ◌↔◌, codes, ℕ, List, ◌+◌, Some, true, IsTrue, All, MatchOption, MatchResult, option_map, option_and_then};
 ghost use Rattle.std.specs.List.{list_any};
 ghost use Rattle.toml.specs.Data.{get_member, as_array};
 ghost use Rattle.toml.specs.View.{table_view};
@@ -9,7 +9,7 @@ ghost use Rattle.panels.specs.declared.part.Part.{Part};
 ghost use Rattle.panels.specs.Index.{IsLater, is_unknown};
 ghost use Rattle.panels.specs.Passes.{IsFaultless};
 ghost use Rattle.panels.specs.Turns.{IsClearTo, IsFirstFault};
-ghost use Rattle.panels.specs.Walk.{turn_at, IsCleanAt, IsFirstListed};
+ghost use Rattle.panels.specs.Walk.{turn_at, item_at, IsCleanAt, IsFirstListed};
 ghost use Rattle.panels.specs.Survey.{IsSurveyOf};
 ghost use Rattle.panels.specs.Tree.{table_of, table_under, text_under, texts};
 
@@ -79,13 +79,7 @@ fn is_item_part(part: Part) -> bool
 fn is_later(index: &NameIndex, name: Option<&str>, part: Part) -> bool
     ensures { IsTrue result ↔ IsLater index.now (option_map (λ n. n.now) name.entry) part }
 {
-    match name {
-        Some(name) => match index.part(name) {
-            Some(first) => first != part,
-            None => false,
-        },
-        None => false,
-    }
+    name.is_some_and(|name| index.part(name).is_some_and(|first| first != part))
 }
 
 /// Whether an earlier panel or field has the table's name.
@@ -128,13 +122,9 @@ fn has_field_named(panel: &Table, name: &str) -> bool
 fn is_name_at(panel: &Table, field: usize, name: &str) -> bool
     ensures { IsTrue result ↔ (option_and_then (text_under (codes "name")) (table_under (codes "field") field (table_view panel.now)) ≡ Some name.now) }
 {
-    match table_at(panel, "field", field) {
-        Some(table) => match text_at(table, "name") {
-            Some(found) => found == name,
-            None => false,
-        },
-        None => false,
-    }
+    table_at(panel, "field", field)
+        .and_then(|table| text_at(table, "name"))
+        .is_some_and(|found| found == name)
 }
 
 /// Whether some text of a table is no panel's name.
@@ -151,10 +141,7 @@ fn has_lost_cursor(panel: &Table) -> bool
     ensures { IsTrue result ↔ ((name : List ℕ) × (text_under (codes "cursor") (table_view panel.now) ≡ Some name)
         × ¬ ((i : ℕ) × (option_and_then (text_under (codes "name")) (table_under (codes "field") i (table_view panel.now)) ≡ Some name))) }
 {
-    match text_at(panel, "cursor") {
-        Some(name) => !has_field_named(panel, name),
-        None => false,
-    }
+    text_at(panel, "cursor").is_some_and(|name| !has_field_named(panel, name))
 }
 
 /// Whether a name in a table is of no panel or field.
@@ -219,33 +206,21 @@ fn first_at(part: Part, faults: &[TreeFault], top: &Table, survey: &Survey) -> O
     None
 }
 
-static SHAPE: [TreeFault; 3] = [
-    TreeFault::UnknownKey,
-    TreeFault::Missing,
-    TreeFault::BadKind,
-];
-
-static NUMBERS: [TreeFault; 1] = [TreeFault::TooMany];
-
-static NAMES: [TreeFault; 3] = [TreeFault::BadName, TreeFault::BadKey, TreeFault::TwiceNamed];
-
-static ITEMS: [TreeFault; 2] = [TreeFault::OutOfPlace, TreeFault::NoCode];
-
-static CELLS: [TreeFault; 1] = [TreeFault::Overlap];
-
-static TARGETS: [TreeFault; 1] = [TreeFault::NoTarget];
-
 /// The faults that a pass looks for.
 fn faults_in(pass: usize) -> &'static [TreeFault]
     ensures { result.now ≡ faults_of pass }
 {
     match pass {
-        1 => &SHAPE,
-        2 => &NUMBERS,
-        3 => &NAMES,
-        4 => &ITEMS,
-        5 => &CELLS,
-        6 => &TARGETS,
+        1 => &[
+            TreeFault::UnknownKey,
+            TreeFault::Missing,
+            TreeFault::BadKind,
+        ],
+        2 => &[TreeFault::TooMany],
+        3 => &[TreeFault::BadName, TreeFault::BadKey, TreeFault::TwiceNamed],
+        4 => &[TreeFault::OutOfPlace, TreeFault::NoCode],
+        5 => &[TreeFault::Overlap],
+        6 => &[TreeFault::NoTarget],
         _ => &[],
     }
 }
@@ -264,42 +239,23 @@ fn check_part(pass: usize, part: Part, top: &Table, survey: &Survey) -> Result<(
     }
 }
 
-/// Looks for a pass's faults in a panel's texts.
-fn check_texts(
+/// Looks for a pass's faults in the items of an array, of which one is given.
+fn check_items(
     pass: usize,
-    panel: usize,
+    item: Part,
     count: usize,
     top: &Table,
     survey: &Survey,
 ) -> Result<(), (TreeFault, At)>
     requires survey { IsSurveyOf (table_view top.now) survey.now }
-    requires clear { IsClearTo (turn_at pass (Part.Text panel 0)) (table_view top.now) }
+    requires is_item { is_item item ≡ true }
+    requires clear { IsClearTo (turn_at pass (item_at item 0)) (table_view top.now) }
     ensures { MatchResult result
-        (λ _. IsClearTo (turn_at pass (Part.Text panel count)) (table_view top.now))
+        (λ _. IsClearTo (turn_at pass (item_at item count)) (table_view top.now))
         (λ found. IsFirstFault found.0 found.1 (table_view top.now)) }
 {
-    for text in 0..count {
-        check_part(pass, Part::Text(panel, text), top, survey)?;
-    }
-    Ok(())
-}
-
-/// Looks for a pass's faults in a panel's fields.
-fn check_fields(
-    pass: usize,
-    panel: usize,
-    count: usize,
-    top: &Table,
-    survey: &Survey,
-) -> Result<(), (TreeFault, At)>
-    requires survey { IsSurveyOf (table_view top.now) survey.now }
-    requires clear { IsClearTo (turn_at pass (Part.Field panel 0)) (table_view top.now) }
-    ensures { MatchResult result
-        (λ _. IsClearTo (turn_at pass (Part.Field panel count)) (table_view top.now))
-        (λ found. IsFirstFault found.0 found.1 (table_view top.now)) }
-{
-    for field in 0..count {
-        check_part(pass, Part::Field(panel, field), top, survey)?;
+    for index in 0..count {
+        check_part(pass, item.item_at(index), top, survey)?;
     }
     Ok(())
 }
@@ -321,8 +277,20 @@ fn check_panel(
     let Some(table) = table_at(top, "panel", panel) else {
         return Ok(());
     };
-    check_texts(pass, panel, count_at(table, "text"), top, survey)?;
-    check_fields(pass, panel, count_at(table, "field"), top, survey)?;
+    check_items(
+        pass,
+        Part::Text(panel, 0),
+        count_at(table, "text"),
+        top,
+        survey,
+    )?;
+    check_items(
+        pass,
+        Part::Field(panel, 0),
+        count_at(table, "field"),
+        top,
+        survey,
+    )?;
     check_part(pass, Part::Keys(panel), top, survey)?;
     Ok(())
 }

@@ -22,10 +22,7 @@ impl NameIndex {
     pub(crate) fn part(&self, name: &str) -> Option<Part>
         ensures { result ≡ part_named self.now name.now }
     {
-        match self.parts.get(name) {
-            Some(part) => Some(*part),
-            None => None,
-        }
+        self.parts.get(name).copied()
     }
 }
 
@@ -33,10 +30,7 @@ impl NameIndex {
 pub(crate) fn is_unnamed(index: &NameIndex, name: Option<&str>) -> bool
     ensures { result ≡ is_unknown index.now (option_map (λ n. n.now) name.entry) }
 {
-    match name {
-        Some(name) => index.part(name).is_none(),
-        None => false,
-    }
+    name.is_some_and(|name| index.part(name).is_none())
 }
 
 /// Notes a part that has a name, unless an earlier one has it.
@@ -69,10 +63,7 @@ fn note_if_named(
 fn name_at<'a>(table: &'a Table, key: &str, index: usize) -> Option<&'a str>
     ensures { option_map (λ n. n.now) result ≡ option_and_then (text_under (codes "name")) (table_under key.now index (table_view table.now)) }
 {
-    match table_at(table, key, index) {
-        Some(table) => text_at(table, "name"),
-        None => None,
-    }
+    text_at(table_at(table, key, index)?, "name")
 }
 
 /// The panels' names.

@@ -5,11 +5,11 @@ ghost use Rattle.std.specs.List.{list_any};
 ghost use Rattle.panels.specs.Survey.{IsExtentOf};
 ghost use Rattle.codes3270.specs.Size.{columns};
 ghost use Rattle.panels.specs.Size.{item_rows, message_start};
-ghost use Rattle.panels.specs.Items.{number, is_set, characters_at, item_length, is_on_screen, is_in_place, lacks_code, has_no_code, is_between, is_above_message, first_of};
+ghost use Rattle.panels.specs.Items.{number, is_set, item_length, is_on_screen, is_in_place, lacks_code, has_no_code, is_between, is_above_message, first_of};
 
 use crate::extent::Extent;
 use crate::size::{ITEM_ROWS, MESSAGE_START};
-use crate::tree::{integer_at, text_at, truth_at};
+use crate::tree::{integer_at, text_at, text_of, truth_at};
 use codes3270::{COLUMNS, from_latin1};
 use toml::Table;
 
@@ -17,10 +17,7 @@ use toml::Table;
 fn number_at(table: &Table, key: &str) -> i64
     ensures { result ≡ number key.now (table_view table.now) }
 {
-    match integer_at(table, key) {
-        Some(number) => number,
-        None => 0,
-    }
+    integer_at(table, key).unwrap_or(0)
 }
 
 /// How many characters a text has.
@@ -36,16 +33,6 @@ fn characters_in(text: &str) -> i64
     ensures { result ≡ pos (length (chars text.now)) }
 {
     count_characters(text) as i64
-}
-
-/// How many characters the text at a key has, 0 where there is none.
-fn characters_of(table: &Table, key: &str) -> i64
-    ensures { result ≡ pos (length (characters_at key.now (table_view table.now))) }
-{
-    match text_at(table, key) {
-        Some(text) => characters_in(text),
-        None => 0,
-    }
 }
 
 /// How many characters an item has.
@@ -90,13 +77,7 @@ fn extent_at(first: i64, length: i64) -> Option<Extent>
     ensures { MatchOption result (is_above_message first length ≡ false)
         (λ extent. (is_above_message first length ≡ true) × (pos extent.first ≡ first) × (pos extent.length ≡ length)) }
 {
-    if first < 1 {
-        return None;
-    }
-    if length < 1 {
-        return None;
-    }
-    if MESSAGE_START as i64 - first < length {
+    if first < 1 || length < 1 || MESSAGE_START as i64 - first < length {
         return None;
     }
     Some(Extent {
@@ -118,28 +99,18 @@ pub(crate) fn extent_of(table: &Table) -> Option<Extent>
     extent_at(address_of(row, column), length_of_item(table))
 }
 
-/// Whether an item lies on the screen.
-fn stands_on_screen(table: &Table) -> bool
-    ensures { result ≡ is_on_screen (table_view table.now) }
-{
-    extent_of(table).is_some()
-}
-
 /// Whether an item lies on the screen, and its fill in it.
 pub(crate) fn stands_in_place(table: &Table) -> bool
     ensures { result ≡ is_in_place (table_view table.now) }
 {
-    stands_on_screen(table) && characters_of(table, "fill") <= length_of_item(table)
+    extent_of(table).is_some() && characters_in(text_of(table, "fill")) <= length_of_item(table)
 }
 
 /// Whether the truth value at a key is set.
 pub(crate) fn is_true_at(table: &Table, key: &str) -> bool
     ensures { result ≡ is_set key.now (table_view table.now) }
 {
-    match truth_at(table, key) {
-        Some(truth) => truth,
-        None => false,
-    }
+    truth_at(table, key).unwrap_or(false)
 }
 
 /// Whether some character of a text has no code.
@@ -154,14 +125,5 @@ fn has_uncoded(text: &str) -> bool
 pub(crate) fn has_no_codes(table: &Table) -> bool
     ensures { result ≡ lacks_code (table_view table.now) }
 {
-    has_uncoded_at(table, "text") || has_uncoded_at(table, "fill")
-}
-
-fn has_uncoded_at(table: &Table, key: &str) -> bool
-    ensures { result ≡ list_any has_no_code (characters_at key.now (table_view table.now)) }
-{
-    match text_at(table, key) {
-        Some(text) => has_uncoded(text),
-        None => false,
-    }
+    has_uncoded(text_of(table, "text")) || has_uncoded(text_of(table, "fill"))
 }

@@ -1,5 +1,5 @@
 //! What the names in a panel text stand for, where no fault stands in it.
-ghost use Rattle.std.specs.Prelude.{◌≡◌, codes, false, map, IfOk};
+ghost use Rattle.std.specs.Prelude.{◌≡◌, codes, true, map, IfOk, MatchOption};
 ghost use Rattle.toml.specs.View.{table_view};
 ghost use Rattle.panels.specs.Tree.{table_under, fields_of};
 ghost use Rattle.panels.specs.Index.{IsIndexTo, is_unknown, panels_end, fields_end};
@@ -23,16 +23,13 @@ fn panel_of(part: Part) -> usize
     }
 }
 
-/// The index of the panel with a name.
-pub(crate) fn panel_named(name: &str, top: &Table, index: &NameIndex) -> usize
-    requires index { IsIndexTo (table_view top.now) (panels_end (table_view top.now)) index.now }
-    requires named { is_unknown index.now (Some name.now) ≡ false }
-    ensures { IsPanelNamed (table_view top.now) name.now result }
+/// The index of the panel with a name, where one has it.
+pub(crate) fn panel_named(name: &str, top: &Table, index: &NameIndex) -> Option<usize>
+    requires { IsIndexTo (table_view top.now) (panels_end (table_view top.now)) index.now }
+    ensures { MatchOption result (is_unknown index.now (Some name.now) ≡ true) (IsPanelNamed (table_view top.now) name.now) }
 {
-    match index.part(name) {
-        Some(part) => panel_of(part),
-        None => unreachable!(),
-    }
+    let part = index.part(name)?;
+    Some(panel_of(part))
 }
 
 /// The number of a field, from those of the panels' first fields.
@@ -46,28 +43,27 @@ fn number_of(part: Part, firsts: &[usize]) -> usize
     }
 }
 
-/// The number, over the whole text, of the field with a name.
-pub(crate) fn field_named(name: &str, top: &Table, index: &NameIndex, firsts: &[usize]) -> usize
+/// The number, over the whole text, of the field with a name, where one has it.
+pub(crate) fn field_named(
+    name: &str,
+    top: &Table,
+    index: &NameIndex,
+    firsts: &[usize],
+) -> Option<usize>
     requires faultless { IsFaultless (table_view top.now) }
     requires index { IsIndexTo (table_view top.now) (fields_end (table_view top.now)) index.now }
     requires firsts { AreFirstNumbers (table_view top.now) firsts.now }
-    requires named { is_unknown index.now (Some name.now) ≡ false }
-    ensures { IsFieldNamed (table_view top.now) name.now result }
+    ensures { MatchOption result (is_unknown index.now (Some name.now) ≡ true) (IsFieldNamed (table_view top.now) name.now) }
 {
-    match index.part(name) {
-        Some(part) => number_of(part, firsts),
-        None => unreachable!(),
-    }
+    let part = index.part(name)?;
+    Some(number_of(part, firsts))
 }
 
 /// How many fields the panel at an index has.
 fn fields_at(top: &Table, panel: usize) -> usize
     ensures { result ≡ fields_of panel (table_view top.now) }
 {
-    match table_at(top, "panel", panel) {
-        Some(table) => count_at(table, "field"),
-        None => 0,
-    }
+    table_at(top, "panel", panel).map_or(0, |table| count_at(table, "field"))
 }
 
 /// The number, over the whole text, of each panel's first field.
@@ -91,13 +87,9 @@ fn target(panel: &Table, key: &str, top: &Table, number: usize, index: &NameInde
     requires index { IsIndexTo (table_view top.now) (panels_end (table_view top.now)) index.now }
     ensures { IsTargetBy (table_view top.now) (text_of_key (table_view panel.now) (Some key.now)) result }
 {
-    match keys_of(panel) {
-        Some(keys) => match text_at(keys, key) {
-            Some(name) => Some(panel_named(name, top, index)),
-            None => None,
-        },
-        None => None,
-    }
+    let keys = keys_of(panel)?;
+    let name = text_at(keys, key)?;
+    panel_named(name, top, index)
 }
 
 /// Where each of some keys leads from a panel.

@@ -9,7 +9,7 @@ ghost use Rattle.panels.specs.Keys.{is_key_name};
 ghost use Rattle.panels.specs.Tree.{keys as keys_in};
 
 use crate::part::Part;
-use crate::tree::text_at;
+use crate::tree::text_of;
 use toml::Table;
 
 fn is_short(name: &[u8]) -> bool
@@ -52,16 +52,6 @@ fn names_a_field(name: &str) -> bool
     ensures { result ≡ is_field_name name.now }
 {
     is_short(name.as_bytes()) && are_field_letters(name.as_bytes())
-}
-
-/// The text at a key, empty where there is none.
-pub(crate) fn text_of<'a>(table: &'a Table, key: &str) -> &'a str
-    ensures { result.now ≡ text_or_empty key.now (table_view table.now) }
-{
-    match text_at(table, key) {
-        Some(text) => text,
-        None => "",
-    }
 }
 
 /// Whether a table has a name that is none.

@@ -1,6 +1,7 @@
 //! The tables of a panel text.
 ghost use Rattle.std.specs.Prelude.{◌≡◌};
 ghost use Rattle.panels.specs.Faults.{place_of};
+ghost use Rattle.panels.specs.Walk.{item_at};
 
 use crate::place::At;
 
@@ -27,6 +28,17 @@ impl Part {
             Part::Panel(panel) | Part::Keys(panel) => At::Panel(panel),
             Part::Text(panel, text) => At::Text(panel, text),
             Part::Field(panel, field) => At::Field(panel, field),
+        }
+    }
+
+    /// The item at another index of the same array.
+    pub(crate) fn item_at(self, index: usize) -> Part
+        ensures { result ≡ item_at self index }
+    {
+        match self {
+            Part::Text(panel, _) => Part::Text(panel, index),
+            Part::Field(panel, _) => Part::Field(panel, index),
+            Part::Top | Part::Panel(_) | Part::Keys(_) => self,
         }
     }
 }

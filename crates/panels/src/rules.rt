@@ -10,157 +10,62 @@ use crate::part::Part;
 use crate::tree::{stands_at, value_at};
 use toml::Table;
 
-/// A key that a table may have.
-pub(crate) struct KeyRule {
-    pub key: &'static str,
-    pub kind: Kind,
-    /// Whether it must stand.
-    pub needed: bool,
+/// A key that a table may have, and the kind of its value.
+pub(crate) enum KeyRule {
+    /// The key must stand.
+    Must(&'static str, Kind),
+    May(&'static str, Kind),
+}
+
+impl KeyRule {
+    fn key(&self) -> &'static str
+        ensures { result.now ≡ (rule_of self.now).key }
+    {
+        match self {
+            KeyRule::Must(key, _) | KeyRule::May(key, _) => *key,
+        }
+    }
 }
 
 static TOP_RULES: [KeyRule; 3] = [
-    KeyRule {
-        key: "start",
-        kind: Kind::Text,
-        needed: true,
-    },
-    KeyRule {
-        key: "lus",
-        kind: Kind::Texts,
-        needed: true,
-    },
-    KeyRule {
-        key: "panel",
-        kind: Kind::Tables,
-        needed: true,
-    },
+    KeyRule::Must("start", Kind::Text),
+    KeyRule::Must("lus", Kind::Texts),
+    KeyRule::Must("panel", Kind::Tables),
 ];
 
 static PANEL_RULES: [KeyRule; 5] = [
-    KeyRule {
-        key: "name",
-        kind: Kind::Text,
-        needed: true,
-    },
-    KeyRule {
-        key: "cursor",
-        kind: Kind::Text,
-        needed: false,
-    },
-    KeyRule {
-        key: "text",
-        kind: Kind::Tables,
-        needed: false,
-    },
-    KeyRule {
-        key: "field",
-        kind: Kind::Tables,
-        needed: false,
-    },
-    KeyRule {
-        key: "keys",
-        kind: Kind::Table,
-        needed: false,
-    },
+    KeyRule::Must("name", Kind::Text),
+    KeyRule::May("cursor", Kind::Text),
+    KeyRule::May("text", Kind::Tables),
+    KeyRule::May("field", Kind::Tables),
+    KeyRule::May("keys", Kind::Table),
 ];
 
 static LITERAL_RULES: [KeyRule; 4] = [
-    KeyRule {
-        key: "row",
-        kind: Kind::Integer,
-        needed: true,
-    },
-    KeyRule {
-        key: "col",
-        kind: Kind::Integer,
-        needed: true,
-    },
-    KeyRule {
-        key: "text",
-        kind: Kind::Text,
-        needed: true,
-    },
-    KeyRule {
-        key: "bright",
-        kind: Kind::Truth,
-        needed: false,
-    },
+    KeyRule::Must("row", Kind::Integer),
+    KeyRule::Must("col", Kind::Integer),
+    KeyRule::Must("text", Kind::Text),
+    KeyRule::May("bright", Kind::Truth),
 ];
 
 static SHOW_RULES: [KeyRule; 5] = [
-    KeyRule {
-        key: "row",
-        kind: Kind::Integer,
-        needed: true,
-    },
-    KeyRule {
-        key: "col",
-        kind: Kind::Integer,
-        needed: true,
-    },
-    KeyRule {
-        key: "show",
-        kind: Kind::Text,
-        needed: true,
-    },
-    KeyRule {
-        key: "length",
-        kind: Kind::Integer,
-        needed: true,
-    },
-    KeyRule {
-        key: "bright",
-        kind: Kind::Truth,
-        needed: false,
-    },
+    KeyRule::Must("row", Kind::Integer),
+    KeyRule::Must("col", Kind::Integer),
+    KeyRule::Must("show", Kind::Text),
+    KeyRule::Must("length", Kind::Integer),
+    KeyRule::May("bright", Kind::Truth),
 ];
 
 static FIELD_RULES: [KeyRule; 9] = [
-    KeyRule {
-        key: "name",
-        kind: Kind::Text,
-        needed: true,
-    },
-    KeyRule {
-        key: "row",
-        kind: Kind::Integer,
-        needed: true,
-    },
-    KeyRule {
-        key: "col",
-        kind: Kind::Integer,
-        needed: true,
-    },
-    KeyRule {
-        key: "length",
-        kind: Kind::Integer,
-        needed: true,
-    },
-    KeyRule {
-        key: "fill",
-        kind: Kind::Text,
-        needed: false,
-    },
-    KeyRule {
-        key: "numeric",
-        kind: Kind::Truth,
-        needed: false,
-    },
-    KeyRule {
-        key: "hidden",
-        kind: Kind::Truth,
-        needed: false,
-    },
-    KeyRule {
-        key: "required",
-        kind: Kind::Truth,
-        needed: false,
-    },
-    KeyRule {
-        key: "marked",
-        kind: Kind::Truth,
-        needed: false,
-    },
+    KeyRule::Must("name", Kind::Text),
+    KeyRule::Must("row", Kind::Integer),
+    KeyRule::Must("col", Kind::Integer),
+    KeyRule::Must("length", Kind::Integer),
+    KeyRule::May("fill", Kind::Text),
+    KeyRule::May("numeric", Kind::Truth),
+    KeyRule::May("hidden", Kind::Truth),
+    KeyRule::May("required", Kind::Truth),
+    KeyRule::May("marked", Kind::Truth),
 ];
 
 /// The rules for a table of a panel text; none for a panel's keys.
@@ -190,7 +95,7 @@ fn rules_of_text(table: &Table) -> &'static [KeyRule]
 fn knows_key(rules: &[KeyRule], key: &str) -> bool
     ensures { result ≡ is_known (map rule_of rules.now) key.now }
 {
-    rules.iter().any(|rule| rule.key == key)
+    rules.iter().any(|rule| rule.key() == key)
 }
 
 fn any_unknown_key(rules: &[KeyRule], table: &Table) -> bool
@@ -201,9 +106,12 @@ fn any_unknown_key(rules: &[KeyRule], table: &Table) -> bool
 
 /// Whether the key of a rule must stand and doesn't.
 fn is_absent(rule: &KeyRule, table: &Table) -> bool
-    ensures { result ≡ (rule.now.needed && not (has_key rule.now.key.now (table_view table.now))) }
+    ensures { result ≡ ((rule_of rule.now).needed && not (has_key (rule_of rule.now).key (table_view table.now))) }
 {
-    rule.needed && !stands_at(table, rule.key)
+    match rule {
+        KeyRule::Must(key, _) => !stands_at(table, *key),
+        KeyRule::May(_, _) => false,
+    }
 }
 
 fn any_key_absent(rules: &[KeyRule], table: &Table) -> bool
@@ -214,11 +122,12 @@ fn any_key_absent(rules: &[KeyRule], table: &Table) -> bool
 
 /// Whether the key of a rule has a value of another kind.
 fn is_of_other_kind(rule: &KeyRule, table: &Table) -> bool
-    ensures { result ≡ is_misfit rule.now.kind (get_member rule.now.key.now (table_view table.now)) }
+    ensures { result ≡ is_misfit (rule_of rule.now).kind (get_member (rule_of rule.now).key (table_view table.now)) }
 {
-    match value_at(table, rule.key) {
-        Some(value) => !fits_kind(rule.kind, value),
-        None => false,
+    match rule {
+        KeyRule::Must(key, kind) | KeyRule::May(key, kind) => {
+            value_at(table, *key).is_some_and(|value| !fits_kind(*kind, value))
+        }
     }
 }
 
@@ -232,20 +141,14 @@ fn any_value_misfits(rules: &[KeyRule], table: &Table) -> bool
 pub(crate) fn has_unknown(part: Part, table: &Table) -> bool
     ensures { result ≡ has_unknown_key part (table_view table.now) }
 {
-    match rules_at(part, table) {
-        Some(rules) => any_unknown_key(rules, table),
-        None => false,
-    }
+    rules_at(part, table).is_some_and(|rules| any_unknown_key(rules, table))
 }
 
 /// Whether a table lacks a key that it must have.
 pub(crate) fn has_absent(part: Part, table: &Table) -> bool
     ensures { result ≡ lacks_key part (table_view table.now) }
 {
-    match rules_at(part, table) {
-        Some(rules) => any_key_absent(rules, table),
-        None => false,
-    }
+    rules_at(part, table).is_some_and(|rules| any_key_absent(rules, table))
 }
 
 /// Whether a table has a value of another kind than its key's.

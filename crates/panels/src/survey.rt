@@ -32,10 +32,7 @@ pub(crate) struct Survey {
 fn extent_under(table: &Table, key: &str, index: usize) -> Option<Extent>
     ensures { IsExtentIn (table_under key.now index (table_view table.now)) result }
 {
-    match table_at(table, key, index) {
-        Some(item) => extent_of(item),
-        None => None,
-    }
+    extent_of(table_at(table, key, index)?)
 }
 
 /// The extents of the items in the array at a key.
@@ -94,11 +91,9 @@ pub(crate) fn survey_of(alloc: Global, top: &Table) -> Result<Survey, AllocError
 fn is_met(extent: Extent, other: &Option<Extent>) -> bool
     ensures { result ≡ meets extent other.now }
 {
-    match other {
-        Some(other) => extent.first <= other.first + other.length
-            && other.first <= extent.first + extent.length,
-        None => false,
-    }
+    other.is_some_and(|other| {
+        extent.first <= other.first + other.length && other.first <= extent.first + extent.length
+    })
 }
 
 /// Whether an item shares a cell with one of some others.
@@ -136,14 +131,12 @@ pub(crate) fn is_met_earlier(part: Part, panels: &[PanelExtents]) -> bool
     ensures { result ≡ meets_earlier part panels.now }
 {
     match part {
-        Part::Text(panel, text) => match panels.get(panel) {
-            Some(extents) => text_is_met(extents, text),
-            None => false,
-        },
-        Part::Field(panel, field) => match panels.get(panel) {
-            Some(extents) => field_is_met(extents, field),
-            None => false,
-        },
+        Part::Text(panel, text) => panels
+            .get(panel)
+            .is_some_and(|extents| text_is_met(extents, text)),
+        Part::Field(panel, field) => panels
+            .get(panel)
+            .is_some_and(|extents| field_is_met(extents, field)),
         Part::Top | Part::Panel(_) | Part::Keys(_) => false,
     }
 }

@@ -3,6 +3,7 @@ ghost use Rattle.std.specs.Prelude.{◌≡◌, option_map, is_some};
 ghost use Rattle.toml.specs.View.{view, table_view};
 ghost use Rattle.toml.specs.Data.{get_member};
 ghost use Rattle.panels.specs.Shape.{has_key};
+ghost use Rattle.panels.specs.Items.{text_or_empty};
 ghost use Rattle.panels.specs.Tree.{text_under, integer_under, truth_under, count_under, table_under, key_table, table_of};
 
 use crate::part::Part;
@@ -23,28 +24,26 @@ pub(crate) fn stands_at(table: &Table, key: &str) -> bool
 pub(crate) fn text_at<'a>(table: &'a Table, key: &str) -> Option<&'a str>
     ensures { option_map (λ text. text.now) result ≡ text_under key.now (table_view table.now) }
 {
-    match value_at(table, key) {
-        Some(value) => value.as_str(),
-        None => None,
-    }
+    value_at(table, key)?.as_str()
+}
+
+/// The text at a key, empty where there is none.
+pub(crate) fn text_of<'a>(table: &'a Table, key: &str) -> &'a str
+    ensures { result.now ≡ text_or_empty key.now (table_view table.now) }
+{
+    text_at(table, key).unwrap_or("")
 }
 
 pub(crate) fn integer_at(table: &Table, key: &str) -> Option<i64>
     ensures { result ≡ integer_under key.now (table_view table.now) }
 {
-    match value_at(table, key) {
-        Some(value) => value.as_integer(),
-        None => None,
-    }
+    value_at(table, key)?.as_integer()
 }
 
 pub(crate) fn truth_at(table: &Table, key: &str) -> Option<bool>
     ensures { result ≡ truth_under key.now (table_view table.now) }
 {
-    match value_at(table, key) {
-        Some(value) => value.as_bool(),
-        None => None,
-    }
+    value_at(table, key)?.as_bool()
 }
 
 /// How many items the array at a key has, 0 where there is none.
@@ -64,23 +63,14 @@ pub(crate) fn count_at(table: &Table, key: &str) -> usize
 pub(crate) fn table_at<'a>(table: &'a Table, key: &str, index: usize) -> Option<&'a Table>
     ensures { option_map (λ found. table_view found.now) result ≡ table_under key.now index (table_view table.now) }
 {
-    match value_at(table, key) {
-        Some(array) => match array.get(index) {
-            Some(item) => item.as_table(),
-            None => None,
-        },
-        None => None,
-    }
+    value_at(table, key)?.get(index)?.as_table()
 }
 
 /// The table of a panel's keys.
 pub(crate) fn keys_of(panel: &Table) -> Option<&Table>
     ensures { option_map (λ found. table_view found.now) result ≡ key_table (table_view panel.now) }
 {
-    match value_at(panel, "keys") {
-        Some(value) => value.as_table(),
-        None => None,
-    }
+    value_at(panel, "keys")?.as_table()
 }
 
 /// The table that is a part of a panel text.
@@ -90,17 +80,8 @@ pub(crate) fn table_of_part(top: &Table, part: Part) -> Option<&Table>
     match part {
         Part::Top => Some(top),
         Part::Panel(panel) => table_at(top, "panel", panel),
-        Part::Text(panel, text) => match table_at(top, "panel", panel) {
-            Some(panel) => table_at(panel, "text", text),
-            None => None,
-        },
-        Part::Field(panel, field) => match table_at(top, "panel", panel) {
-            Some(panel) => table_at(panel, "field", field),
-            None => None,
-        },
-        Part::Keys(panel) => match table_at(top, "panel", panel) {
-            Some(panel) => keys_of(panel),
-            None => None,
-        },
+        Part::Text(panel, text) => table_at(table_at(top, "panel", panel)?, "text", text),
+        Part::Field(panel, field) => table_at(table_at(top, "panel", panel)?, "field", field),
+        Part::Keys(panel) => keys_of(table_at(top, "panel", panel)?),
     }
 }

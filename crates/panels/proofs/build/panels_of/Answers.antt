@@ -9,16 +9,16 @@ use Rattle.panels.proofs.Sound.{panel_there}
 use Rattle.panels.proofs.Building.{each_more, size_more}
 use Rattle.panels.proofs.build.panels_of.Goals as goal
 
-pub unreachable-requires : goal.unreachable-requires
-unreachable-requires c = false≢true (ap is_some c.in-None.ensures ∙ panel_there (table_view c.args.top.now) c.loop-index.index c.requires.faultless (rw (← c.count_at-index-end.ensures) c.loop-index-test.true))
+pub loop-index-preserved-in_default : goal.loop-index-preserved-in_default
+loop-index-preserved-in_default c = absurd (false≢true (ap is_some c.in_default.ensures ∙ panel_there (table_view c.args.top.now) c.loop-index.index c.requires.faultless (rw (← c.count_at-index-end.ensures) c.loop-index-test.true)))
 
 pub loop-index-preserved : goal.loop-index-preserved
 loop-index-preserved c = record {
-  size = rw c.in_ok-push-in-Some.ensures.items (size_more _ _ _ c.loop-index.invariant.size);
+  size = rw c.in_ok-push.ensures.items (size_more _ _ _ c.loop-index.invariant.size);
   are =
-      rw c.in_ok-push-in-Some.ensures.items
+      rw c.in_ok-push.ensures.items
       (each_more (λ i thing. (inner : Members) × (table_under (codes "panel") i (table_view c.args.top.now) ≡ Some inner) × IsPanelOf (table_view c.args.top.now) i inner thing) c.loop-index.index c.loop-index.panels.items _
-      c.loop-index.invariant.size c.loop-index.invariant.are (table_view c.in-Some.table.now, sym c.in-Some.ensures, c.in_ok-panel_item-in-Some.ensures));
+      c.loop-index.invariant.size c.loop-index.invariant.are (table_view c.in-Some.table.now, sym c.in-Some.ensures, c.in_ok-panel_item.ensures));
 }
 
 pub returns : goal.returns

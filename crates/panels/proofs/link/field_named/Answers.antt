@@ -6,11 +6,11 @@ use Rattle.panels.proofs.link.field_named.Goals as goal
 
 pub number_of-requires : goal.number_of-requires
 number_of-requires c =
-    let known = c.requires.index.named c.args.name.now c.in-Some.part (sym c.in-Some.ensures) in
-    has_number (table_view c.args.top.now) c.in-Some.part c.args.name.now c.args.firsts.now c.requires.faultless c.requires.firsts known.0 known.1
+    let known = c.requires.index.named c.args.name.now c.in_ok-part.part (sym c.in_ok-part.ensures) in
+    has_number (table_view c.args.top.now) c.in_ok-part.part c.args.name.now c.args.firsts.now c.requires.faultless c.requires.firsts known.0 known.1
 
 pub returns : goal.returns
 returns c =
-    let known = c.requires.index.named c.args.name.now c.in-Some.part (sym c.in-Some.ensures) in
+    let known = c.requires.index.named c.args.name.now c.in_ok-part.part (sym c.in_ok-part.ensures) in
     subst (λ number. IsFieldNamed (table_view c.args.top.now) c.args.name.now number) (sym c.number_of.ensures)
-    (field_is_named (table_view c.args.top.now) c.in-Some.part c.args.name.now c.args.firsts.now c.requires.firsts known.0 known.1)
+    (field_is_named (table_view c.args.top.now) c.in_ok-part.part c.args.name.now c.args.firsts.now c.requires.firsts known.0 known.1)

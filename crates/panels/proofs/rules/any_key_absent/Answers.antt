@@ -9,5 +9,5 @@ use Rattle.panels.proofs.rules.any_key_absent.Goals as goal
 
 pub returns : goal.returns
 returns c =
-    any_from_yields_List (λ rule. rule.needed && not (has_key rule.key.now (table_view c.args.table.now))) _ _ _ c.any.ensures.ran (YieldsList-from_slice c.args.rules.now cc) (λ x b q k. search (rules, tests))
+    any_from_yields_List (λ rule. (rule_of rule).needed && not (has_key (rule_of rule).key (table_view c.args.table.now))) _ _ _ c.any.ensures.ran (YieldsList-from_slice c.args.rules.now cc) (λ x b q k. search (rules, tests))
     ∙ any_map (λ rule. rule.needed && not (has_key rule.key (table_view c.args.table.now))) rule_of c.args.rules.now
