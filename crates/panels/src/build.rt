@@ -12,7 +12,7 @@ ghost use Rattle.panels.specs.Survey.{IsSurveyOf, IsExtentOf};
 ghost use Rattle.panels.specs.Defines.{IsFieldNamed, IsContentOf, IsTextOf, IsFieldOf, IsEachOf, IsCursorBy, IsStartOf, IsPanelOf, Defines};
 
 use crate::characters::Characters;
-use crate::extent::{Extent, home};
+use crate::extent::Extent;
 use crate::field_name::FieldName;
 use crate::items::{extent_of, is_true_at};
 use crate::link::{field_named, first_numbers, panel_named, targets};
@@ -166,7 +166,7 @@ fn first_place(fields: &[Field]) -> Addr
 {
     match fields {
         [first, ..] => first.extent.first_cell(),
-        [] => home(),
+        [] => Addr::first(),
     }
 }
 
@@ -197,7 +197,7 @@ fn cursor_of(panel: &Table, top: &Table, number: usize, fields: &[Field]) -> Add
     ensures { IsCursorBy (text_under (codes "cursor") (table_view panel.now)) fields.now result }
 {
     match text_at(panel, "cursor") {
-        Some(name) => place_named(fields, name).unwrap_or(home()),
+        Some(name) => place_named(fields, name).unwrap_or(Addr::first()),
         None => first_place(fields),
     }
 }
@@ -251,9 +251,8 @@ fn panels_of(alloc: Global, top: &Table, survey: &Survey) -> Result<Vec<Panel>, 
 fn put_text(texts: &mut Vec<String>, alloc: Global, value: &Value) -> Result<(), AllocError>
     ensures { OnOk result (map string_bytes texts.new.items ≡ map string_bytes texts.old.items ++ texts_in (item (view value.now) no_items)) }
 {
-    match value.as_str() {
-        Some(text) => texts.push(String::from_str(alloc, text)?)?,
-        None => {}
+    if let Some(text) = value.as_str() {
+        texts.push(String::from_str(alloc, text)?)?;
     }
     Ok(())
 }

@@ -42,10 +42,3 @@ impl Extent {
         address(self.first)
     }
 }
-
-/// The first address of the screen.
-pub(crate) fn home() -> Addr
-    ensures { result ≡ 0 }
-{
-    address(0)
-}

@@ -3,7 +3,7 @@ ghost use Rattle.std.specs.Prelude.{◌≡◌, ◌+◌, codes, ℕ, List, IfOk, 
 ghost use Rattle.toml.specs.View.{table_view};
 ghost use Rattle.panels.specs.declared.part.Part.TheVariants as part;
 ghost use Rattle.panels.specs.Tree.{text_under, table_under};
-ghost use Rattle.panels.specs.Index.{part_named, noted, noted_if, is_unknown, IsIndexTo, panels_end, fields_end};
+ghost use Rattle.panels.specs.Index.{part_named, noted_if, is_unknown, IsIndexTo, panels_end, fields_end};
 
 use crate::part::Part;
 use crate::tree::{count_at, table_at, text_at};
@@ -33,19 +33,8 @@ pub(crate) fn is_unnamed(index: &NameIndex, name: Option<&str>) -> bool
     name.is_some_and(|name| index.part(name).is_none())
 }
 
-/// Notes a part that has a name, unless an earlier one has it.
-fn note(index: &mut NameIndex, alloc: Global, name: &str, part: Part) -> Result<(), AllocError>
-    ensures { OnOk result ((other : List ℕ) → part_named index.new other ≡ noted (part_named index.old) name.now part other) }
-{
-    if index.part(name).is_some() {
-        return Ok(());
-    }
-    index.parts.insert(String::from_str(alloc, name)?, part)?;
-    Ok(())
-}
-
-/// The same, where it has a name.
-fn note_if_named(
+/// Notes a part, where it has a name that no earlier one has.
+fn note(
     index: &mut NameIndex,
     alloc: Global,
     name: Option<&str>,
@@ -53,10 +42,14 @@ fn note_if_named(
 ) -> Result<(), AllocError>
     ensures { OnOk result ((other : List ℕ) → part_named index.new other ≡ noted_if (part_named index.old) (option_map (λ n. n.now) name.entry) part other) }
 {
-    match name {
-        Some(name) => note(index, alloc, name, part),
-        None => Ok(()),
+    let Some(name) = name else {
+        return Ok(());
+    };
+    if index.part(name).is_some() {
+        return Ok(());
     }
+    index.parts.insert(String::from_str(alloc, name)?, part)?;
+    Ok(())
 }
 
 /// The name of the table at an index of the array at a key.
@@ -74,12 +67,8 @@ pub(crate) fn panel_names(alloc: Global, top: &Table) -> Result<NameIndex, Alloc
         parts: BTreeMap::new(alloc),
     };
     for panel in 0..count_at(top, "panel") {
-        note_if_named(
-            &mut index,
-            alloc,
-            name_at(top, "panel", panel),
-            Part::Panel(panel),
-        )?;
+        let name = name_at(top, "panel", panel);
+        note(&mut index, alloc, name, Part::Panel(panel))?;
     }
     Ok(index)
 }
@@ -98,12 +87,8 @@ fn note_fields(
         return Ok(());
     };
     for field in 0..count_at(table, "field") {
-        note_if_named(
-            index,
-            alloc,
-            name_at(table, "field", field),
-            Part::Field(panel, field),
-        )?;
+        let name = name_at(table, "field", field);
+        note(index, alloc, name, Part::Field(panel, field))?;
     }
     Ok(())
 }

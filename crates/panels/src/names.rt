@@ -18,28 +18,17 @@ fn is_short(name: &[u8]) -> bool
     1 <= name.len() && name.len() <= 16
 }
 
-fn is_letter_of_panel(letter: u8) -> bool
-    ensures { result ≡ is_panel_letter letter }
-{
-    matches!(letter, b'A'..=b'Z' | b'0'..=b'9')
-}
-
-fn is_letter_of_field(letter: u8) -> bool
-    ensures { result ≡ is_field_letter letter }
-{
-    matches!(letter, b'a'..=b'z' | b'0'..=b'9' | b'_')
-}
-
 fn are_panel_letters(name: &[u8]) -> bool
     ensures { result ≡ list_all is_panel_letter name.now }
 {
-    name.iter().all(|letter| is_letter_of_panel(*letter))
+    name.iter()
+        .all(|letter| matches!(*letter, b'A'..=b'Z' | b'0'..=b'9'))
 }
 
 fn are_field_letters(name: &[u8]) -> bool
     ensures { result ≡ list_all is_field_letter name.now }
 {
-    name.iter().all(|letter| is_letter_of_field(*letter))
+    name.iter().all(|letter| matches!(*letter, b'a'..=b'z' | b'0'..=b'9' | b'_'))
 }
 
 fn names_a_panel(name: &str) -> bool

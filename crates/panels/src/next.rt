@@ -32,10 +32,7 @@ fn place_of(aid: Aid) -> Option<usize>
 fn target(targets: &[Option<usize>], place: usize) -> Option<usize>
     ensures { result ≡ target_at targets.now place }
 {
-    match targets.get(place) {
-        Some(target) => *target,
-        None => None,
-    }
+    targets.get(place).copied().flatten()
 }
 
 impl Panel {
@@ -46,12 +43,8 @@ impl Panel {
         ensures { result ≡ next_of self.now aid }
     {
         let targets = self.targets.as_slice();
-        let Some(place) = place_of(aid) else {
-            return Next::Again;
-        };
-        match target(targets, place) {
-            Some(panel) => Next::Go(panel),
-            None => Next::Again,
-        }
+        place_of(aid)
+            .and_then(|place| target(targets, place))
+            .map_or(Next::Again, |panel| Next::Go(panel))
     }
 }

@@ -75,20 +75,11 @@ fn rules_at(part: Part, table: &Table) -> Option<&'static [KeyRule]>
     match part {
         Part::Top => Some(&TOP_RULES),
         Part::Panel(_) => Some(&PANEL_RULES),
-        Part::Text(_, _) => Some(rules_of_text(table)),
+        // A text has its own text, or shows a field.
+        Part::Text(_, _) if stands_at(table, "text") => Some(&LITERAL_RULES),
+        Part::Text(_, _) => Some(&SHOW_RULES),
         Part::Field(_, _) => Some(&FIELD_RULES),
         Part::Keys(_) => None,
-    }
-}
-
-/// The rules for a text: it has its own text, or shows a field.
-fn rules_of_text(table: &Table) -> &'static [KeyRule]
-    ensures { map rule_of result.now ≡ (if has_key (codes "text") (table_view table.now) then literal_rules else show_rules) }
-{
-    if stands_at(table, "text") {
-        &LITERAL_RULES
-    } else {
-        &SHOW_RULES
     }
 }
 

@@ -40,10 +40,7 @@ fn byte_at(content: &[u8], index: usize) -> u8
     ensures byte { result ≡ slice_index_or content.now index 0 }
     ensures storable { is_storable result ≡ true }
 {
-    match content.get(index) {
-        Some(byte) => *byte,
-        None => 0,
-    }
+    content.get(index).copied().unwrap_or(0)
 }
 
 /// A cell of an item with a content; without one it keeps what it has.
@@ -102,10 +99,7 @@ fn shown_bytes<'a>(values: &'a Values, content: &'a Content) -> &'a [u8]
 {
     match content {
         Content::Literal(text) => text.as_slice(),
-        Content::Show(number) => match values.get(*number) {
-            Some(value) => value,
-            None => &[],
-        },
+        Content::Show(number) => values.get(*number).unwrap_or(&[]),
     }
 }
 
@@ -159,10 +153,9 @@ fn attr_of_field(values: &Values, message: Message, keep: bool, field: &Field) -
 fn has_value(values: &Values, field: &Field) -> bool
     ensures { result ≡ is_filled values.now field.now }
 {
-    match values.get(field.number) {
-        Some(value) => !value.is_empty(),
-        None => false,
-    }
+    values
+        .get(field.number)
+        .is_some_and(|value| !value.is_empty())
 }
 
 /// What a field is written with.
@@ -170,13 +163,11 @@ fn content_of_field<'a>(values: &'a Values, message: Message, field: &'a Field) 
     ensures bytes { result.now ≡ field_content values.now message field.now }
     ensures characters { AreCharacters result.now }
 {
+    let fill = field.fill.as_slice();
     if message == Message::Fresh {
-        return field.fill.as_slice();
+        return fill;
     }
-    match values.get(field.number) {
-        Some(value) => value,
-        None => field.fill.as_slice(),
-    }
+    values.get(field.number).unwrap_or(fill)
 }
 
 /// Puts the cells of a field.
@@ -239,10 +230,7 @@ fn coded_byte(text: &[u8], index: usize) -> u8
     ensures byte { result ≡ slice_index_or (coded text.now) index 0 }
     ensures storable { is_storable result ≡ true }
 {
-    match text.get(index) {
-        Some(byte) => code_or_null(*byte),
-        None => 0,
-    }
+    text.get(index).map_or(0, |byte| code_or_null(*byte))
 }
 
 /// The code of an ASCII character.
@@ -250,20 +238,14 @@ fn code_or_null(character: u8) -> u8
     ensures code { result ≡ unwrap_or (code_of character) 0 }
     ensures storable { is_storable result ≡ true }
 {
-    match from_latin1(char::from(character)) {
-        Some(code) => code,
-        None => 0,
-    }
+    from_latin1(char::from(character)).unwrap_or(0)
 }
 
 /// The field with a number, over the whole text.
 fn numbered(number: usize, fields: &[Field]) -> Option<&Field>
     ensures { option_copied result ≡ field_numbered number fields.now }
 {
-    match place_of_number(number, fields) {
-        Some(place) => fields.get(place),
-        None => None,
-    }
+    fields.get(place_of_number(number, fields)?)
 }
 
 /// Where the field with a number stands.
@@ -283,10 +265,9 @@ fn name_in(message: Message, fields: &[Field]) -> &[u8]
 {
     match message {
         Message::Fresh | Message::Plain | Message::KeyNotActive => &[],
-        Message::Required(number) => match numbered(number, fields) {
-            Some(field) => field.name.as_str().as_bytes(),
-            None => &[],
-        },
+        Message::Required(number) => {
+            numbered(number, fields).map_or(&[], |field| field.name.as_str().as_bytes())
+        }
     }
 }
 
@@ -344,10 +325,10 @@ impl Panel {
         ensures { result ≡ wanted_cursor self.now message }
     {
         match message {
-            Message::Required(number) => match numbered(number, self.fields.as_slice()) {
-                Some(field) => field.extent.first_cell(),
-                None => self.cursor,
-            },
+            Message::Required(number) => numbered(number, self.fields.as_slice()).map_or(
+                self.cursor,
+                |field| field.extent.first_cell(),
+            ),
             Message::Fresh | Message::Plain | Message::KeyNotActive => self.cursor,
         }
     }

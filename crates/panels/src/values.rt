@@ -55,10 +55,7 @@ impl Values {
         ensures value { option_copied result ≡ value_of self.now field }
         ensures characters { IfSome result (λ value. AreCharacters value.now) }
     {
-        match self.values.get(&field) {
-            Some(value) => Some(value.as_slice()),
-            None => None,
-        }
+        Some(self.values.get(&field)?.as_slice())
     }
 
     /// Gives a field a copy of bytes as its value. Where memory is wanting nothing changes.

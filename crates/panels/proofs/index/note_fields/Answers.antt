@@ -18,6 +18,6 @@ returns-in_default c = absent_over (table_view c.args.top.now) c.args.panel c.ar
 
 pub loop-field-preserved : goal.loop-field-preserved
 loop-field-preserved c =
-    field_step (table_view c.args.top.now) c.args.panel c.loop-field.field c.loop-field.index c.note_if_named.new.index _
-    (c.name_at.ensures ∙ ap (λ panel. option_and_then (text_under (codes "name")) (option_and_then (table_under (codes "field") c.loop-field.field) panel)) c.in-Some.ensures)
-    c.in_ok-note_if_named.ensures c.loop-field.invariant
+    field_step (table_view c.args.top.now) c.args.panel c.loop-field.field c.loop-field.index c.note.new.index _
+    (c.name_at-name.ensures ∙ ap (λ panel. option_and_then (text_under (codes "name")) (option_and_then (table_under (codes "field") c.loop-field.field) panel)) c.in-Some.ensures)
+    c.in_ok-note.ensures c.loop-field.invariant

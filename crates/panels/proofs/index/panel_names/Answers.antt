@@ -12,4 +12,4 @@ returns c =
 
 pub loop-panel-preserved : goal.loop-panel-preserved
 loop-panel-preserved c =
-    panel_step (table_view c.args.top.now) c.loop-panel.panel c.loop-panel.index c.note_if_named.new.index _ c.name_at.ensures c.in_ok-note_if_named.ensures c.loop-panel.invariant
+    panel_step (table_view c.args.top.now) c.loop-panel.panel c.loop-panel.index c.note.new.index _ c.name_at-name.ensures c.in_ok-note.ensures c.loop-panel.invariant
