@@ -1,10 +1,13 @@
 -- The numbers and indexes that names stand for (our profile; only for the contracts of private functions).
 use Rattle.std.specs.Prelude.{◌≡◌, codes, ℕ, ◌+◌, ◌^◌, ◌<◌, List, length, Option, Some, slice_get, slice_index_or}
 use Rattle.toml.specs.Data.{Members}
+use Rattle.toml.specs.View.{table_view}
+use Rattle.panels.specs.declared.build.Source.{Source}
 use Rattle.panels.specs.declared.part.Part.{Part}
 use Rattle.panels.specs.declared.part.Part.TheVariants.{Panel, Text, Field}
 use Rattle.panels.specs.Tree.{count_under, table_of, fields_before}
-use Rattle.panels.specs.Survey.{AreEach}
+use Rattle.panels.specs.Survey.{AreEach, IsSurveyOf}
+use Rattle.panels.specs.Passes.{IsFaultless}
 use Rattle.panels.specs.Defines.{IsTargetBy, text_of_key}
 
 -- the index of a panel
@@ -25,6 +28,12 @@ HasNumber _ firsts = Unit {0}
 pub record AreFirstNumbers (top : Members) (firsts : List ℕ) : Type 0 where
   pub size : length firsts ≡ count_under (codes "panel") top
   pub are : AreEach (λ p first. first ≡ fields_before p top) firsts
+
+-- no fault stands in the text's own table, and the rest was gathered of it
+pub record IsSource (source : Source) : Type 0 where
+  pub faultless : IsFaultless (table_view source.top.now)
+  pub survey : IsSurveyOf (table_view source.top.now) source.survey.now
+  pub firsts : AreFirstNumbers (table_view source.top.now) source.firsts.now
 
 -- for each key in a list of names, where it leads
 pub record AreTargetsOf (top panel : Members) (names : List (List ℕ)) (targets : List (Option ℕ)) : Type 0 where

@@ -6,7 +6,7 @@ ghost use Rattle.panels.specs.declared.panel.Field.{Field};
 ghost use Rattle.panels.specs.Tree.{text_under, texts_under, texts_in, table_under, fields_before};
 ghost use Rattle.panels.specs.Items.{text_or_empty};
 ghost use Rattle.panels.specs.Shape.{has_key};
-ghost use Rattle.panels.specs.Link.{AreFirstNumbers, IsTextIn};
+ghost use Rattle.panels.specs.Link.{IsSource, IsTextIn};
 ghost use Rattle.panels.specs.Passes.{IsFaultless};
 ghost use Rattle.panels.specs.Survey.{IsSurveyOf, IsExtentOf};
 ghost use Rattle.panels.specs.Defines.{IsFieldNamed, IsContentOf, IsTextOf, IsFieldOf, IsEachOf, IsCursorBy, IsStartOf, IsPanelOf, Defines};
@@ -25,36 +25,36 @@ use codes3270::Addr;
 use std::alloc::{AllocError, Global};
 use toml::{Table, Value};
 
+/// What panels are made from: a text's own table, in which no fault stands, with what was gathered of it.
+#[derive(Clone, Copy)]
+pub(crate) struct Source<'a> {
+    pub top: &'a Table,
+    pub survey: &'a Survey,
+    /// The number, over the whole text, of each panel's first field.
+    pub firsts: &'a [usize],
+}
+
 /// The number of the field that a text item without a text of its own shows.
-fn shown_field(table: &Table, top: &Table, survey: &Survey, firsts: &[usize]) -> usize
-    requires faultless { IsFaultless (table_view top.now) }
-    requires is_text { IsTextIn (table_view top.now) (table_view table.now) }
+fn shown_field(table: &Table, source: Source) -> usize
+    requires source { IsSource source }
+    requires is_text { IsTextIn (table_view source.top.now) (table_view table.now) }
     requires no_text { has_key (codes "text") (table_view table.now) ≡ false }
-    requires survey { IsSurveyOf (table_view top.now) survey.now }
-    requires firsts { AreFirstNumbers (table_view top.now) firsts.now }
-    ensures { IsFieldNamed (table_view top.now) (text_or_empty (codes "show") (table_view table.now)) result }
+    ensures { IsFieldNamed (table_view source.entry.top.now) (text_or_empty (codes "show") (table_view table.now)) result }
 {
-    field_named(text_of(table, "show"), top, &survey.field_names, firsts).unwrap_or(0)
+    let names = &source.survey.field_names;
+    field_named(text_of(table, "show"), source.top, names, source.firsts).unwrap_or(0)
 }
 
 /// What a text item shows.
-fn content_of(
-    alloc: Global,
-    table: &Table,
-    top: &Table,
-    survey: &Survey,
-    firsts: &[usize],
-) -> Result<Content, AllocError>
-    requires faultless { IsFaultless (table_view top.now) }
-    requires is_text { IsTextIn (table_view top.now) (table_view table.now) }
-    requires survey { IsSurveyOf (table_view top.now) survey.now }
-    requires firsts { AreFirstNumbers (table_view top.now) firsts.now }
-    ensures { IfOk result (IsContentOf (table_view top.now) (table_view table.now)) }
+fn content_of(alloc: Global, table: &Table, source: Source) -> Result<Content, AllocError>
+    requires source { IsSource source }
+    requires is_text { IsTextIn (table_view source.top.now) (table_view table.now) }
+    ensures { IfOk result (IsContentOf (table_view source.entry.top.now) (table_view table.now)) }
 {
     if stands_at(table, "text") {
         Ok(Content::Literal(Characters::of_text(alloc, text_of(table, "text"))?))
     } else {
-        Ok(Content::Show(shown_field(table, top, survey, firsts)))
+        Ok(Content::Show(shown_field(table, source)))
     }
 }
 
@@ -63,18 +63,14 @@ fn text_item(
     alloc: Global,
     table: &Table,
     extent: Extent,
-    top: &Table,
-    survey: &Survey,
-    firsts: &[usize],
+    source: Source,
 ) -> Result<TextItem, AllocError>
-    requires faultless { IsFaultless (table_view top.now) }
-    requires is_text { IsTextIn (table_view top.now) (table_view table.now) }
-    requires survey { IsSurveyOf (table_view top.now) survey.now }
-    requires firsts { AreFirstNumbers (table_view top.now) firsts.now }
+    requires source { IsSource source }
+    requires is_text { IsTextIn (table_view source.top.now) (table_view table.now) }
     requires extent { IsExtentOf (table_view table.now) extent }
-    ensures { IfOk result (IsTextOf (table_view top.now) (table_view table.now)) }
+    ensures { IfOk result (IsTextOf (table_view source.entry.top.now) (table_view table.now)) }
 {
-    let content = content_of(alloc, table, top, survey, firsts)?;
+    let content = content_of(alloc, table, source)?;
     Ok(TextItem {
         extent,
         bright: is_true_at(table, "bright"),
@@ -110,16 +106,12 @@ fn field_item(
 fn texts_of(
     alloc: Global,
     panel: &Table,
-    top: &Table,
     number: usize,
-    survey: &Survey,
-    firsts: &[usize],
+    source: Source,
 ) -> Result<Vec<TextItem>, AllocError>
-    requires faultless { IsFaultless (table_view top.now) }
-    requires panel { table_under (codes "panel") number (table_view top.now) ≡ Some (table_view panel.now) }
-    requires survey { IsSurveyOf (table_view top.now) survey.now }
-    requires firsts { AreFirstNumbers (table_view top.now) firsts.now }
-    ensures { IfOk result (λ texts. IsEachOf (λ i. IsTextOf (table_view top.now)) (codes "text") (table_view panel.now) texts.items) }
+    requires source { IsSource source }
+    requires panel { table_under (codes "panel") number (table_view source.top.now) ≡ Some (table_view panel.now) }
+    ensures { IfOk result (λ texts. IsEachOf (λ i. IsTextOf (table_view source.entry.top.now)) (codes "text") (table_view panel.now) texts.items) }
 {
     let mut texts = Vec::new(alloc);
     for index in 0..count_at(panel, "text") {
@@ -129,7 +121,7 @@ fn texts_of(
         let Some(extent) = extent_of(table) else {
             continue;
         };
-        texts.push(text_item(alloc, table, extent, top, survey, firsts)?)?;
+        texts.push(text_item(alloc, table, extent, source)?)?;
     }
     Ok(texts)
 }
@@ -206,18 +198,19 @@ fn cursor_of(panel: &Table, top: &Table, number: usize, fields: &[Field]) -> Add
 fn panel_item(
     alloc: Global,
     panel: &Table,
-    top: &Table,
     number: usize,
-    survey: &Survey,
-    firsts: &[usize],
+    source: Source,
 ) -> Result<Panel, AllocError>
-    requires faultless { IsFaultless (table_view top.now) }
-    requires panel { table_under (codes "panel") number (table_view top.now) ≡ Some (table_view panel.now) }
-    requires survey { IsSurveyOf (table_view top.now) survey.now }
-    requires firsts { AreFirstNumbers (table_view top.now) firsts.now }
-    ensures { IfOk result (IsPanelOf (table_view top.now) number (table_view panel.now)) }
+    requires source { IsSource source }
+    requires panel { table_under (codes "panel") number (table_view source.top.now) ≡ Some (table_view panel.now) }
+    ensures { IfOk result (IsPanelOf (table_view source.entry.top.now) number (table_view panel.now)) }
 {
-    let texts = texts_of(alloc, panel, top, number, survey, firsts)?;
+    let Source {
+        top,
+        survey,
+        firsts,
+    } = source;
+    let texts = texts_of(alloc, panel, number, source)?;
     let fields = fields_from(alloc, panel, top, number, firsts[number])?;
     let cursor = cursor_of(panel, top, number, fields.as_slice());
     let targets = targets(alloc, &KEY_NAMES, panel, top, number, &survey.panel_names)?;
@@ -242,7 +235,12 @@ fn panels_of(alloc: Global, top: &Table, survey: &Survey) -> Result<Vec<Panel>, 
             continue;
         };
         let firsts = firsts.as_slice();
-        panels.push(panel_item(alloc, table, top, index, survey, firsts)?)?;
+        let source = Source {
+            top,
+            survey,
+            firsts,
+        };
+        panels.push(panel_item(alloc, table, index, source)?)?;
     }
     Ok(panels)
 }

@@ -24,6 +24,9 @@ use crate::survey::{Survey, is_met_earlier};
 use crate::tree::{count_at, table_at, table_of_part, text_at, value_at};
 use toml::Table;
 
+/// Err has the first fault, and where it stands.
+pub(crate) type Checked = Result<(), (TreeFault, At)>;
+
 /// The most panels of a text.
 const MOST_PANELS: usize = 64;
 
@@ -226,7 +229,7 @@ fn faults_in(pass: usize) -> &'static [TreeFault]
 }
 
 /// Looks for a pass's faults in a table.
-fn check_part(pass: usize, part: Part, top: &Table, survey: &Survey) -> Result<(), (TreeFault, At)>
+fn check_part(pass: usize, part: Part, top: &Table, survey: &Survey) -> Checked
     requires survey { IsSurveyOf (table_view top.now) survey.now }
     requires clear { IsClearTo (turn_at pass part) (table_view top.now) }
     ensures { MatchResult result
@@ -240,13 +243,7 @@ fn check_part(pass: usize, part: Part, top: &Table, survey: &Survey) -> Result<(
 }
 
 /// Looks for a pass's faults in the items of an array, of which one is given.
-fn check_items(
-    pass: usize,
-    item: Part,
-    count: usize,
-    top: &Table,
-    survey: &Survey,
-) -> Result<(), (TreeFault, At)>
+fn check_items(pass: usize, item: Part, count: usize, top: &Table, survey: &Survey) -> Checked
     requires survey { IsSurveyOf (table_view top.now) survey.now }
     requires is_item { is_item item ≡ true }
     requires clear { IsClearTo (turn_at pass (item_at item 0)) (table_view top.now) }
@@ -261,12 +258,7 @@ fn check_items(
 }
 
 /// Looks for a pass's faults in a panel: in its own table, its texts, its fields and its keys.
-fn check_panel(
-    pass: usize,
-    panel: usize,
-    top: &Table,
-    survey: &Survey,
-) -> Result<(), (TreeFault, At)>
+fn check_panel(pass: usize, panel: usize, top: &Table, survey: &Survey) -> Checked
     requires survey { IsSurveyOf (table_view top.now) survey.now }
     requires clear { IsClearTo (turn_at pass (Part.Panel panel)) (table_view top.now) }
     ensures { MatchResult result
@@ -296,7 +288,7 @@ fn check_panel(
 }
 
 /// Looks for a pass's faults in the text's own table, and panel by panel.
-fn check_pass(pass: usize, top: &Table, survey: &Survey) -> Result<(), (TreeFault, At)>
+fn check_pass(pass: usize, top: &Table, survey: &Survey) -> Checked
     requires survey { IsSurveyOf (table_view top.now) survey.now }
     requires clear { IsClearTo (turn_at pass Part.Top) (table_view top.now) }
     ensures { MatchResult result
@@ -311,7 +303,7 @@ fn check_pass(pass: usize, top: &Table, survey: &Survey) -> Result<(), (TreeFaul
 }
 
 /// Looks for all faults, pass by pass.
-pub(crate) fn check_passes(top: &Table, survey: &Survey) -> Result<(), (TreeFault, At)>
+pub(crate) fn check_passes(top: &Table, survey: &Survey) -> Checked
     requires { IsSurveyOf (table_view top.now) survey.now }
     ensures { MatchResult result
         (λ _. IsFaultless (table_view top.now))

@@ -13,8 +13,8 @@ pub returns : goal.returns
 returns c =
     let (p, i, there) = c.requires.is_text in
     let show = text_or_empty (codes "show") (table_view c.args.table.now) in
-    let known : is_unknown c.args.survey.now.field_names (Some show) ≡ false =
-    show_is_known (table_view c.args.top.now) (table_view c.args.table.now) c.args.survey.now.field_names p i c.requires.faultless c.requires.survey.field_names there c.requires.no_text in
-    subst (IsFieldNamed (table_view c.args.top.now) show) (sym c.unwrap_or.ensures)
-    (found_or (IsFieldNamed (table_view c.args.top.now) show) (is_unknown c.args.survey.now.field_names (Some show) ≡ true) c.field_named.result 0 (λ unknown. false≢true (sym known ∙ unknown))
-    (subst (λ n. MatchOption c.field_named.result (is_unknown c.args.survey.now.field_names (Some n) ≡ true) (IsFieldNamed (table_view c.args.top.now) n)) c.text_of.ensures c.field_named.ensures))
+    let known : is_unknown c.args.source.survey.now.field_names (Some show) ≡ false =
+    show_is_known (table_view c.args.source.top.now) (table_view c.args.table.now) c.args.source.survey.now.field_names p i c.requires.source.faultless c.requires.source.survey.field_names there c.requires.no_text in
+    subst (IsFieldNamed (table_view c.args.source.top.now) show) (sym c.unwrap_or.ensures)
+    (found_or (IsFieldNamed (table_view c.args.source.top.now) show) (is_unknown c.args.source.survey.now.field_names (Some show) ≡ true) c.field_named.result 0 (λ unknown. false≢true (sym known ∙ unknown))
+    (subst (λ n. MatchOption c.field_named.result (is_unknown c.args.source.survey.now.field_names (Some n) ≡ true) (IsFieldNamed (table_view c.args.source.top.now) n)) c.text_of.ensures c.field_named.ensures))

@@ -12,11 +12,11 @@ use Rattle.panels.proofs.Building.{each_more, size_more}
 use Rattle.panels.proofs.build.texts_of.Goals as goal
 
 pub loop-index-preserved-in_default : goal.loop-index-preserved-in_default
-loop-index-preserved-in_default c = absurd (false≢true (ap is_some c.in_default.ensures ∙ text_there (table_view c.args.top.now) (table_view c.args.panel.now) c.args.number c.loop-index.index c.requires.faultless c.requires.panel (rw (← c.count_at-index-end.ensures) c.loop-index-test.true)))
+loop-index-preserved-in_default c = absurd (false≢true (ap is_some c.in_default.ensures ∙ text_there (table_view c.args.source.top.now) (table_view c.args.panel.now) c.args.number c.loop-index.index c.requires.source.faultless c.requires.panel (rw (← c.count_at-index-end.ensures) c.loop-index-test.true)))
 
 pub loop-index-preserved-in_default-extent_of : goal.loop-index-preserved-in_default-extent_of
 loop-index-preserved-in_default-extent_of c = absurd (false≢true (sym c.in_default-extent_of.ensures ∙
-    on_screen (table_view c.args.top.now) (table_view c.in-Some.table.now) (Text c.args.number c.loop-index.index) c.requires.faultless (ap (option_and_then (table_under (codes "text") c.loop-index.index)) c.requires.panel ∙ sym c.in-Some.ensures) refl))
+    on_screen (table_view c.args.source.top.now) (table_view c.in-Some.table.now) (Text c.args.number c.loop-index.index) c.requires.source.faultless (ap (option_and_then (table_under (codes "text") c.loop-index.index)) c.requires.panel ∙ sym c.in-Some.ensures) refl))
 
 pub text_item-requires-clause-is_text : goal.text_item-requires-clause-is_text
 text_item-requires-clause-is_text c = (c.args.number, c.loop-index.index, (ap (option_and_then (table_under (codes "text") c.loop-index.index)) c.requires.panel ∙ sym c.in-Some.ensures))
@@ -26,7 +26,7 @@ loop-index-preserved c = record {
   size = rw c.in_ok-push.ensures.items (size_more _ _ _ c.loop-index.invariant.size);
   are =
       rw c.in_ok-push.ensures.items
-      (each_more (λ i thing. (inner : Members) × (table_under (codes "text") i (table_view c.args.panel.now) ≡ Some inner) × IsTextOf (table_view c.args.top.now) inner thing) c.loop-index.index c.loop-index.texts.items _
+      (each_more (λ i thing. (inner : Members) × (table_under (codes "text") i (table_view c.args.panel.now) ≡ Some inner) × IsTextOf (table_view c.args.source.top.now) inner thing) c.loop-index.index c.loop-index.texts.items _
       c.loop-index.invariant.size c.loop-index.invariant.are (table_view c.in-Some.table.now, sym c.in-Some.ensures, c.in_ok-text_item.ensures));
 }
 

@@ -9,5 +9,5 @@ use Rattle.panels.proofs.build.texts_of.Given as goal
 abbrev pub invariant-loop-index : goal.invariant-loop-index
 invariant-loop-index l = record {
   size : length l.texts.items ≡ l.index;
-  are : AreEach (λ i thing. (inner : Members) × (table_under (codes "text") i (table_view l.panel) ≡ Some inner) × IsTextOf (table_view l.top) inner thing) l.texts.items;
+  are : AreEach (λ i thing. (inner : Members) × (table_under (codes "text") i (table_view l.panel) ≡ Some inner) × IsTextOf (table_view l.source.top.now) inner thing) l.texts.items;
 }
