@@ -94,9 +94,7 @@ fn is_named_twice(part: Part, table: &Table, top: &Table, survey: &Survey) -> bo
     match part {
         Part::Panel(_) => is_later(&survey.panel_names, text_at(table, "name"), part),
         Part::Field(_, _) => is_later(&survey.field_names, text_at(table, "name"), part),
-        Part::Top => false,
-        Part::Text(_, _) => false,
-        Part::Keys(_) => false,
+        Part::Top | Part::Text(_, _) | Part::Keys(_) => false,
     }
 }
 
