@@ -1,5 +1,5 @@
 //! The panels of a tree in which no fault stands.
-ghost use Rattle.std.specs.Prelude.{◌≡◌, ◌↔◌, ◌+◌, ◌++◌, codes, ℕ, true, false, IsTrue, map, string_bytes, IfOk, OnOk, MatchOption, slice_get};
+ghost use Rattle.std.specs.Prelude.{◌≡◌, ◌↔◌, ◌+◌, ◌++◌, codes, ℕ, false, IsTrue, map, string_bytes, IfOk, OnOk, MatchOption, slice_get};
 ghost use Rattle.toml.specs.Data.{item, no_items};
 ghost use Rattle.toml.specs.View.{view, table_view, items_view};
 ghost use Rattle.panels.specs.declared.panel.Field.{Field};

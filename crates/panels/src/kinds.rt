@@ -1,7 +1,5 @@
 //! The types of the values of a panel text.
-ghost use Rattle.std.specs.Prelude.{◌≡◌, is_some};
-ghost use Rattle.std.specs.List.{list_all};
-ghost use Rattle.toml.specs.Data.{as_str, as_table};
+ghost use Rattle.std.specs.Prelude.{◌≡◌};
 ghost use Rattle.toml.specs.View.{view, items_view, table_view};
 ghost use Rattle.panels.specs.Shape.{is_of_kind, all_items, all_values, is_text, is_table};
 

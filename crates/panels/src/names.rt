@@ -3,7 +3,7 @@ ghost use Rattle.std.specs.Prelude.{◌≡◌, bytes_eq, not, length};
 ghost use Rattle.std.specs.Int.{is_in_range};
 ghost use Rattle.std.specs.List.{list_all, list_any};
 ghost use Rattle.toml.specs.View.{table_view};
-ghost use Rattle.panels.specs.Items.{is_panel_name, is_field_name, is_panel_letter, is_field_letter, text_or_empty};
+ghost use Rattle.panels.specs.Items.{is_panel_name, is_field_name, is_panel_letter, is_field_letter};
 ghost use Rattle.panels.specs.Faults.{has_bad_name, has_bad_key};
 ghost use Rattle.panels.specs.Keys.{is_key_name};
 ghost use Rattle.panels.specs.Tree.{keys as keys_in};

@@ -1,9 +1,9 @@
 //! Which keys the tables of a panel text have.
-ghost use Rattle.std.specs.Prelude.{◌≡◌, codes, map, not, ◌&&◌, option_map, if◌then◌else◌};
+ghost use Rattle.std.specs.Prelude.{◌≡◌, map, not, ◌&&◌, option_map};
 ghost use Rattle.toml.specs.View.{table_view};
 ghost use Rattle.toml.specs.Data.{get_member};
 ghost use Rattle.panels.specs.Rules.{rule_of};
-ghost use Rattle.panels.specs.Shape.{rules_for, literal_rules, show_rules, is_known, breaks_keys, breaks_needs, breaks_kinds, has_unknown_key, lacks_key, has_bad_kind, is_misfit, has_key};
+ghost use Rattle.panels.specs.Shape.{rules_for, is_known, breaks_keys, breaks_needs, breaks_kinds, has_unknown_key, lacks_key, has_bad_kind, is_misfit, has_key};
 
 use crate::kinds::{Kind, fits_kind, has_texts_alone};
 use crate::part::Part;

@@ -1,8 +1,8 @@
 //! What is gathered of a panel text before its faults are looked for, so that no look-up goes over all of it.
-ghost use Rattle.std.specs.Prelude.{◌≡◌, codes, ℕ, length, take, IfOk, option_copied, slice_get};
+ghost use Rattle.std.specs.Prelude.{◌≡◌, codes, length, IfOk};
 ghost use Rattle.std.specs.List.{list_any};
 ghost use Rattle.toml.specs.View.{table_view};
-ghost use Rattle.panels.specs.Survey.{AreExtentsOf, AreExtentsIn, AreEach, IsExtentIn, IsSurveyOf, meets, meets_any, text_meets, field_meets, meets_earlier};
+ghost use Rattle.panels.specs.Survey.{AreExtentsOf, AreExtentsIn, AreEach, IsExtentIn, IsSurveyOf, meets, text_meets, field_meets, meets_earlier};
 ghost use Rattle.panels.specs.Tree.{count_under, table_under};
 
 use crate::extent::Extent;
