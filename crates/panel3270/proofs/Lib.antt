@@ -2,6 +2,7 @@ pub mod Pieces
 pub mod Words
 pub mod Commands
 pub mod OnePage
+pub mod OneScript
 pub mod Known
 pub mod Endings
 pub mod ScriptLines

@@ -102,3 +102,8 @@ pub record IsScriptPage (input page : List ℕ) (stopped : Option ℕ) : Type 0 
   pub begins : IsWorldOf (panel_text input) old
   pub new : ByteWorld
   pub is_played : IsPlayed (script_text input) old page stopped new
+
+-- An input has one page, and one number of the line that ends it, if one does.
+abbrev pub ScriptsHaveOnePage : Type 0
+ScriptsHaveOnePage = (input page other : List ℕ) (stopped ended : Option ℕ) → IsScriptPage input page stopped → IsScriptPage input other ended
+    → (page ≡ other) × (stopped ≡ ended)

@@ -40,7 +40,7 @@ pub use command_line::words;
 pub use fault::Fault;
 pub use job::{Job, Port, Turns, WordFault};
 pub use page::{Page, page_of};
-pub use script::run_script;
+pub use script::{a_script_has_one_page, run_script};
 pub use selfrun::run_selfrun;
 pub use serving::{run_host, run_serve};
 use show::end_by;

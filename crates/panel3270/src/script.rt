@@ -6,7 +6,7 @@ ghost use Rattle.panels.specs.Defines.{IsReadFrom};
 ghost use Rattle.panels.specs.Panel.{Panels};
 ghost use Rattle.panels.specs.Passes.{IsReason};
 ghost use Rattle.panel3270.specs.Runs.{EndsPrinting, HasCause, IsEnd, ending_of};
-ghost use Rattle.panel3270.specs.Scripts.{HasNoWorld, IsApplicationOf, IsHostOf, IsScriptPage, IsWorldOf, behind_line, is_at_mark, lus_of, mark_place, panel_text, script_text};
+ghost use Rattle.panel3270.specs.Scripts.{HasNoWorld, IsApplicationOf, IsHostOf, IsScriptPage, IsWorldOf, ScriptsHaveOnePage, behind_line, is_at_mark, lus_of, mark_place, panel_text, script_text};
 ghost use Rattle.panel3270.specs.declared.task.Task.TheVariants.{Script};
 
 use crate::fault::Fault;
@@ -91,6 +91,14 @@ fn page_of_script(alloc: Global, input: &str) -> Result<ScriptPage, Fault>
         Ok(stopped) => Ok(ScriptPage { text, stopped }),
         Err(_) => Err(Fault::NoMemory),
     }
+}
+
+/// Does nothing: its contract says that an input has one page, and one number of the line that ends it, if one does.
+pub fn a_script_has_one_page()
+    ensures { ScriptsHaveOnePage }
+{
+    panels::a_text_defines_its_panels_once();
+    world3270::one_machine();
 }
 
 // ---- the two parts of an input
