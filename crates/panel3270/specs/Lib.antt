@@ -15,6 +15,7 @@ pub mod Counted
 pub mod Runs
 pub mod Words
 pub mod ClapCommands
+pub mod Refusals
 pub mod Sockets
 pub mod Notices
 pub mod Selfruns

@@ -1,5 +1,5 @@
 -- What is told of the connections of a host (our profile).
-use Rattle.std.specs.Prelude.{ℕ, List, ◌∷◌, [], ◌++◌, Option, None, Some, codes}
+use Rattle.std.specs.Prelude.{ℕ, List, ◌∷◌, [], ◌++◌, Option, None, Some, codes, ◌==◌, if◌then◌else◌}
 use Rattle.std.specs.Char.{encode_utf8}
 use Rattle.std.specs.Fmt.{decimal}
 use Rattle.std.specs.List.{flat_map}
@@ -9,6 +9,7 @@ use Rattle.host_core.specs.declared.serving.Served.{Served}
 use Rattle.host_core.specs.declared.serving.Served.TheVariants as served
 use Rattle.tn3270e_msg.specs.declared.cause.Cause.{Cause}
 use Rattle.tn3270e_msg.specs.declared.cause.Cause.TheVariants as cause
+use Rattle.tn3270e_msg.specs.declared.reply.Reason.{Reason}
 use Rattle.term_core.specs.ScreenText.{newline}
 use Rattle.panel3270.specs.PhaseText.{cause_number}
 use Rattle.panel3270.specs.declared.notice.Notice.{Notice}
@@ -27,12 +28,26 @@ cause_name cause.BadInbound = codes "BadInbound"
 cause_name cause.BadResponse = codes "BadResponse"
 cause_name cause.Negative = codes "Negative"
 
+-- the reasons that a host here gives, by their names (RFC 1647, section 3); of any other the code
+abbrev pub reason_text : Reason → List ℕ
+reason_text reason =
+    if reason.0 == 1 then codes "DEVICE-IN-USE"
+    else (if reason.0 == 3 then codes "INV-NAME"
+    else (if reason.0 == 4 then codes "INV-DEVICE-TYPE"
+    else (if reason.0 == 7 then codes "UNSUPPORTED-REQ" else decimal reason.0)))
+
 -- ---- lines
+
+-- the LU that was asked for, if one was
+abbrev pub lu_part : Option (List ℕ) → List ℕ
+lu_part None = []
+lu_part (Some lu) = flat_map encode_utf8 lu ++ codes " "
 
 -- one for each notice: the connection's number, and what became of it
 abbrev pub notice_text : Notice → List ℕ
 notice_text notice.TurnedAway = codes "turned away: no number is free"
 notice_text (notice.Connected conn) = decimal conn ++ codes ": connected"
+notice_text (notice.Refused conn refusal) = decimal conn ++ codes ": refused " ++ lu_part refusal.lu ++ reason_text refusal.reason
 notice_text (notice.Bound conn lu) = decimal conn ++ codes ": bound " ++ flat_map encode_utf8 lu
 notice_text (notice.Closed conn why) = decimal conn ++ codes ": closed " ++ decimal (cause_number why) ++ codes " " ++ cause_name why
 notice_text (notice.Lost conn) = decimal conn ++ codes ": lost"

@@ -1,10 +1,12 @@
 -- The connections of a host over sockets (our profile): what stands at each number, and what a read and a write of it make of that.
-use Rattle.std.specs.Prelude.{◌≡◌, ◌<◌, ◌≤◌, ◌+◌, ◌&&◌, ◌||◌, ⊤, ℕ, Bool, true, false, not, ltb, List, [], length, replicate, slice_set, slice_index_or}
+use Rattle.std.specs.Prelude.{◌≡◌, ◌<◌, ◌≤◌, ◌+◌, ◌&&◌, ◌||◌, ⊤, ℕ, Bool, true, false, not, ltb, List, [], length, replicate, slice_set, slice_index_or, take}
+use Rattle.host_core.specs.Serves.{taken_by}
 use Rattle.host_core.specs.State.{most_connections}
 use Rattle.host_core.specs.declared.links.LinkRead.{LinkRead}
 use Rattle.host_core.specs.declared.links.LinkRead.TheVariants as read
 use Rattle.host_core.specs.declared.links.LinkWrite.{LinkWrite}
 use Rattle.host_core.specs.declared.links.LinkWrite.TheVariants as write
+use Rattle.panel3270.specs.Refusals.{Heard, HostSays, TerminalSays, begun, settled, told, unheard}
 
 -- A number: whether it has a connection, how many bytes wait to be sent there, and how often its connections ended and failed.
 pub record Place : Type 0 where
@@ -69,9 +71,10 @@ Takes old bytes write.Failed new = (old.connected ≡ true) × (new ≡ failed o
 
 -- ---- the numbers
 
--- the numbers, and whether bytes crossed since that was asked last
+-- the numbers, what is heard of the connection of each, and whether bytes crossed since that was asked last
 pub record Sockets : Type 0 where
   pub places : List Place
+  pub heard : List Heard
   pub moved : Bool
 
 abbrev pub place_at : ℕ → Sockets → Place
@@ -80,9 +83,15 @@ place_at conn sockets = slice_index_or sockets.places conn unused
 abbrev pub with_place : ℕ → Place → Sockets → Sockets
 with_place conn place sockets = record sockets { places = slice_set sockets.places conn place }
 
+abbrev pub heard_at : ℕ → Sockets → Heard
+heard_at conn sockets = slice_index_or sockets.heard conn unheard
+
+abbrev pub with_heard : ℕ → Heard → Sockets → Sockets
+with_heard conn heard sockets = record sockets { heard = slice_set sockets.heard conn heard }
+
 -- as they begin
 abbrev pub new_sockets : Sockets
-new_sockets = record { places = replicate most_connections unused; moved = false }
+new_sockets = record { places = replicate most_connections unused; heard = replicate most_connections unheard; moved = false }
 
 abbrev pub ends_at : ℕ → Sockets → ℕ
 ends_at conn sockets = (place_at conn sockets).ends
@@ -100,6 +109,17 @@ left place = record place { connected = false; waiting = 0 }
 abbrev pub with_waiting : ℕ → Place → Place
 with_waiting waiting place = record place { waiting = waiting }
 
+-- a connection of which is listened to what crosses begins at a number
+abbrev pub began_at : ℕ → Sockets → Sockets
+began_at conn sockets = with_heard conn (begun (heard_at conn sockets)) (with_place conn (began (place_at conn sockets)) sockets)
+
+-- the ends of a number's connection agreed, or a refusal there is told
+abbrev pub settled_at : ℕ → Sockets → Sockets
+settled_at conn sockets = with_heard conn (settled (heard_at conn sockets)) sockets
+
+abbrev pub told_at : ℕ → Sockets → Sockets
+told_at conn sockets = with_heard conn (told (heard_at conn sockets)) sockets
+
 abbrev pub has_got : LinkRead → Bool
 has_got (read.Got count) = true
 has_got read.NotNow = false
@@ -113,14 +133,18 @@ has_taken write.Failed = false
 
 -- ---- the numbers, read and written
 
--- What a read of a number gave, and how the numbers stand then: no other changes.
+-- What a read of a number gave, and how the numbers stand then: the bytes that came are heard, and no other number changes.
 pub record GivesAt (old : Sockets) (conn : ℕ) (bytes : List ℕ) (answer : LinkRead) (new : Sockets) : Type 0 where
   pub gives : Gives (place_at conn old) bytes answer (place_at conn new)
   pub moved : new.moved ≡ (old.moved || has_got answer)
   pub others : new.places ≡ slice_set old.places conn (place_at conn new)
+  pub says : TerminalSays (heard_at conn old) bytes (heard_at conn new)
+  pub others_heard : new.heard ≡ slice_set old.heard conn (heard_at conn new)
 
--- what a write to a number took, and how the numbers stand then
+-- what a write to a number took, and how the numbers stand then: the bytes that it took are heard
 pub record TakesAt (old : Sockets) (conn : ℕ) (bytes : List ℕ) (answer : LinkWrite) (new : Sockets) : Type 0 where
   pub takes : Takes (place_at conn old) bytes answer (place_at conn new)
   pub moved : new.moved ≡ (old.moved || has_taken answer)
   pub others : new.places ≡ slice_set old.places conn (place_at conn new)
+  pub says : HostSays (heard_at conn old) (take (taken_by answer) bytes) (heard_at conn new)
+  pub others_heard : new.heard ≡ slice_set old.heard conn (heard_at conn new)

@@ -17,6 +17,7 @@ mod page;
 mod phase_text;
 mod place;
 mod player;
+mod refusals;
 mod screen_text;
 mod script;
 mod script_line;

@@ -1,11 +1,12 @@
 //! What is told of the connections of a host.
 ghost use Rattle.std.specs.Prelude.{◌≡◌, ◌++◌, OnOk, string_bytes};
-ghost use Rattle.panel3270.specs.Notices.{cause_name, notice_line, notice_of, notice_text};
+ghost use Rattle.panel3270.specs.Notices.{cause_name, lu_part, notice_line, notice_of, notice_text, reason_text};
 
 use crate::phase_text::{cause_number, put_letters};
+use crate::refusals::Refusal;
 use host_core::{Phase, Served};
 use std::alloc::AllocError;
-use tn3270e_msg::{Cause, Lu};
+use tn3270e_msg::{Cause, Lu, Reason};
 
 /// What became of a connection, by its number.
 #[derive(Drop)]
@@ -14,6 +15,8 @@ pub(crate) enum Notice {
     TurnedAway,
     /// It came.
     Connected(usize),
+    /// Its terminal was refused an LU.
+    Refused(usize, Refusal),
     /// Its terminal was bound to an LU.
     Bound(usize, Lu),
     /// The host closed it for a cause.
@@ -39,6 +42,48 @@ fn cause_name(cause: Cause) -> &'static str
     }
 }
 
+/// Adds why a terminal was refused: the name of RFC 1647, section 3, or the code of a reason that a host here doesn't give.
+fn put_reason(text: &mut String, reason: Reason) -> Result<(), AllocError>
+    ensures { OnOk result (string_bytes text.new ≡ string_bytes text.old ++ reason_text reason) }
+{
+    if reason == Reason::DEVICE_IN_USE {
+        return text.push_str("DEVICE-IN-USE");
+    }
+    if reason == Reason::INV_NAME {
+        return text.push_str("INV-NAME");
+    }
+    if reason == Reason::INV_DEVICE_TYPE {
+        return text.push_str("INV-DEVICE-TYPE");
+    }
+    if reason == Reason::UNSUPPORTED_REQ {
+        return text.push_str("UNSUPPORTED-REQ");
+    }
+    let code = reason.0;
+    write!(text, "{code}")
+}
+
+/// Adds the LU that was asked for, if one was.
+fn put_lu(text: &mut String, lu: &Option<Lu>) -> Result<(), AllocError>
+    ensures { OnOk result (string_bytes text.new ≡ string_bytes text.old ++ lu_part lu.now) }
+{
+    match lu {
+        Some(lu) => {
+            put_letters(text, lu.as_bytes())?;
+            text.push(' ')
+        }
+        None => Ok(()),
+    }
+}
+
+/// Adds what is told of a connection that was refused an LU.
+fn put_refused(text: &mut String, conn: usize, refusal: &Refusal) -> Result<(), AllocError>
+    ensures { OnOk result (string_bytes text.new ≡ string_bytes text.old ++ notice_text (Notice.Refused conn refusal.now)) }
+{
+    write!(text, "{conn}: refused ")?;
+    put_lu(text, &refusal.lu)?;
+    put_reason(text, refusal.reason)
+}
+
 /// Adds what is told of a connection that was bound.
 fn put_bound(text: &mut String, conn: usize, letters: &[u8]) -> Result<(), AllocError>
     ensures { OnOk result (string_bytes text.new ≡ string_bytes text.old ++ notice_text (Notice.Bound conn letters.now)) }
@@ -54,6 +99,7 @@ fn put_text(text: &mut String, notice: &Notice) -> Result<(), AllocError>
     match notice {
         Notice::TurnedAway => text.push_str("turned away: no number is free"),
         Notice::Connected(conn) => write!(text, "{conn}: connected"),
+        Notice::Refused(conn, refusal) => put_refused(text, *conn, refusal),
         Notice::Bound(conn, lu) => put_bound(text, *conn, lu.as_bytes()),
         Notice::Closed(conn, cause) => {
             let number = cause_number(*cause);

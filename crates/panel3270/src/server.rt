@@ -5,6 +5,7 @@ ghost use Rattle.host_core.specs.declared.phase.Phase.TheVariants as phase;
 
 use crate::fault::Fault;
 use crate::notice::{Notice, notice_of};
+use crate::refusals::MOST_KEPT;
 use crate::sockets::Sockets;
 use host_core::{Host, MOST_CONNECTIONS, Phase, Served, serve_turn};
 use mio::net::{TcpListener, TcpStream};
@@ -171,6 +172,30 @@ impl Server {
         watcher.notice(Notice::Connected(conn))
     }
 
+    /// Tells of each refusal on a connection that wasn't told yet.
+    fn tell_refusals<W: Watcher>(&mut self, conn: usize, watcher: &mut W) -> Result<(), Fault>
+        requires { conn < most_connections }
+    {
+        for _ in 0..MOST_KEPT {
+            match self.sockets.next_refusal(conn) {
+                Some(refusal) => watcher.notice(Notice::Refused(conn, refusal))?,
+                None => return Ok(()),
+            }
+        }
+        Ok(())
+    }
+
+    /// Listens no more to a connection that is bound, once all that was said before is sent.
+    fn settle_if_bound(&mut self, conn: usize)
+        requires { conn < most_connections }
+    {
+        if let Phase::Bound(_) = self.host.phase(conn) {
+            if self.host.out(conn).is_empty() {
+                self.sockets.settle(conn);
+            }
+        }
+    }
+
     /// Serves a connection once, and gives it up where it is lost. Says whether the host acted on it and could not send all.
     fn serve<W: Watcher>(&mut self, conn: usize, watcher: &mut W) -> Result<bool, Fault>
         requires { conn < most_connections }
@@ -181,6 +206,8 @@ impl Server {
         let served = serve_turn(&mut self.host, &mut self.sockets, conn);
         let acted = self.host.out(conn).len() != waiting;
         let notice = notice_of(conn, &before, &self.host.phase(conn), served);
+        self.settle_if_bound(conn);
+        self.tell_refusals(conn, watcher)?;
         match served {
             Served::Going => {}
             Served::Lost => {

@@ -71,9 +71,9 @@ pub fn run_host<N: Net, I: Source, E: Sink>(
 
 /// Tells each notice in a line.
 #[derive(Drop)]
-struct Log<'a, E> {
-    alloc: Global,
-    lines: &'a mut E,
+pub(crate) struct Log<'a, E> {
+    pub(crate) alloc: Global,
+    pub(crate) lines: &'a mut E,
 }
 
 impl<E: Sink> Watcher for Log<'_, E> {
@@ -117,8 +117,8 @@ fn serve<R: Net + Wait, I: Source, E: Sink>(
     serve_on(rt, &mut server, &mut log)
 }
 
-/// Serves as [`run_host`] does, but without end, and tells in a line of `faults` of each connection that comes, is bound to an LU, is
-/// closed, or is lost.
+/// Serves as [`run_host`] does, but without end, and tells in a line of `faults` of each connection that comes, is refused an LU, is bound
+/// to one, is closed, or is lost.
 ///
 /// Answers the exit status where it can't begin, or can't go on: those of `run_host` but for 5.
 pub fn run_serve<R: Net + Wait, I: Source, E: Sink>(

@@ -1,22 +1,27 @@
 //! The connections of a host, by their numbers, over sockets.
-ghost use Rattle.std.specs.Prelude.{◌≡◌, ◌<◌, false, IfOk, length, replicate};
+ghost use Rattle.std.specs.Prelude.{◌≡◌, ◌<◌, false, IfOk, length, replicate, take};
+ghost use Rattle.host_core.specs.Serves.{GotWithin, TookWithin, bytes_got, taken_by};
 ghost use Rattle.host_core.specs.State.{most_connections};
-ghost use Rattle.panel3270.specs.Sockets.{began, left, new_sockets, place_at, unused, with_place, with_waiting};
+ghost use Rattle.panel3270.specs.Refusals.{next_refusal, unheard};
+ghost use Rattle.panel3270.specs.Sockets.{began_at, heard_at, left, new_sockets, place_at, settled_at, told_at, unused, with_place, with_waiting};
 
 use crate::place::Place;
+use crate::refusals::{Refusal, Refusals};
 use host_core::{LinkRead, LinkWrite, Links, MOST_CONNECTIONS};
 use mio::net::TcpStream;
 use std::alloc::{AllocError, Global};
 use std::marker::Model;
 use std::net::SocketAddr;
+use telnet_wire::WireFault;
 
-/// The connections of a host over sockets, and whether a byte crossed since that was asked last.
+/// The connections of a host over sockets, what is heard of each, and whether a byte crossed since that was asked last.
 ///
 /// A read answers NotNow while more bytes wait to be sent on its connection than may. A read or a write that would raise a count
 /// above its last value answers NotNow too.
 #[derive(Drop)]
 pub(crate) struct Sockets {
     places: Vec<Place>,
+    heard: Vec<Refusals>,
     moved: bool,
 }
 
@@ -27,9 +32,9 @@ impl Model for Sockets {
 
     ghost Value = { Stand };
 
-    ghost view = { λ sockets. record { places = sockets.places.items; moved = sockets.moved } };
+    ghost view = { λ sockets. record { places = sockets.places.items; heard = sockets.heard.items; moved = sockets.moved } };
 
-    ghost invariant = { λ sockets. length sockets.places.items ≡ most_connections };
+    ghost invariant = { λ sockets. (length sockets.places.items ≡ most_connections) × (length sockets.heard.items ≡ most_connections) };
 }
 
 /// So many numbers without connections.
@@ -43,13 +48,52 @@ fn unused_places(alloc: Global) -> Result<Vec<Place>, AllocError>
     Ok(places)
 }
 
+/// As much room for what is heard of connections.
+fn unheard_numbers(alloc: Global) -> Result<Vec<Refusals>, WireFault>
+    ensures { IfOk result (λ heard. heard.items ≡ replicate most_connections unheard) }
+{
+    let mut heard = Vec::with_capacity(alloc, MOST_CONNECTIONS)?;
+    for _ in 0..MOST_CONNECTIONS {
+        if heard.push(Refusals::new(alloc)?).is_err() {
+            return Err(WireFault::Memory);
+        }
+    }
+    Ok(heard)
+}
+
+/// What a read gave.
+fn got(answer: LinkRead, buffer: &[u8]) -> &[u8]
+    requires { GotWithin answer (length buffer.now) }
+    ensures { result.now ≡ bytes_got answer buffer.now }
+{
+    match answer {
+        LinkRead::Got(count) => &buffer[..count],
+        LinkRead::NotNow => &[],
+        LinkRead::Ended => &[],
+        LinkRead::Failed => &[],
+    }
+}
+
+/// What a write took.
+fn taken(answer: LinkWrite, bytes: &[u8]) -> &[u8]
+    requires { TookWithin answer (length bytes.now) }
+    ensures { result.now ≡ take (taken_by answer) bytes.now }
+{
+    match answer {
+        LinkWrite::Took(count) => &bytes[..count],
+        LinkWrite::NotNow => &[],
+        LinkWrite::Failed => &[],
+    }
+}
+
 impl Sockets {
-    /// No connection yet.
-    pub(crate) fn new(alloc: Global) -> Result<Sockets, AllocError>
+    /// No connection yet. [`WireFault::Memory`] where memory was refused.
+    pub(crate) fn new(alloc: Global) -> Result<Sockets, WireFault>
         ensures { IfOk result (λ sockets. sockets ≡ new_sockets) }
     {
         Ok(Sockets {
             places: unused_places(alloc)?,
+            heard: unheard_numbers(alloc)?,
             moved: false,
         })
     }
@@ -70,9 +114,27 @@ impl Sockets {
     /// A connection begins on a number.
     pub(crate) fn begin(&mut self, conn: usize, socket: TcpStream)
         requires { conn < most_connections }
-        ensures { self.new ≡ with_place conn (began (place_at conn self.old)) self.old }
+        ensures { self.new ≡ began_at conn self.old }
     {
         self.places[conn].begin(socket);
+        self.heard[conn].begin();
+    }
+
+    /// The ends of a number's connection agreed: what crosses there isn't listened to any more.
+    pub(crate) fn settle(&mut self, conn: usize)
+        requires { conn < most_connections }
+        ensures { self.new ≡ settled_at conn self.old }
+    {
+        self.heard[conn].settle();
+    }
+
+    /// The first refusal on a number that wasn't told yet, which now is.
+    pub(crate) fn next_refusal(&mut self, conn: usize) -> Option<Refusal>
+        requires { conn < most_connections }
+        ensures next { result ≡ next_refusal (heard_at conn self.old).refused }
+        ensures told { self.new ≡ told_at conn self.old }
+    {
+        self.heard[conn].next()
     }
 
     /// The connection of a number is over: its socket is closed.
@@ -112,19 +174,21 @@ impl Links for Sockets {
     ghost took = { TakesAt };
 
     fn read(&mut self, conn: usize, buffer: &mut [u8]) -> LinkRead {
-        if conn >= self.places.len() {
+        if conn >= MOST_CONNECTIONS {
             return LinkRead::NotNow;
         }
         let answer = self.places[conn].read(buffer);
+        self.heard[conn].hear_terminal(got(answer, buffer));
         self.moved |= matches!(answer, LinkRead::Got(_));
         answer
     }
 
     fn write(&mut self, conn: usize, bytes: &[u8]) -> LinkWrite {
-        if conn >= self.places.len() {
+        if conn >= MOST_CONNECTIONS {
             return LinkWrite::NotNow;
         }
         let answer = self.places[conn].write(bytes);
+        self.heard[conn].hear_host(taken(answer, bytes));
         self.moved |= matches!(answer, LinkWrite::Took(_));
         answer
     }
