@@ -1,11 +1,14 @@
 //! Whole runs over sockets of this machine.
 use super::script::{FREE_AT_START, FREE_AT_USER, input_of};
 use super::{Outcome, Paper, Pieces, printed};
+use crate::script::host_of;
+use crate::server::{Server, patience};
+use crate::serving::Log;
 use crate::streams::{CountedReader, CountedWriter};
-use crate::{Port, Turns, run_host, run_selfrun};
+use crate::{Fault, Port, Turns, run_host, run_selfrun};
 use std::alloc::{AllocError, Global};
-use std::io;
-use std::net::{Ipv4Addr, Net, OpenListener, SocketAddr, TcpListener};
+use std::io::{self, Write};
+use std::net::{Ipv4Addr, Net, OpenListener, SocketAddr, TcpListener, TcpStream};
 use std::test::Fail;
 
 fn paper(alloc: Global) -> CountedWriter<Paper> {
@@ -164,5 +167,94 @@ fn a_host_takes_its_turns(rt: HostRuntime) -> Result<(), Fail> {
         None => false,
     };
     assert!(rt; is_served);
+    Ok(())
+}
+
+// ---- what a host tells of refusals
+
+/// A terminal agrees to TN3270E, and asks for an LU that isn't there, and by a name that is none; for a printer; for the printer that
+/// goes with PNL01; and for PNL01, which it is granted with RESPONSES.
+const ASKS_ROUND: &[u8] =
+    b"\xff\xfb\x28\xff\xfa\x28\x02\x07IBM-3278-2\x01NOSUCH\xff\xf0\xff\xfa\x28\x02\x07IBM-3278-2-E\x012DESK\xff\xf0\xff\xfa\x28\x02\x07IBM-3287-1\x01PNL02\xff\xf0\xff\xfa\x28\x02\x07IBM-3278-2\x00PNL01\xff\xf0\xff\xfa\x28\x02\x07IBM-3278-2\x01PNL01\xff\xf0\xff\xfa\x28\x03\x07\x02\xff\xf0";
+
+/// Another asks for PNL01, in small letters, while that is held; this comes in two pieces, behind data that no record ends.
+const ASKS_TOO: &[u8] = b"\xff\xfb\x28A\xff\xffB\xff\xfa\x28\x02\x07IBM-3278-3\x01pn";
+
+const ASKED_TOO: &[u8] = b"l01\xff\xf0";
+
+const TOLD: &str = "0: connected
+1: connected
+0: refused NOSUCH INV-NAME
+0: refused INV-NAME
+0: refused PNL02 INV-DEVICE-TYPE
+0: refused UNSUPPORTED-REQ
+0: bound PNL01
+1: refused PNL01 DEVICE-IN-USE
+";
+
+type Lines<'a> = Log<'a, CountedWriter<Paper>>;
+
+/// A terminal says something, and the host takes turns.
+fn says<S: Write>(
+    terminal: &mut S,
+    server: &mut Server,
+    log: &mut Lines<'_>,
+    bytes: &[u8],
+) -> Result<bool, Fault> {
+    if terminal.write_all(bytes).is_err() {
+        return Ok(false);
+    }
+    for _ in 0..20 {
+        server.turn(patience(false), log)?;
+    }
+    Ok(true)
+}
+
+/// Two terminals say this at a host.
+fn ask_for_lus<N: Net>(net: &N, server: &mut Server, log: &mut Lines<'_>) -> Result<bool, Fault> {
+    let Ok(address) = server.address() else {
+        return Ok(false);
+    };
+    let Ok(mut first) = TcpStream::connect(net, address) else {
+        return Ok(false);
+    };
+    let Ok(mut second) = TcpStream::connect(net, address) else {
+        return Ok(false);
+    };
+    Ok(
+        says(&mut first, server, log, ASKS_ROUND)?
+            && says(&mut second, server, log, ASKS_TOO)?
+            && says(&mut second, server, log, ASKED_TOO)?,
+    )
+}
+
+/// What the host of a panel text tells of them.
+fn told_of_them<N: Net>(net: &N, alloc: Global, panels: &str) -> Result<Vec<u8>, Fault> {
+    let mut server = Server::new(net, alloc, host_of(alloc, panels)?, 0)?;
+    let mut lines = paper(alloc);
+    let mut log = Log {
+        alloc,
+        lines: &mut lines,
+    };
+    ask_for_lus(net, &mut server, &mut log)?;
+    Ok(lines.into_inner().text)
+}
+
+/// Each refusal is told when it is sent, with the LU that was asked for, in the order of the requests.
+fn tells_refusals<N: Net>(net: &N, alloc: Global, panels: &str) -> bool {
+    match told_of_them(net, alloc, panels) {
+        Ok(told) => told.as_slice() == TOLD.as_bytes(),
+        Err(_) => false,
+    }
+}
+
+#[test]
+fn refusals_are_told(rt: HostRuntime) -> Result<(), Fail> {
+    let panels = input_of(rt.alloc(), &[])?;
+    let are_told = match panels.as_str().strip_suffix("%%\n") {
+        Some(panels) => tells_refusals(&rt, rt.alloc(), panels),
+        None => false,
+    };
+    assert!(rt; are_told);
     Ok(())
 }
