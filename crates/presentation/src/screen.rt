@@ -14,7 +14,7 @@ use crate::packed_cell::PackedCell;
 use crate::{Applied, cells, index};
 use arrayvec::ArrayVec;
 use codes3270::{Addr, Aid, CELLS, Cell};
-use datastream::{Command, CommandCode};
+use datastream::Command;
 use std::marker::Model;
 
 /// How many cells a screen has, as a length.

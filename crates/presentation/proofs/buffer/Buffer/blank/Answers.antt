@@ -1,5 +1,5 @@
 use Rattle.codes3270.specs.Size.{cell_count}
-use Rattle.std.proofs.Common.{◌≡◌, List, ◌∙◌, arith, true, ℕ, ap, replicate}
+use Rattle.std.proofs.Common.{List, ◌∙◌, arith, true, ℕ, ap, replicate}
 use Rattle.codes3270.specs.declared.attribute.Cell.{Cell}
 use Rattle.codes3270.specs.declared.attribute.Cell.TheVariants.{Char}
 use Rattle.codes3270.specs.declared.attention.Aid.TheVariants.{NoAid}
