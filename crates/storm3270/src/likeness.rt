@@ -5,7 +5,7 @@ ghost use Rattle.host_core.specs.State.{most_connections};
 use codes3270::{Addr, CELLS};
 use host_core::Host;
 use presentation::Screen;
-use shadow::Shadow;
+use shadow::{Fact, Shadow};
 use term_core::Terminal;
 
 /// Whether the same characters are believed of the field whose attribute is at an address, if one is.
@@ -22,11 +22,19 @@ fn tell_same_text(one: &Shadow, other: &Shadow, at: Addr) -> bool {
     true
 }
 
-/// Whether the same is believed of each cell, and of each field.
+/// Whether the same is believed of a cell, and of the field whose attribute is there, if one is. The characters of an exact field
+/// are known, cell by cell.
+fn believe_same_at(one: &Shadow, other: &Shadow, at: Addr) -> bool {
+    let fact = one.fact(at);
+    one.known(at) == other.known(at)
+        && fact == other.fact(at)
+        && (matches!(fact, None | Some(Fact::Exact)) || tell_same_text(one, other, at))
+}
+
 fn believe_same(one: &Shadow, other: &Shadow) -> bool {
-    (0..CELLS).filter_map(Addr::new).all(|at| one.known(at) == other.known(at)
-        && one.fact(at) == other.fact(at)
-        && tell_same_text(one, other, at))
+    (0..CELLS)
+        .filter_map(Addr::new)
+        .all(|at| believe_same_at(one, other, at))
 }
 
 /// Whether a connection looks the same at two hosts.
