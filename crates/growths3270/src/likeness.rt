@@ -1,0 +1,64 @@
+//! Whether values look the same, by all that can be looked at.
+ghost use Rattle.std.specs.Prelude.{◌<◌};
+ghost use Rattle.host_core.specs.State.{most_connections};
+
+use codes3270::{Addr, CELLS};
+use host_core::Host;
+use presentation::Screen;
+use shadow::Shadow;
+use term_core::Terminal;
+
+/// Whether the characters that are believed of a field are the same.
+fn believe_same_text(one: &Shadow, other: &Shadow, at: Addr) -> bool {
+    for index in 0..usize::from(CELLS) {
+        let value = one.value(at, index);
+        if value != other.value(at, index) {
+            return false;
+        }
+        if value.is_none() {
+            return true;
+        }
+    }
+    true
+}
+
+/// Whether the same is believed of the cell at an address, and of the field whose attribute is there.
+fn believe_same_at(one: &Shadow, other: &Shadow, at: Addr) -> bool {
+    one.known(at) == other.known(at)
+        && one.fact(at) == other.fact(at)
+        && believe_same_text(one, other, at)
+}
+
+fn believe_same(one: &Shadow, other: &Shadow) -> bool {
+    (0..CELLS)
+        .filter_map(Addr::new)
+        .all(|at| believe_same_at(one, other, at))
+}
+
+/// Whether a connection looks the same at two hosts.
+pub fn hosts_look_same(one: &Host, other: &Host, conn: usize) -> bool
+    requires { conn < most_connections }
+{
+    one.phase(conn) == other.phase(conn)
+        && one.turn(conn) == other.turn(conn)
+        && one.pending(conn) == other.pending(conn)
+        && one.out(conn) == other.out(conn)
+        && believe_same(one.shadow(conn), other.shadow(conn))
+}
+
+fn screens_look_same(one: &Screen, other: &Screen) -> bool {
+    one.cursor().get() == other.cursor().get()
+        && one.aid() == other.aid()
+        && (0..CELLS)
+            .filter_map(Addr::new)
+            .all(|at| one.cell(at) == other.cell(at))
+}
+
+/// Whether two terminals look the same.
+pub fn terminals_look_same(one: &Terminal, other: &Terminal) -> bool {
+    one.phase() == other.phase()
+        && one.lock() == other.lock()
+        && one.took_write() == other.took_write()
+        && one.out() == other.out()
+        && screens_look_same(one.screen(), other.screen())
+}

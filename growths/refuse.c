@@ -1,0 +1,55 @@
+/* Refuses one growth of memory to a program that is run with this library preloaded: that with the number GROWTH, from 1 on, of
+   those between the lines `begin` and `end` that the program writes to standard error. At `end` it says how many there were. */
+#include <errno.h>
+#include <stdio.h>
+#include <stdlib.h>
+#include <string.h>
+#include <sys/syscall.h>
+#include <unistd.h>
+
+extern void *__libc_malloc(size_t);
+extern void *__libc_calloc(size_t, size_t);
+extern void *__libc_realloc(void *, size_t);
+extern void *__libc_memalign(size_t, size_t);
+
+static int is_counting;
+static long growths, refused;
+
+/* Whether the growth that is asked for is the one to refuse. */
+static int is_refused(void)
+{
+    if (!is_counting || ++growths != refused)
+        return 0;
+    errno = ENOMEM;
+    return 1;
+}
+
+void *malloc(size_t size) { return is_refused() ? NULL : __libc_malloc(size); }
+
+void *calloc(size_t count, size_t size) { return is_refused() ? NULL : __libc_calloc(count, size); }
+
+void *realloc(void *block, size_t size) { return is_refused() ? NULL : __libc_realloc(block, size); }
+
+void *aligned_alloc(size_t alignment, size_t size) { return is_refused() ? NULL : __libc_memalign(alignment, size); }
+
+int posix_memalign(void **block, size_t alignment, size_t size)
+{
+    if (is_refused() || !(*block = __libc_memalign(alignment, size)))
+        return ENOMEM;
+    return 0;
+}
+
+ssize_t write(int file, const void *bytes, size_t size)
+{
+    char line[32];
+    if (file == 2 && size == 6 && !memcmp(bytes, "begin\n", 6)) {
+        refused = getenv("GROWTH") ? atol(getenv("GROWTH")) : 0;
+        is_counting = 1;
+    } else if (file == 2 && size == 4 && !memcmp(bytes, "end\n", 4)) {
+        is_counting = 0;
+        syscall(SYS_write, 2, line, (size_t)snprintf(line, sizeof line, "growths %ld\n", growths));
+    }
+    return syscall(SYS_write, file, bytes, size);
+}
+
+ssize_t __write(int file, const void *bytes, size_t size) { return write(file, bytes, size); }
