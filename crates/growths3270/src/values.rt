@@ -16,8 +16,8 @@ pub enum Sets {
     Known,
 }
 
-/// How many fields have a value: so many that the map has no room for a further one.
-const FIELDS: usize = 8;
+/// How many fields have a value.
+const FIELDS: usize = 12;
 
 #[derive(Drop)]
 struct Filled {
