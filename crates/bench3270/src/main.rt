@@ -232,6 +232,30 @@ fn terminal(rt: &HostRuntime, scale: Scale, piece: u16) -> io::Result<()>
     )
 }
 
+/// A screen of 96 fields that a terminal prints.
+fn printed(rt: &HostRuntime, scale: Scale) -> io::Result<()> {
+    let command = full_screen(rt.alloc(), 20)?;
+    let stream = records(rt.alloc(), command.as_slice(), 1)?;
+    let mut terminal = bound_terminal(rt.alloc())?;
+    let _drained = feed(&mut terminal, stream.as_slice(), 16_384);
+    let rounds = scale.rounds(20_000);
+    let mut bytes = 0usize;
+    let start = Instant::now(rt)?;
+    for _ in 0..rounds {
+        bytes = terminal.screen_text(rt.alloc())?.len();
+    }
+    let took = start.elapsed(rt)?;
+    report(
+        rt,
+        scale,
+        "printed screen of 96 fields, bytes",
+        u32::try_from(bytes).unwrap_or(u32::MAX),
+        rounds,
+        bytes,
+        took,
+    )
+}
+
 /// Prints what was done, if it was done for figures: the case and its size, how many a second, and megabytes a second.
 fn report(
     rt: &HostRuntime,
@@ -274,6 +298,7 @@ fn main(rt: HostRuntime) -> io::Result<()> {
     terminal(&rt, scale, 1)?;
     terminal(&rt, scale, 100)?;
     terminal(&rt, scale, 16_384)?;
+    printed(&rt, scale)?;
     turns::turns(&rt, scale)?;
     terminal_size(&rt, scale)
 }
