@@ -56,12 +56,17 @@ mod talking;
 mod turn;
 
 pub use acted::Acted;
+pub use datastream::Memory;
 pub use host::{Host, MOST_CONNECTIONS};
 pub use laws::{
     notes_are_written, one_machine, panels_are_shown, what_is_shown_fits, what_is_shown_is_answered,
 };
 pub use links::{LinkRead, LinkWrite, Links};
+pub use lu_pool::{Pool, PoolFault};
 pub use occasion::Occasion;
+pub use panels::{PanelFault, PanelSet};
 pub use phase::Phase;
 pub use serving::{Served, serve_turn};
+pub use shadow::{Fact, Shadow};
+pub use tn3270e_msg::{Cause, Fed, Lu, Stop};
 pub use turn::Turn;

@@ -38,8 +38,12 @@ mod terminal;
 #[cfg(test)]
 mod tests;
 
+pub use keyboard::{Key, Lock, Pressed, Refusal};
 pub use laws::one_machine;
 pub use outcome::Outcome;
 pub use phase::TermPhase;
+pub use presentation::Screen;
 pub use screen_text::screen_lines;
+pub use telnet_wire::Memory;
 pub use terminal::Terminal;
+pub use tn3270e_msg::{Cause, Fed, Lu, Stop};
