@@ -1,6 +1,6 @@
 //! Figures of speed. Without words each case is run once, small, and only how many turns were done and how many bytes moved
 //! is printed; with the word `figures` the cases are run long enough to measure, and a line is printed for each: what was done,
-//! how often a second, and the bytes a second. A last line says how large a terminal is. Standard input is a panel text with
+//! how often a second, and the bytes a second. The last lines say how large a terminal is, and a belief. Standard input is a panel text with
 //! 64 LUs (`stdin` is the repository's own).
 #![tactic(auto)]
 
@@ -12,6 +12,7 @@ ghost use Rattle.std.specs.Prelude.{◌<◌};
 use codes3270::{Addr, Attr, CELLS, Display, Wcc};
 use datastream::{CommandCode, CommandWriter, Memory, read_command};
 use presentation::Screen;
+use shadow::Shadow;
 use std::alloc::Global;
 use std::time::{Duration, Instant};
 use std::{env, io};
@@ -275,13 +276,15 @@ fn report(
     println!(rt; "{case} {size}: {each_second} a second, {megabytes} MB a second")
 }
 
-/// Prints how large a terminal is, without its buffers.
-fn terminal_size(rt: &HostRuntime, scale: Scale) -> io::Result<()> {
+/// Prints how large a terminal is, without its buffers, and how large a belief.
+fn sizes(rt: &HostRuntime, scale: Scale) -> io::Result<()> {
     if let Scale::Once = scale {
         return Ok(());
     }
     let size = size_of::<Terminal>();
-    println!(rt; "a terminal without its buffers: {size} bytes")
+    println!(rt; "a terminal without its buffers: {size} bytes")?;
+    let size = size_of::<Shadow>();
+    println!(rt; "a belief: {size} bytes")
 }
 
 fn main(rt: HostRuntime) -> io::Result<()> {
@@ -300,5 +303,5 @@ fn main(rt: HostRuntime) -> io::Result<()> {
     terminal(&rt, scale, 16_384)?;
     printed(&rt, scale)?;
     turns::turns(&rt, scale)?;
-    terminal_size(&rt, scale)
+    sizes(&rt, scale)
 }
