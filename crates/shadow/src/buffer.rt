@@ -92,16 +92,15 @@ pub(crate) fn any_other(places: &Places, read: &Places) -> bool
     false
 }
 
-/// The places of a screen that was read.
-pub(crate) fn read_places(cells: Cells<'_>) -> Places
+/// Puts the places of a screen that was read.
+pub(crate) fn put_read(places: &mut Places, cells: Cells<'_>)
     requires { length cells ≡ cell_count }
-    ensures { result ≡ places_stored cells.entry }
+    ensures { places.new ≡ places_stored cells.entry }
 {
-    let mut places = Places::new(Place::Unknown);
+    let _count = places.len();
     let mut at = 0;
     for cell in cells {
         places.set(at, place_of(cell));
         at += 1;
     }
-    places
 }

@@ -167,7 +167,26 @@ impl Places {
     pub(crate) fn fill(&mut self, place: Place)
         ensures { self.new ≡ replicate cell_count place }
     {
-        *self = Places::new(place);
+        self.bytes
+            .as_mut_slice()
+            .copy_from_slice(&same_bytes(byte_of(place)));
+        self.heads
+            .as_mut_slice()
+            .copy_from_slice(&same_heads(head_of(place)));
+        self.attributes = Row::all(is_attribute(place));
+        self.known = Row::all(is_known(place));
+        self.told = Row::all(is_told(place));
+    }
+
+    /// Holds what others hold.
+    pub(crate) fn copy_from(&mut self, places: &Places)
+        ensures { self.new ≡ places.now }
+    {
+        self.bytes.as_mut_slice().copy_from_slice(&places.bytes);
+        self.heads.as_mut_slice().copy_from_slice(&places.heads);
+        self.attributes = places.attributes.copy();
+        self.known = places.known.copy();
+        self.told = places.told.copy();
     }
 
     /// The places behind an address, and then all places.

@@ -13,8 +13,8 @@ const BITS: usize = 64;
 /// How many words have a bit for each cell.
 const WORDS: usize = (CELL_COUNT + BITS - 1) / BITS;
 
-/// A bit for each cell. Contracts see the words: a cell's bit is that of its number modulo 64, in the word of its number by
-/// 64.
+/// A bit for each cell. Contracts see the words: a cell's bit is that of its number modulo 64, in the word of its number
+/// divided by 64.
 #[derive(Drop)]
 pub(crate) struct Row {
     words: [u64; WORDS],
@@ -39,6 +39,13 @@ impl Row {
         Row {
             words: [word_of(bit); WORDS],
         }
+    }
+
+    /// The same bits.
+    pub(crate) fn copy(&self) -> Row
+        ensures { result ≡ self.now }
+    {
+        Row { words: self.words }
     }
 
     /// Whether a cell's bit is set.

@@ -17,7 +17,7 @@ ghost use Rattle.shadow.specs.Stores.{is_plain};
 ghost use Rattle.shadow.specs.Taken.{taken, taken_write, taken_erase};
 
 use crate::asking::{fact_held_at, has_attribute, known_held_at, value_held_at};
-use crate::buffer::{any_other, read_places};
+use crate::buffer::{any_other, put_read};
 use crate::fact::Fact;
 use crate::fault::HeardFault;
 use crate::fitting::fits_fields;
@@ -266,11 +266,12 @@ impl Shadow {
         ensures { let heard = heard_buffer self.old (cells_sent inbound.now.parts) in
             MatchResult result (λ _. heard ≡ Ok self.new) (λ fault. (heard ≡ Err fault) × (self.new ≡ self.old)) }
     {
-        let read = read_places(inbound.cells());
+        let mut read = Places::new(Place::Unknown);
+        put_read(&mut read, inbound.cells());
         if self.knows && any_other(&self.places, &read) {
             return Err(HeardFault::Contradiction);
         }
-        self.places = read;
+        self.places.copy_from(&read);
         self.knows = true;
         Ok(())
     }

@@ -12,14 +12,14 @@ use Rattle.shadow.proofs.shadow.Shadow.hear_buffer.Goals as goal
 use Rattle.shadow.proofs.shadow.Shadow.hear_buffer.Goals.{else-self-via-then-self+else-any_other, else-self-via-else-self}
 
 pub invariant_of-self : goal.invariant_of-self
-invariant_of-self c = subst IsHeld (sym c.read_places-read.ensures) (read_held c.cells.result)
+invariant_of-self c = subst IsHeld (sym (c.copy_from.ensures ∙ c.put_read.ensures)) (read_held c.cells.result)
 
 pub returns : goal.returns
 returns c =
     let places = c.self.inside.places in
     let screen = cells_sent c.args.inbound.now.parts in
-    let read : c.read_places-read.result ≡ places_stored screen = c.read_places-read.ensures ∙ ap places_stored c.cells.ensures.cells in
-    let known : shadow_held true c.read_places-read.result ≡ seen screen = ap (shadow_held true) read ∙ read_seen screen in
+    let read : c.put_read.new.places ≡ places_stored screen = c.put_read.ensures ∙ ap places_stored c.cells.ensures.cells in
+    let known : shadow_held true c.copy_from.new.self ≡ seen screen = ap (shadow_held true) (c.copy_from.ensures ∙ read) ∙ read_seen screen in
     let answer : Bool → Result Shadow HeardFault = λ t. if t then Err Contradiction else Ok (seen screen) in
     let allowed : denies_buffer c.args.self.now screen ≡ false =
     elim c.else-self.branch [

@@ -1,7 +1,7 @@
 use Rattle.std.proofs.Common.{◌≡◌, ◌+◌, ◌++◌, length, take}
 use Rattle.codes3270.specs.Size.{cell_count}
 use Rattle.shadow.specs.Since.{places_stored}
-use Rattle.shadow.proofs.buffer.read_places.Given as goal
+use Rattle.shadow.proofs.buffer.put_read.Given as goal
 
 abbrev pub invariant-loop-cell : goal.invariant-loop-cell
 invariant-loop-cell l = record {
