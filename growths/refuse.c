@@ -1,5 +1,6 @@
 /* Refuses one growth of memory to a program that is run with this library preloaded: that with the number GROWTH, from 1 on, of
-   those between the lines `begin` and `end` that the program writes to standard error. At `end` it says how many there were. */
+   those between the lines `begin` and `end` that the program writes to standard error; where WHOLE is set, of all. At `end`, or at the
+   program's end, it says how many there were. */
 #include <errno.h>
 #include <stdio.h>
 #include <stdlib.h>
@@ -39,15 +40,36 @@ int posix_memalign(void **block, size_t alignment, size_t size)
     return 0;
 }
 
-ssize_t write(int file, const void *bytes, size_t size)
+static void say_growths(void)
 {
     char line[32];
+    syscall(SYS_write, 2, line, (size_t)snprintf(line, sizeof line, "growths %ld\n", growths));
+}
+
+__attribute__((constructor)) static void begin_whole(void)
+{
+    if (getenv("WHOLE")) {
+        refused = atol(getenv("GROWTH"));
+        is_counting = 1;
+    }
+}
+
+__attribute__((destructor)) static void end_whole(void)
+{
+    if (getenv("WHOLE")) {
+        is_counting = 0;
+        say_growths();
+    }
+}
+
+ssize_t write(int file, const void *bytes, size_t size)
+{
     if (file == 2 && size == 6 && !memcmp(bytes, "begin\n", 6)) {
         refused = getenv("GROWTH") ? atol(getenv("GROWTH")) : 0;
         is_counting = 1;
     } else if (file == 2 && size == 4 && !memcmp(bytes, "end\n", 4)) {
         is_counting = 0;
-        syscall(SYS_write, 2, line, (size_t)snprintf(line, sizeof line, "growths %ld\n", growths));
+        say_growths();
     }
     return syscall(SYS_write, file, bytes, size);
 }
