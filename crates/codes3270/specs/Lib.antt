@@ -6,3 +6,4 @@ pub mod SixBit
 pub mod WriteControl
 pub mod Aid
 pub mod Storable
+pub mod Appending

@@ -1,5 +1,6 @@
 //! Buffer addresses (GA23-0059-07 on buffer addressing).
 ghost use Rattle.std.specs.Prelude.{◌≡◌, ◌<◌, ◌≤◌, ◌+◌, ◌-◌, ◌%◌, true, SomeIff, slice_index, MatchResult};
+ghost use Rattle.std.specs.List.{range_with_len};
 ghost use Rattle.codes3270.specs.Size.{cell_count};
 ghost use Rattle.codes3270.specs.Address.{address_bytes, address_of};
 ghost use Rattle.codes3270.specs.SixBit.{is_six_bit_code};
@@ -63,6 +64,13 @@ impl Addr {
         }
     }
 
+    /// All addresses of the screen, in ascending order.
+    pub fn all() -> Addrs
+        ensures { result ≡ range_with_len 0 cell_count }
+    {
+        Addrs { next: 0 }
+    }
+
     /// The address of the first cell.
     pub const fn first() -> Addr
         ensures { result ≡ 0 }
@@ -106,6 +114,42 @@ impl Addr {
         ensures in_range { self < cell_count }
     {
         self.forward(1)
+    }
+}
+
+/// The addresses that are left of a walk over the screen, in ascending order: an iterator. Contracts see their list.
+#[derive(Debug, Drop)]
+pub struct Addrs {
+    next: u16,
+}
+
+impl Model for Addrs {
+    ghost use Rattle.std.specs.Prelude.{ℕ, ◌-◌, ◌≤◌, List};
+    ghost use Rattle.std.specs.List.{range_with_len};
+    ghost use Rattle.codes3270.specs.Size.{cell_count};
+
+    ghost Value = { List ℕ };
+
+    ghost view = { λ addrs. range_with_len addrs.next (cell_count - addrs.next) };
+}
+
+impl Iterator for Addrs {
+    ghost use Rattle.std.specs.Iterator.{YieldsFirst, item_count};
+
+    type Item = Addr;
+
+    ghost next_gives = { YieldsFirst (λ addrs. addrs) };
+
+    ghost remaining = { item_count (λ addrs. addrs) };
+
+    fn next(&mut self) -> Option<Addr> {
+        match Addr::new(self.next) {
+            Some(addr) => {
+                self.next += 1;
+                Some(addr)
+            }
+            None => None,
+        }
     }
 }
 

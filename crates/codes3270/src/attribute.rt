@@ -1,6 +1,6 @@
 //! Field attributes (GA23-0059-07 on field attributes), and cells.
 ghost use Rattle.std.specs.Prelude.{◌≡◌, ◌↔◌, IsTrue, true};
-ghost use Rattle.codes3270.specs.Attribute.{attr_of, attr_byte, display_of, display_bits};
+ghost use Rattle.codes3270.specs.Attribute.{attr_of, attr_byte, display_of, display_bits, attribute_in, is_char, is_open_attribute};
 ghost use Rattle.codes3270.specs.SixBit.{is_six_bit_code};
 ghost use Rattle.codes3270.specs.declared.attribute.Display.TheVariants.{Bright, Hidden};
 
@@ -125,6 +125,38 @@ impl Attr {
         ensures { result ≡ record self { mdt = mdt } }
     {
         Attr { mdt, ..self }
+    }
+}
+
+impl Cell {
+    /// Its attribute, if it has one.
+    pub fn attribute(self) -> Option<Attr>
+        ensures { result ≡ attribute_in self }
+    {
+        match self {
+            Cell::Char(_) => None,
+            Cell::Attr(attr) => Some(attr),
+        }
+    }
+
+    /// Whether it has a character.
+    pub fn is_character(self) -> bool
+        ensures { result ≡ is_char self }
+    {
+        match self {
+            Cell::Char(_) => true,
+            Cell::Attr(_) => false,
+        }
+    }
+
+    /// Whether it has the attribute of an unprotected field.
+    pub fn is_open(self) -> bool
+        ensures { result ≡ is_open_attribute self }
+    {
+        match self {
+            Cell::Char(_) => false,
+            Cell::Attr(attr) => !attr.protected,
+        }
     }
 }
 

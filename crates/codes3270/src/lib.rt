@@ -18,11 +18,11 @@ mod storable_codes;
 mod tests;
 mod write_control;
 
-pub use address::{Addr, AddrFault, addr_from_bytes, addr_to_bytes};
+pub use address::{Addr, AddrFault, Addrs, addr_from_bytes, addr_to_bytes};
 pub use attention::{Aid, PaNo, PfNo, aid_byte, aid_from_byte};
 pub use attribute::{Attr, Cell, Display, attr_code};
 pub use code_page::{from_latin1, to_latin1};
 pub use laws::code_laws;
-pub use size::{CELLS, COLUMNS, ROWS, size_laws};
+pub use size::{CELL_COUNT, CELLS, COLUMNS, ROWS, size_laws};
 pub use storable_codes::storable;
 pub use write_control::Wcc;

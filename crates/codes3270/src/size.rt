@@ -11,12 +11,16 @@ pub const COLUMNS: u16 = 80;
 /// How many cells the screen has, in our profile. Addresses are below it.
 pub const CELLS: u16 = ROWS * COLUMNS;
 
+/// The same, as the length of what has an item for each cell.
+pub const CELL_COUNT: usize = CELLS as usize;
+
 /// Law: these constants are the numbers that contracts name, those numbers are the model's, and the rows fill the screen. The
 /// call does nothing.
 pub const fn size_laws()
     ensures rows { ROWS ≡ rows }
     ensures columns { COLUMNS ≡ columns }
     ensures cells { CELLS ≡ cell_count }
+    ensures length { CELL_COUNT ≡ cell_count }
     ensures filled { cell_count ≡ rows * columns }
     ensures model { (rows ≡ model_2.rows) × (columns ≡ model_2.columns) × (cell_count ≡ cells_in model_2) }
 {}
