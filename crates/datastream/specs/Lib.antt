@@ -21,3 +21,4 @@ pub mod InboundReading
 pub mod InboundFields
 pub mod InboundReturned
 pub mod Wanted
+pub mod Senses

@@ -4,6 +4,7 @@ use Rattle.std.specs.Prelude.{◌≡◌, ◌+◌, ◌-◌, ◌%◌, ◌<◌, not
 use Rattle.std.specs.Option.{option_or}
 use Rattle.codes3270.specs.declared.attribute.Cell.{Cell}
 use Rattle.codes3270.specs.declared.attribute.Cell.TheVariants.{Char, Attr}
+pub use Rattle.codes3270.specs.Attribute.{attribute_in, is_char, is_open_attribute}
 use Rattle.codes3270.specs.declared.attention.Aid.{Aid}
 use Rattle.codes3270.specs.declared.attention.Aid.TheVariants.{NoAid}
 use Rattle.codes3270.specs.declared.attribute.Attr.{Attr as Attribute}
@@ -17,20 +18,6 @@ pub record Screen : Type 0 where
 -- all cells null, the cursor at 0, no AID, on a screen of this size
 abbrev pub blank_screen : ℕ → Screen
 blank_screen size = record { cells = replicate size (Char 0); cursor = 0; aid = NoAid }
-
--- the attribute that a cell holds
-abbrev pub attribute_in : Cell → Option Attribute
-attribute_in (Char byte) = None
-attribute_in (Attr attribute) = Some attribute
-
-abbrev pub is_char : Cell → Bool
-is_char (Char byte) = true
-is_char (Attr attribute) = false
-
--- the attribute of an unprotected field
-abbrev pub is_open_attribute : Cell → Bool
-is_open_attribute (Char byte) = false
-is_open_attribute (Attr attribute) = not attribute.protected
 
 -- all cells, from an address on and round the end
 abbrev pub ring : ℕ → List Cell → List Cell

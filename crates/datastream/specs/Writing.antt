@@ -1,9 +1,10 @@
 -- What writing appends: the bytes of orders and commands (GA23-0059-07, "3270 Data Stream Commands" and "Buffer Control Orders
 -- and Order Codes"). The calls, and what one leaves that is refused, are our profile.
-use Rattle.std.specs.Prelude.{◌≡◌, ℕ, ◌+◌, ◌<◌, ◌≤◌, List, [], ◌∷◌, ◌++◌, length, map, All, Some, None, Result, if◌then◌else◌, OnOk, OnErr, Vec, vec_len, vec_capacity}
+use Rattle.std.specs.Prelude.{◌≡◌, ℕ, List, [], ◌∷◌, ◌++◌, map, All, Some, None, Result, if◌then◌else◌, Vec}
 use Rattle.std.specs.Borrow.{MutBor}
 use Rattle.std.specs.List.{flat_map}
 use Rattle.codes3270.specs.Address.{address_bytes}
+use Rattle.codes3270.specs.Appending.{Appends}
 use Rattle.codes3270.specs.Attribute.{attr_byte}
 use Rattle.codes3270.specs.declared.attribute.Attr.{Attr}
 use Rattle.codes3270.specs.WriteControl.{wcc_byte}
@@ -34,14 +35,10 @@ command_start code wcc = (codes_of code).1 ∷ (if is_write code then wcc_byte w
 abbrev pub write_bytes : CommandCode → Wcc → List Order → List ℕ
 write_bytes code wcc orders = (codes_of code).1 ∷ wcc_byte wcc ∷ orders_bytes orders
 
--- A call appended the bytes, or was refused and changed nothing. It is refused only where they don't fit in what the
--- vector has reserved.
-pub record Appends {A E : Type 0} (old new : MutBor (Vec ℕ A)) (result : Result (Unit {0}) E) (bytes : List ℕ) : Type 0 where
+-- a call appended the bytes to the writer's vector, or was refused and changed nothing
+pub record Writes {A E : Type 0} (old new : MutBor (Vec ℕ A)) (result : Result (Unit {0}) E) (bytes : List ℕ) : Type 0 where
   pub same_vector : new.ghost_name ≡ old.ghost_name
-  pub ok : OnOk result (new.now.items ≡ old.now.items ++ bytes)
-  pub err : OnErr result (new.now.items ≡ old.now.items)
-  pub room : OnErr result (vec_capacity old.now < vec_len old.now + length bytes)
-  pub capacity : vec_capacity old.now ≤ vec_capacity new.now
+  pub appends : Appends old.now new.now result bytes
 
 -- a call of a writer, after `begin`
 pub data Call : Type 0 where

@@ -1,4 +1,7 @@
-//! Why bytes are no command.
+//! Why bytes are no command, and how a terminal answers them.
+ghost use Rattle.std.specs.Prelude.{◌≡◌};
+ghost use Rattle.datastream.specs.Senses.{sense_of};
+
 use std::error::Error;
 use std::fmt;
 
@@ -14,6 +17,29 @@ pub enum CommandFault {
     BadAddress,
     /// The bytes end inside an order, or before the write control character, or there are none.
     Truncated,
+}
+
+/// Why a terminal says that it carried no command out (RFC 1647, section 10.4).
+#[derive(Clone, Copy, Debug, PartialEq, Eq)]
+pub enum Sense {
+    /// COMMAND-REJECT.
+    CommandReject,
+    /// OPERATION-CHECK.
+    OperationCheck,
+}
+
+impl CommandFault {
+    /// How a terminal answers a command with this fault (our profile).
+    pub fn sense(self) -> Sense
+        ensures { result ≡ sense_of self }
+    {
+        match self {
+            CommandFault::BadCommand => Sense::CommandReject,
+            CommandFault::BadOrder | CommandFault::BadAddress | CommandFault::Truncated => {
+                Sense::OperationCheck
+            }
+        }
+    }
 }
 
 impl fmt::Display for CommandFault {

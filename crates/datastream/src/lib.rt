@@ -45,7 +45,7 @@ mod writer;
 
 pub use command::{Command, read_command};
 pub use command_code::CommandCode;
-pub use fault::CommandFault;
+pub use fault::{CommandFault, Sense};
 pub use inbound::{Inbound, read_inbound};
 pub use inbound_fields::{ReturnedField, ReturnedFields};
 pub use inbound_laws::{parts_are_fields, sent_is_read};

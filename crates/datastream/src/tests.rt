@@ -4,7 +4,7 @@ ghost use Rattle.std.specs.Prelude.{All};
 ghost use Rattle.datastream.specs.Wanted.{IsProper};
 
 use super::*;
-use codes3270::{Addr, Attr, CELLS, COLUMNS, Wcc};
+use codes3270::{Addr, Attr, CELL_COUNT, CELLS, COLUMNS, Wcc};
 use std::alloc::Global;
 use std::fmt;
 use std::test::Fail;
@@ -365,13 +365,13 @@ fn a_call_appends_its_bytes_or_changes_nothing(rt: HostRuntime) {
 
 // ---- wanted screens
 
-fn all_kept() -> [Want; CELLS as usize]
+fn all_kept() -> [Want; CELL_COUNT]
     ensures { All IsProper result }
 {
-    [Want::Keep; CELLS as usize]
+    [Want::Keep; CELL_COUNT]
 }
 
-fn put_want(wants: &mut [Want; CELLS as usize], place: Addr, want: Want)
+fn put_want(wants: &mut [Want; CELL_COUNT], place: Addr, want: Want)
     requires proper { All IsProper wants.old }
     requires fits { IsProper want }
     ensures { All IsProper wants.new }
@@ -393,7 +393,7 @@ fn names_each_cell(wanted: &Wanted) -> bool {
     wanted.want(at(0)) == attr
         && wanted.want(at(1)) == Want::Keep
         && wanted.want(at(CELLS - 1)) == Want::Char(0xC1)
-        && wanted.cells().len() == CELLS as usize
+        && wanted.cells().len() == CELL_COUNT
         && wanted.cells().first() == Some(&attr)
         && wanted.cursor().get() == 7
         && wanted.reset()

@@ -3,7 +3,7 @@ ghost use Rattle.std.specs.Prelude.{◌≡◌, ◌<◌, All, false, length, repl
 ghost use Rattle.codes3270.specs.Size.{cell_count};
 ghost use Rattle.datastream.specs.Wanted.{IsProper, WantedScreen};
 
-use codes3270::{Addr, Attr, CELLS};
+use codes3270::{Addr, Attr, CELL_COUNT};
 use std::marker::Model;
 
 /// What a cell is wanted to have (our profile).
@@ -17,14 +17,11 @@ pub enum Want {
     Keep,
 }
 
-/// How many cells a screen has, as a length.
-const SIZE: usize = CELLS as usize;
-
 /// A wanted screen: a [`Want`] for each cell, where the cursor shall be, and whether all fields are
 /// marked as unmodified first. Each wanted character is storable.
 #[derive(Clone, Copy, Debug, PartialEq, Eq)]
 pub struct Wanted {
-    cells: [Want; SIZE],
+    cells: [Want; CELL_COUNT],
     cursor: Addr,
     reset: bool,
 }
@@ -42,15 +39,15 @@ impl Model for Wanted {
 }
 
 /// The same of each cell.
-fn same(want: Want) -> [Want; SIZE]
+fn same(want: Want) -> [Want; CELL_COUNT]
     ensures { result ≡ replicate cell_count want }
 {
-    [want; SIZE]
+    [want; CELL_COUNT]
 }
 
 impl Wanted {
     /// The wanted screen of these parts, each wanted character being storable.
-    pub fn new(cells: [Want; SIZE], cursor: Addr, reset: bool) -> Wanted
+    pub fn new(cells: [Want; CELL_COUNT], cursor: Addr, reset: bool) -> Wanted
         requires { All IsProper cells }
         ensures { result ≡ record { cells = cells; cursor = cursor; reset = reset } }
     {

@@ -2,7 +2,7 @@
 ghost use Rattle.std.specs.Prelude.{◌≡◌, All, map, true};
 ghost use Rattle.codes3270.specs.Storable.{is_storable};
 ghost use Rattle.datastream.specs.declared.order.Order.TheVariants.{Sf, Sba, Ic, Ra, Char};
-ghost use Rattle.datastream.specs.Writing.{order_bytes, orders_bytes, command_start, Appends};
+ghost use Rattle.datastream.specs.Writing.{order_bytes, orders_bytes, command_start, Writes};
 
 use crate::command_code::CommandCode;
 use crate::order_codes::{INSERT_CURSOR, REPEAT_TO_ADDRESS, SET_BUFFER_ADDRESS, START_FIELD};
@@ -36,7 +36,7 @@ impl<'a> CommandWriter<'a> {
     /// Begins a command: its code, and for a write its write control character (GA23-0059-07, "Write Control
     /// Character (WCC)"). The other commands have none, and what follows them is ignored.
     pub fn begin(&mut self, code: CommandCode, wcc: Wcc) -> Result<(), Memory>
-        ensures { Appends self.old.out self.new.out result (command_start code wcc) }
+        ensures { Writes self.old.out self.new.out result (command_start code wcc) }
     {
         if code.has_orders() {
             self.out.extend_from_slice(&[code.byte(), wcc.byte()])
@@ -47,7 +47,7 @@ impl<'a> CommandWriter<'a> {
 
     /// Sets the current address (GA23-0059-07 on Set Buffer Address (SBA)).
     pub fn sba(&mut self, addr: Addr) -> Result<(), Memory>
-        ensures { Appends self.old.out self.new.out result (order_bytes (Sba addr)) }
+        ensures { Writes self.old.out self.new.out result (order_bytes (Sba addr)) }
     {
         let [high, low] = addr_to_bytes(addr);
         self.out.extend_from_slice(&[SET_BUFFER_ADDRESS, high, low])
@@ -55,7 +55,7 @@ impl<'a> CommandWriter<'a> {
 
     /// Starts a field (GA23-0059-07 on Start Field (SF)).
     pub fn sf(&mut self, attr: Attr) -> Result<(), Memory>
-        ensures { Appends self.old.out self.new.out result (order_bytes (Sf attr)) }
+        ensures { Writes self.old.out self.new.out result (order_bytes (Sf attr)) }
     {
         self.out.extend_from_slice(&[START_FIELD, attr_code(attr)])
     }
@@ -63,7 +63,7 @@ impl<'a> CommandWriter<'a> {
     /// Stores characters, which have to be storable.
     pub fn chars(&mut self, chars: &[u8]) -> Result<(), Memory>
         requires { All (λ char. is_storable char ≡ true) chars.now }
-        ensures { Appends self.old.out self.new.out result (orders_bytes (map (λ char. Char char) chars.now)) }
+        ensures { Writes self.old.out self.new.out result (orders_bytes (map (λ char. Char char) chars.now)) }
     {
         self.out.extend_from_slice(chars)
     }
@@ -71,7 +71,7 @@ impl<'a> CommandWriter<'a> {
     /// Stores a character, which has to be storable, up to an address (GA23-0059-07 on Repeat to Address (RA)).
     pub fn ra(&mut self, stop: Addr, char: u8) -> Result<(), Memory>
         requires { is_storable char ≡ true }
-        ensures { Appends self.old.out self.new.out result (order_bytes (Ra stop char)) }
+        ensures { Writes self.old.out self.new.out result (order_bytes (Ra stop char)) }
     {
         let [high, low] = addr_to_bytes(stop);
         self.out
@@ -80,7 +80,7 @@ impl<'a> CommandWriter<'a> {
 
     /// Puts the cursor at the current address (GA23-0059-07 on Insert Cursor (IC)).
     pub fn ic(&mut self) -> Result<(), Memory>
-        ensures { Appends self.old.out self.new.out result (order_bytes Ic) }
+        ensures { Writes self.old.out self.new.out result (order_bytes Ic) }
     {
         self.out.extend_from_slice(&[INSERT_CURSOR])
     }
