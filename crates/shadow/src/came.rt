@@ -8,7 +8,7 @@ ghost use Rattle.shadow.specs.Filled.{text_came, came_behind};
 ghost use Rattle.shadow.specs.Held.{text_of};
 
 use crate::place::Place;
-use crate::places::CELL_COUNT;
+use codes3270::CELL_COUNT;
 use datastream::ReturnedFields;
 
 /// A field that came: the address of its first cell, and its characters.

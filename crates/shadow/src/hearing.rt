@@ -19,8 +19,8 @@ use crate::fault::HeardFault;
 use crate::filling::{Change, Filling, fill_front, filling_behind, place_after};
 use crate::mark::Mark;
 use crate::place::{Place, Telling};
-use crate::places::{CELL_COUNT, Places};
-use codes3270::{Addr, Attr};
+use crate::places::Places;
+use codes3270::{Addr, Attr, CELL_COUNT};
 use datastream::{Inbound, ReturnedFields};
 
 /// What becomes of a field that isn't returned.

@@ -7,7 +7,7 @@ use crate::tests::{
     hears_buffer, is_unknown, known_at, knows, sign_on, take,
 };
 use crate::{Fact, Shadow};
-use codes3270::{Addr, Attr, CELLS, Cell, storable};
+use codes3270::{Addr, Attr, CELL_COUNT, CELLS, Cell, storable};
 use datastream::{Form, Memory, Want, Wanted};
 use std::alloc::{AllocError, Global};
 use std::test::Fail;
@@ -22,13 +22,13 @@ fn at(place: u16) -> Addr {
     }
 }
 
-fn all_null() -> [Want; CELLS as usize]
+fn all_null() -> [Want; CELL_COUNT]
     ensures { All IsProper result }
 {
-    [Want::Char(0); CELLS as usize]
+    [Want::Char(0); CELL_COUNT]
 }
 
-fn keep(wants: &mut [Want; CELLS as usize], from: u16, to: u16)
+fn keep(wants: &mut [Want; CELL_COUNT], from: u16, to: u16)
     requires { All IsProper wants.old }
     ensures { All IsProper wants.new }
 {
@@ -38,7 +38,7 @@ fn keep(wants: &mut [Want; CELLS as usize], from: u16, to: u16)
 }
 
 /// Wants each cell, where it is known, to stay as it is believed, with MDT off; any other to be null.
-fn wanted_again(shadow: &Shadow) -> [Want; CELLS as usize]
+fn wanted_again(shadow: &Shadow) -> [Want; CELL_COUNT]
     ensures { All IsProper result }
 {
     let mut wants = all_null();
@@ -52,7 +52,7 @@ fn wanted_again(shadow: &Shadow) -> [Want; CELLS as usize]
     wants
 }
 
-fn put(wants: &mut [Want; CELLS as usize], place: u16, want: Want)
+fn put(wants: &mut [Want; CELL_COUNT], place: u16, want: Want)
     requires proper { All IsProper wants.old }
     requires fits { IsProper want }
     ensures { All IsProper wants.new }
@@ -62,7 +62,7 @@ fn put(wants: &mut [Want; CELLS as usize], place: u16, want: Want)
     }
 }
 
-fn put_char(wants: &mut [Want; CELLS as usize], place: u16, byte: u8)
+fn put_char(wants: &mut [Want; CELL_COUNT], place: u16, byte: u8)
     requires { All IsProper wants.old }
     ensures { All IsProper wants.new }
 {
@@ -71,7 +71,7 @@ fn put_char(wants: &mut [Want; CELLS as usize], place: u16, byte: u8)
     }
 }
 
-fn put_text(wants: &mut [Want; CELLS as usize], from: u16, text: &[u8])
+fn put_text(wants: &mut [Want; CELL_COUNT], from: u16, text: &[u8])
     requires { All IsProper wants.old }
     ensures { All IsProper wants.new }
 {

@@ -6,9 +6,9 @@ ghost use Rattle.datastream.specs.Wanted.{IsProper};
 ghost use Rattle.codes3270.specs.Storable.{is_storable};
 ghost use Rattle.shadow.specs.InPlace.{cell_known};
 ghost use Rattle.shadow.specs.Base.{known_base, mark_off_if};
-ghost use Rattle.datastream.specs.Writing.{Appends, order_bytes, orders_bytes};
+ghost use Rattle.datastream.specs.Writing.{Writes, order_bytes, orders_bytes};
 ghost use Rattle.shadow.specs.Appending.{IsStorableCell};
-ghost use Rattle.shadow.specs.Appending.{AppendsSome};
+ghost use Rattle.shadow.specs.Appending.{WritesSome};
 ghost use Rattle.shadow.specs.Paint.{is_there as is_there_already, cell_to_store as cell_stored, order_of, is_at, sba_unless, painting, to_store};
 
 use crate::buffer::same_attr;
@@ -102,7 +102,7 @@ fn cell_to_store(want: Want, known: Known, behind: &[Want], whole: &[Want]) -> O
 
 /// Puts an address, unless the write is at it.
 fn put_address(writer: &mut CommandWriter<'_>, at: Option<u16>, address: Addr) -> Result<(), Memory>
-    ensures { Appends writer.old.out writer.new.out result (orders_bytes (sba_unless (is_at at address) address [])) }
+    ensures { Writes writer.old.out writer.new.out result (orders_bytes (sba_unless (is_at at address) address [])) }
 {
     if at == Some(address.get()) {
         return Ok(());
@@ -113,7 +113,7 @@ fn put_address(writer: &mut CommandWriter<'_>, at: Option<u16>, address: Addr) -
 /// Puts a cell.
 fn put_cell(writer: &mut CommandWriter<'_>, cell: Cell) -> Result<(), Memory>
     requires { IsStorableCell cell }
-    ensures { Appends writer.old.out writer.new.out result (order_bytes (order_of cell)) }
+    ensures { Writes writer.old.out writer.new.out result (order_bytes (order_of cell)) }
 {
     match cell {
         Cell::Char(byte) => writer.chars(&[byte]),
@@ -129,7 +129,7 @@ fn put_store(
     cell: Cell,
 ) -> Result<(), Memory>
     requires { IsStorableCell cell }
-    ensures { AppendsSome writer.old.out writer.new.out result (orders_bytes (sba_unless (is_at at address) address (order_of cell ∷ []))) }
+    ensures { WritesSome writer.old.out writer.new.out result (orders_bytes (sba_unless (is_at at address) address (order_of cell ∷ []))) }
 {
     match put_address(writer, at, address) {
         Ok(()) => put_cell(writer, cell),
@@ -139,7 +139,7 @@ fn put_store(
 
 /// Puts the cursor's address, and the cursor there.
 fn put_cursor(writer: &mut CommandWriter<'_>, cursor: Addr) -> Result<(), Memory>
-    ensures { AppendsSome writer.old.out writer.new.out result (orders_bytes (Sba cursor ∷ Ic ∷ [])) }
+    ensures { WritesSome writer.old.out writer.new.out result (orders_bytes (Sba cursor ∷ Ic ∷ [])) }
 {
     match writer.sba(cursor) {
         Ok(()) => writer.ic(),
@@ -167,7 +167,7 @@ pub(crate) fn put_cells(
 ) -> Result<(), Memory>
     requires wanted { length wants.now ≡ cell_count }
     requires proper { All IsProper wants.now }
-    ensures { AppendsSome writer.old.out writer.new.out result (orders_bytes (painting cell_count cursor None (to_store wants.now 0 wants.now (known_base base.now)))) }
+    ensures { WritesSome writer.old.out writer.new.out result (orders_bytes (painting cell_count cursor None (to_store wants.now 0 wants.now (known_base base.now)))) }
 {
     let mut at = None;
     for place in 0..CELLS {

@@ -8,11 +8,8 @@ use crate::asking::is_attribute;
 use crate::mark::Mark;
 use crate::place::{Place, Telling};
 use crate::row::Row;
-use codes3270::{Attr, CELLS, attr_code};
+use codes3270::{Attr, CELL_COUNT, attr_code};
 use std::marker::Model;
-
-/// The number of cells of a screen.
-pub(crate) const CELL_COUNT: usize = CELLS as usize;
 
 /// What is held with an attribute.
 #[derive(Clone, Copy)]

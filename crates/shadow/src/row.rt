@@ -4,7 +4,7 @@ ghost use Rattle.codes3270.specs.Size.{cell_count};
 ghost use Rattle.std.specs.Int.{bit_at};
 ghost use Rattle.shadow.specs.Rows.{bit_of, has_bit};
 
-use crate::places::CELL_COUNT;
+use codes3270::CELL_COUNT;
 use std::marker::Model;
 
 /// How many bits a word has.

@@ -5,7 +5,7 @@ ghost use Rattle.datastream.specs.Grammar.{is_write};
 ghost use Rattle.datastream.specs.InboundFields.{cells_sent};
 ghost use Rattle.datastream.specs.declared.command_code.CommandCode.TheVariants.{Write, EraseWrite};
 ghost use Rattle.datastream.specs.declared.inbound_part.Form.TheVariants.{Buffer};
-ghost use Rattle.shadow.specs.Appending.{AppendsSome};
+ghost use Rattle.shadow.specs.Appending.{WritesSome};
 ghost use Rattle.shadow.specs.Asked.{known_at, fact_at, value_at};
 ghost use Rattle.shadow.specs.Belief.Shadow.{NothingKnown, Unformatted};
 ghost use Rattle.shadow.specs.Fits.{fits};
@@ -278,7 +278,7 @@ impl Shadow {
 
     /// Puts the command that paints a wanted screen.
     fn put_paint(&self, writer: &mut CommandWriter<'_>, wanted: &Wanted) -> Result<(), Memory>
-        ensures { AppendsSome writer.old.out writer.new.out result (paint_bytes cell_count self.now wanted.now) }
+        ensures { WritesSome writer.old.out writer.new.out result (paint_bytes cell_count self.now wanted.now) }
     {
         let formatted = self.is_formatted();
         let reset = wanted.reset();

@@ -13,9 +13,9 @@ ghost use Rattle.shadow.specs.Taken.{believed, known_after, known_stored, new_ce
 
 use crate::mark::Mark;
 use crate::place::{Past, Place, Telling};
-use crate::places::{CELL_COUNT, Places};
+use crate::places::Places;
 use crate::writing::{mark_seen, resets};
-use codes3270::{Addr, Cell, Wcc};
+use codes3270::{Addr, CELL_COUNT, Cell, Wcc};
 use datastream::{Command, Order, Orders};
 
 /// A place in which a cell was stored, or read.
