@@ -1,5 +1,5 @@
 -- One append after another, and a loop of appends.
-use Rattle.std.proofs.Common.{◌≡◌, ℕ, ◌+◌, ◌≤◌, List, [], ◌++◌, length, take, Result, Ok, Err, Vec, vec_len, arith, refl, sym, ◌∙◌, ap, append_assoc, append-nil, length-append, take_at}
+use Rattle.std.proofs.Common.{◌≡◌, ℕ, ◌≤◌, List, [], ◌++◌, length, take, Result, Ok, Err, Vec, vec_len, arith, refl, sym, ◌∙◌, ap, append_assoc, append-nil, length-append, take_at}
 use Rattle.std.specs.Vec.{vec_capacity}
 use Rattle.std.proofs.lemmas.List.{take_all, take-take, take-append-le}
 use Rattle.codes3270.specs.Appending.{Appends, AppendsSome}
