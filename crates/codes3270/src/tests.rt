@@ -165,6 +165,18 @@ fn goes_backward(last: Addr) -> bool {
         && Addr::first().backward(1920).get() == 0
 }
 
+/// Whether a walk over all addresses goes from the first to the last.
+fn all_are_in_order() -> bool {
+    let mut place = 0u16;
+    for addr in Addr::all() {
+        if addr.get() != place {
+            return false;
+        }
+        place = place.saturating_add(1);
+    }
+    place == CELLS
+}
+
 #[test]
 fn addresses_go_round_the_screen(rt: HostRuntime) -> Result<(), Fail> {
     size_laws();
@@ -172,6 +184,7 @@ fn addresses_go_round_the_screen(rt: HostRuntime) -> Result<(), Fail> {
     let last = Addr::new(1919).ok_or("not an address")?;
     assert!(rt; ROWS == 24 && COLUMNS == 80 && CELLS == 1920);
     assert!(rt; goes_forward(last) && goes_backward(last));
+    assert!(rt; CELL_COUNT == 1920 && all_are_in_order());
     Ok(())
 }
 
@@ -451,4 +464,22 @@ fn the_code_page_is_the_published_one(rt: HostRuntime) {
         controls_have_no_character() && other_characters_have_no_code(),
         "no others"
     );
+}
+
+fn a_character_is_one(cell: Cell) -> bool {
+    cell.is_character() && !cell.is_open() && cell.attribute().is_none()
+}
+
+/// Whether an attribute is one, of an unprotected field or not.
+fn an_attribute_is_one(attr: Attr, is_open: bool) -> bool {
+    let cell = Cell::Attr(attr);
+    !cell.is_character() && cell.is_open() == is_open && cell.attribute() == Some(attr)
+}
+
+#[test]
+fn cells_hold_characters_or_attributes(rt: HostRuntime) {
+    let is_so = a_character_is_one(Cell::Char(0x00))
+        && an_attribute_is_one(Attr::from_code(0x40), true)
+        && an_attribute_is_one(Attr::from_code(0xF0), false);
+    assert!(rt; is_so);
 }

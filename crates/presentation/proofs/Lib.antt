@@ -1,5 +1,4 @@
 pub mod Starts
-pub mod Appendings
 pub mod Texts
 pub mod Storable
 pub mod FieldLists

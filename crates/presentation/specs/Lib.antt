@@ -1,5 +1,4 @@
 pub mod Applied
-pub mod Appending
 pub mod Places
 pub mod Index
 pub mod Fields

@@ -6,15 +6,14 @@ ghost use Rattle.codes3270.specs.Aid.{IsRealAid};
 ghost use Rattle.datastream.specs.Screen.{blank_screen};
 
 use crate::packed_cell::PackedCell;
-use crate::screen::SIZE;
-use codes3270::{Addr, Aid};
+use codes3270::{Addr, Aid, CELL_COUNT};
 use std::marker::Model;
 
 /// The cells of a screen (GA23-0059-07 on the character buffer), the cursor and the AID. Its characters are storable. Contracts
 /// see it as the list of its cells, the cursor's address and the AID.
 #[derive(Clone, Debug, Drop, PartialEq, Eq)]
 pub(crate) struct Buffer {
-    pub(crate) cells: [PackedCell; SIZE],
+    pub(crate) cells: [PackedCell; CELL_COUNT],
     pub(crate) cursor: Addr,
     pub(crate) aid: Aid,
 }
@@ -53,10 +52,10 @@ pub(crate) fn with_real_key(aid: Aid) -> Aid
 }
 
 /// A null in each cell.
-pub(crate) fn nulls() -> [PackedCell; SIZE]
+pub(crate) fn nulls() -> [PackedCell; CELL_COUNT]
     ensures { result ≡ replicate cell_count (Char 0) }
 {
-    [PackedCell::character(0); SIZE]
+    [PackedCell::character(0); CELL_COUNT]
 }
 
 impl Buffer {

@@ -4,7 +4,7 @@ ghost use Rattle.codes3270.specs.Size.{cell_count};
 ghost use Rattle.codes3270.specs.declared.attribute.Cell.TheVariants.{Char};
 ghost use Rattle.std.specs.List.{list_all, prefix_len};
 ghost use Rattle.datastream.specs.Span.{distance};
-ghost use Rattle.datastream.specs.Screen.{last_attribute, is_char, is_open_attribute, ring, attribute_in, protects};
+ghost use Rattle.datastream.specs.Screen.{last_attribute, is_char, is_open_attribute, ring, protects};
 ghost use Rattle.datastream.specs.Meaning.{filled, opened, erased, unmodified, modified, open_unmodified, tab_stop, home, is_start};
 
 use crate::packed_cell::PackedCell;
@@ -80,15 +80,6 @@ pub(crate) fn attribute_before(cells: &[PackedCell], at: Addr) -> Option<Attr>
 {
     let (front, back) = cells.split_at(at.get() as usize);
     last_attribute_in(front).or(last_attribute_in(back))
-}
-
-pub(crate) fn attribute_of(cell: Cell) -> Option<Attr>
-    ensures { result ≡ attribute_in cell }
-{
-    match cell {
-        Cell::Char(_) => None,
-        Cell::Attr(attr) => Some(attr),
-    }
 }
 
 fn protects_cells(over: Option<Attr>) -> bool

@@ -118,7 +118,7 @@ impl Screen {
         ensures { result ≡ attribute_over self.now.cells at }
     {
         let number = self.field_number_at(at)?;
-        cells::attribute_of(self.cell(self.field_place(number)))
+        self.cell(self.field_place(number)).attribute()
     }
 
     /// The fields, by the addresses of their attributes, each once. An unformatted screen has none.

@@ -7,12 +7,11 @@ ghost use Rattle.presentation.specs.Index.{AreAscending, IsNearest};
 ghost use Rattle.arrayvec.specs.ArrayVec.{array_vec_len};
 
 use crate::packed_cell::PackedCell;
-use crate::screen::SIZE;
 use arrayvec::ArrayVec;
-use codes3270::Addr;
+use codes3270::{Addr, CELL_COUNT};
 
 /// Lists the addresses of the attributes, ascending.
-pub(crate) fn list_attributes(cells: &[PackedCell], listed: &mut ArrayVec<u16, SIZE>)
+pub(crate) fn list_attributes(cells: &[PackedCell], listed: &mut ArrayVec<u16, CELL_COUNT>)
     requires { length cells.now ≡ cell_count }
     ensures { listed.new.items ≡ attribute_places cells.now 0 }
 {
@@ -23,7 +22,7 @@ pub(crate) fn list_attributes(cells: &[PackedCell], listed: &mut ArrayVec<u16, S
 }
 
 /// Adds an address where its cell holds an attribute.
-fn list_if_attribute(listed: &mut ArrayVec<u16, SIZE>, place: u16, cell: PackedCell)
+fn list_if_attribute(listed: &mut ArrayVec<u16, CELL_COUNT>, place: u16, cell: PackedCell)
     requires { array_vec_len listed.old < cell_count }
     ensures items { listed.new.items ≡ listed.old.items ++ places_from (λ c. not (is_char c)) place (cell ∷ []) }
     ensures count { array_vec_len listed.new ≤ array_vec_len listed.old + 1 }

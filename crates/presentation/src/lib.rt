@@ -9,8 +9,7 @@
 //! ```
 //!
 //! What commands, reads and fields mean is defined in datastream's `specs/`. Those here add what a command asks of the
-//! keyboard (`Applied`), what is printed (`Glyph`), how fields are listed (`Fields`), and what an appending call leaves
-//! (`Appending`).
+//! keyboard (`Applied`), what is printed (`Glyph`), and how fields are listed (`Fields`).
 #![tactic(auto)]
 
 mod buffer;

@@ -3,7 +3,6 @@ ghost use Rattle.std.specs.Prelude.{◌≡◌};
 ghost use Rattle.codes3270.specs.declared.attribute.Cell.TheVariants.{Char};
 ghost use Rattle.datastream.specs.Screen.{attribute_in, is_char, is_open_attribute};
 
-use crate::cells;
 use codes3270::{Attr, Cell, attr_code};
 use std::marker::Model;
 
@@ -74,26 +73,20 @@ impl PackedCell {
     pub(crate) fn attribute(self) -> Option<Attr>
         ensures { result ≡ attribute_in self }
     {
-        cells::attribute_of(self.get())
+        self.get().attribute()
     }
 
     /// Whether it has a character.
     pub(crate) fn is_character(self) -> bool
         ensures { result ≡ is_char self }
     {
-        match self.get() {
-            Cell::Char(_) => true,
-            Cell::Attr(_) => false,
-        }
+        self.get().is_character()
     }
 
     /// Whether it has the attribute of an unprotected field.
     pub(crate) fn is_open(self) -> bool
         ensures { result ≡ is_open_attribute self }
     {
-        match self.get() {
-            Cell::Char(_) => false,
-            Cell::Attr(attr) => !attr.protected,
-        }
+        self.get().is_open()
     }
 }

@@ -1,15 +1,15 @@
 //! What reads answer.
-ghost use Rattle.std.specs.Prelude.{◌≡◌, ◌+◌, ◌%◌, ◌<◌, ◌∷◌, [], ◌++◌, length, take, drop, is_ok, OnOk, OnErr, ◌&&◌, not};
+ghost use Rattle.std.specs.Prelude.{◌≡◌, ◌+◌, ◌%◌, ◌<◌, ◌∷◌, [], ◌++◌, length, take, drop, OnOk, OnErr, ◌&&◌, not};
 ghost use Rattle.codes3270.specs.Size.{cell_count};
 ghost use Rattle.std.specs.List.{flat_map};
 ghost use Rattle.codes3270.specs.Address.{address_bytes};
 ghost use Rattle.codes3270.specs.Aid.{is_short_aid};
+ghost use Rattle.codes3270.specs.Appending.{Appends, AppendsSome};
 ghost use Rattle.datastream.specs.Screen.{text_before_attribute, field_text, places_from};
 ghost use Rattle.datastream.specs.Inbound.{without_nulls, modified_field, modified_text, read_modified, is_modified, cell_bytes, read_buffer};
 ghost use Rattle.datastream.specs.InboundText.{IsInbound};
 ghost use Rattle.datastream.specs.InboundFields.{IsSendable, modified_data, buffer_data};
 ghost use Rattle.presentation.specs.Answering.{form_of};
-ghost use Rattle.presentation.specs.Appending.{Appends, AppendsOrStops};
 
 use crate::buffer::Buffer;
 use crate::packed_cell::PackedCell;
@@ -18,20 +18,20 @@ use codes3270::{Addr, Aid, CELLS, Cell, addr_to_bytes, aid_byte, attr_code};
 use datastream::{Memory, SET_BUFFER_ADDRESS, START_FIELD};
 
 fn put_byte(out: &mut Vec<u8>, byte: u8) -> Result<(), Memory>
-    ensures { AppendsOrStops (is_ok result) out.old out.new (byte ∷ []) }
+    ensures { AppendsSome out.old out.new result (byte ∷ []) }
 {
     out.push(byte)?;
     Ok(())
 }
 
 fn put_bytes(out: &mut Vec<u8>, bytes: &[u8]) -> Result<(), Memory>
-    ensures { AppendsOrStops (is_ok result) out.old out.new bytes.now }
+    ensures { AppendsSome out.old out.new result bytes.now }
 {
     out.extend_from_slice(bytes)
 }
 
 fn put_unless_null(out: &mut Vec<u8>, byte: u8) -> Result<(), Memory>
-    ensures { AppendsOrStops (is_ok result) out.old out.new (without_nulls (byte ∷ [])) }
+    ensures { AppendsSome out.old out.new result (without_nulls (byte ∷ [])) }
 {
     if byte == 0 {
         Ok(())
@@ -42,7 +42,7 @@ fn put_unless_null(out: &mut Vec<u8>, byte: u8) -> Result<(), Memory>
 
 /// The characters before the first attribute, without nulls.
 fn put_text(out: &mut Vec<u8>, cells: &[PackedCell]) -> Result<(), Memory>
-    ensures { AppendsOrStops (is_ok result) out.old out.new (without_nulls (text_before_attribute cells.now)) }
+    ensures { AppendsSome out.old out.new result (without_nulls (text_before_attribute cells.now)) }
 {
     for cell in cells {
         let Cell::Char(byte) = cell.get() else {
@@ -56,7 +56,7 @@ fn put_text(out: &mut Vec<u8>, cells: &[PackedCell]) -> Result<(), Memory>
 /// The text of the field whose attribute stands at `at`, round the end, without nulls.
 fn put_field_text(out: &mut Vec<u8>, cells: &[PackedCell], at: Addr) -> Result<(), Memory>
     requires { length cells.now ≡ cell_count }
-    ensures { AppendsOrStops (is_ok result) out.old out.new (without_nulls (field_text cells.now at)) }
+    ensures { AppendsSome out.old out.new result (without_nulls (field_text cells.now at)) }
 {
     let (front, back) = cells.split_at(at.get() as usize + 1);
     put_text(out, back)?;
@@ -70,7 +70,7 @@ fn put_field_text(out: &mut Vec<u8>, cells: &[PackedCell], at: Addr) -> Result<(
 /// SBA, the field's first address and its text.
 fn put_field(out: &mut Vec<u8>, cells: &[PackedCell], at: Addr) -> Result<(), Memory>
     requires { length cells.now ≡ cell_count }
-    ensures { AppendsOrStops (is_ok result) out.old out.new (modified_field cells.now at) }
+    ensures { AppendsSome out.old out.new result (modified_field cells.now at) }
 {
     let [high, low] = addr_to_bytes(at.next());
     put_bytes(out, &[SET_BUFFER_ADDRESS, high, low])?;
@@ -89,7 +89,7 @@ fn is_modified_attribute(cell: PackedCell) -> bool
 fn put_field_if_modified(out: &mut Vec<u8>, cells: &[PackedCell], at: Addr) -> Result<(), Memory>
     requires { length cells.now ≡ cell_count }
     ensures { let places = places_from is_modified at (take 1 (drop at cells.now)) in
-        AppendsOrStops (is_ok result) out.old out.new (flat_map (modified_field cells.now) places) }
+        AppendsSome out.old out.new result (flat_map (modified_field cells.now) places) }
 {
     if is_modified_attribute(cells[at.get() as usize]) {
         put_field(out, cells, at)
@@ -102,7 +102,7 @@ fn put_field_if_modified(out: &mut Vec<u8>, cells: &[PackedCell], at: Addr) -> R
 fn put_modified_fields(out: &mut Vec<u8>, cells: &[PackedCell]) -> Result<(), Memory>
     requires { length cells.now ≡ cell_count }
     ensures { let places = places_from is_modified 0 cells.now in
-        AppendsOrStops (is_ok result) out.old out.new (flat_map (modified_field cells.now) places) }
+        AppendsSome out.old out.new result (flat_map (modified_field cells.now) places) }
 {
     for place in 0..CELLS {
         put_field_if_modified(out, cells, Addr::first().forward(place))?;
@@ -112,7 +112,7 @@ fn put_modified_fields(out: &mut Vec<u8>, cells: &[PackedCell]) -> Result<(), Me
 
 fn put_modified_text(out: &mut Vec<u8>, cells: &[PackedCell]) -> Result<(), Memory>
     requires { length cells.now ≡ cell_count }
-    ensures { AppendsOrStops (is_ok result) out.old out.new (modified_text cells.now) }
+    ensures { AppendsSome out.old out.new result (modified_text cells.now) }
 {
     if cells::has_only_characters(cells) {
         put_text(out, cells)
@@ -129,7 +129,7 @@ fn is_short_form(aid: Aid, all: bool) -> bool
 }
 
 fn put_cell(out: &mut Vec<u8>, cell: PackedCell) -> Result<(), Memory>
-    ensures { AppendsOrStops (is_ok result) out.old out.new (cell_bytes cell) }
+    ensures { AppendsSome out.old out.new result (cell_bytes cell) }
 {
     match cell.get() {
         Cell::Char(byte) => put_byte(out, byte),
@@ -138,7 +138,7 @@ fn put_cell(out: &mut Vec<u8>, cell: PackedCell) -> Result<(), Memory>
 }
 
 fn put_cells(out: &mut Vec<u8>, cells: &[PackedCell]) -> Result<(), Memory>
-    ensures { AppendsOrStops (is_ok result) out.old out.new (flat_map cell_bytes cells.now) }
+    ensures { AppendsSome out.old out.new result (flat_map cell_bytes cells.now) }
 {
     for cell in cells {
         put_cell(out, *cell)?;
@@ -149,14 +149,14 @@ fn put_cells(out: &mut Vec<u8>, cells: &[PackedCell]) -> Result<(), Memory>
 impl Buffer {
     fn put_cursor_and_cells(&self, out: &mut Vec<u8>) -> Result<(), Memory>
         ensures { let bytes = address_bytes self.now.cursor ++ flat_map cell_bytes self.now.cells in
-            AppendsOrStops (is_ok result) out.old out.new bytes }
+            AppendsSome out.old out.new result bytes }
     {
         put_bytes(out, &addr_to_bytes(self.cursor))?;
         put_cells(out, &self.cells)
     }
 
     fn put_buffer(&self, out: &mut Vec<u8>) -> Result<(), Memory>
-        ensures bytes { AppendsOrStops (is_ok result) out.old out.new (read_buffer self.now) }
+        ensures bytes { AppendsSome out.old out.new result (read_buffer self.now) }
         ensures sendable { IsSendable self.now }
     {
         put_byte(out, aid_byte(self.aid))?;
@@ -165,14 +165,14 @@ impl Buffer {
 
     fn put_cursor_and_fields(&self, out: &mut Vec<u8>) -> Result<(), Memory>
         ensures { let bytes = address_bytes self.now.cursor ++ modified_text self.now.cells in
-            AppendsOrStops (is_ok result) out.old out.new bytes }
+            AppendsSome out.old out.new result bytes }
     {
         put_bytes(out, &addr_to_bytes(self.cursor))?;
         put_modified_text(out, &self.cells)
     }
 
     fn put_modified(&self, out: &mut Vec<u8>, all: bool) -> Result<(), Memory>
-        ensures bytes { AppendsOrStops (is_ok result) out.old out.new (read_modified all self.now) }
+        ensures bytes { AppendsSome out.old out.new result (read_modified all self.now) }
         ensures sendable { IsSendable self.now }
     {
         put_byte(out, aid_byte(self.aid))?;

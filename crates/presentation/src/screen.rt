@@ -13,12 +13,9 @@ use crate::buffer::{Buffer, with_real_key};
 use crate::packed_cell::PackedCell;
 use crate::{Applied, cells, index};
 use arrayvec::ArrayVec;
-use codes3270::{Addr, Aid, CELLS, Cell};
+use codes3270::{Addr, Aid, CELL_COUNT, Cell};
 use datastream::Command;
 use std::marker::Model;
-
-/// How many cells a screen has, as a length.
-pub(crate) const SIZE: usize = CELLS as usize;
 
 /// The screen of a 3278 model 2 (GA23-0059-07 on the character buffer): its cells, the cursor and the AID. Its characters are
 /// storable. Contracts see it as the list of its cells, the cursor's address and the AID.
@@ -26,7 +23,7 @@ pub(crate) const SIZE: usize = CELLS as usize;
 pub struct Screen {
     pub(crate) buffer: Buffer,
     /// The addresses of its attributes, ascending.
-    pub(crate) attributes: ArrayVec<u16, SIZE>,
+    pub(crate) attributes: ArrayVec<u16, CELL_COUNT>,
 }
 
 impl Model for Screen {

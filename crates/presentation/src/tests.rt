@@ -137,7 +137,7 @@ fn reads(screen: &Screen, out: &mut Vec<u8>, wanted: &[u8]) -> bool {
 fn store(screen: &mut Screen, place: Addr, codes: &[u8]) {
     let mut next = place;
     for code in codes {
-        if matches!(screen.cell(next), Cell::Char(_)) && codes3270::storable(*code) {
+        if screen.cell(next).is_character() && codes3270::storable(*code) {
             screen.set_char(next, *code);
         }
         next = next.next();

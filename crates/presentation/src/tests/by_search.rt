@@ -4,20 +4,13 @@ use super::{
     THREE_FIELDS, at, obey, obeys, type_at,
 };
 use crate::{Field, Screen};
-use codes3270::{Addr, Attr, CELLS, Cell};
-
-fn attribute_at(screen: &Screen, at: Addr) -> Option<Attr> {
-    match screen.cell(at) {
-        Cell::Char(_) => None,
-        Cell::Attr(attr) => Some(attr),
-    }
-}
+use codes3270::{Addr, Attr, CELLS};
 
 /// Where the attribute stands that is the nearest before a cell, round the end.
 fn searched_place(screen: &Screen, at: Addr) -> Option<Addr> {
     for back in 0..CELLS {
         let place = at.backward(back);
-        if attribute_at(screen, place).is_some() {
+        if screen.cell(place).attribute().is_some() {
             return Some(place);
         }
     }
@@ -27,7 +20,7 @@ fn searched_place(screen: &Screen, at: Addr) -> Option<Addr> {
 /// How many cells follow an attribute up to the next one, round the end.
 fn searched_length(screen: &Screen, attr: Addr) -> u16 {
     for length in 0..CELLS - 1 {
-        if attribute_at(screen, attr.forward(length + 1)).is_some() {
+        if screen.cell(attr.forward(length + 1)).attribute().is_some() {
             return length;
         }
     }
@@ -44,7 +37,7 @@ fn searched_field(screen: &Screen, at: Addr) -> Option<Field> {
 
 fn searched_attribute(screen: &Screen, at: Addr) -> Option<Attr> {
     let place = searched_place(screen, at)?;
-    attribute_at(screen, place)
+    screen.cell(place).attribute()
 }
 
 /// Whether a cell is found to lie in the same field, under the same attribute.
@@ -68,9 +61,8 @@ fn finds_the_same_here_and_there(screen: &Screen) -> bool {
 /// Whether the fields are those of all attributes, by address, and are found from the cell before on.
 fn lists_the_same(screen: &Screen) -> bool {
     let mut fields = screen.fields();
-    for place in 0..CELLS {
-        let here = at(place);
-        if attribute_at(screen, here).is_some()
+    for here in Addr::all() {
+        if screen.cell(here).attribute().is_some()
             && (fields.next() != searched_field(screen, here)
                 || !finds_the_same(screen, here)
                 || !finds_the_same(screen, here.backward(1)))
@@ -84,8 +76,8 @@ fn lists_the_same(screen: &Screen) -> bool {
 /// Whether the same is printed in one walk as cell by cell.
 fn prints_the_same(screen: &Screen) -> bool {
     let mut glyphs = screen.glyphs();
-    for place in 0..CELLS {
-        if glyphs.next() != Some(screen.glyph_at(at(place))) {
+    for here in Addr::all() {
+        if glyphs.next() != Some(screen.glyph_at(here)) {
             return false;
         }
     }

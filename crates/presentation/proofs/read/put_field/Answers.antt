@@ -3,7 +3,7 @@ use Rattle.std.proofs.Common.{◌≡◌, ℕ, List, [], ◌++◌, ◌∷◌, sym
 use Rattle.codes3270.specs.Address.{address_bytes}
 use Rattle.datastream.specs.Screen.{field_text}
 use Rattle.datastream.specs.Inbound.{without_nulls, modified_field}
-use Rattle.presentation.proofs.Appendings.{Appends-then, Appends-same}
+use Rattle.codes3270.proofs.Appendings.{some_then, some_same}
 use Rattle.presentation.proofs.read.put_field.Goals as goal
 
 pub returns : goal.returns
@@ -16,4 +16,4 @@ returns c =
     ap (λ (bytes : List ℕ). slice_index bytes 0 ∷ slice_index bytes 1 ∷ []) c.addr_to_bytes.ensures.bytes in
     let whole : (0x11 ∷ slice_index c.addr_to_bytes.result 0 ∷ slice_index c.addr_to_bytes.result 1 ∷ []) ++ text ≡ modified_field cells c.args.at =
     ap (λ (front : List ℕ). 0x11 ∷ front ++ text) (pair ∙ ap address_bytes next) in
-    Appends-same _ _ _ _ _ whole (Appends-then _ _ _ _ _ _ c.in_ok-put_bytes.ensures c.put_field_text.ensures)
+    some_same _ _ _ _ _ whole (some_then _ _ _ _ _ _ _ c.in_ok-put_bytes.ensures c.put_field_text.ensures)

@@ -4,7 +4,7 @@ use Rattle.std.proofs.Math.Nat.{mod-eq_of_lt}
 use Rattle.std.proofs.lemmas.Result.{err_from_is_err_and}
 use Rattle.codes3270.specs.declared.attribute.Cell.TheVariants.{Char}
 use Rattle.datastream.specs.Inbound.{modified_field, is_modified}
-use Rattle.presentation.proofs.Appendings.{IsAppending-more, Appends-stopped}
+use Rattle.codes3270.proofs.Appendings.{appending_more, appending_stopped}
 use Rattle.presentation.proofs.Texts.{places_from_more}
 use Rattle.presentation.proofs.read.put_modified_fields.Goals as goal
 
@@ -18,7 +18,7 @@ returns-in_err-put_field_if_modified c =
     let failed = err_from_is_err_and c.from_residual.result c.from_residual.ensures.1 in
     let before = rw (places_from_more (modified_field cells) is_modified cells c.loop-place.place (Char 0) below) at c.loop-place.invariant in
     let here = rw there at c.in_err-put_field_if_modified.ensures in
-    rw failed.1 (Appends-stopped _ _ _ _ _ _ before here)
+    rw failed.1 (appending_stopped _ _ _ _ _ _ _ _ before here)
 
 pub loop-place-preserved : goal.loop-place-preserved
 loop-place-preserved c =
@@ -29,4 +29,4 @@ loop-place-preserved c =
     c.forward.ensures.value ∙ rw (c.first.ensures, zero-add) (mod-eq_of_lt inside) in
     let before = rw (places_from_more (modified_field cells) is_modified cells c.loop-place.place (Char 0) below) at c.loop-place.invariant in
     let here = rw there at c.in_ok-put_field_if_modified.ensures in
-    IsAppending-more _ _ _ _ _ _ before here
+    appending_more _ _ _ _ _ _ _ before here

@@ -2,7 +2,7 @@ use Rattle.std.proofs.Common.{◌≡◌, ℕ, List, ◌++◌, ap}
 use Rattle.std.specs.List.{flat_map}
 use Rattle.codes3270.specs.Address.{address_bytes}
 use Rattle.datastream.specs.Inbound.{cell_bytes}
-use Rattle.presentation.proofs.Appendings.{Appends-then, Appends-same}
+use Rattle.codes3270.proofs.Appendings.{some_then, some_same}
 use Rattle.presentation.proofs.buffer.Buffer.put_cursor_and_cells.Goals as goal
 
 pub returns : goal.returns
@@ -12,4 +12,4 @@ returns c =
     let cursor : c.addr_to_bytes.result ≡ address_bytes screen.cursor = rw (← c.self.view_is) c.addr_to_bytes.ensures.bytes in
     let whole : c.addr_to_bytes.result ++ cells ≡ address_bytes screen.cursor ++ cells =
     ap (λ (front : List ℕ). front ++ cells) cursor in
-    Appends-same _ _ _ _ _ whole (rw (← c.self.view_is) (Appends-then _ _ _ _ _ _ c.in_ok-put_bytes.ensures c.put_cells.ensures))
+    some_same _ _ _ _ _ whole (rw (← c.self.view_is) (some_then _ _ _ _ _ _ _ c.in_ok-put_bytes.ensures c.put_cells.ensures))

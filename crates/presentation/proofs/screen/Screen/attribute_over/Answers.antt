@@ -25,6 +25,6 @@ returns c =
     subst (λ (count : ℕ). IsNearest count (attribute_places cells 0) c.args.at c.in_ok-number.number) size c.in_ok-number.ensures.nearest in
     let read : get_or cells (place_of cells c.in_ok-number.number) (Char 0) ≡ c.cell.result =
     get_or_from_slice_get cells _ c.cell.result (Char 0) (rw (← c.field_place.ensures) c.cell.ensures.value) in
-    c.attribute_of.ensures
+    c.attribute.ensures
     ∙ ap attribute_in (sym read)
     ∙ sym (attribute_over_governed cells c.args.at (place_of cells c.in_ok-number.number) below (nearest_governs cells c.args.at c.in_ok-number.number below nearest))
