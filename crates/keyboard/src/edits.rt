@@ -224,7 +224,7 @@ fn advance(screen: &mut Screen)
     ensures { screen.new ≡ advanced screen.old }
 {
     let next = screen.cursor().next();
-    let to = past(screen, places::attribute_of(screen.cell(next)), next);
+    let to = past(screen, screen.cell(next).attribute(), next);
     screen.set_cursor(to);
 }
 

@@ -1,44 +1,17 @@
 //! The places that keys look for.
 ghost use Rattle.std.specs.Prelude.{◌≡◌, ◌+◌, ◌%◌, ◌<◌, ◌&&◌, not, length};
 ghost use Rattle.codes3270.specs.Size.{cell_count, columns};
-ghost use Rattle.datastream.specs.Screen.{is_char, is_char_at, is_open_attribute, attribute_in, protects};
+ghost use Rattle.datastream.specs.Screen.{is_char, is_char_at, protects};
 ghost use Rattle.keyboard.specs.Places.{is_start_at, is_free_at, next_start as start_behind, start_before as start_ahead, next_line as line_behind, row_end, first_or_zero, onward};
 
 use codes3270::{Addr, Attr, CELLS, COLUMNS, Cell};
 use presentation::Screen;
 
-fn is_character(cell: Cell) -> bool
-    ensures { result ≡ is_char cell }
-{
-    match cell {
-        Cell::Char(_) => true,
-        Cell::Attr(_) => false,
-    }
-}
-
-fn is_open(cell: Cell) -> bool
-    ensures { result ≡ is_open_attribute cell }
-{
-    match cell {
-        Cell::Char(_) => false,
-        Cell::Attr(attr) => !attr.protected,
-    }
-}
-
-pub(crate) fn attribute_of(cell: Cell) -> Option<Attr>
-    ensures { result ≡ attribute_in cell }
-{
-    match cell {
-        Cell::Char(_) => None,
-        Cell::Attr(attr) => Some(attr),
-    }
-}
-
 /// Whether a cell holds a character.
 pub(crate) fn is_character_at(screen: &Screen, at: Addr) -> bool
     ensures { result ≡ is_char_at screen.now.cells at }
 {
-    is_character(screen.cell(at))
+    screen.cell(at).is_character()
 }
 
 /// Whether a cell may be typed into: it is unprotected, and no attribute.
@@ -52,7 +25,7 @@ pub(crate) fn is_free(screen: &Screen, at: Addr) -> bool
 fn is_free_under(over: Option<Attr>, cell: Cell) -> bool
     ensures { result ≡ (is_char cell && not (protects over)) }
 {
-    is_character(cell) && !over.is_some_and(|attr| attr.protected)
+    cell.is_character() && !over.is_some_and(|attr| attr.protected)
 }
 
 /// Whether a cell is the first of an unprotected field.
@@ -60,7 +33,7 @@ fn is_start(screen: &Screen, at: Addr) -> bool
     requires { length screen.now.cells ≡ cell_count }
     ensures { result ≡ is_start_at screen.now.cells at }
 {
-    is_open(screen.cell(at.backward(1))) && is_character_at(screen, at)
+    screen.cell(at.backward(1)).is_open() && is_character_at(screen, at)
 }
 
 /// The first start behind a cell, round the end; its own is the last. 0 if there is none.
@@ -100,7 +73,7 @@ fn next_free(screen: &Screen, at: Addr) -> Addr
     for step in 1..=CELLS {
         let free = at.forward(step);
         let cell = screen.cell(free);
-        over = attribute_of(cell).or(over);
+        over = cell.attribute().or(over);
         if is_free_under(over, cell) {
             return free;
         }

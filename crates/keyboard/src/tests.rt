@@ -3,7 +3,7 @@
 mod by_search;
 
 use crate::*;
-use codes3270::{Aid, CELLS};
+use codes3270::{Aid, CELL_COUNT};
 use datastream::read_command;
 use presentation::Screen;
 use std::test::Fail;
@@ -490,7 +490,7 @@ fn erases_all_unprotected(screen: &mut Screen, out: &mut Vec<u8>) -> bool {
 /// Whether a buffer is that of the panel, after PA1, with AB in its first field.
 fn is_panel_with_ab(buffer: &[u8]) -> bool {
     // The AID, the cursor, all cells, and one byte more for each of the eight attributes. Two of them lie before the field.
-    buffer.len() == 3 + CELLS as usize + 8
+    buffer.len() == 3 + CELL_COUNT + 8
         && buffer.starts_with(b"\x6C\xC2\xE9\x1D\xF0\xE2")
         && buffer.get(171..175) == Some(b"\x1D\xC1\xC1\xC2".as_slice())
 }

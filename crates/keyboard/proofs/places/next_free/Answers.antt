@@ -20,7 +20,7 @@ returns-then-is_free_under c =
     carried cells place c.cell-cell.result c.loop-step.over c.or-over.result below
     (read_cell cells place c.cell-cell.result (rw (← there) c.cell-cell.ensures.value))
     c.loop-step.invariant.over
-    (rw c.attribute_of.ensures at c.or-over.ensures) in
+    (rw c.attribute.ensures at c.or-over.ensures) in
     let test : is_free_at cells place ≡ true = sym walk.free ∙ sym c.is_free_under.ensures ∙ c.if-is_free_under.true in
     rw there
     (sym (first_onward (is_free_at cells) (length cells) c.args.at c.loop-step.step (omega arith) (omega arith) c.loop-step.invariant.none_nearer test))
@@ -43,7 +43,7 @@ loop-step-preserved c =
     carried cells place c.cell-cell.result c.loop-step.over c.or-over.result below
     (read_cell cells place c.cell-cell.result (rw (← there) c.cell-cell.ensures.value))
     c.loop-step.invariant.over
-    (rw c.attribute_of.ensures at c.or-over.ensures) in
+    (rw c.attribute.ensures at c.or-over.ensures) in
     let test : is_free_at cells place ≡ false = sym walk.free ∙ sym c.is_free_under.ensures ∙ c.if-is_free_under.false in
     let onward : (place + 1) % length cells ≡ (c.args.at + (c.loop-step.step + 1)) % length cells =
     mod-add-mod (c.args.at + c.loop-step.step) (length cells) 1 ∙ ap (λ (n : ℕ). n % length cells) (add_assoc c.args.at c.loop-step.step 1) in
