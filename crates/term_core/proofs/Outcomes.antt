@@ -17,7 +17,9 @@ use Rattle.tn3270e_msg.specs.TermTable.{Term, TermTakes, term_line}
 use Rattle.tn3270e_msg.specs.Laws.{OneHeader, FaultIsNoHeader, OneHearing}
 use Rattle.tn3270e_msg.specs.Header.{record_limit}
 use Rattle.term_core.specs.State.{Station, Terminal, Link, Attached}
-use Rattle.term_core.specs.Records.{TakesRecord, refused_response, refusal_of, answer_of, obeyed}
+use Rattle.datastream.specs.Senses.{sense_of}
+use Rattle.term_core.specs.declared.outcome.Outcome.TheVariants.{Refused}
+use Rattle.term_core.specs.Records.{TakesRecord, refused_response, answer_of, obeyed}
 use Rattle.term_core.specs.Items.{TakesItem, TakesItemIn, TalksOn}
 use Rattle.term_core.specs.Bytes.{TakesByte, TakesBytes, before_byte, link_after}
 use Rattle.term_core.specs.Laws.{OneOutcome, PiecesCompose, PiecesPart}
@@ -59,7 +61,7 @@ module _ (one_header : OneHeader) (fault_or_header : FaultIsNoHeader) (one_heari
       let both = one_header bytes header header' body body' begins begins' in
       let faults = one_command_fault fault fault' body bad (subst (λ (b : List ℕ). IsNoCommand fault' b) (sym both.1) bad') in
       record {
-        said = a ∙ ap (λ (h : Header). refused_response h.flag h.seq (refusal_of fault)) both.0 ∙ ap (λ (f : CommandFault). refused_response header'.flag header'.seq (refusal_of f)) faults ∙ sym d;
+        said = a ∙ ap (λ (h : Header). refused_response h.flag h.seq (Refused (sense_of fault))) both.0 ∙ ap (λ (f : CommandFault). refused_response header'.flag header'.seq (Refused (sense_of f))) faults ∙ sym d;
         closed = b ∙ sym e;
         left = c ∙ sym h;
       }

@@ -31,7 +31,9 @@ use Rattle.telnet_wire.proofs.Running.{goes_wrong, delivers_none, delivers_item}
 use Rattle.term_core.specs.State.{Station, Terminal, Attached}
 use Rattle.term_core.specs.declared.outcome.Outcome.{Outcome}
 use Rattle.term_core.specs.Says.{response}
-use Rattle.term_core.specs.Records.{TakesRecord, refused_response, refusal_of, answer_of, obeyed}
+use Rattle.datastream.specs.Senses.{sense_of}
+use Rattle.term_core.specs.declared.outcome.Outcome.TheVariants.{Refused}
+use Rattle.term_core.specs.Records.{TakesRecord, refused_response, answer_of, obeyed}
 use Rattle.term_core.specs.Items.{TakesItem, TakesItemIn, TalksOn}
 use Rattle.term_core.specs.Bytes.{TakesByte, TakesBytes, before_byte, link_after}
 use Rattle.term_core.specs.Over.{RecordTaken, ItemTaken, IsRunning, IsLeft, IsSound, terminal_of}
@@ -55,10 +57,10 @@ of_another_type old bytes out header body begins other =
 
 pub with_fault : (old : Station) (bytes : List ℕ) (before after : Vec ℕ Global) (header : Header) (body : List ℕ) (fault : CommandFault)
     → Begins bytes header body → header.kind ≡ Data3270 → IsNoCommand fault body
-    → after.items ≡ before.items ++ sent_bytes (refused_response header.flag header.seq (refusal_of fault))
+    → after.items ≡ before.items ++ sent_bytes (refused_response header.flag header.seq (Refused (sense_of fault)))
     → RecordTaken old bytes before after None old
 with_fault old bytes before after header body fault begins kind wrong sent =
-    record { says = refused_response header.flag header.seq (refusal_of fault); takes = TakesRecord.refused header body fault begins kind wrong refl refl refl; sent = sent }
+    record { says = refused_response header.flag header.seq (Refused (sense_of fault)); takes = TakesRecord.refused header body fault begins kind wrong refl refl refl; sent = sent }
 
 pub with_command : (old new : Station) (bytes : List ℕ) (before after : Vec ℕ Global) (header : Header) (body : List ℕ) (command : CommandParts)
     → Begins bytes header body → header.kind ≡ Data3270 → IsCommand command body → new ≡ obeyed command old

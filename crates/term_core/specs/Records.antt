@@ -8,7 +8,7 @@ use Rattle.datastream.specs.Inbound.{read_modified, read_buffer}
 use Rattle.datastream.specs.declared.command_code.CommandCode.{CommandCode}
 use Rattle.datastream.specs.declared.command_code.CommandCode.TheVariants.{Write, EraseWrite, EraseWriteAlternate, ReadBuffer, ReadModified, ReadModifiedAll, EraseAllUnprotected}
 use Rattle.datastream.specs.declared.fault.CommandFault.{CommandFault}
-use Rattle.datastream.specs.declared.fault.CommandFault.TheVariants.{BadCommand, BadOrder, BadAddress, Truncated}
+use Rattle.datastream.specs.Senses.{sense_of}
 use Rattle.presentation.specs.Applied.{asked_by}
 use Rattle.keyboard.specs.State.{Keyboard, freed}
 use Rattle.telnet_wire.specs.Items.{WireItem}
@@ -19,7 +19,7 @@ use Rattle.tn3270e_msg.specs.declared.header.DataType.TheVariants.{Data3270}
 use Rattle.tn3270e_msg.specs.declared.cause.Cause.{Cause}
 use Rattle.tn3270e_msg.specs.declared.cause.Cause.TheVariants.{BadRecord}
 use Rattle.term_core.specs.declared.outcome.Outcome.{Outcome}
-use Rattle.term_core.specs.declared.outcome.Outcome.TheVariants.{DeviceEnd, CommandReject, OperationCheck}
+use Rattle.term_core.specs.declared.outcome.Outcome.TheVariants.{DeviceEnd, Refused}
 use Rattle.term_core.specs.State.{Station}
 use Rattle.term_core.specs.Says.{response, data_record}
 
@@ -30,13 +30,6 @@ refused_response flag number outcome = if flag == 0 then [] else response number
 -- the response to a command that was done: one where its record wants one in any case (response flag 2)
 abbrev pub done_response : ℕ → ℕ → List WireItem
 done_response flag number = if flag == 2 then response number DeviceEnd ∷ [] else []
-
--- why a command with a fault is refused
-abbrev pub refusal_of : CommandFault → Outcome
-refusal_of BadCommand = CommandReject
-refusal_of BadOrder = OperationCheck
-refusal_of BadAddress = OperationCheck
-refusal_of Truncated = OperationCheck
 
 -- the data that a read command gets; other commands get none
 abbrev pub data_read : CommandCode → Screen → Option (List ℕ)
@@ -96,7 +89,7 @@ pub data TakesRecord (old : Station) (bytes : List ℕ) (says : List WireItem) (
   dropped : (header : Header) (body : List ℕ) → Begins bytes header body → header.kind ≢ Data3270
       → says ≡ [] → closes ≡ None → new ≡ old → TakesRecord old bytes says closes new
   refused : (header : Header) (body : List ℕ) (fault : CommandFault) → Begins bytes header body → header.kind ≡ Data3270
-      → IsNoCommand fault body → says ≡ refused_response header.flag header.seq (refusal_of fault) → closes ≡ None → new ≡ old
+      → IsNoCommand fault body → says ≡ refused_response header.flag header.seq (Refused (sense_of fault)) → closes ≡ None → new ≡ old
       → TakesRecord old bytes says closes new
   obeys : (header : Header) (body : List ℕ) (command : CommandParts) → Begins bytes header body → header.kind ≡ Data3270
       → IsCommand command body → says ≡ answer_of header command old → closes ≡ None → new ≡ obeyed command old

@@ -1,23 +1,23 @@
 -- What a terminal sends (RFC 1647, sections 8.1 and 10.4; a record's end is RFC 885's).
 use Rattle.std.specs.Prelude.{ℕ, List, [], ◌∷◌, ◌++◌}
+use Rattle.datastream.specs.declared.fault.Sense.TheVariants.{CommandReject, OperationCheck}
 use Rattle.telnet_wire.specs.Items.{WireItem, Record}
 use Rattle.tn3270e_msg.specs.Header.{spelling}
 use Rattle.tn3270e_msg.specs.declared.header.Header.{Header}
 use Rattle.tn3270e_msg.specs.declared.header.DataType.TheVariants.{Data3270, Response}
 use Rattle.term_core.specs.declared.outcome.Outcome.{Outcome}
-use Rattle.term_core.specs.declared.outcome.Outcome.TheVariants.{DeviceEnd, CommandReject, OperationCheck}
+use Rattle.term_core.specs.declared.outcome.Outcome.TheVariants.{DeviceEnd, Refused}
 
 -- POSITIVE or NEGATIVE
 abbrev pub outcome_flag : Outcome → ℕ
 outcome_flag DeviceEnd = 0
-outcome_flag CommandReject = 1
-outcome_flag OperationCheck = 1
+outcome_flag (Refused sense) = 1
 
 -- the byte behind the header
 abbrev pub outcome_code : Outcome → ℕ
 outcome_code DeviceEnd = 0
-outcome_code CommandReject = 0
-outcome_code OperationCheck = 2
+outcome_code (Refused CommandReject) = 0
+outcome_code (Refused OperationCheck) = 2
 
 abbrev pub response_header : ℕ → Outcome → Header
 response_header number outcome = record { kind = Response; request = 0; flag = outcome_flag outcome; seq = number }

@@ -11,13 +11,13 @@ ghost use Rattle.telnet_wire.specs.Items.{sent_bytes};
 ghost use Rattle.term_core.specs.Says.{response, data_record};
 ghost use Rattle.term_core.specs.Room.{HasRoom, HasRoomForResponse, longest_reading};
 ghost use Rattle.term_core.specs.Reads.{data_of, data_if};
-ghost use Rattle.term_core.specs.Records.{refusal_of, data_read, numbered, answer_of, obeyed};
+ghost use Rattle.term_core.specs.Records.{data_read, numbered, answer_of, obeyed};
 ghost use Rattle.term_core.specs.Over.{RecordTaken};
 ghost use Rattle.term_core.specs.Presses.{key_outcome, station_after_key, says_of_key};
 
 use crate::outcome::Outcome;
 use crate::room::RECORD_ROOM;
-use datastream::{Command, CommandCode, CommandFault, fields_both_ways, read_command};
+use datastream::{Command, CommandCode, Sense, fields_both_ways, read_command};
 use keyboard::{Key, Keyboard, Pressed};
 use presentation::Screen;
 use std::alloc::Global;
@@ -75,18 +75,6 @@ fn reading_of(code: CommandCode) -> Option<Reading>
     }
 }
 
-/// Why a command with a fault is refused.
-fn refusal(fault: CommandFault) -> Outcome
-    ensures { result ≡ refusal_of fault }
-{
-    match fault {
-        CommandFault::BadCommand => Outcome::CommandReject,
-        CommandFault::BadOrder | CommandFault::BadAddress | CommandFault::Truncated => {
-            Outcome::OperationCheck
-        }
-    }
-}
-
 /// Whether a command is a write; Erase All Unprotected isn't.
 fn is_write(code: CommandCode) -> bool
     ensures { result ≡ is_write code }
@@ -105,8 +93,8 @@ fn send_response(out: &mut Vec<u8>, number: u16, outcome: Outcome)
 {
     let (flag, code) = match outcome {
         Outcome::DeviceEnd => (POSITIVE, 0),
-        Outcome::CommandReject => (NEGATIVE, 0),
-        Outcome::OperationCheck => (NEGATIVE, 2),
+        Outcome::Refused(Sense::CommandReject) => (NEGATIVE, 0),
+        Outcome::Refused(Sense::OperationCheck) => (NEGATIVE, 2),
     };
     let header = Header {
         kind: DataType::Response,
@@ -232,7 +220,7 @@ impl Station {
             Ok(command) => self.obey(&header, &command, out),
             Err(fault) => {
                 if header.flag != NO_RESPONSE {
-                    send_response(out, header.seq, refusal(fault));
+                    send_response(out, header.seq, Outcome::Refused(fault.sense()));
                 }
             }
         }
