@@ -18,3 +18,5 @@ pub mod InboundData
 pub mod InboundViews
 pub mod InboundSent
 pub mod InboundSlices
+pub mod Round
+pub mod Keeping

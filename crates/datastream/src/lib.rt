@@ -38,6 +38,7 @@ mod laws;
 mod order;
 mod order_codes;
 mod orders;
+mod row;
 #[cfg(test)]
 mod tests;
 mod wanted;
@@ -58,5 +59,6 @@ pub use laws::{
 pub use order::Order;
 pub use order_codes::{SET_BUFFER_ADDRESS, START_FIELD};
 pub use orders::Orders;
-pub use wanted::{Want, Wanted};
+pub use row::Row;
+pub use wanted::{Want, Wanted, Wants};
 pub use writer::{CommandWriter, Memory};

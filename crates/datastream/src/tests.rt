@@ -1,7 +1,5 @@
 //! Commands read and written, byte for byte, and wanted screens. What is owned lives in helpers that answer whether all is as
 //! it should be, so that a test has few ways out.
-ghost use Rattle.std.specs.Prelude.{All};
-ghost use Rattle.datastream.specs.Wanted.{IsProper};
 
 use super::*;
 use codes3270::{Addr, Attr, CELL_COUNT, CELLS, COLUMNS, Wcc};
@@ -365,26 +363,13 @@ fn a_call_appends_its_bytes_or_changes_nothing(rt: HostRuntime) {
 
 // ---- wanted screens
 
-fn all_kept() -> [Want; CELL_COUNT]
-    ensures { All IsProper result }
-{
-    [Want::Keep; CELL_COUNT]
-}
-
-fn put_want(wants: &mut [Want; CELL_COUNT], place: Addr, want: Want)
-    requires proper { All IsProper wants.old }
-    requires fits { IsProper want }
-    ensures { All IsProper wants.new }
-{
-    wants[place.get() as usize] = want;
-}
-
 /// An attribute in the first cell and a character in the last, and the cursor at 7.
 fn example(reset: bool) -> Wanted {
-    let mut wants = all_kept();
-    put_want(&mut wants, at(0), Want::Attr(attribute(0x60)));
-    put_want(&mut wants, at(CELLS - 1), Want::Char(0xC1));
-    Wanted::new(wants, at(7), reset)
+    let mut wanted = Wanted::filled(Want::Keep);
+    wanted.put(0, Want::Attr(attribute(0x60)));
+    wanted.put(CELL_COUNT - 1, Want::Char(0xC1));
+    wanted.aim(at(7), reset);
+    wanted
 }
 
 /// Whether each cell of the example is as it was wanted.
@@ -393,8 +378,8 @@ fn names_each_cell(wanted: &Wanted) -> bool {
     wanted.want(at(0)) == attr
         && wanted.want(at(1)) == Want::Keep
         && wanted.want(at(CELLS - 1)) == Want::Char(0xC1)
-        && wanted.cells().len() == CELL_COUNT
-        && wanted.cells().first() == Some(&attr)
+        && wanted.cells().next() == Some(attr)
+        && wanted.ahead(CELL_COUNT - 1).next() == Some(attr)
         && wanted.cursor().get() == 7
         && wanted.reset()
 }

@@ -1,9 +1,13 @@
 //! What a screen is wanted to be.
-ghost use Rattle.std.specs.Prelude.{◌≡◌, ◌<◌, All, false, length, replicate, slice_get, slice_set, Some};
+ghost use Rattle.std.specs.Prelude.{◌≡◌, ◌<◌, ◌≤◌, ◌+◌, ◌*◌, ◌++◌, All, false, length, map, replicate, drop, slice_get, slice_set, slice_index_or, Some};
 ghost use Rattle.codes3270.specs.Size.{cell_count};
-ghost use Rattle.datastream.specs.Wanted.{IsProper, WantedScreen};
+ghost use Rattle.datastream.specs.Rows.{word_count, AreBits};
+ghost use Rattle.datastream.specs.Wanted.{IsProper, WantedScreen, want_kept};
+ghost use Rattle.datastream.specs.declared.wanted.Want.TheVariants.{Keep};
+ghost use Rattle.datastream.specs.Wanted.{is_attribute as is_attribute_wanted, is_character as is_character_wanted, byte_of as byte_wanted};
 
-use codes3270::{Addr, Attr, CELL_COUNT};
+use crate::row::Row;
+use codes3270::{Addr, Attr, CELL_COUNT, attr_code};
 use std::marker::Model;
 
 /// What a cell is wanted to have (our profile).
@@ -19,56 +23,79 @@ pub enum Want {
 
 /// A wanted screen: a [`Want`] for each cell, where the cursor shall be, and whether all fields are
 /// marked as unmodified first. Each wanted character is storable.
-#[derive(Clone, Copy, Debug, PartialEq, Eq)]
+///
+/// It is kept as a byte and two bits for each cell; contracts see the cells.
+#[derive(Clone, Debug, Drop)]
 pub struct Wanted {
-    cells: [Want; CELL_COUNT],
+    /// Characters, and the codes of attributes; null where the cell is kept.
+    bytes: [u8; CELL_COUNT],
+    attributes: Row,
+    characters: Row,
     cursor: Addr,
     reset: bool,
 }
 
 impl Model for Wanted {
-    ghost use Rattle.datastream.specs.Wanted.{WantedScreen, IsScreen};
+    ghost use Rattle.datastream.specs.Rows.{kept};
+    ghost use Rattle.datastream.specs.Wanted.{WantedScreen, IsScreen, AreKept, want_by};
 
     ghost Value = { WantedScreen };
 
-    ghost view = { λ wanted. record { cells = wanted.cells; cursor = wanted.cursor; reset = wanted.reset } };
+    ghost view = { λ wanted. record { cells = kept (want_by wanted.attributes wanted.characters) 0 wanted.bytes; cursor = wanted.cursor; reset = wanted.reset } };
 
-    ghost invariant = { λ wanted. IsScreen (record { cells = wanted.cells; cursor = wanted.cursor; reset = wanted.reset }) };
-
-    ghost inverse = { λ screen. record { cells = screen.cells; cursor = screen.cursor; reset = screen.reset } };
+    ghost invariant = { λ wanted. IsScreen (record { cells = kept (want_by wanted.attributes wanted.characters) 0 wanted.bytes; cursor = wanted.cursor; reset = wanted.reset }) × AreKept wanted.attributes wanted.characters wanted.bytes };
 }
 
-/// The same of each cell.
-fn same(want: Want) -> [Want; CELL_COUNT]
-    ensures { result ≡ replicate cell_count want }
+/// What is kept of a cell in its byte.
+fn byte_of(want: Want) -> u8
+    ensures byte { result ≡ byte_wanted want }
+    ensures kept { want_kept (is_attribute_wanted want) (is_character_wanted want) result ≡ want }
 {
-    [want; CELL_COUNT]
+    match want {
+        Want::Char(byte) => byte,
+        Want::Attr(attr) => attr_code(attr),
+        Want::Keep => 0,
+    }
+}
+
+fn is_attribute(want: Want) -> bool
+    ensures { result ≡ is_attribute_wanted want }
+{
+    match want {
+        Want::Attr(_) => true,
+        Want::Char(_) => false,
+        Want::Keep => false,
+    }
+}
+
+fn is_character(want: Want) -> bool
+    ensures { result ≡ is_character_wanted want }
+{
+    match want {
+        Want::Char(_) => true,
+        Want::Attr(_) => false,
+        Want::Keep => false,
+    }
+}
+
+fn same_bytes(byte: u8) -> [u8; CELL_COUNT]
+    ensures { result ≡ replicate cell_count byte }
+{
+    [byte; CELL_COUNT]
 }
 
 impl Wanted {
-    /// The wanted screen of these parts, each wanted character being storable.
-    pub fn new(cells: [Want; CELL_COUNT], cursor: Addr, reset: bool) -> Wanted
-        requires { All IsProper cells }
-        ensures { result ≡ record { cells = cells; cursor = cursor; reset = reset } }
-    {
-        let _position = cursor.get();
-        Wanted {
-            cells,
-            cursor,
-            reset,
-        }
-    }
-
     /// The same of each cell, and the cursor at the first.
     pub fn filled(want: Want) -> Wanted
         requires { IsProper want }
         ensures { result ≡ record { cells = replicate cell_count want; cursor = 0; reset = false } }
     {
-        let cells = same(want);
         let cursor = Addr::first();
         let _position = cursor.get();
         Wanted {
-            cells,
+            bytes: same_bytes(byte_of(want)),
+            attributes: Row::all(is_attribute(want)),
+            characters: Row::all(is_character(want)),
             cursor,
             reset: false,
         }
@@ -82,7 +109,9 @@ impl Wanted {
         ensures size { length self.new.cells ≡ cell_count }
         ensures proper { All IsProper self.new.cells }
     {
-        self.cells[cell] = want;
+        self.bytes[cell] = byte_of(want);
+        self.attributes.put(cell, is_attribute(want));
+        self.characters.put(cell, is_character(want));
     }
 
     /// Wants the cursor at an address, and all fields marked as unmodified first, or not.
@@ -95,12 +124,29 @@ impl Wanted {
     }
 
     /// What each cell is wanted to have, by address.
-    pub fn cells(&self) -> &[Want]
-        ensures cells { result.now ≡ self.now.cells }
-        ensures size { length result.now ≡ cell_count }
-        ensures proper { All IsProper result.now }
+    pub fn cells(&self) -> Wants<'_>
+        ensures cells { result ≡ self.now.cells }
+        ensures size { length result ≡ cell_count }
+        ensures proper { All IsProper result }
     {
-        &self.cells
+        let _bytes = self.bytes();
+        Wants {
+            wanted: self,
+            next: CELL_COUNT,
+        }
+    }
+
+    /// What the cells behind an address are wanted to have, and then all cells.
+    pub fn ahead(&self, cell: usize) -> Wants<'_>
+        requires { cell < cell_count }
+        ensures cells { result ≡ drop (cell + 1) self.now.cells ++ self.now.cells }
+        ensures few { length result ≤ 2 * cell_count }
+    {
+        let _bytes = self.bytes();
+        Wants {
+            wanted: self,
+            next: cell + 1,
+        }
     }
 
     /// What a cell is wanted to have.
@@ -108,7 +154,49 @@ impl Wanted {
         ensures wanted { slice_get self.now.cells addr ≡ Some result }
         ensures proper { IsProper result }
     {
-        self.cells[addr.get() as usize]
+        self.at(addr.get() as usize)
+    }
+
+    /// What the cell at an index is wanted to have.
+    pub fn at(&self, cell: usize) -> Want
+        requires { cell < cell_count }
+        ensures wanted { result ≡ slice_index_or self.now.cells cell result }
+        ensures size { length self.now.cells ≡ cell_count }
+        ensures proper { IsProper result }
+    {
+        let byte = self.bytes[cell];
+        if self.attributes.has(cell) {
+            Want::Attr(Attr::from_code(byte))
+        } else if self.characters.has(cell) {
+            Want::Char(byte)
+        } else {
+            Want::Keep
+        }
+    }
+
+    /// The characters and the codes of attributes, and null where a cell is kept.
+    pub fn bytes(&self) -> &[u8]
+        ensures bytes { result.now ≡ map byte_wanted self.now.cells }
+        ensures size { length self.now.cells ≡ cell_count }
+        ensures proper { All IsProper self.now.cells }
+    {
+        &self.bytes
+    }
+
+    /// A bit for each of 64 cells, set where an attribute is wanted.
+    pub fn attribute_word(&self, index: usize) -> u64
+        requires { index < word_count }
+        ensures { AreBits (λ cell. is_attribute_wanted (slice_index_or self.now.cells cell Keep)) index result }
+    {
+        self.attributes.word(index)
+    }
+
+    /// A bit for each of 64 cells, set where a character is wanted.
+    pub fn character_word(&self, index: usize) -> u64
+        requires { index < word_count }
+        ensures { AreBits (λ cell. is_character_wanted (slice_index_or self.now.cells cell Keep)) index result }
+    {
+        self.characters.word(index)
     }
 
     /// Where the cursor shall be.
@@ -124,5 +212,47 @@ impl Wanted {
         ensures { result ≡ self.now.reset }
     {
         self.reset
+    }
+}
+
+/// The wants that are left of a walk, which may go on round the end. Contracts see their list.
+#[derive(Drop)]
+pub struct Wants<'a> {
+    wanted: &'a Wanted,
+    next: usize,
+}
+
+impl<'a> Model for Wants<'a> {
+    ghost use Rattle.std.specs.Prelude.{◌≡◌, ◌++◌, List, length, drop};
+    ghost use Rattle.codes3270.specs.Size.{cell_count};
+    ghost use Rattle.datastream.specs.declared.wanted.Want.{Want};
+
+    ghost Value = { List Want };
+
+    ghost view = { λ wants. drop wants.next (wants.wanted.now.cells ++ wants.wanted.now.cells) };
+
+    ghost invariant = { λ wants. length wants.wanted.now.cells ≡ cell_count };
+}
+
+impl<'a> Iterator for Wants<'a> {
+    ghost use Rattle.std.specs.Iterator.{YieldsFirst, item_count};
+
+    type Item = Want;
+
+    ghost next_gives = { YieldsFirst (λ wants. wants) };
+
+    ghost remaining = { item_count (λ wants. wants) };
+
+    fn next(&mut self) -> Option<Want> {
+        let at = self.next;
+        if at < CELL_COUNT {
+            self.next = at + 1;
+            Some(self.wanted.at(at))
+        } else if at < 2 * CELL_COUNT {
+            self.next = at + 1;
+            Some(self.wanted.at(at - CELL_COUNT))
+        } else {
+            None
+        }
     }
 }

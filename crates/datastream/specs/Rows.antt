@@ -1,0 +1,28 @@
+-- For proofs alone: a bit for each cell, and cells that are kept as bytes and such bits (our profile).
+use Rattle.std.specs.Prelude.{◌≡◌, ◌<◌, ◌+◌, ◌*◌, ◌/◌, ◌%◌, ℕ, length, Bool, true, false, List, [], ◌∷◌, slice_index_or, nat_eq}
+use Rattle.std.specs.Int.{bit_at}
+use Rattle.codes3270.specs.Size.{cell_count}
+
+-- how many words of 64 bits have a bit for each cell
+abbrev pub word_count : ℕ
+word_count = (cell_count + 63) / 64
+
+abbrev pub bit_of : Bool → ℕ
+bit_of true = 1
+bit_of false = 0
+
+abbrev pub has_bit : List ℕ → ℕ → Bool
+has_bit words cell = nat_eq (bit_at (slice_index_or words (cell / 64) 0) (cell % 64)) 1
+
+-- a word's bits say of each of its cells whether a test holds there
+abbrev pub AreBits : (ℕ → Bool) → ℕ → ℕ → Type 0
+AreBits holds word bits = (place : ℕ) → place < 64 → 64 * word + place < cell_count → bit_at bits place ≡ bit_of (holds (64 * word + place))
+
+-- what is kept of the cells from an address on, whose bytes these are
+abbrev pub kept : {A : Type 0} → (ℕ → ℕ → A) → ℕ → List ℕ → List A
+kept cell at [] = []
+kept cell at (byte ∷ bytes) = cell at byte ∷ kept cell (at + 1) bytes
+
+-- a cell's bit is set exactly where a test holds of it
+abbrev pub Marks : {A : Type 0} → (A → Bool) → List ℕ → List A → Type 0
+Marks holds bits cells = (cell : ℕ) → cell < length cells → (default : _) → has_bit bits cell ≡ holds (slice_index_or cells cell default)
