@@ -1,12 +1,12 @@
 -- What came, field by field, in a walk over the places.
 use Rattle.std.proofs.Common.{◌≡◌, ℕ, ◌+◌, ◌<◌, Bool, true, false, not, ◌&&◌, ◌||◌, List, [], ◌∷◌, ◌++◌, length, map, drop, get_or, Option, Some, None, Ok, Err, refl, ap, sym, subst, ◌∙◌, if◌then◌else◌, option_map}
-use Rattle.std.specs.Prelude.{Result, nat_lt}
+use Rattle.std.specs.Prelude.{Result, nat_lt, ◌==◌}
 use Rattle.std.specs.List.{list_any}
 use Rattle.std.proofs.lemmas.List.{at_drop_more}
 use Rattle.codes3270.specs.Size.{cell_count}
 use Rattle.datastream.specs.InboundFields.{Returned}
 use Rattle.shadow.specs.declared.fault.HeardFault.{HeardFault}
-use Rattle.shadow.specs.declared.fault.HeardFault.TheVariants.{Contradiction}
+use Rattle.shadow.specs.declared.fault.HeardFault.TheVariants.{NoSuchField, Contradiction}
 use Rattle.shadow.specs.declared.place.Place.{Place}
 use Rattle.shadow.specs.declared.place.Place.TheVariants.{Attr, Known, Told, Unknown}
 use Rattle.shadow.specs.Belief.{Belief, Shadow, next_address}
@@ -15,6 +15,7 @@ use Rattle.shadow.specs.Filled.{text_came, came_behind, is_possible, any_lost, l
 use Rattle.shadow.specs.Heard.{Answer, answers, is_nowhere, heard_long, contradicts, contradicts_text, lost_text, was_erased, after_long, settled}
 use Rattle.shadow.specs.Held.{answer}
 use Rattle.shadow.specs.InPlace.{beliefs_held}
+use Rattle.shadow.proofs.FieldPlaces.{nowhere_more}
 use Rattle.shadow.proofs.Paired.{answers_step}
 
 -- ---- one place further
@@ -126,3 +127,56 @@ settled_impossible bs rs e = cases (answers cell_count bs rs) (answered bs rs)
 pub fields_heard : (bs : List Belief) (lead : List ℕ) (rs : List Returned) → list_any (is_nowhere cell_count bs) rs ≡ false → nat_lt 0 (length lead) ≡ false
     → heard_long cell_count (Shadow.Formatted bs) lead rs ≡ settled (answers cell_count bs rs)
 fields_heard bs lead rs somewhere none = rw (somewhere, none) refl
+
+pub or_more : (p q r : Bool) → (p || (q || r)) ≡ ((p || q) || r)
+or_more true q r = refl
+or_more false q r = refl
+
+-- ---- what is refused, and for which fault
+
+-- what is possible comes for fields
+matched : (size first : ℕ) (b : Belief) (bs : List Belief) (rs : List Returned) → next_address size b.place ≡ first → list_any (is_nowhere size bs) (came_past first rs) ≡ false → list_any (is_nowhere size (b ∷ bs)) rs ≡ false
+matched size first b bs [] same e = refl
+matched size first b bs (r ∷ rs) same e = cases (first == r.first) refl e
+  where
+    cases : (t : Bool) → (first == r.first) ≡ t → list_any (is_nowhere size bs) (if t then rs else r ∷ rs) ≡ false → list_any (is_nowhere size (b ∷ bs)) (r ∷ rs) ≡ false
+    cases true is e = rw (same, is) (nowhere_more size b bs rs e)
+    cases false is e = nowhere_more size b bs (r ∷ rs) e
+
+pub possible_somewhere : (bs : List Belief) (rs : List Returned) → is_possible bs rs ≡ true → list_any (is_nowhere cell_count bs) rs ≡ false
+possible_somewhere [] [] e = refl
+possible_somewhere [] (r ∷ rs) e = absurd (cc)
+possible_somewhere (b ∷ bs) rs e =
+    let first = next_address cell_count b.place in
+    matched cell_count first b bs rs refl (possible_somewhere bs (came_past first rs) (later (contradicts_text b (text_at first rs)) (is_possible bs (came_past first rs)) (sym (possible_next b bs rs) ∙ e)))
+  where
+    later : (t u : Bool) → (not t && u) ≡ true → u ≡ true
+    later true u h = absurd (cc)
+    later false u h = h
+
+-- which fault it is
+abbrev pub fault_in : List Belief → List Returned → HeardFault
+fault_in bs rs = if list_any (is_nowhere cell_count bs) rs then NoSuchField else Contradiction
+
+abbrev faulty : Bool → Bool → Result Shadow HeardFault → Result Shadow HeardFault
+faulty nowhere some more = if nowhere then Err NoSuchField else (if some then Err Contradiction else more)
+
+pub lead_refused : (bs : List Belief) (lead : List ℕ) (rs : List Returned) → nat_lt 0 (length lead) ≡ true → heard_long cell_count (Shadow.Formatted bs) lead rs ≡ Err (fault_in bs rs)
+lead_refused bs lead rs some = cases (list_any (is_nowhere cell_count bs) rs) (nat_lt 0 (length lead)) some
+  where
+    cases : (t u : Bool) → u ≡ true → faulty t u (settled (answers cell_count bs rs)) ≡ Err (if t then NoSuchField else Contradiction)
+    cases true u e = refl
+    cases false u e = ap (λ (v : Bool). if v then Err Contradiction else settled (answers cell_count bs rs)) e
+
+pub impossible_refused : (bs : List Belief) (lead : List ℕ) (rs : List Returned) → is_possible bs rs ≡ false → heard_long cell_count (Shadow.Formatted bs) lead rs ≡ Err (fault_in bs rs)
+impossible_refused bs lead rs e = cases (list_any (is_nowhere cell_count bs) rs) (nat_lt 0 (length lead)) (settled (answers cell_count bs rs)) (settled_impossible bs rs e)
+  where
+    cases : (t u : Bool) (more : Result Shadow HeardFault) → more ≡ failed → faulty t u more ≡ Err (if t then NoSuchField else Contradiction)
+    cases true u more e = refl
+    cases false true more e = refl
+    cases false false more e = e
+
+pub possible_heard : (bs : List Belief) (lead : List ℕ) (rs : List Returned) (erased : Bool) → is_possible bs rs ≡ true → any_lost bs rs ≡ erased → nat_lt 0 (length lead) ≡ false
+    → heard_long cell_count (Shadow.Formatted bs) lead rs ≡ Ok (Shadow.Formatted (long_after erased bs rs))
+possible_heard bs lead rs erased e lost none =
+    fields_heard bs lead rs (possible_somewhere bs rs e) none ∙ settled_possible bs rs e ∙ ap (λ (t : Bool). Ok (Shadow.Formatted (long_after t bs rs))) lost

@@ -42,3 +42,6 @@ pub mod Changing
 pub mod Reading
 pub mod Whole
 pub mod Keeping
+mod Words
+mod Stretches
+mod Walks

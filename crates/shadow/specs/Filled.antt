@@ -1,5 +1,5 @@
 -- For proofs alone: how what a terminal sent changes places where they stand (our profile).
-use Rattle.std.specs.Prelude.{◌+◌, ◌&&◌, ◌||◌, not, ℕ, Bool, true, false, List, [], ◌∷◌, ◌++◌, length, Option, Some, None, bytes_eq, if◌then◌else◌}
+use Rattle.std.specs.Prelude.{◌+◌, ◌&&◌, ◌||◌, not, ℕ, Bool, true, false, List, [], ◌∷◌, ◌++◌, length, drop, Option, Some, None, bytes_eq, if◌then◌else◌}
 use Rattle.codes3270.specs.Size.{cell_count}
 use Rattle.datastream.specs.InboundFields.{Returned}
 use Rattle.shadow.specs.declared.mark.Mark.{Mark}
@@ -115,6 +115,14 @@ fill_next Fill.Unknown = Fill.Unknown
 fill_next Fill.Null = Fill.Null
 fill_next (Fill.Chars text) = Fill.Chars (text_behind text)
 fill_next Fill.Told = Fill.Told
+
+-- what the characters behind so many are filled with
+abbrev pub fill_after : ℕ → Fill → Fill
+fill_after count Fill.Same = Fill.Same
+fill_after count Fill.Unknown = Fill.Unknown
+fill_after count Fill.Null = Fill.Null
+fill_after count (Fill.Chars text) = Fill.Chars (drop count text)
+fill_after count Fill.Told = Fill.Told
 
 -- any place, and what the place behind it is filled with
 abbrev pub changed : Place → Fill → Change → Place

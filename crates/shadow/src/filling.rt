@@ -1,7 +1,7 @@
 //! What becomes of the places of a field.
-ghost use Rattle.std.specs.Prelude.{◌≡◌, length};
+ghost use Rattle.std.specs.Prelude.{◌≡◌, ◌≤◌, ◌++◌, length, take, drop};
 ghost use Rattle.codes3270.specs.Size.{cell_count};
-ghost use Rattle.shadow.specs.Filled.{fill_of, filled, place_told, fill_next, change_of, changed, fill_behind, front_filled};
+ghost use Rattle.shadow.specs.Filled.{fill_of, filled, place_told, fill_next, fill_after, change_of, changed, fill_behind, front_filled};
 
 use crate::mark::Mark;
 use crate::place::{Place, Telling};
@@ -93,12 +93,34 @@ pub(crate) fn filling_behind<'a>(
     }
 }
 
-/// Fills the places before the first attribute: the last field goes on at address 0.
-pub(crate) fn fill_front(places: &mut Places, filling: Filling<'_>)
-    ensures { places.new ≡ front_filled (fill_of filling.entry) places.old }
+/// The bytes behind so many.
+fn text_after(text: &[u8], count: usize) -> &[u8]
+    ensures { result.now ≡ drop count text.now }
+{
+    if count < text.len() {
+        &text[count..]
+    } else {
+        &[]
+    }
+}
+
+/// What becomes of the characters behind so many.
+pub(crate) fn filling_after(filling: Filling<'_>, count: usize) -> Filling<'_>
+    ensures { fill_of result ≡ fill_after count (fill_of filling.entry) }
+{
+    match filling {
+        Filling::Text(text) => Filling::Text(text_after(text, count)),
+        _ => filling,
+    }
+}
+
+/// Fills the characters from an address to the next attribute, or to the end.
+pub(crate) fn fill_from(places: &mut Places, from: usize, filling: Filling<'_>)
+    requires { from ≤ cell_count }
+    ensures { places.new ≡ take from places.old ++ front_filled (fill_of filling.entry) (drop from places.old) }
 {
     let mut filling = filling;
-    for place in 0..places.len() {
+    for place in from..places.len() {
         let held = places.get(place);
         match held {
             Place::Attr(_, _, _) => return,

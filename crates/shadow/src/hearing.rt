@@ -1,22 +1,22 @@
 //! What a terminal sent, on the places where they stand.
-ghost use Rattle.std.specs.Prelude.{◌≡◌, ◌<◌, ◌+◌, ◌++◌, ◌||◌, true, None, Ok, Err, MatchResult, ℕ, List, length, map, drop, slice_index_or};
+ghost use Rattle.std.specs.Prelude.{◌≡◌, ◌<◌, ◌+◌, ◌++◌, ◌||◌, true, false, None, Ok, Err, MatchOption, MatchResult, ℕ, List, length, map, drop, if◌then◌else◌};
 ghost use Rattle.std.specs.List.{list_any};
 ghost use Rattle.codes3270.specs.Size.{cell_count};
+ghost use Rattle.shadow.specs.declared.fault.HeardFault.TheVariants.{NoSuchField, Contradiction};
 ghost use Rattle.shadow.specs.declared.mark.Mark.TheVariants.{On};
 ghost use Rattle.shadow.specs.declared.place.Place.{Place as Held};
-ghost use Rattle.shadow.specs.declared.place.Place.TheVariants.{Unknown as UnknownPlace};
-ghost use Rattle.shadow.specs.Filled.{is_possible as can_be, any_lost, long_after, contradicts_held, lost_held, change_of, key_change, unreturned_at, unreturned_from, or_null_telling, long_change, long_changes, input_change as input_by, unreturned_change as unreturned_by, returned_change as returned_by, last_fill, all_changed, front_filled};
+ghost use Rattle.shadow.specs.Filled.{is_possible as can_be, any_lost, long_after, contradicts_held, lost_held, change_of, key_change, unreturned_at, unreturned_by as unreturned_of, unreturned_from, or_null_telling, long_change, long_changes, input_change as input_by, unreturned_change as unreturned_by, returned_change as returned_by, last_fill, all_changed, front_filled};
 ghost use Rattle.shadow.specs.Filled.Fill.{Same};
 ghost use Rattle.datastream.specs.InboundFields.{returned};
 ghost use Rattle.shadow.specs.Belief.Shadow.{Formatted as FormattedBelief};
 ghost use Rattle.shadow.specs.Heard.{heard_parts, is_off, starts_at, is_nowhere, denies as denies_text, after_attention as attention_one};
 ghost use Rattle.shadow.specs.Held.{text_of};
-ghost use Rattle.shadow.specs.InPlace.{fact_held, beliefs_held, IsHeld};
+ghost use Rattle.shadow.specs.InPlace.{chars_known, fact_held, beliefs_held, IsHeld};
 
-use crate::asking::{all_known, are_null, count_chars, denies, is_attribute};
+use crate::asking::{all_known, are_null, denies, is_attribute};
 use crate::came::{next_behind, next_of, text_for};
 use crate::fault::HeardFault;
-use crate::filling::{Change, Filling, fill_front, filling_behind, place_after};
+use crate::filling::{Change, Filling, fill_from, filling_after, filling_behind, place_after};
 use crate::mark::Mark;
 use crate::place::{Place, Telling};
 use crate::places::Places;
@@ -67,9 +67,16 @@ fn contradicts_protected(
     mark == Mark::Off || denies(places, place, telling, text)
 }
 
-/// Whether it can't be that a text, or none, came for the field whose attribute is held at a place.
-fn contradicts(places: &Places, place: usize, held: Place, text: Option<&[u8]>) -> bool
-    requires { place < cell_count }
+/// Whether it can't be that a text, or none, came for the field whose attribute is held at a place; `count`: of its characters.
+fn contradicts(
+    places: &Places,
+    place: usize,
+    count: usize,
+    held: Place,
+    text: Option<&[u8]>,
+) -> bool
+    requires placed { place < cell_count }
+    requires counted { count ≡ length (chars_known (drop (place + 1) places.now ++ places.now)) }
     ensures { result ≡ contradicts_held held place (drop (place + 1) places.now ++ places.now) (text_of text.entry) }
 {
     let Place::Attr(attr, mark, telling) = held else {
@@ -78,7 +85,7 @@ fn contradicts(places: &Places, place: usize, held: Place, text: Option<&[u8]>) 
     match text {
         None => attr.protected && mark == Mark::On,
         Some(text) => {
-            count_chars(places.ahead(place)) < text.len()
+            count < text.len()
                 || attr.protected && contradicts_protected(places, place, mark, telling, text)
         }
     }
@@ -96,63 +103,62 @@ fn was_erased(held: Place, text: Option<&[u8]>) -> bool
     }
 }
 
-/// Whether the fields that came can be those of a screen that is so believed.
-fn is_possible(places: &Places, returned: ReturnedFields<'_>) -> bool
-    ensures { result ≡ can_be (beliefs_held places.now 0 places.now) returned.entry }
+/// Whether some field's input was erased, if the fields that came can be those of a screen that is so believed.
+fn erased_if_possible(places: &Places, returned: ReturnedFields<'_>) -> Option<bool>
+    ensures { let beliefs = beliefs_held places.now 0 places.now in
+        MatchOption result (can_be beliefs returned.entry ≡ false) (λ erased. (can_be beliefs returned.entry ≡ true) × (any_lost beliefs returned.entry ≡ erased)) }
 {
     let mut rest = returned;
     let mut next = next_of(&mut rest);
-    for place in 0..places.len() {
+    let mut erased = false;
+    let mut place = places.attribute_from(0);
+    while place < CELL_COUNT {
         let held = places.get(place);
-        if contradicts(places, place, held, text_for(held, place, next)) {
-            return false;
+        let count = places.count_behind(place);
+        let text = text_for(held, place, next);
+        if contradicts(places, place, count, held, text) {
+            return None;
         }
+        erased |= was_erased(held, text);
         next = next_behind(&mut rest, next, held, place);
+        place = place + 1 + count;
     }
-    next.is_none()
+    if next.is_none() { Some(erased) } else { None }
 }
 
-/// Whether what came can be of a screen that is so believed, with fields.
-pub(crate) fn check_fields(places: &Places, inbound: &Inbound<'_>) -> Result<(), HeardFault>
+/// Why what came can't be of a screen that is so believed.
+fn fault_of(places: &Places, returned: ReturnedFields<'_>) -> HeardFault
+    ensures { result ≡ (if list_any (is_nowhere cell_count (beliefs_held places.now 0 places.now)) returned.entry then NoSuchField else Contradiction) }
+{
+    if any_nowhere(places, returned) {
+        HeardFault::NoSuchField
+    } else {
+        HeardFault::Contradiction
+    }
+}
+
+/// Whether some field's input was erased, if what came can be of a screen that is so believed, with fields.
+pub(crate) fn check_fields(places: &Places, inbound: &Inbound<'_>) -> Result<bool, HeardFault>
     ensures { let beliefs = beliefs_held places.now 0 places.now in
         let came = returned inbound.now.parts in
         let heard = heard_parts cell_count (FormattedBelief beliefs) inbound.now.parts in
-        MatchResult result (λ _. (heard ≡ Ok (FormattedBelief (long_after (any_lost beliefs came) beliefs came))) × (can_be beliefs came ≡ true)) (λ fault. heard ≡ Err fault) }
+        MatchResult result (λ erased. (heard ≡ Ok (FormattedBelief (long_after erased beliefs came))) × (can_be beliefs came ≡ true)) (λ fault. heard ≡ Err fault) }
 {
-    if any_nowhere(places, inbound.returned()) {
-        return Err(HeardFault::NoSuchField);
-    }
     if !inbound.lead().is_empty() {
-        return Err(HeardFault::Contradiction);
+        return Err(fault_of(places, inbound.returned()));
     }
-    if !is_possible(places, inbound.returned()) {
-        return Err(HeardFault::Contradiction);
+    match erased_if_possible(places, inbound.returned()) {
+        Some(erased) => Ok(erased),
+        None => Err(fault_of(places, inbound.returned())),
     }
-    Ok(())
 }
 
-/// Whether some field's input was erased.
-fn any_erased(places: &Places, returned: ReturnedFields<'_>) -> bool
-    ensures { result ≡ any_lost (beliefs_held places.now 0 places.now) returned.entry }
-{
-    let mut rest = returned;
-    let mut next = next_of(&mut rest);
-    for place in 0..places.len() {
-        let held = places.get(place);
-        if was_erased(held, text_for(held, place, next)) {
-            return true;
-        }
-        next = next_behind(&mut rest, next, held, place);
-    }
-    false
-}
-
-/// What becomes of the field whose attribute is held at a place, if it isn't returned.
-fn if_unreturned(places: &Places, place: usize) -> Unreturned
+/// What becomes of the field whose attribute stands at a place, if it isn't returned.
+fn if_unreturned(places: &Places, place: usize, telling: Telling) -> Unreturned
     requires { place < cell_count }
-    ensures { result ≡ unreturned_at (slice_index_or places.now place UnknownPlace) (drop (place + 1) places.now ++ places.now) }
+    ensures { result ≡ unreturned_of telling (drop (place + 1) places.now ++ places.now) }
 {
-    let Place::Attr(_, _, Telling::Cells) = places.get(place) else {
+    let Telling::Cells = telling else {
         return Unreturned::Stays;
     };
     if !all_known(places.ahead(place)) {
@@ -162,25 +168,6 @@ fn if_unreturned(places: &Places, place: usize) -> Unreturned
     } else {
         Unreturned::IsTold
     }
-}
-
-/// The same of each place.
-fn all_unreturned(places: &Places) -> [Unreturned; CELL_COUNT]
-    ensures unreturned { result ≡ unreturned_from places.now places.now }
-    ensures size { length result ≡ cell_count }
-{
-    let mut all = [Unreturned::Stays; CELL_COUNT];
-    for place in 0..places.len() {
-        all[place] = if_unreturned(places, place);
-    }
-    all
-}
-
-fn one_of(all: &[Unreturned], place: usize) -> Unreturned
-    requires { place < length all.now }
-    ensures { result ≡ slice_index_or all.now place result }
-{
-    all[place]
 }
 
 /// What becomes of an unprotected field that isn't returned.
@@ -227,24 +214,10 @@ fn returned_change(text: &[u8]) -> Change<'_>
     }
 }
 
-/// What becomes of an unprotected field.
-fn input_change<'a>(
-    erased: bool,
-    telling: Telling,
-    unreturned: Unreturned,
-    text: Option<&'a [u8]>,
-) -> Change<'a>
-    ensures { change_of result ≡ input_by erased telling unreturned (text_of text.entry) }
-{
-    match text {
-        Some(text) => returned_change(text),
-        None => lost_change(erased, telling, unreturned),
-    }
-}
-
 /// What becomes of an unprotected field that isn't returned, where the operator may have erased the input.
-fn lost_change<'a>(erased: bool, telling: Telling, unreturned: Unreturned) -> Change<'a>
-    ensures { change_of result ≡ input_by erased telling unreturned None }
+fn lost_change<'a>(places: &Places, place: usize, erased: bool, telling: Telling) -> Change<'a>
+    requires { place < cell_count }
+    ensures { change_of result ≡ input_by erased telling (unreturned_of telling (drop (place + 1) places.now ++ places.now)) None }
 {
     if erased {
         Change {
@@ -253,18 +226,37 @@ fn lost_change<'a>(erased: bool, telling: Telling, unreturned: Unreturned) -> Ch
             filling: Filling::Null,
         }
     } else {
-        unreturned_change(unreturned, telling)
+        unreturned_change(if_unreturned(places, place, telling), telling)
+    }
+}
+
+/// What becomes of an unprotected field.
+fn input_change<'a>(
+    places: &Places,
+    place: usize,
+    erased: bool,
+    telling: Telling,
+    text: Option<&'a [u8]>,
+) -> Change<'a>
+    requires { place < cell_count }
+    ensures { change_of result ≡ input_by erased telling (unreturned_of telling (drop (place + 1) places.now ++ places.now)) (text_of text.entry) }
+{
+    match text {
+        Some(text) => returned_change(text),
+        None => lost_change(places, place, erased, telling),
     }
 }
 
 /// What becomes of the field whose attribute is held at a place. Of a character it isn't looked at.
 fn change_after<'a>(
-    erased: bool,
+    places: &Places,
+    place: usize,
     held: Place,
-    unreturned: Unreturned,
+    erased: bool,
     text: Option<&'a [u8]>,
 ) -> Change<'a>
-    ensures { change_of result ≡ long_change erased held unreturned (text_of text.entry) }
+    requires { place < cell_count }
+    ensures { change_of result ≡ long_change erased held (unreturned_at held (drop (place + 1) places.now ++ places.now)) (text_of text.entry) }
 {
     match held {
         Place::Attr(attr, _, telling) if attr.protected => Change {
@@ -272,7 +264,7 @@ fn change_after<'a>(
             telling,
             filling: Filling::Same,
         },
-        Place::Attr(_, _, telling) => input_change(erased, telling, unreturned, text),
+        Place::Attr(_, _, telling) => input_change(places, place, erased, telling, text),
         _ => Change {
             mark: Mark::Off,
             telling: Telling::Cells,
@@ -281,45 +273,36 @@ fn change_after<'a>(
     }
 }
 
-/// Takes in data that lists those with MDT on; `erased`: the operator erased the input. Each field's characters go on round
-/// the end.
+/// Takes in data that lists those with MDT on; `erased`: the operator erased the input. The last field's characters go on
+/// round the end.
 fn take_fields<'a>(places: &mut Places, erased: bool, returned: ReturnedFields<'a>)
     ensures { let changes = long_changes erased 0 returned.entry places.old (unreturned_from places.old places.old) in
         places.new ≡ front_filled (last_fill Same changes places.old) (all_changed Same changes places.old) }
 {
-    let unreturned = all_unreturned(places);
     let mut rest = returned;
     let mut next = next_of(&mut rest);
     let mut filling = Filling::Same;
-    for place in 0..places.len() {
+    let mut place = places.attribute_from(0);
+    while place < CELL_COUNT {
         let held = places.get(place);
-        let one = change_after(
-            erased,
-            held,
-            one_of(&unreturned, place),
-            text_for(held, place, next),
-        );
+        let end = places.attribute_from(place + 1);
+        let one = change_after(places, place, held, erased, text_for(held, place, next));
         places.set(place, place_after(held, filling, one));
-        filling = filling_behind(held, filling, one);
+        fill_from(places, place + 1, one.filling);
+        filling = filling_after(one.filling, end - place - 1);
         next = next_behind(&mut rest, next, held, place);
+        place = end;
     }
-    fill_front(places, filling);
+    fill_from(places, 0, filling);
 }
 
-/// Takes in data that is possible, of a screen with fields.
-pub(crate) fn after_long(
-    places: &mut Places,
-    erased: ReturnedFields<'_>,
-    returned: ReturnedFields<'_>,
-)
-    requires same { erased ≡ returned }
+/// Takes in data that is possible, of a screen with fields; `erased`: the operator erased the input.
+pub(crate) fn after_long(places: &mut Places, erased: bool, returned: ReturnedFields<'_>)
     requires held { IsHeld places.old }
     requires possible { can_be (beliefs_held places.old 0 places.old) returned ≡ true }
-    ensures fields { let before = beliefs_held places.old 0 places.old in
-        beliefs_held places.new 0 places.new ≡ long_after (any_lost before returned.entry) before returned.entry }
+    ensures fields { beliefs_held places.new 0 places.new ≡ long_after erased (beliefs_held places.old 0 places.old) returned.entry }
     ensures held { IsHeld places.new }
 {
-    let erased = any_erased(places, erased);
     take_fields(places, erased, returned);
 }
 
@@ -359,5 +342,5 @@ pub(crate) fn after_attention(places: &mut Places)
         places.set(place, place_after(held, filling, one));
         filling = filling_behind(held, filling, one);
     }
-    fill_front(places, filling);
+    fill_from(places, 0, filling);
 }

@@ -1,7 +1,7 @@
 //! The places of a screen, kept by bits and bytes.
 ghost use Rattle.std.specs.Prelude.{◌≡◌, ◌<◌, ◌≤◌, ◌+◌, ◌++◌, ◌*◌, length, replicate, slice_index_or, slice_set, drop};
 ghost use Rattle.codes3270.specs.Size.{cell_count};
-ghost use Rattle.shadow.specs.InPlace.{is_attribute as is_attribute_held};
+ghost use Rattle.shadow.specs.InPlace.{is_attribute as is_attribute_held, chars_known};
 ghost use Rattle.shadow.specs.Rows.{head_of as head_held, is_known as is_known_held, is_told as is_told_held, place_kept};
 
 use crate::asking::is_attribute;
@@ -184,6 +184,31 @@ impl Places {
         self.attributes = places.attributes.copy();
         self.known = places.known.copy();
         self.told = places.told.copy();
+    }
+
+    /// The first attribute from an address on, or the number of places.
+    pub(crate) fn attribute_from(&self, from: usize) -> usize
+        requires { from ≤ cell_count }
+        ensures place { result ≡ from + length (chars_known (drop from self.now)) }
+        ensures within { result ≤ cell_count }
+        ensures whole { length self.now ≡ cell_count }
+    {
+        self.attributes.first_from(from)
+    }
+
+    /// How many characters stand behind an address, round the end, before the first attribute.
+    pub(crate) fn count_behind(&self, place: usize) -> usize
+        requires { place < cell_count }
+        ensures count { result ≡ length (chars_known (drop (place + 1) self.now ++ self.now)) }
+        ensures few { result ≤ 2 * cell_count }
+        ensures whole { length self.now ≡ cell_count }
+    {
+        let next = self.attribute_from(place + 1);
+        if next < CELL_COUNT {
+            next - place - 1
+        } else {
+            CELL_COUNT - place - 1 + self.attribute_from(0)
+        }
     }
 
     /// The places behind an address, and then all places.

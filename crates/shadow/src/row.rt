@@ -1,5 +1,5 @@
 //! A bit for each cell of a screen, in words of 64.
-ghost use Rattle.std.specs.Prelude.{◌≡◌, ◌<◌, ℕ, nat_eq, if◌then◌else◌};
+ghost use Rattle.std.specs.Prelude.{◌≡◌, ◌<◌, ◌≤◌, ℕ, false, true, nat_eq, if◌then◌else◌, MatchOption};
 ghost use Rattle.codes3270.specs.Size.{cell_count};
 ghost use Rattle.std.specs.Int.{bit_at};
 ghost use Rattle.shadow.specs.Rows.{bit_of, has_bit};
@@ -63,6 +63,46 @@ impl Row {
     {
         let word = with_bit(self.words[cell / BITS], cell % BITS, bit);
         self.words[cell / BITS] = word;
+    }
+
+    /// The first cell from one on whose bit is set, or the number of cells.
+    pub(crate) fn first_from(&self, from: usize) -> usize
+        requires { from ≤ cell_count }
+        ensures from { from ≤ result }
+        ensures within { result ≤ cell_count }
+        ensures clear { (cell : ℕ) → from ≤ cell → cell < result → has_bit self.now cell ≡ false }
+        ensures set { result < cell_count → has_bit self.now result ≡ true }
+    {
+        let mut at = from;
+        for index in from / BITS..WORDS {
+            if let Some(place) = first_in(self.words[index], at % BITS) {
+                return within(index * BITS + place);
+            }
+            at = (index + 1) * BITS;
+        }
+        CELL_COUNT
+    }
+}
+
+/// A cell, or the number of cells where it is more.
+fn within(cell: usize) -> usize
+    ensures least { result ≤ cell_count }
+    ensures same { result < cell_count → result ≡ cell }
+    ensures below { result ≤ cell }
+{
+    if cell < CELL_COUNT { cell } else { CELL_COUNT }
+}
+
+/// The first place from one on at which a word's bit is set.
+fn first_in(word: u64, from: usize) -> Option<usize>
+    requires { from < 64 }
+    ensures { MatchOption result ((place : ℕ) → from ≤ place → place < 64 → bit_at word place ≡ 0) (λ first. (from ≤ first) × (first < 64) × (bit_at word first ≡ 1) × ((place : ℕ) → from ≤ place → place < first → bit_at word place ≡ 0)) }
+{
+    let rest = word >> from;
+    if rest == 0 {
+        None
+    } else {
+        Some(from + rest.trailing_zeros() as usize)
     }
 }
 

@@ -237,8 +237,8 @@ impl Shadow {
         if !self.is_formatted() {
             return self.hear_unformatted(inbound);
         }
-        check_fields(&self.places, inbound)?;
-        after_long(&mut self.places, inbound.returned(), inbound.returned());
+        let erased = check_fields(&self.places, inbound)?;
+        after_long(&mut self.places, erased, inbound.returned());
         Ok(())
     }
 

@@ -13,7 +13,7 @@ returns-clause-fields c =
     let i = c.loop-place.place in
     let passed = c.loop-place.invariant.changed ∙ all_passed (λ (ps : List Place). all_changed f (key_changes ps) ps) now i (omega arith) refl in
     let last = c.loop-place.invariant.last ∙ at_drop_all (λ (ps : List Place). last_fill f (key_changes ps) ps) now i (omega arith) in
-    (key_changed c.args.places.now c.fill_front.new.places c.requires (c.fill_front.ensures ∙ ap (λ (g : Fill). front_filled g now) (sym last) ∙ ap (front_filled _) (sym passed))).0
+    (key_changed c.args.places.now c.fill_from.new.places c.requires (c.fill_from.ensures ∙ ap (λ (g : Fill). front_filled g now) (sym last) ∙ ap (front_filled _) (sym passed))).0
 
 pub returns-clause-held : goal.returns-clause-held
 returns-clause-held c =
@@ -22,4 +22,4 @@ returns-clause-held c =
     let i = c.loop-place.place in
     let passed = c.loop-place.invariant.changed ∙ all_passed (λ (ps : List Place). all_changed f (key_changes ps) ps) now i (omega arith) refl in
     let last = c.loop-place.invariant.last ∙ at_drop_all (λ (ps : List Place). last_fill f (key_changes ps) ps) now i (omega arith) in
-    (key_changed c.args.places.now c.fill_front.new.places c.requires (c.fill_front.ensures ∙ ap (λ (g : Fill). front_filled g now) (sym last) ∙ ap (front_filled _) (sym passed))).1
+    (key_changed c.args.places.now c.fill_from.new.places c.requires (c.fill_from.ensures ∙ ap (λ (g : Fill). front_filled g now) (sym last) ∙ ap (front_filled _) (sym passed))).1

@@ -1,36 +1,46 @@
-use Rattle.std.proofs.Common.{◌≡◌, ◌∙◌, ap, sym, arith, false, true, length, List, ℕ}
-use Rattle.std.specs.Prelude.{◌==◌, nat_lt}
-use Rattle.std.specs.List.{list_any}
+use Rattle.std.proofs.Common.{◌≡◌, ◌∙◌, ap, sym, arith, false, true, length, List, ℕ, Err}
+use Rattle.std.specs.Prelude.{◌==◌, nat_lt, Result}
 use Rattle.std.proofs.lemmas.Bool.Decides.{nat_tests}
-use Rattle.codes3270.specs.Size.{cell_count}
 use Rattle.datastream.specs.InboundFields.{Returned, lead, returned}
-use Rattle.shadow.specs.Heard.{is_nowhere}
-use Rattle.shadow.specs.Filled.{is_possible}
+use Rattle.shadow.specs.declared.fault.HeardFault.{HeardFault}
+use Rattle.shadow.specs.Belief.{Shadow}
+use Rattle.shadow.specs.Filled.{is_possible, any_lost}
 use Rattle.shadow.specs.InPlace.{beliefs_held}
-use Rattle.shadow.proofs.HeardSteps.{fields_heard, settled_possible, settled_impossible}
+use Rattle.shadow.proofs.HeardSteps.{fault_in, lead_refused, impossible_refused, possible_heard}
 use Rattle.shadow.proofs.hearing.check_fields.Goals as goal
 
 none_before : (cs : List ℕ) → (length cs == 0) ≡ true → nat_lt 0 (length cs) ≡ false
 none_before cs e = grind (arith, nat_tests)
 
-pub returns-then-not-is_possible : goal.returns-then-not-is_possible
-returns-then-not-is_possible c =
-    let parts = c.args.inbound.now.parts in
-    let bs = beliefs_held c.args.places.now 0 c.args.places.now in
-    let somewhere : list_any (is_nowhere cell_count bs) (returned parts) ≡ false =
-    ap (λ (rs : List Returned). list_any (is_nowhere cell_count bs) rs) (sym c.returned.ensures.returned) ∙ sym c.any_nowhere.ensures ∙ c.if-any_nowhere.false in
-    let none : nat_lt 0 (length (lead parts)) ≡ false =
-    ap (λ (cs : List ℕ). nat_lt 0 (length cs)) (sym c.lead.ensures.lead) ∙ none_before c.lead.result.now (sym c.is_empty.ensures ∙ c.if-not-is_empty.false) in
-    let possible : is_possible bs (returned parts) ≡ false = ap (is_possible bs) (sym c.returned-2.ensures.returned) ∙ sym c.is_possible.ensures ∙ c.if-not-is_possible.true in
-    fields_heard bs (lead parts) (returned parts) somewhere none ∙ settled_impossible bs (returned parts) possible
+some_before : (cs : List ℕ) → (length cs == 0) ≡ false → nat_lt 0 (length cs) ≡ true
+some_before cs e = grind (arith, nat_tests)
 
-pub returns : goal.returns
-returns c =
+refusal : HeardFault → Result Shadow HeardFault
+refusal fault = Err fault
+
+pub returns-then-not-is_empty : goal.returns-then-not-is_empty
+unfolding refusal
+returns-then-not-is_empty c =
     let parts = c.args.inbound.now.parts in
     let bs = beliefs_held c.args.places.now 0 c.args.places.now in
-    let somewhere : list_any (is_nowhere cell_count bs) (returned parts) ≡ false =
-    ap (λ (rs : List Returned). list_any (is_nowhere cell_count bs) rs) (sym c.returned.ensures.returned) ∙ sym c.any_nowhere.ensures ∙ c.if-any_nowhere.false in
+    let some : nat_lt 0 (length (lead parts)) ≡ true =
+    ap (λ (cs : List ℕ). nat_lt 0 (length cs)) (sym c.lead.ensures.lead) ∙ some_before c.lead.result.now (sym c.is_empty.ensures ∙ c.if-not-is_empty.true) in
+    lead_refused bs (lead parts) (returned parts) some ∙ ap refusal (ap (fault_in bs) (sym c.returned.ensures.returned) ∙ sym c.fault_of.ensures)
+
+pub returns-in-Some : goal.returns-in-Some
+returns-in-Some c =
+    let parts = c.args.inbound.now.parts in
+    let bs = beliefs_held c.args.places.now 0 c.args.places.now in
+    let came = c.returned-2.ensures.returned in
     let none : nat_lt 0 (length (lead parts)) ≡ false =
     ap (λ (cs : List ℕ). nat_lt 0 (length cs)) (sym c.lead.ensures.lead) ∙ none_before c.lead.result.now (sym c.is_empty.ensures ∙ c.if-not-is_empty.false) in
-    let possible : is_possible bs (returned parts) ≡ true = ap (is_possible bs) (sym c.returned-2.ensures.returned) ∙ sym c.is_possible.ensures ∙ c.if-not-is_possible.false in
-    (fields_heard bs (lead parts) (returned parts) somewhere none ∙ settled_possible bs (returned parts) possible, possible)
+    let possible : is_possible bs (returned parts) ≡ true = ap (is_possible bs) (sym came) ∙ c.in-Some.ensures.0 in
+    (possible_heard bs (lead parts) (returned parts) c.in-Some.erased possible (ap (any_lost bs) (sym came) ∙ c.in-Some.ensures.1) none, possible)
+
+pub returns-in-None : goal.returns-in-None
+unfolding refusal
+returns-in-None c =
+    let parts = c.args.inbound.now.parts in
+    let bs = beliefs_held c.args.places.now 0 c.args.places.now in
+    impossible_refused bs (lead parts) (returned parts) (ap (is_possible bs) (sym c.returned-2.ensures.returned) ∙ c.in-None.ensures)
+    ∙ ap refusal (ap (fault_in bs) (sym c.returned-in-None.ensures.returned) ∙ sym c.fault_of-in-None.ensures)

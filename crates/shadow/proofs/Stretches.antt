@@ -1,0 +1,106 @@
+-- The characters between two attributes, passed in one step.
+use Rattle.std.proofs.Common.{◌≡◌, ℕ, zero, suc, ◌+◌, ◌-◌, ◌<◌, ◌≤◌, Bool, true, false, List, [], ◌∷◌, ◌++◌, length, drop, get_or, refl, ap, sym, arith, ◌∙◌, append-nil}
+use Rattle.std.proofs.lemmas.List.{get_or-drop, get_or_default, length-drop}
+use Rattle.std.proofs.Math.Seq.{drop-nil}
+use Rattle.shadow.specs.declared.place.Place.{Place}
+use Rattle.shadow.specs.declared.place.Place.TheVariants.{Attr, Known, Told, Unknown}
+use Rattle.shadow.specs.declared.places.Head.{Head}
+use Rattle.shadow.specs.Belief.{Belief}
+use Rattle.shadow.specs.InPlace.{is_attribute, chars_known, beliefs_held}
+use Rattle.shadow.specs.Rows.{has_bit, no_head, place_kept, kept, place_by}
+use Rattle.shadow.proofs.Keeping.{kept_at, length_kept}
+
+-- ---- where the first attribute stands
+
+stretch : (ps : List Place) (n : ℕ) → n ≤ length ps → ((i : ℕ) → i < n → is_attribute (get_or ps i Unknown) ≡ false) → (n < length ps → is_attribute (get_or ps n Unknown) ≡ true) → length (chars_known ps) ≡ n
+stretch [] n few none here = omega arith
+stretch (Attr a m t ∷ ps) zero few none here = refl
+stretch (Known c ∷ ps) zero few none here = absurd (let no = here (omega arith) in cc)
+stretch (Told c ∷ ps) zero few none here = absurd (let no = here (omega arith) in cc)
+stretch (Unknown ∷ ps) zero few none here = absurd (let no = here (omega arith) in cc)
+stretch (Attr a m t ∷ ps) (suc n) few none here = absurd (let no = none 0 (omega arith) in cc)
+stretch (Known c ∷ ps) (suc n) few none here = ap suc (stretch ps n (omega arith) (λ i low. none (suc i) (omega arith)) (λ low. here (omega arith)))
+stretch (Told c ∷ ps) (suc n) few none here = ap suc (stretch ps n (omega arith) (λ i low. none (suc i) (omega arith)) (λ low. here (omega arith)))
+stretch (Unknown ∷ ps) (suc n) few none here = ap suc (stretch ps n (omega arith) (λ i low. none (suc i) (omega arith)) (λ low. here (omega arith)))
+
+kept_attribute : (head : Head) (a k t : Bool) (byte : ℕ) → is_attribute (place_kept head a k t byte) ≡ a
+kept_attribute head true k t byte = refl
+kept_attribute head false true t byte = refl
+kept_attribute head false false true byte = refl
+kept_attribute head false false false byte = refl
+
+module _ (heads : List Head) (attributes known told bytes : List ℕ) (now : List Place) (view : kept (place_by heads attributes known told) 0 bytes ≡ now) where
+  size : length now ≡ length bytes
+  size = sym (ap length view) ∙ length_kept (place_by heads attributes known told) 0 bytes
+
+  attribute_bit : (i : ℕ) → i < length bytes → is_attribute (get_or now i Unknown) ≡ has_bit attributes i
+  attribute_bit i low =
+      let byte : ℕ = get_or bytes i 0 in
+      ap (λ (ps : List Place). is_attribute (get_or ps i Unknown)) (sym view)
+      ∙ ap is_attribute (kept_at (place_by heads attributes known told) bytes i byte Unknown low (get_or_default bytes i 0 byte low))
+      ∙ kept_attribute (get_or heads i no_head) (has_bit attributes i) (has_bit known i) (has_bit told i) byte
+
+  pub first_attribute : (n from to : ℕ) → length bytes ≡ n → from ≤ to → to ≤ n → ((i : ℕ) → from ≤ i → i < to → has_bit attributes i ≡ false) → (to < n → has_bit attributes to ≡ true)
+      → to ≡ from + length (chars_known (drop from now))
+  first_attribute n from to even later within clear set =
+      let k : ℕ = to - from in
+      let there : from + k ≡ to = omega arith in
+      let is = stretch (drop from now) k (omega (arith, size, length-drop from now))
+      (λ i low. ap is_attribute (get_or-drop from now i Unknown) ∙ attribute_bit (from + i) (omega arith) ∙ clear (from + i) (omega arith) (omega arith))
+      (λ low. ap is_attribute (get_or-drop from now k Unknown) ∙ attribute_bit (from + k) (omega (arith, size, length-drop from now)) ∙ ap (has_bit attributes) there ∙ set (omega (arith, size, length-drop from now))) in
+      omega arith
+
+-- ---- how many characters a field has
+
+pub count_inner : (xs ys : List Place) → length (chars_known xs) < length xs → length (chars_known (xs ++ ys)) ≡ length (chars_known xs)
+count_inner [] ys h = absurd (omega arith)
+count_inner (Attr a m t ∷ xs) ys h = refl
+count_inner (Known c ∷ xs) ys h = ap suc (count_inner xs ys (omega arith))
+count_inner (Told c ∷ xs) ys h = ap suc (count_inner xs ys (omega arith))
+count_inner (Unknown ∷ xs) ys h = ap suc (count_inner xs ys (omega arith))
+
+pub count_round : (xs ys : List Place) → length (chars_known xs) ≡ length xs → length (chars_known (xs ++ ys)) ≡ length xs + length (chars_known ys)
+count_round [] ys e = omega arith
+count_round (Attr a m t ∷ xs) ys e = absurd (omega arith)
+count_round (Known c ∷ xs) ys e = let h = count_round xs ys (omega arith) in omega arith
+count_round (Told c ∷ xs) ys e = let h = count_round xs ys (omega arith) in omega arith
+count_round (Unknown ∷ xs) ys e = let h = count_round xs ys (omega arith) in omega arith
+
+-- ---- the fields that are left
+
+pub drop_drop : {A : Type 0} (n k : ℕ) (xs : List A) → drop k (drop n xs) ≡ drop (n + k) xs
+drop_drop zero k xs = let same : k ≡ 0 + k = omega arith in ap (λ (j : ℕ). drop j xs) same
+drop_drop (suc n) k [] = drop-nil k ∙ sym (drop-nil (suc n + k))
+drop_drop (suc n) k (x ∷ xs) = let same : suc (n + k) ≡ suc n + k = omega arith in drop_drop n k xs ∙ ap (λ (j : ℕ). drop j (x ∷ xs)) same
+
+fields_on : (whole : List Place) (at : ℕ) (ps more : List Place) → (let k = length (chars_known (ps ++ more)) in beliefs_held whole at ps ≡ beliefs_held whole (at + k) (drop k ps))
+fields_on whole at [] more = ap (beliefs_held whole (at + length (chars_known more))) (sym (drop-nil (length (chars_known more))))
+fields_on whole at (Attr a m t ∷ ps) more = let same : at ≡ at + 0 = omega arith in ap (λ (n : ℕ). beliefs_held whole n (Attr a m t ∷ ps)) same
+fields_on whole at (Known c ∷ ps) more =
+    let k : ℕ = length (chars_known (ps ++ more)) in
+    let same : (at + 1) + k ≡ at + suc k = omega arith in
+    fields_on whole (at + 1) ps more ∙ ap (λ (n : ℕ). beliefs_held whole n (drop k ps)) same
+fields_on whole at (Told c ∷ ps) more =
+    let k : ℕ = length (chars_known (ps ++ more)) in
+    let same : (at + 1) + k ≡ at + suc k = omega arith in
+    fields_on whole (at + 1) ps more ∙ ap (λ (n : ℕ). beliefs_held whole n (drop k ps)) same
+fields_on whole at (Unknown ∷ ps) more =
+    let k : ℕ = length (chars_known (ps ++ more)) in
+    let same : (at + 1) + k ≡ at + suc k = omega arith in
+    fields_on whole (at + 1) ps more ∙ ap (λ (n : ℕ). beliefs_held whole n (drop k ps)) same
+
+-- from a place on they are those from the next attribute on
+pub fields_left : (whole : List Place) (at : ℕ) (more : List Place) → (let k = length (chars_known (drop at whole ++ more)) in beliefs_held whole at (drop at whole) ≡ beliefs_held whole (at + k) (drop (at + k) whole))
+fields_left whole at more =
+    let k : ℕ = length (chars_known (drop at whole ++ more)) in
+    fields_on whole at (drop at whole) more ∙ ap (beliefs_held whole (at + k)) (drop_drop at k whole)
+
+pub fields_first : (whole : List Place) (first : ℕ) → first ≡ 0 + length (chars_known (drop 0 whole)) → beliefs_held whole 0 whole ≡ beliefs_held whole first (drop first whole)
+fields_first whole first is =
+    let none = ap (λ (ps : List Place). length (chars_known ps)) (append-nil whole) in
+    let same : 0 + length (chars_known (whole ++ [])) ≡ first = omega arith in
+    fields_left whole 0 [] ∙ ap (λ (n : ℕ). beliefs_held whole n (drop n whole)) same
+
+-- behind a field's attribute they are those behind its characters
+pub fields_next : (whole : List Place) (at count : ℕ) → count ≡ length (chars_known (drop (at + 1) whole ++ whole)) → beliefs_held whole (at + 1) (drop (at + 1) whole) ≡ beliefs_held whole (at + 1 + count) (drop (at + 1 + count) whole)
+fields_next whole at count is = fields_left whole (at + 1) whole ∙ ap (λ (k : ℕ). beliefs_held whole (at + 1 + k) (drop (at + 1 + k) whole)) (sym is)
