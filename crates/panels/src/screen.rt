@@ -15,11 +15,8 @@ use crate::message::Message;
 use crate::panel::{Content, Field, Panel, TextItem};
 use crate::size::MESSAGE_START;
 use crate::values::Values;
-use codes3270::{Addr, Attr, CELLS, Display, from_latin1};
+use codes3270::{Addr, Attr, CELL_COUNT, CELLS, Display, from_latin1};
 use datastream::{Want, Wanted};
-
-/// How many cells a screen has, as a length.
-const SIZE: usize = CELLS as usize;
 
 /// Puts nulls into all cells.
 fn put_nulls(wanted: &mut Wanted)
@@ -29,7 +26,7 @@ fn put_nulls(wanted: &mut Wanted)
     ensures size { length wanted.new.cells ≡ cell_count }
     ensures proper { All IsProper wanted.new.cells }
 {
-    for cell in 0..SIZE {
+    for cell in 0..CELL_COUNT {
         wanted.put(cell, Want::Char(0));
     }
 }
