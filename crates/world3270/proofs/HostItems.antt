@@ -15,7 +15,7 @@ use Rattle.tn3270e_msg.specs.declared.header.Header.{Header}
 use Rattle.tn3270e_msg.proofs.Hearings.{sent_is_heard}
 use Rattle.term_core.specs.Says.{outcome_flag, outcome_code, response_header, data_header}
 use Rattle.term_core.specs.declared.outcome.Outcome.{Outcome}
-use Rattle.term_core.specs.declared.outcome.Outcome.TheVariants.{DeviceEnd, CommandReject, OperationCheck}
+use Rattle.term_core.specs.declared.outcome.Outcome.TheVariants.{DeviceEnd, Refused}
 use Rattle.host_core.specs.Items.{IsOther, TakesRecord, TakesRecordIf, Talks, TakesItem, verdict_of}
 use Rattle.host_core.specs.Messages.{ToHost, Verdict}
 use Rattle.host_core.specs.Session.{Conn, is_agreed}
@@ -67,8 +67,7 @@ data_begins number body =
 
 flag_is : (outcome : Outcome) → outcome_flag outcome ≤ negative
 flag_is DeviceEnd = omega arith
-flag_is CommandReject = omega arith
-flag_is OperationCheck = omega arith
+flag_is (Refused sense) = omega arith
 
 response_begins : (number : ℕ) (outcome : Outcome) (body : List ℕ) → number < 2 ^ 16
     → Begins (spelling (response_header number outcome) ++ body) (response_header number outcome) body
@@ -78,8 +77,7 @@ response_begins number outcome body below = record { is_header = record { kind =
 verdict_is : (verdict : Verdict) (outcome : Outcome) → OutcomeIs verdict outcome → verdict_of (outcome_flag outcome) ≡ verdict
 verdict_is Verdict.Positive outcome is = ap (λ (o : Outcome). verdict_of (outcome_flag o)) is
 verdict_is Verdict.Negative DeviceEnd is = absurd (is refl)
-verdict_is Verdict.Negative CommandReject is = refl
-verdict_is Verdict.Negative OperationCheck is = refl
+verdict_is Verdict.Negative (Refused sense) is = refl
 
 -- inbound data has no fault
 no_fault : (form : Form) (parts : InboundParts) (fault : InboundFault) (body : List ℕ) → parts.form ≡ form → IsInbound parts body → IsNoInbound form fault body → ⊥

@@ -15,7 +15,7 @@ use Rattle.tn3270e_msg.specs.Talk.{Saying, item_of}
 use Rattle.lu_pool.specs.Asking.{answer_to}
 use Rattle.term_core.specs.Says.{response, outcome_flag}
 use Rattle.term_core.specs.declared.outcome.Outcome.{Outcome}
-use Rattle.term_core.specs.declared.outcome.Outcome.TheVariants.{DeviceEnd, CommandReject, OperationCheck}
+use Rattle.term_core.specs.declared.outcome.Outcome.TheVariants.{DeviceEnd, Refused}
 use Rattle.host_core.specs.Application.{Application, application_of}
 use Rattle.host_core.specs.Messages.{ToTerminal, ToHost, Verdict}
 use Rattle.host_core.specs.Takes.{Step, pool_after, took as host_took}
@@ -204,8 +204,7 @@ third_of bytes = 0
 
 carried_out : (outcome : Outcome) → outcome_flag outcome ≡ 0 → outcome ≡ DeviceEnd
 carried_out DeviceEnd e = refl
-carried_out CommandReject e = absurd (cc)
-carried_out OperationCheck e = absurd (cc)
+carried_out (Refused sense) e = absurd (cc)
 
 says_done : (sequence : ℕ) (outcome : Outcome) (message : ToHost) → StandsUp (response sequence outcome) message → is_refusal message ≡ false → outcome ≡ DeviceEnd
 says_done sequence outcome (ToHost.TalksUp (Saying.Opt verb code)) stands none = absurd (cc)
