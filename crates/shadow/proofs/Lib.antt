@@ -45,3 +45,4 @@ pub mod Keeping
 mod Words
 mod Stretches
 mod Walks
+mod Ranges

@@ -5,7 +5,6 @@ use Rattle.std.proofs.Math.Seq.{drop-nil}
 use Rattle.shadow.specs.declared.place.Place.{Place}
 use Rattle.shadow.specs.declared.place.Place.TheVariants.{Attr, Known, Told, Unknown}
 use Rattle.shadow.specs.declared.places.Head.{Head}
-use Rattle.shadow.specs.Belief.{Belief}
 use Rattle.shadow.specs.InPlace.{is_attribute, chars_known, beliefs_held}
 use Rattle.shadow.specs.Rows.{has_bit, no_head, place_kept, kept, place_by}
 use Rattle.shadow.proofs.Keeping.{kept_at, length_kept}
@@ -33,7 +32,7 @@ module _ (heads : List Head) (attributes known told bytes : List ℕ) (now : Lis
   size : length now ≡ length bytes
   size = sym (ap length view) ∙ length_kept (place_by heads attributes known told) 0 bytes
 
-  attribute_bit : (i : ℕ) → i < length bytes → is_attribute (get_or now i Unknown) ≡ has_bit attributes i
+  pub attribute_bit : (i : ℕ) → i < length bytes → is_attribute (get_or now i Unknown) ≡ has_bit attributes i
   attribute_bit i low =
       let byte : ℕ = get_or bytes i 0 in
       ap (λ (ps : List Place). is_attribute (get_or ps i Unknown)) (sym view)

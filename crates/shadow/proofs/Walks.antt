@@ -1,5 +1,5 @@
 -- A walk that changes fields from attribute to attribute is the walk over all places.
-use Rattle.std.proofs.Common.{◌≡◌, ℕ, zero, suc, ◌+◌, ◌<◌, ◌≤◌, Bool, List, [], ◌∷◌, ◌++◌, length, take, drop, set, get_or, Option, Some, None, refl, ap, sym, subst, arith, ◌∙◌, append_assoc, append-nil, length-append}
+use Rattle.std.proofs.Common.{◌≡◌, ℕ, suc, ◌+◌, ◌<◌, ◌≤◌, Bool, List, [], ◌∷◌, ◌++◌, length, take, drop, set, get_or, Option, Some, None, refl, ap, sym, subst, arith, ◌∙◌, append_assoc, append-nil, length-append}
 use Rattle.std.proofs.Math.Seq.{drop-nil}
 use Rattle.std.proofs.lemmas.List.{drop_more, take_more_set, drop-set-lt, take_at, drop_at, length-take-le, take-append-drop, take_all, at_drop_all}
 use Rattle.codes3270.specs.declared.attribute.Attr.{Attr as Attribute}
@@ -17,14 +17,14 @@ use Rattle.shadow.proofs.Stretches.{drop_drop}
 
 -- ---- what fills the characters of a field
 
-fill_here : (f : Fill) → f ≡ fill_after 0 f
+pub fill_here : (f : Fill) → f ≡ fill_after 0 f
 fill_here Fill.Same = refl
 fill_here Fill.Unknown = refl
 fill_here Fill.Null = refl
 fill_here (Fill.Chars text) = refl
 fill_here Fill.Told = refl
 
-fill_further : (k : ℕ) (f : Fill) → fill_after k (fill_next f) ≡ fill_after (suc k) f
+pub fill_further : (k : ℕ) (f : Fill) → fill_after k (fill_next f) ≡ fill_after (suc k) f
 fill_further k Fill.Same = refl
 fill_further k Fill.Unknown = refl
 fill_further k Fill.Null = refl
@@ -242,3 +242,10 @@ module _ (erased : Bool) (whole : List Place) where
       by_place (Known c) there stands is_one is_after = absurd (let no = ap (λ (qs : List Place). length (chars_known qs)) there in omega arith)
       by_place (Told c) there stands is_one is_after = absurd (let no = ap (λ (qs : List Place). length (chars_known qs)) there in omega arith)
       by_place Unknown there stands is_one is_after = absurd (let no = ap (λ (qs : List Place). length (chars_known qs)) there in omega arith)
+
+-- what is filled with what it holds stays
+pub same_filled : (from : ℕ) (ps : List Place) → ps ≡ take from ps ++ front_filled Fill.Same (drop from ps)
+same_filled from ps =
+    let rest : List Place = drop from ps in
+    sym (take-append-drop from ps) ∙ ap (λ (qs : List Place). take from ps ++ qs)
+    (sym (front_parts Fill.Same rest ∙ ap (λ (qs : List Place). qs ++ drop (length (chars_known rest)) rest) (same_fills rest) ∙ take-append-drop (length (chars_known rest)) rest))

@@ -1,5 +1,5 @@
 -- For proofs alone: a bit for each cell, and the places that are kept by such bits (our profile).
-use Rattle.std.specs.Prelude.{◌≡◌, ◌<◌, ◌+◌, ◌/◌, ◌%◌, ℕ, length, Bool, true, false, List, [], ◌∷◌, slice_index_or, nat_eq}
+use Rattle.std.specs.Prelude.{◌≡◌, ◌<◌, ◌+◌, ◌/◌, ◌%◌, ℕ, length, not, ◌&&◌, Bool, true, false, List, [], ◌∷◌, slice_index_or, nat_eq, nat_lt}
 use Rattle.std.specs.Int.{bit_at}
 use Rattle.codes3270.specs.Attribute.{attr_of}
 use Rattle.codes3270.specs.Size.{cell_count}
@@ -21,6 +21,10 @@ bit_of false = 0
 
 abbrev pub has_bit : List ℕ → ℕ → Bool
 has_bit words cell = nat_eq (bit_at (slice_index_or words (cell / 64) 0) (cell % 64)) 1
+
+-- a cell from one to another, without that one
+abbrev pub is_within : ℕ → ℕ → ℕ → Bool
+is_within from to cell = not (nat_lt cell from) && nat_lt cell to
 
 -- ---- places
 

@@ -114,8 +114,8 @@ pub(crate) fn filling_after(filling: Filling<'_>, count: usize) -> Filling<'_>
     }
 }
 
-/// Fills the characters from an address to the next attribute, or to the end.
-pub(crate) fn fill_from(places: &mut Places, from: usize, filling: Filling<'_>)
+/// Fills the characters from an address to the next attribute, or to the end, one by one.
+fn fill_each(places: &mut Places, from: usize, filling: Filling<'_>)
     requires { from ≤ cell_count }
     ensures { places.new ≡ take from places.old ++ front_filled (fill_of filling.entry) (drop from places.old) }
 {
@@ -130,5 +130,20 @@ pub(crate) fn fill_from(places: &mut Places, from: usize, filling: Filling<'_>)
         }
         places.set(place, fill(held, filling));
         filling = filling_next(filling);
+    }
+}
+
+/// Fills the characters from an address to the next attribute, or to the end.
+pub(crate) fn fill_from(places: &mut Places, from: usize, filling: Filling<'_>)
+    requires { from ≤ cell_count }
+    ensures { places.new ≡ take from places.old ++ front_filled (fill_of filling.entry) (drop from places.old) }
+{
+    let to = places.attribute_from(from);
+    match filling {
+        Filling::Same => {}
+        Filling::Unknown => places.forget(from, to),
+        Filling::Null => places.hold_nulls(from, to),
+        Filling::Text(text) => places.tell(from, to, text),
+        Filling::Told => fill_each(places, from, filling),
     }
 }

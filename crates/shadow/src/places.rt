@@ -1,6 +1,7 @@
 //! The places of a screen, kept by bits and bytes.
-ghost use Rattle.std.specs.Prelude.{◌≡◌, ◌<◌, ◌≤◌, ◌+◌, ◌++◌, ◌*◌, length, replicate, slice_index_or, slice_set, drop};
+ghost use Rattle.std.specs.Prelude.{◌≡◌, ◌<◌, ◌≤◌, ◌+◌, ◌++◌, ◌*◌, ◌-◌, length, replicate, slice_index_or, slice_set, take, drop};
 ghost use Rattle.codes3270.specs.Size.{cell_count};
+ghost use Rattle.shadow.specs.Filled.{Fill, front_filled};
 ghost use Rattle.shadow.specs.InPlace.{is_attribute as is_attribute_held, chars_known};
 ghost use Rattle.shadow.specs.Rows.{head_of as head_held, is_known as is_known_held, is_told as is_told_held, place_kept};
 
@@ -106,6 +107,23 @@ fn same_heads(head: Head) -> [Head; CELL_COUNT]
     [head; CELL_COUNT]
 }
 
+/// Puts bytes from an index on.
+fn put_bytes(bytes: &mut [u8], from: usize, text: &[u8])
+    requires { from + length text.now ≤ length bytes.old }
+    ensures { bytes.new ≡ take from bytes.old ++ (text.now ++ drop (from + length text.now) bytes.old) }
+{
+    bytes[from..from + text.len()].copy_from_slice(text);
+}
+
+/// Puts nulls from an index to another.
+fn put_nulls(bytes: &mut [u8], from: usize, to: usize)
+    requires order { from ≤ to }
+    requires few { to ≤ length bytes.old }
+    ensures { bytes.new ≡ take from bytes.old ++ (replicate (to - from) 0 ++ drop to bytes.old) }
+{
+    bytes[from..to].fill(0);
+}
+
 impl Places {
     /// The same place everywhere.
     pub(crate) fn new(place: Place) -> Places
@@ -209,6 +227,39 @@ impl Places {
         } else {
             CELL_COUNT - place - 1 + self.attribute_from(0)
         }
+    }
+
+    /// Forgets a field's characters from an address to another.
+    pub(crate) fn forget(&mut self, from: usize, to: usize)
+        requires few { to ≤ cell_count }
+        requires chars { to ≡ from + length (chars_known (drop from self.old)) }
+        ensures { self.new ≡ take from self.old ++ front_filled Fill.Unknown (drop from self.old) }
+    {
+        self.known.put_range(from, to, false);
+        self.told.put_range(from, to, false);
+    }
+
+    /// Holds nulls as a field's characters from an address to another.
+    pub(crate) fn hold_nulls(&mut self, from: usize, to: usize)
+        requires few { to ≤ cell_count }
+        requires chars { to ≡ from + length (chars_known (drop from self.old)) }
+        ensures { self.new ≡ take from self.old ++ front_filled Fill.Null (drop from self.old) }
+    {
+        put_nulls(self.bytes.as_mut_slice(), from, to);
+        self.known.put_range(from, to, true);
+    }
+
+    /// Lets a field's characters from an address to another tell a text, or as much of it as there is room for.
+    pub(crate) fn tell(&mut self, from: usize, to: usize, text: &[u8])
+        requires few { to ≤ cell_count }
+        requires chars { to ≡ from + length (chars_known (drop from self.old)) }
+        ensures { self.new ≡ take from self.old ++ front_filled (Fill.Chars text.now) (drop from self.old) }
+    {
+        let count = text.len().min(to - from);
+        put_bytes(self.bytes.as_mut_slice(), from, &text[..count]);
+        self.known.put_range(from, to, false);
+        self.told.put_range(from, from + count, true);
+        self.told.put_range(from + count, to, false);
     }
 
     /// The places behind an address, and then all places.

@@ -1,8 +1,8 @@
 //! A bit for each cell of a screen, in words of 64.
-ghost use Rattle.std.specs.Prelude.{◌≡◌, ◌<◌, ◌≤◌, ℕ, false, true, nat_eq, if◌then◌else◌, MatchOption};
+ghost use Rattle.std.specs.Prelude.{◌≡◌, ◌<◌, ◌≤◌, ℕ, false, true, nat_eq, nat_lt, if◌then◌else◌, MatchOption};
 ghost use Rattle.codes3270.specs.Size.{cell_count};
 ghost use Rattle.std.specs.Int.{bit_at};
-ghost use Rattle.shadow.specs.Rows.{bit_of, has_bit};
+ghost use Rattle.shadow.specs.Rows.{bit_of, has_bit, is_within};
 
 use codes3270::CELL_COUNT;
 use std::marker::Model;
@@ -81,6 +81,52 @@ impl Row {
             at = (index + 1) * BITS;
         }
         CELL_COUNT
+    }
+
+    /// Sets the bits of the cells from one to another, or clears them.
+    pub(crate) fn put_range(&mut self, from: usize, to: usize, bit: bool)
+        requires order { from ≤ to }
+        requires few { to ≤ cell_count }
+        ensures { (other : ℕ) → has_bit self.new other ≡ (if is_within from to other then bit else has_bit self.old other) }
+    {
+        for index in from / BITS..(to + BITS - 1) / BITS {
+            let start = index * BITS;
+            let low = from.max(start) - start;
+            let high = to.min(start + BITS) - start;
+            let word = with_bits(self.words[index], low, high, bit);
+            self.words[index] = word;
+        }
+    }
+}
+
+/// A word with the bits from one place to another set or cleared.
+fn with_bits(word: u64, from: usize, to: usize, bit: bool) -> u64
+    requires from { from ≤ 64 }
+    requires to { to ≤ 64 }
+    ensures { (other : ℕ) → other < 64 → bit_at result other ≡ (if is_within from to other then bit_of bit else bit_at word other) }
+{
+    let ones = ones_between(from, to);
+    if bit { word | ones } else { word & !ones }
+}
+
+/// A word whose bits from one place to another are set.
+fn ones_between(from: usize, to: usize) -> u64
+    requires from { from ≤ 64 }
+    requires to { to ≤ 64 }
+    ensures { (other : ℕ) → other < 64 → bit_at result other ≡ bit_of (is_within from to other) }
+{
+    ones_below(to) & !ones_below(from)
+}
+
+/// A word whose bits below a place are set.
+fn ones_below(place: usize) -> u64
+    requires { place ≤ 64 }
+    ensures { (other : ℕ) → other < 64 → bit_at result other ≡ bit_of (nat_lt other place) }
+{
+    if place == 0 {
+        0
+    } else {
+        u64::MAX >> (BITS - place)
     }
 }
 

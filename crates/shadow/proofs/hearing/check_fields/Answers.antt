@@ -1,7 +1,7 @@
 use Rattle.std.proofs.Common.{◌≡◌, ◌∙◌, ap, sym, arith, false, true, length, List, ℕ, Err}
 use Rattle.std.specs.Prelude.{◌==◌, nat_lt, Result}
 use Rattle.std.proofs.lemmas.Bool.Decides.{nat_tests}
-use Rattle.datastream.specs.InboundFields.{Returned, lead, returned}
+use Rattle.datastream.specs.InboundFields.{lead, returned}
 use Rattle.shadow.specs.declared.fault.HeardFault.{HeardFault}
 use Rattle.shadow.specs.Belief.{Shadow}
 use Rattle.shadow.specs.Filled.{is_possible, any_lost}

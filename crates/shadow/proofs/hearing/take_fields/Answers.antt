@@ -1,9 +1,8 @@
-use Rattle.std.proofs.Common.{◌≡◌, ◌∙◌, ◌+◌, ◌++◌, ◌-◌, ap, sym, arith, refl, subst, drop, take, set, List, ℕ}
-use Rattle.std.proofs.lemmas.List.{at_drop_all, take_all}
+use Rattle.std.proofs.Common.{◌≡◌, ◌∙◌, ◌+◌, ◌++◌, ◌-◌, ap, sym, arith, subst, drop, take, set, List, ℕ}
 use Rattle.datastream.specs.InboundFields.{Returned}
 use Rattle.shadow.specs.declared.place.Place.{Place}
 use Rattle.shadow.specs.Came.{came_of}
-use Rattle.shadow.specs.Filled.{Fill, Change, fill_of, fill_after, change_of, text_came, came_behind, unreturned_at, long_change, front_filled}
+use Rattle.shadow.specs.Filled.{Fill, fill_of, fill_after, change_of, text_came, came_behind, unreturned_at, long_change, front_filled}
 use Rattle.shadow.proofs.Walks.{Between, begins, step, finished}
 use Rattle.shadow.proofs.hearing.take_fields.Goals as goal
 

@@ -1,4 +1,4 @@
-use Rattle.std.proofs.Common.{arith, sym, ◌∙◌, ◌+◌, drop}
+use Rattle.std.proofs.Common.{arith, ◌+◌, drop}
 use Rattle.std.proofs.lemmas.List.{length-drop}
 use Rattle.shadow.proofs.Stretches.{count_inner, count_round}
 use Rattle.shadow.proofs.places.Places.count_behind.Goals as goal

@@ -1,7 +1,7 @@
 use Rattle.std.proofs.Common.{◌≡◌, ◌++◌, length, take, drop}
 use Rattle.codes3270.specs.Size.{cell_count}
 use Rattle.shadow.specs.Filled.{fill_of, front_filled}
-use Rattle.shadow.proofs.filling.fill_from.Given as goal
+use Rattle.shadow.proofs.filling.fill_each.Given as goal
 
 abbrev pub invariant-loop-place : goal.invariant-loop-place
 invariant-loop-place l = record {

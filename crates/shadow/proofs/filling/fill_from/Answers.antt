@@ -1,0 +1,10 @@
+use Rattle.std.proofs.Common.{ap, sym, ◌∙◌, ◌++◌, take, drop}
+use Rattle.shadow.specs.declared.filling.Filling.{Filling}
+use Rattle.shadow.specs.Filled.{fill_of, front_filled}
+use Rattle.shadow.proofs.Walks.{same_filled}
+use Rattle.shadow.proofs.filling.fill_from.Goals as goal
+
+pub returns-in-Same : goal.returns-in-Same
+returns-in-Same c =
+    let ps = c.args.places.now in
+    same_filled c.args.from ps ∙ ap (λ (f : Filling). take c.args.from ps ++ front_filled (fill_of f) (drop c.args.from ps)) (sym c.in-Same.is)
