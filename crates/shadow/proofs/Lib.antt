@@ -46,3 +46,4 @@ mod Words
 mod Stretches
 mod Walks
 mod Ranges
+mod Settles

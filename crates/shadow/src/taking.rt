@@ -222,9 +222,11 @@ fn settle(places: &mut Places, pasts: &[Past])
     requires { length pasts.now ≡ cell_count }
     ensures { places.new ≡ settled (cells_written places.old pasts.now) pasts.now places.old pasts.now }
 {
-    for at in 0..places.len() {
+    let mut at = places.attribute_from(0);
+    while at < CELL_COUNT {
         let place = settled_at(places, pasts, at);
         places.set(at, place);
+        at = places.attribute_from(at + 1);
     }
 }
 

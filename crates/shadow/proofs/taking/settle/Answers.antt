@@ -1,8 +1,21 @@
-use Rattle.std.proofs.Common.{◌∙◌, ap, sym, refl, arith, List, drop}
+use Rattle.std.proofs.Common.{◌∙◌, ap, sym, refl, arith, List, drop, ◌+◌}
 use Rattle.shadow.specs.Since.{cells_written, settled}
 use Rattle.shadow.specs.declared.place.Place.{Place}
 use Rattle.shadow.proofs.Changes.{all_changed, settled_step}
+use Rattle.shadow.proofs.Settles.{settled_passed}
 use Rattle.shadow.proofs.taking.settle.Goals as goal
+
+pub loop-at-init : goal.loop-at-init
+loop-at-init c =
+    let ps = c.args.places.now in
+    let qs = c.args.pasts.now in
+    let ks = cells_written ps qs in
+    record {
+      size = c.attribute_from-at.ensures.whole;
+      within = c.attribute_from-at.ensures.within;
+      cells = refl;
+      settled_ = settled_passed ks qs ps qs 0 c.attribute_from-at.result (omega (arith, c.attribute_from-at.ensures.whole)) c.attribute_from-at.ensures.place;
+    }
 
 pub loop-at-preserved : goal.loop-at-preserved
 loop-at-preserved c =
@@ -10,11 +23,14 @@ loop-at-preserved c =
     let qs = c.args.pasts.now in
     let ks = cells_written c.args.places.now qs in
     let i = c.loop-at.at in
+    let new = c.set.new.self in
     let step = settled_step ks now qs i c.settled_at-place.result (omega arith) (omega arith) c.loop-at.invariant.cells c.settled_at-place.ensures in
     record {
       size = omega arith;
+      within = c.attribute_from-at-in-loop-at.ensures.within;
       cells = ap (λ (ps : List Place). cells_written ps qs) c.set.ensures.places ∙ step.0 ∙ c.loop-at.invariant.cells;
-      settled_ = c.loop-at.invariant.settled_ ∙ step.1 ∙ rw c.set.ensures.places refl;
+      settled_ = c.loop-at.invariant.settled_ ∙ step.1 ∙ rw c.set.ensures.places refl
+          ∙ settled_passed ks qs new qs (i + 1) c.attribute_from-at-in-loop-at.result (omega (arith, c.attribute_from-at-in-loop-at.ensures.whole)) c.attribute_from-at-in-loop-at.ensures.place;
     }
 
 pub returns : goal.returns

@@ -1,4 +1,4 @@
-use Rattle.std.proofs.Common.{arith, ap, ◌∙◌, ◌++◌, ◌+◌, ◌-◌, List, ℕ, length, replicate, take, drop}
+use Rattle.std.proofs.Common.{arith, ◌∙◌}
 use Rattle.shadow.proofs.Ranges.{forgotten}
 use Rattle.shadow.proofs.places.Places.forget.Goals as goal
 

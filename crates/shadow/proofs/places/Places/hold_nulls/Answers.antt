@@ -1,4 +1,4 @@
-use Rattle.std.proofs.Common.{arith, ap, ◌∙◌, ◌++◌, ◌+◌, ◌-◌, List, ℕ, length, replicate, take, drop}
+use Rattle.std.proofs.Common.{arith, ap, ◌∙◌, ◌++◌, ◌-◌, List, ℕ, replicate, take, drop}
 use Rattle.shadow.proofs.Ranges.{nulled}
 use Rattle.shadow.proofs.places.Places.hold_nulls.Goals as goal
 

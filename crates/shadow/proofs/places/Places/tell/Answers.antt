@@ -1,4 +1,4 @@
-use Rattle.std.proofs.Common.{arith, ap, ◌∙◌, ◌++◌, ◌+◌, ◌-◌, List, ℕ, length, replicate, take, drop}
+use Rattle.std.proofs.Common.{arith, ap, ◌∙◌, ◌++◌, ◌+◌, List, ℕ, length, take, drop}
 use Rattle.shadow.proofs.Ranges.{tells}
 use Rattle.shadow.proofs.places.Places.tell.Goals as goal
 

@@ -1,5 +1,4 @@
-use Rattle.std.proofs.Common.{◌≡◌, ◌∙◌, ◌*◌, ◌+◌, ◌<◌, ◌≤◌, ◌/◌, ap, sym, arith, ℕ, Bool, inl, inr, false, if◌then◌else◌}
-use Rattle.std.specs.Prelude.{slice_set, min, max}
+use Rattle.std.proofs.Common.{◌∙◌, ◌*◌, ap, sym, arith, Bool, inl, inr, if◌then◌else◌}
 use Rattle.std.proofs.lemmas.Bool.{cases_lt}
 use Rattle.std.proofs.lemmas.List.{length-set}
 use Rattle.shadow.specs.Rows.{has_bit, is_within}
