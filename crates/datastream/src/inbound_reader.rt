@@ -63,6 +63,15 @@ impl<'a> Model for Cells<'a> {
     ghost view = { λ cells. cells_sent (parts_in Buffer cells.text.now) };
 }
 
+impl<'a> Cells<'a> {
+    /// The same cells, to be walked by themselves.
+    pub fn copy(&self) -> Cells<'a>
+        ensures { result ≡ self.now }
+    {
+        Cells { text: self.text }
+    }
+}
+
 impl<'a> Iterator for Cells<'a> {
     type Item = Cell;
 

@@ -110,35 +110,14 @@ held_drop whole zero ps h = h
 held_drop whole (suc n) [] h = tt
 held_drop whole (suc n) (p ∷ ps) h = held_drop whole n ps (held_rest whole p ps h)
 
-pub length-stored : (cells : List Cell) → length (places_stored cells) ≡ length cells
-length-stored [] = refl
-length-stored (c ∷ cells) = ap suc (length-stored cells)
-
-drop-stored : (n : ℕ) (cells : List Cell) → drop n (places_stored cells) ≡ places_stored (drop n cells)
-drop-stored zero cells = refl
-drop-stored (suc n) [] = refl
-drop-stored (suc n) (c ∷ cells) = drop-stored n cells
-
-stored_at : (n : ℕ) (cells : List Cell) → n < length cells → get_or (places_stored cells) n Unknown ≡ place_stored (get_or cells n (Char 0))
-stored_at n [] within = absurd (omega arith)
-stored_at zero (c ∷ cells) within = refl
-stored_at (suc n) (c ∷ cells) within = stored_at n cells (omega arith)
-
-pub other_step : (whole : List Place) (screen : List Cell) (n : ℕ) → n < length whole → length whole ≡ length screen → IsHeld whole
-    → others (beliefs_held whole n (drop n whole)) (fields_from screen n (drop n screen))
-    ≡ (other_here (get_or whole n Unknown) (get_or (places_stored screen) n Unknown) (drop (n + 1) whole ++ whole) (drop (n + 1) (places_stored screen) ++ places_stored screen)
-    || others (beliefs_held whole (n + 1) (drop (n + 1) whole)) (fields_from screen (n + 1) (drop (n + 1) screen)))
-other_step whole screen n within even held =
-    let p : Place = get_or whole n Unknown in
-    let c : Cell = get_or screen n (Char 0) in
-    let here : drop n whole ≡ p ∷ drop (n + 1) whole = drop_more whole n Unknown within in
-    let there : drop n screen ≡ c ∷ drop (n + 1) screen = drop_more screen n (Char 0) (omega arith) in
-    let later = others (beliefs_held whole (n + 1) (drop (n + 1) whole)) (fields_from screen (n + 1) (drop (n + 1) screen)) in
-    ap (λ (ps : List Place). others (beliefs_held whole n ps) (fields_from screen n (drop n screen))) here
-    ∙ ap (λ (cs : List Cell). others (beliefs_held whole n (p ∷ drop (n + 1) whole)) (fields_from screen n cs)) there
-    ∙ other_on whole screen n p (drop (n + 1) whole) c (drop (n + 1) screen) (subst (AreHeld whole) here (held_drop whole n whole held))
-    ∙ ap (λ (x : Place). other_here p x (drop (n + 1) whole ++ whole) (places_stored (drop (n + 1) screen) ++ places_stored screen) || later) (sym (stored_at n screen (omega arith)))
-    ∙ ap (λ (ps : List Place). other_here p (get_or (places_stored screen) n Unknown) (drop (n + 1) whole ++ whole) (ps ++ places_stored screen) || later) (sym (drop-stored (n + 1) screen))
+pub other_step : (whole : List Place) (screen : List Cell) (n : ℕ) (cell : Cell) (rest : List Cell) → n < length whole → IsHeld whole
+    → others (beliefs_held whole n (drop n whole)) (fields_from screen n (cell ∷ rest))
+    ≡ (other_here (get_or whole n Unknown) (place_stored cell) (drop (n + 1) whole ++ whole) (places_stored rest ++ places_stored screen)
+    || others (beliefs_held whole (n + 1) (drop (n + 1) whole)) (fields_from screen (n + 1) rest))
+other_step whole screen n cell rest within held =
+    let here : drop n whole ≡ get_or whole n Unknown ∷ drop (n + 1) whole = drop_more whole n Unknown within in
+    ap (λ (ps : List Place). others (beliefs_held whole n ps) (fields_from screen n (cell ∷ rest))) here
+    ∙ other_on whole screen n (get_or whole n Unknown) (drop (n + 1) whole) cell rest (subst (AreHeld whole) here (held_drop whole n whole held))
 
 -- ---- a screen that was read is known
 

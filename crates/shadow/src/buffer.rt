@@ -1,17 +1,16 @@
 //! Whether a screen that was read can be the one that is believed.
-ghost use Rattle.std.specs.Prelude.{◌≡◌, ◌<◌, ◌+◌, ◌++◌, ◌∷◌, [], List, MatchOption, length, drop, slice_index_or};
+ghost use Rattle.std.specs.Prelude.{◌≡◌, ◌<◌, ◌+◌, ◌++◌, ◌∷◌, [], MatchOption, length, drop, slice_index_or};
 ghost use Rattle.codes3270.specs.Size.{cell_count};
-ghost use Rattle.codes3270.specs.declared.attribute.Cell.{Cell as ScreenCell};
 ghost use Rattle.datastream.specs.Fields.{fields as fields_in};
 ghost use Rattle.shadow.specs.declared.place.Place.TheVariants.{Unknown};
 ghost use Rattle.shadow.specs.InPlace.{chars_known, beliefs_held, known_text, misses_here, other_here, IsHeld};
-ghost use Rattle.shadow.specs.Since.{places_stored};
+ghost use Rattle.shadow.specs.Since.{place_stored, places_stored};
 ghost use Rattle.shadow.specs.Seen.{differs, others, same_attr as are_same};
 
 use crate::place::Place;
 use crate::places::{Ahead, Places};
 use crate::taking::place_of;
-use codes3270::{Attr, attr_code};
+use codes3270::{Attr, Cell, attr_code};
 use datastream::Cells;
 
 /// Whether two attributes have the same code without MDT.
@@ -21,12 +20,24 @@ pub(crate) fn same_attr(one: Attr, other: Attr) -> bool
     attr_code(one.with_mdt(false)) == attr_code(other.with_mdt(false))
 }
 
-/// The next character that was read, if one stands before the first attribute.
-fn next_char(read: &mut Ahead<'_>) -> Option<u8>
-    ensures { MatchOption result (known_text (chars_known read.old) ≡ []) (λ char. known_text (chars_known read.old) ≡ char ∷ known_text (chars_known read.new)) }
+/// The next character that was read, if one stands before the first attribute; `whole`: what follows the rest, round the end.
+fn next_char(rest: &mut Cells<'_>, whole: &mut Cells<'_>) -> Option<u8>
+    ensures { let ahead = places_stored rest.old ++ places_stored whole.old in
+        MatchOption result (known_text (chars_known ahead) ≡ []) (λ char. known_text (chars_known ahead) ≡ char ∷ known_text (chars_known (places_stored rest.new ++ places_stored whole.new))) }
 {
-    match read.next() {
-        Some(Place::Known(char)) => Some(char),
+    match rest.next() {
+        Some(Cell::Char(char)) => Some(char),
+        Some(Cell::Attr(_)) => None,
+        None => next_round(whole),
+    }
+}
+
+/// The same of the cells from the first one on.
+fn next_round(whole: &mut Cells<'_>) -> Option<u8>
+    ensures { MatchOption result (known_text (chars_known (places_stored whole.old)) ≡ []) (λ char. known_text (chars_known (places_stored whole.old)) ≡ char ∷ known_text (chars_known (places_stored whole.new))) }
+{
+    match whole.next() {
+        Some(Cell::Char(char)) => Some(char),
         _ => None,
     }
 }
@@ -44,12 +55,13 @@ fn differs_here(place: Place, char: Option<u8>) -> bool
 }
 
 /// Whether the characters before the first attribute that are known aren't those that were read.
-fn are_others(known: Ahead<'_>, read: Ahead<'_>) -> bool
-    ensures { result ≡ differs (chars_known known.entry) (known_text (chars_known read.entry)) }
+fn are_others(known: Ahead<'_>, rest: Cells<'_>, whole: Cells<'_>) -> bool
+    ensures { result ≡ differs (chars_known known.entry) (known_text (chars_known (places_stored rest.entry ++ places_stored whole.entry))) }
 {
-    let mut read = read;
+    let mut rest = rest;
+    let mut whole = whole;
     for place in known {
-        let char = next_char(&mut read);
+        let char = next_char(&mut rest, &mut whole);
         if differs_here(place, char) {
             return true;
         }
@@ -60,32 +72,44 @@ fn are_others(known: Ahead<'_>, read: Ahead<'_>) -> bool
             Place::Unknown => {}
         }
     }
-    next_char(&mut read).is_some()
+    next_char(&mut rest, &mut whole).is_some()
 }
 
-/// Whether what was read at a place shows that a screen isn't the one that is believed.
-fn is_other(places: &Places, read: &Places, place: usize) -> bool
+/// Whether a cell that was read shows that a screen isn't the one that is believed; `rest`: those behind it.
+fn is_other(
+    places: &Places,
+    place: usize,
+    cell: Cell,
+    rest: &Cells<'_>,
+    whole: &Cells<'_>,
+) -> bool
     requires { place < cell_count }
-    ensures { result ≡ other_here (slice_index_or places.now place Unknown) (slice_index_or read.now place Unknown) (drop (place + 1) places.now ++ places.now) (drop (place + 1) read.now ++ read.now) }
+    ensures { result ≡ other_here (slice_index_or places.now place Unknown) (place_stored cell) (drop (place + 1) places.now ++ places.now) (places_stored rest.now ++ places_stored whole.now) }
 {
-    match (places.get(place), read.get(place)) {
-        (Place::Attr(believed, _, _), Place::Attr(attr, _, _)) => {
-            !same_attr(attr, believed)
-                || believed.protected && are_others(places.ahead(place), read.ahead(place))
+    match (places.get(place), cell) {
+        (Place::Attr(believed, _, _), Cell::Attr(attr)) => {
+            !same_attr(attr.with_mdt(false), believed)
+                || believed.protected
+                    && are_others(places.ahead(place), rest.copy(), whole.copy())
         }
-        (Place::Attr(_, _, _), _) => true,
-        (_, Place::Attr(_, _, _)) => true,
+        (Place::Attr(_, _, _), Cell::Char(_)) => true,
+        (_, Cell::Attr(_)) => true,
         _ => false,
     }
 }
 
 /// Whether the fields that were read aren't those that are believed.
-pub(crate) fn any_other(places: &Places, read: &Places) -> bool
-    requires { IsHeld places.now }
-    ensures { (screen : List ScreenCell) → length screen ≡ cell_count → read.now ≡ places_stored screen → result ≡ others (beliefs_held places.now 0 places.now) (fields_in screen) }
+pub(crate) fn any_other(places: &Places, cells: Cells<'_>) -> bool
+    requires held { IsHeld places.now }
+    requires whole { length cells ≡ cell_count }
+    ensures { result ≡ others (beliefs_held places.now 0 places.now) (fields_in cells.entry) }
 {
+    let mut rest = cells.copy();
     for place in 0..places.len() {
-        if is_other(places, read, place) {
+        let Some(cell) = rest.next() else {
+            return false;
+        };
+        if is_other(places, place, cell, &rest, &cells) {
             return true;
         }
     }

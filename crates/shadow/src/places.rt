@@ -193,17 +193,6 @@ impl Places {
         self.told = Row::all(is_told(place));
     }
 
-    /// Holds what others hold.
-    pub(crate) fn copy_from(&mut self, places: &Places)
-        ensures { self.new ≡ places.now }
-    {
-        self.bytes.as_mut_slice().copy_from_slice(&places.bytes);
-        self.heads.as_mut_slice().copy_from_slice(&places.heads);
-        self.attributes = places.attributes.copy();
-        self.known = places.known.copy();
-        self.told = places.told.copy();
-    }
-
     /// The first attribute from an address on, or the number of places.
     pub(crate) fn attribute_from(&self, from: usize) -> usize
         requires { from ≤ cell_count }

@@ -41,13 +41,6 @@ impl Row {
         }
     }
 
-    /// The same bits.
-    pub(crate) fn copy(&self) -> Row
-        ensures { result ≡ self.now }
-    {
-        Row { words: self.words }
-    }
-
     /// Whether a cell's bit is set.
     pub(crate) fn has(&self, cell: usize) -> bool
         requires { cell < cell_count }

@@ -266,12 +266,10 @@ impl Shadow {
         ensures { let heard = heard_buffer self.old (cells_sent inbound.now.parts) in
             MatchResult result (λ _. heard ≡ Ok self.new) (λ fault. (heard ≡ Err fault) × (self.new ≡ self.old)) }
     {
-        let mut read = Places::new(Place::Unknown);
-        put_read(&mut read, inbound.cells());
-        if self.knows && any_other(&self.places, &read) {
+        if self.knows && any_other(&self.places, inbound.cells()) {
             return Err(HeardFault::Contradiction);
         }
-        self.places.copy_from(&read);
+        put_read(&mut self.places, inbound.cells());
         self.knows = true;
         Ok(())
     }

@@ -1,38 +1,40 @@
-use Rattle.std.proofs.Common.{◌∙◌, ◌+◌, ◌++◌, ◌||◌, ap, sym, arith, drop, get_or, List, [], Bool}
-use Rattle.std.proofs.lemmas.List.{at_drop_all}
+use Rattle.std.proofs.Common.{◌≡◌, ◌∙◌, ◌+◌, ◌||◌, ap, sym, arith, drop, length, List, Bool, suc}
 use Rattle.codes3270.specs.declared.attribute.Cell.{Cell}
 use Rattle.datastream.specs.Fields.{fields_from}
-use Rattle.shadow.specs.declared.place.Place.{Place}
-use Rattle.shadow.specs.declared.place.Place.TheVariants.{Unknown}
-use Rattle.shadow.specs.InPlace.{beliefs_held, other_here}
+use Rattle.shadow.specs.InPlace.{beliefs_held}
 use Rattle.shadow.specs.Seen.{others}
 use Rattle.shadow.proofs.Reading.{other_step}
 use Rattle.shadow.proofs.buffer.any_other.Goals as goal
 
+pub returns-in_default : goal.returns-in_default
+returns-in_default c =
+    let none : length c.loop-place.rest ≡ 0 = ap length c.in_default.ensures.steps.0 in
+    absurd (omega arith)
+
 pub returns-then-is_other : goal.returns-then-is_other
-returns-then-is_other c = λ screen size is.
+returns-then-is_other c =
     let whole = c.args.places.now in
+    let screen = c.args.cells in
     let n = c.loop-place.place in
-    let ahead = drop (n + 1) whole ++ whole in
-    let later = others (beliefs_held whole (n + 1) (drop (n + 1) whole)) (fields_from screen (n + 1) (drop (n + 1) screen)) in
-    sym (c.loop-place.invariant screen size is ∙ other_step whole screen n (omega arith) (omega arith) c.requires
-    ∙ ap (λ (read : List Place). other_here (get_or whole n Unknown) (get_or read n Unknown) ahead (drop (n + 1) read ++ read) || later) (sym is)
+    let rest = c.next.new.self in
+    let later = others (beliefs_held whole (n + 1) (drop (n + 1) whole)) (fields_from screen (n + 1) rest) in
+    sym (c.loop-place.invariant.others
+    ∙ ap (λ (cs : List Cell). others (beliefs_held whole n (drop n whole)) (fields_from screen n cs)) c.in-Some.ensures.steps
+    ∙ other_step whole screen n c.in-Some.cell rest (omega arith) c.requires.held
     ∙ ap (λ (t : Bool). t || later) (sym c.is_other.ensures ∙ c.if-is_other.true))
 
 pub loop-place-preserved : goal.loop-place-preserved
-loop-place-preserved c = λ screen size is.
+loop-place-preserved c =
     let whole = c.args.places.now in
+    let screen = c.args.cells in
     let n = c.loop-place.place in
-    let ahead = drop (n + 1) whole ++ whole in
-    let later = others (beliefs_held whole (n + 1) (drop (n + 1) whole)) (fields_from screen (n + 1) (drop (n + 1) screen)) in
-    c.loop-place.invariant screen size is ∙ other_step whole screen n (omega arith) (omega arith) c.requires
-    ∙ ap (λ (read : List Place). other_here (get_or whole n Unknown) (get_or read n Unknown) ahead (drop (n + 1) read ++ read) || later) (sym is)
-    ∙ ap (λ (t : Bool). t || later) (sym c.is_other.ensures ∙ c.if-is_other.false)
-
-pub returns : goal.returns
-returns c = λ screen size is.
-    let whole = c.args.places.now in
-    let n = c.loop-place.place in
-    sym (c.loop-place.invariant screen size is
-    ∙ at_drop_all (λ (ps : List Place). others (beliefs_held whole n ps) (fields_from screen n (drop n screen))) whole n (omega arith)
-    ∙ at_drop_all (λ (cs : List Cell). others (beliefs_held whole n []) (fields_from screen n cs)) screen n (omega arith))
+    let rest = c.next.new.self in
+    let later = others (beliefs_held whole (n + 1) (drop (n + 1) whole)) (fields_from screen (n + 1) rest) in
+    let more : length c.loop-place.rest ≡ suc (length rest) = ap length c.in-Some.ensures.steps in
+    record {
+      others = c.loop-place.invariant.others
+          ∙ ap (λ (cs : List Cell). others (beliefs_held whole n (drop n whole)) (fields_from screen n cs)) c.in-Some.ensures.steps
+          ∙ other_step whole screen n c.in-Some.cell rest (omega arith) c.requires.held
+          ∙ ap (λ (t : Bool). t || later) (sym c.is_other.ensures ∙ c.if-is_other.false);
+      left = omega arith;
+    }
