@@ -20,3 +20,4 @@ pub mod InboundSent
 pub mod InboundSlices
 pub mod Round
 pub mod Keeping
+pub mod Words

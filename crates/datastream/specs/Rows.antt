@@ -1,5 +1,5 @@
 -- For proofs alone: a bit for each cell, and cells that are kept as bytes and such bits (our profile).
-use Rattle.std.specs.Prelude.{◌≡◌, ◌<◌, ◌+◌, ◌*◌, ◌/◌, ◌%◌, ℕ, length, Bool, true, false, List, [], ◌∷◌, slice_index_or, nat_eq}
+use Rattle.std.specs.Prelude.{◌≡◌, ◌<◌, ◌+◌, ◌*◌, ◌/◌, ◌%◌, ◌&&◌, not, ℕ, length, Bool, true, false, List, [], ◌∷◌, slice_index_or, nat_eq, nat_lt}
 use Rattle.std.specs.Int.{bit_at}
 use Rattle.codes3270.specs.Size.{cell_count}
 
@@ -13,6 +13,10 @@ bit_of false = 0
 
 abbrev pub has_bit : List ℕ → ℕ → Bool
 has_bit words cell = nat_eq (bit_at (slice_index_or words (cell / 64) 0) (cell % 64)) 1
+
+-- a cell from one to another, without that one
+abbrev pub is_within : ℕ → ℕ → ℕ → Bool
+is_within from to cell = not (nat_lt cell from) && nat_lt cell to
 
 -- a word's bits say of each of its cells whether a test holds there
 abbrev pub AreBits : (ℕ → Bool) → ℕ → ℕ → Type 0

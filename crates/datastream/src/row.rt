@@ -1,8 +1,8 @@
 //! A bit for each cell of a screen, in words of 64.
-ghost use Rattle.std.specs.Prelude.{◌≡◌, ◌<◌, ℕ, nat_eq, if◌then◌else◌};
+ghost use Rattle.std.specs.Prelude.{◌≡◌, ◌<◌, ◌≤◌, ℕ, false, true, nat_eq, nat_lt, if◌then◌else◌, MatchOption};
 ghost use Rattle.codes3270.specs.Size.{cell_count};
 ghost use Rattle.std.specs.Int.{bit_at};
-ghost use Rattle.datastream.specs.Rows.{bit_of, has_bit, word_count, AreBits};
+ghost use Rattle.datastream.specs.Rows.{bit_of, has_bit, is_within, word_count, AreBits};
 
 use codes3270::CELL_COUNT;
 use std::marker::Model;
@@ -65,12 +65,98 @@ impl Row {
         self.words[cell / BITS] = word;
     }
 
+    /// The first cell from one on whose bit is set, or the number of cells.
+    pub fn first_from(&self, from: usize) -> usize
+        requires { from ≤ cell_count }
+        ensures from { from ≤ result }
+        ensures within { result ≤ cell_count }
+        ensures clear { (cell : ℕ) → from ≤ cell → cell < result → has_bit self.now cell ≡ false }
+        ensures set { result < cell_count → has_bit self.now result ≡ true }
+    {
+        let mut at = from;
+        for index in from / BITS..WORDS {
+            if let Some(place) = first_in(self.words[index], at % BITS) {
+                return within(index * BITS + place);
+            }
+            at = (index + 1) * BITS;
+        }
+        CELL_COUNT
+    }
+
+    /// Sets the bits of the cells from one to another, or clears them.
+    pub fn put_range(&mut self, from: usize, to: usize, bit: bool)
+        requires order { from ≤ to }
+        requires few { to ≤ cell_count }
+        ensures { (other : ℕ) → has_bit self.new other ≡ (if is_within from to other then bit else has_bit self.old other) }
+    {
+        for index in from / BITS..(to + BITS - 1) / BITS {
+            let start = index * BITS;
+            let low = from.max(start) - start;
+            let high = to.min(start + BITS) - start;
+            let word = with_bits(self.words[index], low, high, bit);
+            self.words[index] = word;
+        }
+    }
+
     /// The bits of 64 cells, the lowest that of the first.
     pub fn word(&self, index: usize) -> u64
         requires { index < word_count }
         ensures { AreBits (has_bit self.now) index result }
     {
         self.words[index]
+    }
+}
+
+/// A word with the bits from one place to another set or cleared.
+fn with_bits(word: u64, from: usize, to: usize, bit: bool) -> u64
+    requires from { from ≤ 64 }
+    requires to { to ≤ 64 }
+    ensures { (other : ℕ) → other < 64 → bit_at result other ≡ (if is_within from to other then bit_of bit else bit_at word other) }
+{
+    let ones = ones_between(from, to);
+    if bit { word | ones } else { word & !ones }
+}
+
+/// A word whose bits from one place to another are set.
+fn ones_between(from: usize, to: usize) -> u64
+    requires from { from ≤ 64 }
+    requires to { to ≤ 64 }
+    ensures { (other : ℕ) → other < 64 → bit_at result other ≡ bit_of (is_within from to other) }
+{
+    ones_below(to) & !ones_below(from)
+}
+
+/// A word whose bits below a place are set.
+fn ones_below(place: usize) -> u64
+    requires { place ≤ 64 }
+    ensures { (other : ℕ) → other < 64 → bit_at result other ≡ bit_of (nat_lt other place) }
+{
+    if place == 0 {
+        0
+    } else {
+        u64::MAX >> (BITS - place)
+    }
+}
+
+/// A cell, or the number of cells where it is more.
+fn within(cell: usize) -> usize
+    ensures least { result ≤ cell_count }
+    ensures same { result < cell_count → result ≡ cell }
+    ensures below { result ≤ cell }
+{
+    if cell < CELL_COUNT { cell } else { CELL_COUNT }
+}
+
+/// The first place from one on at which a word's bit is set.
+fn first_in(word: u64, from: usize) -> Option<usize>
+    requires { from < 64 }
+    ensures { MatchOption result ((place : ℕ) → from ≤ place → place < 64 → bit_at word place ≡ 0) (λ first. (from ≤ first) × (first < 64) × (bit_at word first ≡ 1) × ((place : ℕ) → from ≤ place → place < first → bit_at word place ≡ 0)) }
+{
+    let rest = word >> from;
+    if rest == 0 {
+        None
+    } else {
+        Some(from + rest.trailing_zeros() as usize)
     }
 }
 

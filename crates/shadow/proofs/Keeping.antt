@@ -1,78 +1,17 @@
 -- Places that are kept by bits and bytes.
 use Rattle.std.proofs.Common.{◌≡◌, ℕ, zero, suc, ◌+◌, ◌*◌, ◌^◌, ◌/◌, ◌%◌, ◌<◌, ◌≤◌, Bool, true, false, List, [], ◌∷◌, length, replicate, set, get_or, refl, ap, sym, subst, arith, ◌∙◌, ne_eqb, eq-eqb, inl, inr, if◌then◌else◌}
-use Rattle.std.specs.Prelude.{nat_eq, bit_and, bit_or}
-use Rattle.std.specs.Int.{bit_at, w64, bit_not}
-use Rattle.std.proofs.Math.Nat.{mod-lt}
+use Rattle.std.specs.Prelude.{nat_eq}
 use Rattle.std.proofs.lemmas.Bool.{cases_eq}
 use Rattle.std.proofs.lemmas.List.{get_or-set_other, get_or-set_same, get_or-replicate, get_or_default, length-set, length-replicate}
-use Rattle.std.proofs.lemmas.Nat.Bits.{bit_at_set_same, bit_at_set_other, bit_at_clear_same, bit_at_clear_other}
 use Rattle.codes3270.specs.declared.attribute.Attr.{Attr as Attribute}
 use Rattle.codes3270.specs.Attribute.{attr_of}
 use Rattle.shadow.specs.declared.place.Place.{Place}
 use Rattle.shadow.specs.declared.place.Place.TheVariants.{Attr, Known, Told, Unknown}
 use Rattle.shadow.specs.declared.places.Head.{Head}
 use Rattle.shadow.specs.InPlace.{is_attribute}
-use Rattle.shadow.specs.Rows.{bit_of, has_bit, no_head, head_of, is_known, is_told, place_kept, kept, place_by, MarksKnown}
-
--- ---- one word
-
-pub bit_set : (n k other : ℕ) → k < 64 → bit_at (bit_or n (1 * 2 ^ k % 2 ^ 64)) other ≡ (if nat_eq other k then bit_of true else bit_at n other)
-bit_set n k other low = elim (cases_eq other k) [
-  | inl same ↦ rw (eq-eqb other k same) (ap (bit_at (bit_or n (1 * 2 ^ k % 2 ^ 64))) same ∙ bit_at_set_same w64 n k low)
-  | inr apart ↦ rw (ne_eqb other k apart) (bit_at_set_other w64 n k low other apart)
-]
-
-pub bit_cleared : (n k other : ℕ) → k < 64 → other < 64 → bit_at (bit_and n (bit_not w64 (1 * 2 ^ k % 2 ^ 64))) other ≡ (if nat_eq other k then bit_of false else bit_at n other)
-bit_cleared n k other low few = elim (cases_eq other k) [
-  | inl same ↦ rw (eq-eqb other k same) (ap (bit_at (bit_and n (bit_not w64 (1 * 2 ^ k % 2 ^ 64)))) same ∙ bit_at_clear_same w64 n k low)
-  | inr apart ↦ rw (ne_eqb other k apart) (bit_at_clear_other w64 n k low other few apart)
-]
-
--- ---- a row
-
-bit_is : (b : Bool) → nat_eq (bit_of b) 1 ≡ b
-bit_is true = refl
-bit_is false = refl
-
-pub alike : (word count cell : ℕ) (b : Bool) → cell / 64 < count → ((i : ℕ) → i < 64 → bit_at word i ≡ bit_of b) → has_bit (replicate count word) cell ≡ b
-alike word count cell b within is =
-    ap (λ w. nat_eq (bit_at w (cell % 64)) 1) (get_or-replicate count (cell / 64) word 0 within) ∙ ap (λ n. nat_eq n 1) (is (cell % 64) (mod-lt cell (omega arith))) ∙ bit_is b
-
--- ---- places
-
-pub length_kept : (f : ℕ → ℕ → Place) (at : ℕ) (bytes : List ℕ) → length (kept f at bytes) ≡ length bytes
-length_kept f at [] = refl
-length_kept f at (b ∷ bytes) = ap suc (length_kept f (at + 1) bytes)
-
-kept_from : (f : ℕ → ℕ → Place) (at : ℕ) (bytes : List ℕ) (i : ℕ) (byte : ℕ) (d : Place) → i < length bytes → byte ≡ get_or bytes i byte → get_or (kept f at bytes) i d ≡ f (at + i) byte
-kept_from f at [] i byte d within is = absurd (omega arith)
-kept_from f at (b ∷ bytes) zero byte d within is = let same : at ≡ at + 0 = omega arith in ap (λ n. f n b) same ∙ ap (f (at + 0)) (sym is)
-kept_from f at (b ∷ bytes) (suc i) byte d within is =
-    let further : (at + 1) + i ≡ at + suc i = omega arith in
-    kept_from f (at + 1) bytes i byte d (omega arith) is ∙ ap (λ n. f n byte) further
-
-pub kept_at : (f : ℕ → ℕ → Place) (bytes : List ℕ) (i : ℕ) (byte : ℕ) (d : Place) → i < length bytes → byte ≡ get_or bytes i byte → get_or (kept f 0 bytes) i d ≡ f i byte
-kept_at f bytes i byte d within is = let same : 0 + i ≡ i = omega arith in kept_from f 0 bytes i byte d within is ∙ ap (λ n. f n byte) same
-
-kept_alike : (f g : ℕ → ℕ → Place) (at : ℕ) (bytes : List ℕ) → ((j byte : ℕ) → at ≤ j → g j byte ≡ f j byte) → kept g at bytes ≡ kept f at bytes
-kept_alike f g at [] same = refl
-kept_alike f g at (b ∷ bytes) same =
-    ap (λ p. p ∷ kept g (at + 1) bytes) (same at b (omega arith)) ∙ ap (λ ps. f at b ∷ ps) (kept_alike f g (at + 1) bytes (λ j byte later. same j byte (omega arith)))
-
-kept_set_from : (f g : ℕ → ℕ → Place) (at : ℕ) (bytes : List ℕ) (i byte : ℕ) → ((j other : ℕ) → (j ≡ at + i → ⊥) → g j other ≡ f j other) → kept g at (set bytes i byte) ≡ set (kept f at bytes) i (g (at + i) byte)
-kept_set_from f g at [] i byte same = refl
-kept_set_from f g at (b ∷ bytes) zero byte same =
-    let here : at ≡ at + 0 = omega arith in
-    ap (λ p. p ∷ kept g (at + 1) bytes) (ap (λ n. g n byte) here) ∙ ap (λ ps. g (at + 0) byte ∷ ps) (kept_alike f g (at + 1) bytes (λ j other later. same j other (λ e. omega arith)))
-kept_set_from f g at (b ∷ bytes) (suc i) byte same =
-    let further : (at + 1) + i ≡ at + suc i = omega arith in
-    ap (λ p. p ∷ kept g (at + 1) (set bytes i byte)) (same at b (λ e. omega arith))
-    ∙ ap (λ ps. f at b ∷ ps) (kept_set_from f g (at + 1) bytes i byte (λ j other apart. same j other (λ e. apart (omega arith))) ∙ ap (λ n. set (kept f (at + 1) bytes) i (g n byte)) further)
-
-pub kept_set : (f g : ℕ → ℕ → Place) (bytes : List ℕ) (i byte : ℕ) (p : Place) → ((j other : ℕ) → (j ≡ i → ⊥) → g j other ≡ f j other) → g i byte ≡ p → kept g 0 (set bytes i byte) ≡ set (kept f 0 bytes) i p
-kept_set f g bytes i byte p same is =
-    let here : 0 + i ≡ i = omega arith in
-    kept_set_from f g 0 bytes i byte (λ j other apart. same j other (λ e. apart (omega arith))) ∙ ap (λ n. set (kept f 0 bytes) i (g n byte)) here ∙ ap (set (kept f 0 bytes) i) is
+use Rattle.datastream.specs.Rows.{has_bit, kept}
+use Rattle.datastream.proofs.Keeping.{length_kept, kept_at, kept_set, kept_all}
+use Rattle.shadow.specs.Rows.{no_head, head_of, is_known, is_told, place_kept, place_by, MarksKnown}
 
 -- one place is kept anew
 module _ (heads : List Head) (attributes known told attributes_ known_ told_ : List ℕ) (at : ℕ) (p : Place) (within : at < length heads)
@@ -148,11 +87,6 @@ module _ (heads : List Head) (attributes known told bytes : List ℕ) (at : ℕ)
       subst (MarksKnown known_) (sym put_kept) (marked_set known known_ old_places at p before marked (bits_by (is_known p) k is_k known known_ at k_bits))
 
 -- the same place everywhere
-kept_all : (f : ℕ → ℕ → Place) (at n byte : ℕ) (p : Place) → ((j : ℕ) → at ≤ j → j < at + n → f j byte ≡ p) → kept f at (replicate n byte) ≡ replicate n p
-kept_all f at zero byte p is = refl
-kept_all f at (suc n) byte p is =
-    ap (λ q. q ∷ kept f (at + 1) (replicate n byte)) (is at (omega arith) (omega arith)) ∙ ap (λ ps. p ∷ ps) (kept_all f (at + 1) n byte p (λ j later before. is j (omega arith) (omega arith)))
-
 module _ (n : ℕ) (attributes known told : List ℕ) (p : Place) (byte : ℕ)
     (attribute_bits : (cell : ℕ) → cell < n → has_bit attributes cell ≡ is_attribute p)
     (known_bits : (cell : ℕ) → cell < n → has_bit known cell ≡ is_known p)
@@ -211,3 +145,10 @@ module _ (heads : List Head) (attributes known told bytes : List ℕ) (at : ℕ)
       (sym (ap (λ b. place_kept (get_or heads at no_head) b (has_bit known at) (has_bit told at) (get_or bytes at 0)) a
       ∙ ap (λ b. place_kept (get_or heads at no_head) false b (has_bit told at) (get_or bytes at 0)) k
       ∙ ap (λ b. place_kept (get_or heads at no_head) false false b (get_or bytes at 0)) t))
+
+  pub character_seen : has_bit attributes at ≡ false → has_bit known at ≡ true → get_or now at Unknown ≡ Known (get_or bytes at 0)
+  character_seen a k =
+      sym (ap (λ (ps : List Place). get_or ps at Unknown) view)
+      ∙ kept_at (place_by heads attributes known told) bytes at (get_or bytes at 0) Unknown within (get_or_default bytes at 0 (get_or bytes at 0) within)
+      ∙ ap (λ b. place_kept (get_or heads at no_head) b (has_bit known at) (has_bit told at) (get_or bytes at 0)) a
+      ∙ ap (λ b. place_kept (get_or heads at no_head) false b (has_bit told at) (get_or bytes at 0)) k

@@ -16,6 +16,7 @@ pub mod Erasing
 pub mod Paired
 pub mod Appendings
 pub mod PaintBytes
+pub mod Looking
 pub mod Spelling
 pub mod ExactHeard
 pub mod Behind
@@ -31,7 +32,6 @@ pub mod Noted
 pub mod PaintOpening
 pub mod StorableHeard
 pub mod StorableTaken
-pub mod Round
 pub mod Placed
 pub mod Changes
 pub mod Settling
@@ -42,8 +42,7 @@ pub mod Changing
 pub mod Reading
 pub mod Whole
 pub mod Keeping
-mod Words
-mod Stretches
-mod Walks
-mod Ranges
-mod Settles
+pub mod Stretches
+pub mod Walks
+pub mod Ranges
+pub mod Settles

@@ -9,10 +9,8 @@ use Rattle.datastream.specs.declared.wanted.Want.{Want}
 use Rattle.shadow.specs.Belief.{next_address}
 use Rattle.shadow.specs.declared.known.Known.{Known}
 use Rattle.shadow.specs.Stores.{Store, store_also}
+use Rattle.shadow.specs.Looks.{stores_from}
 use Rattle.shadow.specs.Paint.{cell_to_store, to_store, order_of, is_at, sba_unless, painting}
-
-abbrev pub stores_from : List Want → List Known → ℕ → List Store
-stores_from wants known n = to_store wants n (drop n wants) (drop n known)
 
 pub cell_here : (wants : List Want) (known : List Known) (n : ℕ) (want : Want) (cell : Known) (behind : List Want) (o : Option Cell) → n < length wants → n < length known
     → want ≡ get_or wants n want → cell ≡ get_or known n cell → behind ≡ drop (n + 1) wants → o ≡ cell_to_store (behind ++ wants) want cell

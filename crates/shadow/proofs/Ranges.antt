@@ -10,7 +10,8 @@ use Rattle.shadow.specs.declared.place.Place.TheVariants.{Attr, Known, Told, Unk
 use Rattle.shadow.specs.declared.places.Head.{Head}
 use Rattle.shadow.specs.Filled.{Fill, filled, first_told, fill_next, fill_after, front_filled}
 use Rattle.shadow.specs.InPlace.{is_attribute, chars_known}
-use Rattle.shadow.specs.Rows.{has_bit, is_within, no_head, is_known, place_kept, kept, place_by, MarksKnown}
+use Rattle.datastream.specs.Rows.{has_bit, is_within, kept}
+use Rattle.shadow.specs.Rows.{no_head, is_known, place_kept, place_by, MarksKnown}
 use Rattle.shadow.proofs.Keeping.{kept_at, length_kept}
 use Rattle.shadow.proofs.Passing.{fills}
 use Rattle.shadow.proofs.Stretches.{attribute_bit, drop_drop}

@@ -6,7 +6,8 @@ use Rattle.shadow.specs.declared.place.Place.{Place}
 use Rattle.shadow.specs.declared.place.Place.TheVariants.{Attr, Known, Told, Unknown}
 use Rattle.shadow.specs.declared.places.Head.{Head}
 use Rattle.shadow.specs.InPlace.{is_attribute, chars_known, beliefs_held}
-use Rattle.shadow.specs.Rows.{has_bit, no_head, place_kept, kept, place_by}
+use Rattle.datastream.specs.Rows.{has_bit, kept}
+use Rattle.shadow.specs.Rows.{no_head, place_kept, place_by}
 use Rattle.shadow.proofs.Keeping.{kept_at, length_kept}
 
 -- ---- where the first attribute stands

@@ -8,6 +8,7 @@ pub mod Taken
 pub mod Painted
 pub mod Fits
 pub mod Paint
+pub mod Looks
 pub mod Laws
 pub mod Exactness
 pub mod Openness

@@ -1,30 +1,23 @@
 //! Whether what is to be kept is believed to be there.
-ghost use Rattle.std.specs.Prelude.{◌≡◌, ◌<◌, ◌≤◌, ◌+◌, ◌&&◌, ◌++◌, ◌∷◌, ◌||◌, ◌*◌, not, length, drop, slice_index_or};
+ghost use Rattle.std.specs.Prelude.{◌≡◌, ◌<◌, ◌≤◌, ◌+◌, ◌&&◌, ◌||◌, ◌*◌, not, length, drop};
 ghost use Rattle.std.specs.List.{list_any};
 ghost use Rattle.codes3270.specs.Size.{cell_count};
-ghost use Rattle.shadow.specs.Fits.{is_keep, is_attribute, is_field, fits_field as fits_one, fits_from};
+ghost use Rattle.shadow.specs.Fits.{is_keep, is_attribute, is_field, fits_from};
 ghost use Rattle.shadow.specs.InPlace.{beliefs_held, beliefs_of};
-ghost use Rattle.shadow.specs.Painted.{keeps_ahead, count_ahead};
+ghost use Rattle.shadow.specs.Painted.{keeps_ahead as keeps_before, count_ahead as count_before};
 
 use crate::asking::count_chars;
 use crate::buffer::same_attr;
 use crate::place::Place;
-use crate::places::Places;
+use crate::places::{CELL_COUNT, Places};
 use codes3270::Attr;
-use datastream::Want;
+use datastream::{Want, Wanted, Wants};
 
-/// Whether Keep stands before the first attribute, in these and then in all wants.
-pub(crate) fn keeps_round(behind: &[Want], whole: &[Want]) -> bool
-    ensures { result ≡ keeps_ahead (behind.now ++ whole.now) }
+/// Whether Keep stands before the first attribute.
+pub(crate) fn keeps_ahead(ahead: Wants<'_>) -> bool
+    ensures { result ≡ keeps_before ahead.entry }
 {
-    for want in behind {
-        match want {
-            Want::Attr(_) => return false,
-            Want::Keep => return true,
-            Want::Char(_) => {}
-        }
-    }
-    for want in whole {
+    for want in ahead {
         match want {
             Want::Attr(_) => return false,
             Want::Keep => return true,
@@ -35,12 +28,12 @@ pub(crate) fn keeps_round(behind: &[Want], whole: &[Want]) -> bool
 }
 
 /// How many cells stand before the first attribute.
-fn count_ahead_of(wants: &[Want]) -> usize
-    ensures count { result ≡ count_ahead wants.now }
-    ensures bound { result ≤ length wants.now }
+fn count_ahead(ahead: Wants<'_>) -> usize
+    requires few { length ahead ≤ 2 * cell_count }
+    ensures { result ≡ count_before ahead.entry }
 {
     let mut count = 0;
-    for want in wants {
+    for want in ahead {
         match want {
             Want::Attr(_) => return count,
             Want::Keep => {}
@@ -49,33 +42,6 @@ fn count_ahead_of(wants: &[Want]) -> usize
         count += 1;
     }
     count
-}
-
-/// Whether all of these are wanted to be characters.
-fn are_characters(wants: &[Want]) -> bool
-    ensures { result ≡ not (list_any is_attribute wants.now) }
-{
-    for want in wants {
-        match want {
-            Want::Attr(_) => return false,
-            Want::Keep => {}
-            Want::Char(_) => {}
-        }
-    }
-    true
-}
-
-/// How many cells stand before the first attribute, in these and then in all wants.
-fn count_round(behind: &[Want], whole: &[Want]) -> usize
-    requires few { length behind.now + length whole.now ≤ 2 * cell_count }
-    ensures { result ≡ count_ahead (behind.now ++ whole.now) }
-{
-    let count = count_ahead_of(behind);
-    if are_characters(behind) {
-        count + count_ahead_of(whole)
-    } else {
-        count
-    }
 }
 
 /// Whether a field is believed to be.
@@ -103,44 +69,28 @@ fn is_field_at(places: &Places, place: usize, attr: Attr, count: usize) -> bool
     }
 }
 
-/// Whether what is wanted of a cell fits; `behind` is what is wanted behind it.
-fn fits_at(held: Option<&Places>, place: usize, want: Want, behind: &[Want], whole: &[Want]) -> bool
+/// Whether what is wanted of a cell fits.
+fn fits_at(held: Option<&Places>, wanted: &Wanted, place: usize) -> bool
     requires placed { place < cell_count }
-    requires few { length behind.now + length whole.now ≤ 2 * cell_count }
-    ensures { fits_from (beliefs_of held.entry) whole.now place (want ∷ behind.now) ≡ (result && fits_from (beliefs_of held.entry) whole.now (place + 1) behind.now) }
+    ensures { fits_from (beliefs_of held.entry) wanted.now.cells place (drop place wanted.now.cells) ≡ (result && fits_from (beliefs_of held.entry) wanted.now.cells (place + 1) (drop (place + 1) wanted.now.cells)) }
 {
-    match want {
+    match wanted.at(place) {
         Want::Attr(attr) => {
-            !keeps_round(behind, whole)
-                || !attr.protected && any_field(held, place, attr, count_round(behind, whole))
+            !keeps_ahead(wanted.ahead(place))
+                || !attr.protected && any_field(held, place, attr, count_ahead(wanted.ahead(place)))
         }
         Want::Keep => true,
         Want::Char(_) => true,
     }
 }
 
-pub(crate) fn want_at(wants: &[Want], place: usize) -> Want
-    requires { place < length wants.now }
-    ensures { result ≡ slice_index_or wants.now place result }
-{
-    wants[place]
-}
-
-pub(crate) fn wants_behind(wants: &[Want], place: usize) -> &[Want]
-    requires { place < length wants.now }
-    ensures { result.now ≡ drop (place + 1) wants.now }
-{
-    &wants[place + 1..]
-}
-
 /// Whether each wanted field fits.
-fn all_fit(held: Option<&Places>, wants: &[Want]) -> bool
-    requires { length wants.now ≡ cell_count }
-    ensures { result ≡ fits_from (beliefs_of held.entry) wants.now 0 wants.now }
+fn all_fit(held: Option<&Places>, wanted: &Wanted) -> bool
+    ensures { result ≡ fits_from (beliefs_of held.entry) wanted.now.cells 0 wanted.now.cells }
 {
-    for place in 0..wants.len() {
-        let want = want_at(wants, place);
-        if !fits_at(held, place, want, wants_behind(wants, place), wants) {
+    let _bytes = wanted.bytes();
+    for place in 0..CELL_COUNT {
+        if !fits_at(held, wanted, place) {
             return false;
         }
     }
@@ -148,10 +98,10 @@ fn all_fit(held: Option<&Places>, wants: &[Want]) -> bool
 }
 
 /// Whether some cell is to be kept.
-fn any_keep(wants: &[Want]) -> bool
-    ensures { result ≡ list_any is_keep wants.now }
+fn any_keep(cells: Wants<'_>) -> bool
+    ensures { result ≡ list_any is_keep cells.entry }
 {
-    for want in wants {
+    for want in cells {
         match want {
             Want::Keep => return true,
             Want::Attr(_) => {}
@@ -161,10 +111,23 @@ fn any_keep(wants: &[Want]) -> bool
     false
 }
 
-/// Whether Keep stands in fields alone, and each of these fits.
-pub(crate) fn fits_fields(held: Option<&Places>, wants: &[Want]) -> bool
-    requires { length wants.now ≡ cell_count }
-    ensures { result ≡ ((not (list_any is_keep wants.now) || list_any is_attribute wants.now) && fits_from (beliefs_of held.entry) wants.now 0 wants.now) }
+/// Whether some cell is to be an attribute.
+fn any_attribute(cells: Wants<'_>) -> bool
+    ensures { result ≡ list_any is_attribute cells.entry }
 {
-    (!any_keep(wants) || !are_characters(wants)) && all_fit(held, wants)
+    for want in cells {
+        match want {
+            Want::Attr(_) => return true,
+            Want::Keep => {}
+            Want::Char(_) => {}
+        }
+    }
+    false
+}
+
+/// Whether Keep stands in fields alone, and each of these fits.
+pub(crate) fn fits_fields(held: Option<&Places>, wanted: &Wanted) -> bool
+    ensures { result ≡ ((not (list_any is_keep wanted.now.cells) || list_any is_attribute wanted.now.cells) && fits_from (beliefs_of held.entry) wanted.now.cells 0 wanted.now.cells) }
+{
+    (!any_keep(wanted.cells()) || any_attribute(wanted.cells())) && all_fit(held, wanted)
 }

@@ -36,7 +36,7 @@ mod mark;
 mod painting;
 mod place;
 mod places;
-mod row;
+mod searching;
 mod shadow;
 mod taking;
 mod writing;

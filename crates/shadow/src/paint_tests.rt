@@ -1,5 +1,4 @@
 //! Worked dialogues that end in a paint: the bytes that make of a screen that is believed the one that is wanted.
-ghost use Rattle.std.specs.Prelude.{All};
 ghost use Rattle.datastream.specs.Wanted.{IsProper};
 
 use crate::tests::{
@@ -7,7 +6,7 @@ use crate::tests::{
     hears_buffer, is_unknown, known_at, knows, sign_on, take,
 };
 use crate::{Fact, Shadow};
-use codes3270::{Addr, Attr, CELL_COUNT, CELLS, Cell, storable};
+use codes3270::{Addr, Attr, CELLS, Cell, storable};
 use datastream::{Form, Memory, Want, Wanted};
 use std::alloc::{AllocError, Global};
 use std::test::Fail;
@@ -22,71 +21,53 @@ fn at(place: u16) -> Addr {
     }
 }
 
-fn all_null() -> [Want; CELL_COUNT]
-    ensures { All IsProper result }
-{
-    [Want::Char(0); CELL_COUNT]
-}
-
-fn keep(wants: &mut [Want; CELL_COUNT], from: u16, to: u16)
-    requires { All IsProper wants.old }
-    ensures { All IsProper wants.new }
-{
+fn keep(wanted: &mut Wanted, from: u16, to: u16) {
     for place in from..to {
-        put(wants, place, Want::Keep);
+        put(wanted, place, Want::Keep);
     }
 }
 
 /// Wants each cell, where it is known, to stay as it is believed, with MDT off; any other to be null.
-fn wanted_again(shadow: &Shadow) -> [Want; CELL_COUNT]
-    ensures { All IsProper result }
-{
-    let mut wants = all_null();
+fn wanted_again(shadow: &Shadow) -> Wanted {
+    let mut wanted = Wanted::filled(Want::Char(0));
     for place in 0..CELLS {
         match known_at(shadow, place) {
-            Some(Cell::Attr(attr)) => put(&mut wants, place, Want::Attr(attr.with_mdt(false))),
-            Some(Cell::Char(byte)) => put_char(&mut wants, place, byte),
+            Some(Cell::Attr(attr)) => put(&mut wanted, place, Want::Attr(attr.with_mdt(false))),
+            Some(Cell::Char(byte)) => put_char(&mut wanted, place, byte),
             None => {}
         }
     }
-    wants
+    wanted
 }
 
-fn put(wants: &mut [Want; CELL_COUNT], place: u16, want: Want)
-    requires proper { All IsProper wants.old }
-    requires fits { IsProper want }
-    ensures { All IsProper wants.new }
+fn put(wanted: &mut Wanted, place: u16, want: Want)
+    requires { IsProper want }
 {
-    if (place as usize) < wants.len() {
-        wants[place as usize] = want;
+    if place < CELLS {
+        wanted.put(place as usize, want);
     }
 }
 
-fn put_char(wants: &mut [Want; CELL_COUNT], place: u16, byte: u8)
-    requires { All IsProper wants.old }
-    ensures { All IsProper wants.new }
-{
+fn put_char(wanted: &mut Wanted, place: u16, byte: u8) {
     if storable(byte) {
-        put(wants, place, Want::Char(byte));
+        put(wanted, place, Want::Char(byte));
     }
 }
 
-fn put_text(wants: &mut [Want; CELL_COUNT], from: u16, text: &[u8])
-    requires { All IsProper wants.old }
-    ensures { All IsProper wants.new }
-{
+fn put_text(wanted: &mut Wanted, from: u16, text: &[u8]) {
     let mut place = from;
     for byte in text {
-        put_char(wants, place, *byte);
+        put_char(wanted, place, *byte);
         place = place.saturating_add(1);
     }
 }
 
 /// What is believed, with a text from an address on.
 fn with_text(shadow: &Shadow, from: u16, text: &[u8], cursor: u16, reset: bool) -> Wanted {
-    let mut wants = wanted_again(shadow);
-    put_text(&mut wants, from, text);
-    Wanted::new(wants, at(cursor), reset)
+    let mut wanted = wanted_again(shadow);
+    put_text(&mut wanted, from, text);
+    wanted.aim(at(cursor), reset);
+    wanted
 }
 
 /// What is believed.
@@ -96,18 +77,20 @@ fn again(shadow: &Shadow) -> Wanted {
 
 /// The sign-on panel, with cells to be kept from its first field on.
 fn keeping(to: u16) -> Wanted {
-    let mut wants = wanted_again(&sign_on());
-    keep(&mut wants, 167, to);
-    Wanted::new(wants, at(167), false)
+    let mut wanted = wanted_again(&sign_on());
+    keep(&mut wanted, 167, to);
+    wanted.aim(at(167), false);
+    wanted
 }
 
 /// The sign-on panel once more, with a message, each field to be kept.
 fn sign_on_again(message: &[u8]) -> Wanted {
-    let mut wants = wanted_again(&sign_on());
-    keep(&mut wants, 167, 175);
-    keep(&mut wants, 247, 251);
-    put_text(&mut wants, 1841, message);
-    Wanted::new(wants, at(167), false)
+    let mut wanted = wanted_again(&sign_on());
+    keep(&mut wanted, 167, 175);
+    keep(&mut wanted, 247, 251);
+    put_text(&mut wanted, 1841, message);
+    wanted.aim(at(167), false);
+    wanted
 }
 
 // ---- what is painted
@@ -368,13 +351,14 @@ fn erased_input_leaves_nothing_to_paint(rt: HostRuntime) -> Result<(), Fail> {
 /// A panel that greets Ann, on a screen of nulls.
 fn greeting() -> Wanted {
     let label = Attr::from_code(0xF0);
-    let mut wants = all_null();
-    put(&mut wants, 0, Want::Attr(label));
-    put_text(&mut wants, 1, &[0xC8, 0xC5, 0xD3, 0xD3, 0xD6]);
-    put(&mut wants, 7, Want::Attr(label));
-    put_text(&mut wants, 8, &[0xC1, 0xD5, 0xD5]);
-    put(&mut wants, 1840, Want::Attr(Attr::from_code(0xF8)));
-    Wanted::new(wants, Addr::first(), true)
+    let mut wanted = Wanted::filled(Want::Char(0));
+    put(&mut wanted, 0, Want::Attr(label));
+    put_text(&mut wanted, 1, &[0xC8, 0xC5, 0xD3, 0xD3, 0xD6]);
+    put(&mut wanted, 7, Want::Attr(label));
+    put_text(&mut wanted, 8, &[0xC1, 0xD5, 0xD5]);
+    put(&mut wanted, 1840, Want::Attr(Attr::from_code(0xF8)));
+    wanted.aim(Addr::first(), true);
+    wanted
 }
 
 /// What paints the greeting over the sign-on panel, and nulls from five addresses on, 5, 10, 5, 6 and 14 of them.
@@ -427,10 +411,11 @@ fn it_is_read(alloc: Global, shadow: &mut Shadow) -> Result<bool, AllocError> {
 
 /// The panel once more, with a message, its field to be kept.
 fn typed_again(shadow: &Shadow) -> Wanted {
-    let mut wants = wanted_again(shadow);
-    keep(&mut wants, 1, 3);
-    put_text(&mut wants, 1841, &NOT_ACTIVE);
-    Wanted::new(wants, at(1), false)
+    let mut wanted = wanted_again(shadow);
+    keep(&mut wanted, 1, 3);
+    put_text(&mut wanted, 1841, &NOT_ACTIVE);
+    wanted.aim(at(1), false);
+    wanted
 }
 
 fn a_message_is_painted_beside_it(

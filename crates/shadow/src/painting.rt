@@ -1,24 +1,26 @@
 //! The bytes of a paint.
-ghost use Rattle.std.specs.Prelude.{◌≡◌, ◌<◌, ◌∷◌, ◌++◌, [], All, IfSome, Some, None, false, length, slice_index_or};
+ghost use Rattle.std.specs.Prelude.{◌≡◌, ◌<◌, ◌+◌, ◌∷◌, ◌++◌, [], IfSome, Some, None, false, drop, length, slice_index_or};
 ghost use Rattle.codes3270.specs.Size.{cell_count};
 ghost use Rattle.datastream.specs.declared.order.Order.TheVariants.{Sba, Ic};
-ghost use Rattle.datastream.specs.Wanted.{IsProper};
-ghost use Rattle.codes3270.specs.Storable.{is_storable};
+ghost use Rattle.datastream.specs.Rows.{word_count};
+ghost use Rattle.datastream.specs.declared.wanted.Want.TheVariants.{Keep};
 ghost use Rattle.shadow.specs.InPlace.{cell_known};
 ghost use Rattle.shadow.specs.Base.{known_base, mark_off_if};
 ghost use Rattle.datastream.specs.Writing.{Writes, order_bytes, orders_bytes};
-ghost use Rattle.shadow.specs.Appending.{IsStorableCell};
-ghost use Rattle.shadow.specs.Appending.{WritesSome};
+ghost use Rattle.shadow.specs.Appending.{IsStorableCell, WritesSome};
+ghost use Rattle.shadow.specs.Looks.{SetUnless};
+ghost use Rattle.shadow.specs.declared.known.Known.TheVariants.{Char as KnownChar};
 ghost use Rattle.shadow.specs.Paint.{is_there as is_there_already, cell_to_store as cell_stored, order_of, is_at, sba_unless, painting, to_store};
 
 use crate::buffer::same_attr;
-use crate::fitting::{keeps_round, want_at, wants_behind};
+use crate::fitting::keeps_ahead;
 use crate::known::Known;
 use crate::mark::Mark;
 use crate::place::Place;
 use crate::places::Places;
-use codes3270::{Addr, CELLS, Cell};
-use datastream::{CommandWriter, Memory, Want};
+use crate::searching::{Search, bits_written};
+use codes3270::{Addr, Cell};
+use datastream::{CommandWriter, Memory, Want, Wanted};
 
 /// What a paint finds on the screen, once it has erased it or set marks off.
 #[derive(Drop)]
@@ -44,7 +46,7 @@ fn known_place(place: Place, reset: bool) -> Known
 
 impl<'a> Base<'a> {
     /// What is known of the cell at an address.
-    fn known(&self, place: usize) -> Known
+    pub(crate) fn known(&self, place: usize) -> Known
         requires { place < cell_count }
         ensures known { result ≡ slice_index_or (known_base self.now) place result }
         ensures whole { length (known_base self.now) ≡ cell_count }
@@ -53,6 +55,27 @@ impl<'a> Base<'a> {
             known_place(self.places.get(place), self.reset)
         } else {
             Known::Char(Some(0), false)
+        }
+    }
+
+    /// How many cells there are.
+    pub(crate) fn len(&self) -> usize
+        ensures { length (known_base self.now) ≡ cell_count }
+    {
+        self.places.len()
+    }
+
+    /// A bit for each cell of a word, set unless the cell is known to have the character of these bytes.
+    pub(crate) fn unlike(&self, bytes: &[u8], word: usize) -> u64
+        requires word { word < word_count }
+        requires whole { length bytes.now ≡ cell_count }
+        ensures { SetUnless (λ cell. slice_index_or (known_base self.now) cell (KnownChar None false) ≡ KnownChar (Some (slice_index_or bytes.now cell 0)) false) word result }
+    {
+        let _count = self.places.len();
+        if self.formatted {
+            self.places.unlike(bytes, word)
+        } else {
+            bits_written(bytes, word)
         }
     }
 }
@@ -75,13 +98,13 @@ fn is_there(known: Known, cell: Cell) -> bool
     }
 }
 
-/// What a paint stores in a cell; `behind` is what is wanted behind it.
-fn cell_to_store(want: Want, known: Known, behind: &[Want], whole: &[Want]) -> Option<Cell>
-    requires { IsProper want }
-    ensures stored { result ≡ cell_stored (behind.now ++ whole.now) want known }
+/// What a paint stores in a cell.
+pub(crate) fn cell_to_store(wanted: &Wanted, place: usize, known: Known) -> Option<Cell>
+    requires { place < cell_count }
+    ensures stored { result ≡ cell_stored (drop (place + 1) wanted.now.cells ++ wanted.now.cells) (slice_index_or wanted.now.cells place Keep) known }
     ensures storable { IfSome result IsStorableCell }
 {
-    match want {
+    match wanted.at(place) {
         Want::Keep => None,
         Want::Char(byte) => {
             if is_there(known, Cell::Char(byte)) {
@@ -91,7 +114,7 @@ fn cell_to_store(want: Want, known: Known, behind: &[Want], whole: &[Want]) -> O
             }
         }
         Want::Attr(attr) => {
-            if keeps_round(behind, whole) || is_there(known, Cell::Attr(attr)) {
+            if is_there(known, Cell::Attr(attr)) || keeps_ahead(wanted.ahead(place)) {
                 None
             } else {
                 Some(Cell::Attr(attr))
@@ -161,25 +184,19 @@ fn address_of(place: u16) -> Addr
 /// Puts the cells that aren't known to be right, and then the cursor.
 pub(crate) fn put_cells(
     writer: &mut CommandWriter<'_>,
-    wants: &[Want],
+    wanted: &Wanted,
     base: &Base<'_>,
     cursor: Addr,
 ) -> Result<(), Memory>
-    requires wanted { length wants.now ≡ cell_count }
-    requires proper { All IsProper wants.now }
-    ensures { WritesSome writer.old.out writer.new.out result (orders_bytes (painting cell_count cursor None (to_store wants.now 0 wants.now (known_base base.now)))) }
+    ensures { WritesSome writer.old.out writer.new.out result (orders_bytes (painting cell_count cursor None (to_store wanted.now.cells 0 wanted.now.cells (known_base base.now)))) }
 {
     let mut at = None;
-    for place in 0..CELLS {
-        let address = address_of(place);
-        let want = want_at(wants, place as usize);
-        let cell = base.known(place as usize);
-        match cell_to_store(want, cell, wants_behind(wants, place as usize), wants) {
-            Some(cell) => match put_store(writer, at, address, cell) {
-                Ok(()) => at = Some(address.next().get()),
-                Err(error) => return Err(error),
-            },
-            None => {}
+    let mut search = Search::new(wanted, base);
+    while let Some(store) = search.next_to_store(wanted, base) {
+        let address = address_of(store.place);
+        match put_store(writer, at, address, store.cell) {
+            Ok(()) => at = Some(address.next().get()),
+            Err(error) => return Err(error),
         }
     }
     put_cursor(writer, cursor)

@@ -3,13 +3,17 @@ ghost use Rattle.std.specs.Prelude.{◌≡◌, ◌<◌, ◌≤◌, ◌+◌, ◌+
 ghost use Rattle.codes3270.specs.Size.{cell_count};
 ghost use Rattle.shadow.specs.Filled.{Fill, front_filled};
 ghost use Rattle.shadow.specs.InPlace.{is_attribute as is_attribute_held, chars_known};
+ghost use Rattle.datastream.specs.Rows.{word_count};
+ghost use Rattle.shadow.specs.Looks.{SetUnless};
+ghost use Rattle.shadow.specs.declared.place.Place.TheVariants.{Known, Unknown};
 ghost use Rattle.shadow.specs.Rows.{head_of as head_held, is_known as is_known_held, is_told as is_told_held, place_kept};
 
 use crate::asking::is_attribute;
 use crate::mark::Mark;
 use crate::place::{Place, Telling};
-use crate::row::Row;
+use crate::searching::differing;
 use codes3270::{Attr, CELL_COUNT, attr_code};
+use datastream::Row;
 use std::marker::Model;
 
 /// What is held with an attribute.
@@ -35,7 +39,8 @@ impl Model for Places {
     ghost use Rattle.std.specs.Prelude.{◌≡◌, List, length};
     ghost use Rattle.codes3270.specs.Size.{cell_count};
     ghost use Rattle.shadow.specs.declared.place.Place.{Place};
-    ghost use Rattle.shadow.specs.Rows.{kept, place_by, MarksKnown};
+    ghost use Rattle.datastream.specs.Rows.{kept};
+    ghost use Rattle.shadow.specs.Rows.{place_by, MarksKnown};
 
     ghost Value = { List Place };
 
@@ -249,6 +254,16 @@ impl Places {
         self.known.put_range(from, to, false);
         self.told.put_range(from, from + count, true);
         self.told.put_range(from + count, to, false);
+    }
+
+    /// A bit for each cell of a word, set unless the cell is known to have the character of these bytes.
+    pub(crate) fn unlike(&self, bytes: &[u8], word: usize) -> u64
+        requires word { word < word_count }
+        requires whole { length bytes.now ≡ cell_count }
+        ensures { SetUnless (λ cell. slice_index_or self.now cell Unknown ≡ Known (slice_index_or bytes.now cell 0)) word result }
+    {
+        let unknown = self.attributes.word(word) | !self.known.word(word);
+        unknown | differing(bytes, &self.bytes, word)
     }
 
     /// The places behind an address, and then all places.

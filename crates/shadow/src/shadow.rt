@@ -134,7 +134,7 @@ impl Shadow {
     pub fn fits(&self, wanted: &Wanted) -> bool
         ensures { result ≡ fits self.now wanted.now }
     {
-        fits_fields(self.held(), wanted.cells())
+        fits_fields(self.held(), wanted)
     }
 
     /// Appends the write that makes a wanted screen: an Erase/Write where nothing is known or the screen is unformatted, else
@@ -292,7 +292,7 @@ impl Shadow {
             reset,
         };
         match writer.begin(paint_code(formatted), wcc) {
-            Ok(()) => put_cells(writer, wanted.cells(), &base, wanted.cursor()),
+            Ok(()) => put_cells(writer, wanted, &base, wanted.cursor()),
             Err(error) => Err(error),
         }
     }

@@ -4,4 +4,4 @@ use Rattle.shadow.specs.InPlace.{beliefs_of}
 use Rattle.shadow.proofs.fitting.all_fit.Given as goal
 
 abbrev pub invariant-loop-place : goal.invariant-loop-place
-invariant-loop-place l = fits_from (beliefs_of l.held) l.wants 0 l.wants ≡ fits_from (beliefs_of l.held) l.wants l.place (drop l.place l.wants)
+invariant-loop-place l = fits_from (beliefs_of l.held) l.wanted.cells 0 l.wanted.cells ≡ fits_from (beliefs_of l.held) l.wanted.cells l.place (drop l.place l.wanted.cells)

@@ -1,12 +1,18 @@
-use Rattle.std.proofs.Common.{drop, None}
+use Rattle.std.proofs.Common.{length, None}
 use Rattle.codes3270.specs.Size.{cell_count}
 use Rattle.datastream.specs.Writing.{orders_bytes}
 use Rattle.shadow.specs.Base.{known_base}
+use Rattle.shadow.specs.Looks.{stores_from, IsSearch}
 use Rattle.shadow.specs.Paint.{painting, to_store}
 use Rattle.shadow.proofs.Appendings.{IsUnderWay}
 use Rattle.shadow.proofs.painting.put_cells.Given as goal
 
-abbrev pub invariant-loop-place : goal.invariant-loop-place
-invariant-loop-place l =
-    IsUnderWay l.fn.writer.out l.writer.out (orders_bytes (painting cell_count l.cursor l.at (to_store l.wants l.place (drop l.place l.wants) (drop l.place (known_base l.base)))))
-    (orders_bytes (painting cell_count l.cursor None (to_store l.wants 0 l.wants (known_base l.base))))
+abbrev pub invariant-loop-store : goal.invariant-loop-store
+invariant-loop-store l = record {
+  search : IsSearch l.wanted.cells (known_base l.base) l.search;
+  under_way : IsUnderWay l.fn.writer.out l.writer.out (orders_bytes (painting cell_count l.cursor l.at (stores_from l.wanted.cells (known_base l.base) l.search.from)))
+      (orders_bytes (painting cell_count l.cursor None (to_store l.wanted.cells 0 l.wanted.cells (known_base l.base))));
+}
+
+abbrev pub decreases-loop-store : goal.decreases-loop-store
+decreases-loop-store l = length (stores_from l.wanted.cells (known_base l.base) l.search.from)

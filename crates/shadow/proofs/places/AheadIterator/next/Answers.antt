@@ -1,6 +1,6 @@
 use Rattle.std.proofs.Common.{arith, sym, ◌∙◌}
 use Rattle.codes3270.specs.Size.{cell_count}
-use Rattle.shadow.proofs.Round.{step_behind_end}
+use Rattle.datastream.proofs.Round.{step_behind_end}
 use Rattle.shadow.proofs.places.AheadIterator.next.Goals as goal
 
 pub returns-then-at-clause-steps : goal.returns-then-at-clause-steps

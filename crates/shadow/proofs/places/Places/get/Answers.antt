@@ -2,7 +2,8 @@ use Rattle.std.proofs.Common.{arith, ap, sym, ◌∙◌, length}
 use Rattle.shadow.specs.declared.mark.Mark.TheVariants.{On}
 use Rattle.shadow.specs.declared.place.Telling.TheVariants.{Cells}
 use Rattle.shadow.specs.Rows.{place_by}
-use Rattle.shadow.proofs.Keeping.{length_kept, attribute_read, known_read, told_read, unknown_read}
+use Rattle.datastream.proofs.Keeping.{length_kept}
+use Rattle.shadow.proofs.Keeping.{attribute_read, known_read, told_read, unknown_read}
 use Rattle.shadow.proofs.places.Places.get.Goals as goal
 
 pub returns-then-has-clause-place : goal.returns-then-has-clause-place

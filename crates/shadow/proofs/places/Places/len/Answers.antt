@@ -1,6 +1,6 @@
 use Rattle.std.proofs.Common.{ap, sym, ◌∙◌, length}
 use Rattle.shadow.specs.Rows.{place_by}
-use Rattle.shadow.proofs.Keeping.{length_kept}
+use Rattle.datastream.proofs.Keeping.{length_kept}
 use Rattle.shadow.proofs.places.Places.len.Goals as goal
 
 pub returns-clause-len : goal.returns-clause-len

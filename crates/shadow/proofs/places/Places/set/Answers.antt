@@ -2,7 +2,8 @@ use Rattle.std.proofs.Common.{arith, ap, ◌∙◌, set, List}
 use Rattle.std.proofs.lemmas.List.{length-set}
 use Rattle.shadow.specs.declared.place.Place.{Place}
 use Rattle.shadow.specs.Rows.{place_by}
-use Rattle.shadow.proofs.Keeping.{length_kept, put_kept, put_marked}
+use Rattle.datastream.proofs.Keeping.{length_kept}
+use Rattle.shadow.proofs.Keeping.{put_kept, put_marked}
 use Rattle.shadow.proofs.places.Places.set.Goals as goal
 
 pub returns-clause-places : goal.returns-clause-places

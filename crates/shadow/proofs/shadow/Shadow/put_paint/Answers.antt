@@ -24,7 +24,7 @@ returns-in-Ok c =
     let formatted = c.is_formatted-formatted.result in
     let reset = c.reset-reset.result in
     let wanted = c.args.wanted.now in
-    let wants = c.cells.result.now in
+    let wants = wanted.cells in
     let known : List Known = if formatted then marks_off_if reset (cells_known places) else known_nulls cell_count in
     let cursor = c.cursor.result in
     let first : List ℕ = write_bytes code (record { alarm = false; restore = true; reset = reset }) [] in
@@ -38,7 +38,6 @@ returns-in-Ok c =
     ap (λ (k : CommandCode). bytes k reset cursor wants known) (c.paint_code.ensures.code ∙ code_is shadow formatted c.is_formatted-formatted.ensures)
     ∙ ap (λ (r : Bool). bytes (paint_code shadow) r cursor wants known) c.reset-reset.ensures
     ∙ ap (λ (n : ℕ). bytes (paint_code shadow) wanted.reset n wants known) c.cursor.ensures.cursor
-    ∙ ap (λ (ws : List Want). bytes (paint_code shadow) wanted.reset wanted.cursor ws known) c.cells.ensures.cells
     ∙ ap (bytes (paint_code shadow) wanted.reset wanted.cursor wanted.cells) base) in
     ends c.args.writer.now.out c.begin.new.self.out c.put_cells.new.writer.out c.put_cells.result rest [] rest (paint_bytes cell_count shadow wanted) (sym (append-nil rest)) (λ _. refl)
     (begun c.args.writer.now.out c.begin.new.self.out first rest (paint_bytes cell_count shadow wanted) total (rw c.paint_code.ensures.write at c.in-Ok.ensures)) c.put_cells.ensures

@@ -1,6 +1,0 @@
-use Rattle.std.proofs.Common.{arith}
-use Rattle.shadow.proofs.Words.{ones_within}
-use Rattle.shadow.proofs.row.ones_between.Goals as goal
-
-pub returns : goal.returns
-returns c = ones_within c.args.from c.args.to c.ones_below.result c.ones_below-2.result (omega arith) c.ones_below.ensures c.ones_below-2.ensures

@@ -1,0 +1,33 @@
+-- For proofs alone: how a paint looks for the cells to store, 64 at a time (our profile).
+use Rattle.std.specs.Prelude.{◌≡◌, ◌<◌, ◌+◌, ◌*◌, ◌/◌, ℕ, false, List, [], ◌∷◌, ◌++◌, Option, Some, None, drop, slice_index_or}
+use Rattle.std.specs.Int.{bit_at}
+use Rattle.codes3270.specs.Size.{cell_count}
+use Rattle.datastream.specs.declared.wanted.Want.{Want}
+use Rattle.datastream.specs.declared.wanted.Want.TheVariants.{Keep}
+use Rattle.shadow.specs.declared.known.Known.{Known}
+use Rattle.shadow.specs.declared.known.Known.TheVariants.{Char as KnownChar}
+use Rattle.shadow.specs.declared.searching.ToStore.{ToStore}
+use Rattle.shadow.specs.declared.searching.Search.{Search}
+use Rattle.shadow.specs.Paint.{cell_to_store, to_store}
+use Rattle.shadow.specs.Stores.{Store}
+
+-- of 64 cells, a bit is set unless this holds of its cell
+abbrev pub SetUnless : (ℕ → Type 0) → ℕ → ℕ → Type 0
+SetUnless Holds word bits = (place : ℕ) → place < 64 → 64 * word + place < cell_count → bit_at bits place ≡ 0 → Holds (64 * word + place)
+
+-- what is stored from an address on
+abbrev pub stores_from : List Want → List Known → ℕ → List Store
+stores_from wants known at = to_store wants at (drop at wants) (drop at known)
+
+-- nothing is stored in a cell
+abbrev pub IsRight : List Want → List Known → ℕ → Type 0
+IsRight wants known cell = cell_to_store (drop (cell + 1) wants ++ wants) (slice_index_or wants cell Keep) (slice_index_or known cell (KnownChar None false)) ≡ None
+
+-- each cell of the search's word is looked at, unless it is right
+abbrev pub IsSearch : List Want → List Known → Search → Type 0
+IsSearch wants known search = SetUnless (IsRight wants known) (search.from / 64) search.look
+
+-- the cell that was found, and those behind it
+abbrev pub stored_first : Option ToStore → List Store → List Store
+stored_first None more = []
+stored_first (Some store) more = record { at = store.place; cell = store.cell } ∷ more
