@@ -342,7 +342,7 @@ impl Panel {
         wanted
     }
 
-    /// Puts that screen in place of another. A wanted screen takes some 10 KB; where it is put into one that is there, none is copied.
+    /// Puts that screen in place of another. Where it is put into one that is there, none is copied.
     pub fn put_wanted(&self, wanted: &mut Wanted, values: &Values, message: Message, keep: bool)
         requires { (message ≡ Fresh) → keep ≡ false }
         ensures wanted { IsWantedOf self.now values.now message keep wanted.new }

@@ -3,7 +3,7 @@ use super::prints;
 use super::texts::SIGN_ON;
 use crate::{Field, Message, Next, Panel, PanelFault, PanelSet, Values};
 use codes3270::{Aid, Attr, PaNo, PfNo};
-use datastream::Want;
+use datastream::{Want, Wants};
 use std::alloc::{AllocError, Global};
 use std::test::Fail;
 
@@ -35,14 +35,14 @@ fn is_kept(kept: &[Kept], position: usize) -> bool {
 }
 
 /// Whether a wanted screen keeps these cells, and has these items and nothing else elsewhere.
-fn keeps(cells: &[Want], kept: &[Kept], items: &[Item]) -> bool {
-    for (position, cell) in cells.iter().enumerate() {
+fn keeps(cells: Wants<'_>, kept: &[Kept], items: &[Item]) -> bool {
+    for (position, cell) in cells.enumerate() {
         let wanted = if is_kept(kept, position) {
             Want::Keep
         } else {
             cell_at(items, position)
         };
-        if *cell != wanted {
+        if cell != wanted {
             return false;
         }
     }
