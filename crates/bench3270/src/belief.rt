@@ -1,5 +1,4 @@
 //! What it costs a host to hear a terminal, and to paint its screen.
-ghost use Rattle.std.specs.Prelude.{All};
 ghost use Rattle.datastream.specs.Wanted.{IsProper};
 
 use crate::{Scale, apply};
@@ -12,8 +11,6 @@ use shadow::{Shadow, plain};
 use std::alloc::Global;
 use std::io;
 use std::time::{Duration, Instant};
-
-const CELL_COUNT: usize = CELLS as usize;
 
 /// How often a case is run to be measured.
 const ROUNDS: u32 = 5_000;
@@ -85,47 +82,36 @@ fn believed(bytes: &[u8]) -> Shadow {
     shadow
 }
 
-fn all_characters() -> [Want; CELL_COUNT]
-    ensures { All IsProper result }
+fn put(wanted: &mut Wanted, place: u16, want: Want)
+    requires { IsProper want }
 {
-    [Want::Char(0xC1); CELL_COUNT]
-}
-
-fn put(wants: &mut [Want; CELL_COUNT], place: u16, want: Want)
-    requires proper { All IsProper wants.old }
-    requires fits { IsProper want }
-    ensures { All IsProper wants.new }
-{
-    if (place as usize) < wants.len() {
-        wants[place as usize] = want;
+    if place < CELLS {
+        wanted.put(place as usize, want);
     }
 }
 
 /// Puts a cell of the layout, or another one.
-fn put_cell(wants: &mut [Want; CELL_COUNT], place: u16, is_attribute: bool, is_changed: bool)
-    requires { All IsProper wants.old }
-    ensures { All IsProper wants.new }
-{
+fn put_cell(wanted: &mut Wanted, place: u16, is_attribute: bool, is_changed: bool) {
     match (is_attribute, is_changed) {
-        (true, true) => put(wants, place, Want::Attr(attribute(Display::Bright))),
-        (true, false) => put(wants, place, Want::Attr(attribute(Display::Normal))),
-        (false, true) => put(wants, place, Want::Char(0xC2)),
+        (true, true) => put(wanted, place, Want::Attr(attribute(Display::Bright))),
+        (true, false) => put(wanted, place, Want::Attr(attribute(Display::Normal))),
+        (false, true) => put(wanted, place, Want::Char(0xC2)),
         (false, false) => {}
     }
 }
 
 /// The layout, of which the first cells are others.
 fn changed(layout: Layout, changed_cells: u16) -> Wanted {
-    let mut wants = all_characters();
+    let mut wanted = Wanted::filled(Want::Char(0xC1));
     let mut until_field = 0u16;
     for place in 0..CELLS {
-        put_cell(&mut wants, place, until_field == 0, place < changed_cells);
+        put_cell(&mut wanted, place, until_field == 0, place < changed_cells);
         if until_field == 0 {
             until_field = layout.every;
         }
         until_field = until_field.saturating_sub(1);
     }
-    Wanted::new(wants, Addr::first(), false)
+    wanted
 }
 
 /// Paints a layout of which some cells are to be others.

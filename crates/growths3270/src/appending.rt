@@ -1,6 +1,4 @@
 //! Calls that append to a vector: refused memory, they leave it as it was.
-ghost use Rattle.std.specs.Prelude.{All};
-ghost use Rattle.datastream.specs.Wanted.{IsProper};
 
 use crate::story::{FIELDS, MIXED, NOTE};
 use crate::trial::{Answer, Came, Trial, try_call};
@@ -32,9 +30,6 @@ pub enum Appends {
     Paint,
 }
 
-/// As many cells as a screen has.
-const SIZE: usize = codes3270::CELLS as usize;
-
 /// A vector without room, behind the bytes in it.
 #[derive(Drop)]
 struct Appending {
@@ -64,17 +59,11 @@ impl Appending {
     }
 }
 
-/// An `A` for each cell.
-fn all_characters() -> [Want; SIZE]
-    ensures { All IsProper result }
-{
-    [Want::Char(0xC1); SIZE]
-}
-
-/// Appends what it takes to make these of a screen of which nothing is known.
+/// Appends what it takes to have an `A` in each cell of a screen of which nothing is known.
 fn put_paint(out: &mut Vec<u8>, cursor: Addr) -> Result<(), AllocError> {
     let shadow = Shadow::blank();
-    let wanted = Wanted::new(all_characters(), cursor, false);
+    let mut wanted = Wanted::filled(Want::Char(0xC1));
+    wanted.aim(cursor, false);
     if shadow.fits(&wanted) {
         shadow.paint(out, &wanted)
     } else {

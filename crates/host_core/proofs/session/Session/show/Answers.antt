@@ -1,10 +1,22 @@
-use Rattle.std.proofs.Common.{◌≡◌, ◌++◌, ◌∷◌, [], ℕ, List, ap, refl, arith, ◌∙◌}
+use Rattle.std.proofs.Common.{◌≡◌, ◌++◌, ◌∷◌, [], ℕ, List, ap, refl, arith, ◌∙◌, length}
+use Rattle.std.specs.Vec.{vec_capacity}
 use Rattle.codes3270.specs.Size.{cell_count, cells_in}
 use Rattle.shadow.specs.Paint.{paint_bytes}
+use Rattle.telnet_wire.proofs.Lengths.{ok_with_room}
 use Rattle.telnet_wire.specs.Items.{Record, sent_bytes}
 use Rattle.host_core.proofs.Paintings.{paint_is_kept, shows}
 use Rattle.host_core.specs.Application.{application_of}
 use Rattle.host_core.proofs.session.Session.show.Goals as goal
+
+pub unwrap-requires : goal.unwrap-requires
+unwrap-requires c =
+    let bounded = c.what_is_wanted_is_painted.ensures.bounded cell_count c.self.inside.shadow c.put_fitting.new.wanted in
+    let size = c.put_fitting.ensures.screen.size in
+    let begun = ap (λ (bytes : List ℕ). length bytes) c.begin_record.ensures.begun in
+    let made = c.self.invariant.1 in
+    let kept = c.begin_record.ensures.capacity in
+    let len = c.begin_record.new.bytes.ok.0 in
+    ok_with_room c.paint.result (vec_capacity c.begin_record.new.bytes) _ c.paint.ensures.room (omega (arith, bounded, size, begun, made, kept, len))
 
 pub invariant_of-self : goal.invariant_of-self
 invariant_of-self c =
