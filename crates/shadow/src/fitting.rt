@@ -9,8 +9,8 @@ ghost use Rattle.shadow.specs.Painted.{keeps_ahead as keeps_before, count_ahead 
 use crate::asking::count_chars;
 use crate::buffer::same_attr;
 use crate::place::Place;
-use crate::places::{CELL_COUNT, Places};
-use codes3270::Attr;
+use crate::places::Places;
+use codes3270::{Attr, CELL_COUNT};
 use datastream::{Want, Wanted, Wants};
 
 /// Whether Keep stands before the first attribute.

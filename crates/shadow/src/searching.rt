@@ -8,8 +8,7 @@ ghost use Rattle.shadow.specs.Base.{known_base};
 ghost use Rattle.shadow.specs.Looks.{stored_first, stores_from, IsRight, IsSearch, SetUnless};
 
 use crate::painting::{Base, cell_to_store};
-use crate::places::CELL_COUNT;
-use codes3270::Cell;
+use codes3270::{CELL_COUNT, Cell};
 use datastream::Wanted;
 
 /// How many bits a word has.
