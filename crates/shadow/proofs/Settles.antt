@@ -1,13 +1,14 @@
 -- Attributes told anew, from one to the next.
-use Rattle.std.proofs.Common.{◌≡◌, ℕ, ◌+◌, List, [], ◌∷◌, ◌++◌, length, take, drop, refl, ap, sym, arith, ◌∙◌, append_assoc}
-use Rattle.std.proofs.Math.Seq.{take-add}
-use Rattle.std.proofs.lemmas.List.{length-drop}
+use Rattle.std.proofs.Common.{◌≡◌, ℕ, suc, ◌+◌, ◌-◌, ◌<◌, ◌≤◌, List, [], ◌∷◌, ◌++◌, length, map, replicate, take, drop, set, get_or, refl, ap, sym, arith, ◌∙◌, append_assoc, append-nil}
+use Rattle.std.proofs.Math.Seq.{take-add, set-append_seam}
+use Rattle.std.proofs.lemmas.List.{length-drop, length-map, length-take-le, map-append, replicate-append-replicate, take_more, take_all}
 use Rattle.shadow.specs.declared.known.Known.{Known as KnownCell}
 use Rattle.shadow.specs.declared.place.Place.{Place}
 use Rattle.shadow.specs.declared.place.Place.TheVariants.{Attr, Known, Told, Unknown}
 use Rattle.shadow.specs.declared.place.Past.{Past}
 use Rattle.shadow.specs.InPlace.{chars_known}
-use Rattle.shadow.specs.Since.{settled}
+use Rattle.shadow.specs.Since.{never, settled}
+use Rattle.shadow.proofs.Changes.{past_kept}
 use Rattle.shadow.proofs.Stretches.{drop_drop}
 
 -- characters stay
@@ -31,3 +32,45 @@ settled_passed whole before ps qs from to even is =
     ∙ ap (λ (rs : List Place). take (from + k) ps ++ settled whole before rs (drop k (drop from qs))) (drop_drop from k ps)
     ∙ ap (λ (rs : List Past). take (from + k) ps ++ settled whole before (drop (from + k) ps) rs) (drop_drop from k qs)
     ∙ ap (λ (n : ℕ). take n ps ++ settled whole before (drop n ps) (drop n qs)) (sym is)
+
+-- ---- what is kept of the places before one, and nothing yet of those behind
+
+abbrev pub kept_to : ℕ → List Place → ℕ → List Past
+kept_to n ps at = map past_kept (take at ps) ++ replicate (n - at) never
+
+chars_never : (ps : List Place) → map past_kept (take (length (chars_known ps)) ps) ≡ replicate (length (chars_known ps)) never
+chars_never [] = refl
+chars_never (Attr a m t ∷ ps) = refl
+chars_never (Known c ∷ ps) = ap (λ (qs : List Past). never ∷ qs) (chars_never ps)
+chars_never (Told c ∷ ps) = ap (λ (qs : List Past). never ∷ qs) (chars_never ps)
+chars_never (Unknown ∷ ps) = ap (λ (qs : List Past). never ∷ qs) (chars_never ps)
+
+pub kept_passed : (n : ℕ) (ps : List Place) (from to : ℕ) → to ≡ from + length (chars_known (drop from ps)) → to ≤ n → kept_to n ps from ≡ kept_to n ps to
+kept_passed n ps from to is few =
+    let k : ℕ = length (chars_known (drop from ps)) in
+    let front : List Past = map past_kept (take from ps) in
+    let rest : List Past = replicate (n - to) never in
+    let left : n - from ≡ k + (n - to) = omega arith in
+    ap (λ (m : ℕ). front ++ replicate m never) left
+    ∙ ap (λ (qs : List Past). front ++ qs) (sym (replicate-append-replicate k (n - to) never) ∙ ap (λ (qs : List Past). qs ++ rest) (sym (chars_never (drop from ps))))
+    ∙ sym (append_assoc front (map past_kept (take k (drop from ps))) rest)
+    ∙ ap (λ (qs : List Past). qs ++ rest) (sym (map-append past_kept (take from ps) (take k (drop from ps))) ∙ ap (map past_kept) (sym (take-add from k ps) ∙ ap (λ (m : ℕ). take m ps) (sym is)))
+
+pub kept_put : (n : ℕ) (ps : List Place) (at : ℕ) (p : Place) (q : Past) → length ps ≡ n → at < n → p ≡ get_or ps at p → q ≡ past_kept p → set (kept_to n ps at) at q ≡ kept_to n ps (at + 1)
+kept_put n ps at p q size low is_p is_q =
+    let front : List Past = map past_kept (take at ps) in
+    let rest : List Past = replicate (n - (at + 1)) never in
+    let left : n - at ≡ suc (n - (at + 1)) = omega arith in
+    let there : at ≡ length front = omega (arith, length-map (take at ps) past_kept, length-take-le at ps (omega arith)) in
+    ap (λ (m : ℕ). set (front ++ replicate m never) at q) left
+    ∙ ap (λ (i : ℕ). set (front ++ never ∷ rest) i q) there
+    ∙ set-append_seam front never rest q
+    ∙ sym (append_assoc front (q ∷ []) rest)
+    ∙ ap (λ (qs : List Past). qs ++ rest)
+    (ap (λ (r : Past). front ++ r ∷ []) (is_q ∙ ap past_kept is_p)
+    ∙ sym (map-append past_kept (take at ps) (get_or ps at p ∷ [])) ∙ ap (map past_kept) (sym (take_more ps at p (omega arith))))
+
+pub kept_whole : (n : ℕ) (ps : List Place) (at : ℕ) → length ps ≡ n → n ≤ at → kept_to n ps at ≡ map past_kept ps
+kept_whole n ps at size over =
+    let none : n - at ≡ 0 = omega arith in
+    ap (λ (m : ℕ). map past_kept (take at ps) ++ replicate m never) none ∙ append-nil (map past_kept (take at ps)) ∙ ap (map past_kept) (take_all at ps (omega arith))

@@ -22,6 +22,9 @@ pub(crate) enum Filling<'a> {
     Told,
 }
 
+/// Texts of fields shorter than this are put one by one, which is then faster.
+const SHORT: usize = 8;
+
 /// What becomes of a field.
 #[derive(Clone, Copy)]
 pub(crate) struct Change<'a> {
@@ -143,6 +146,7 @@ pub(crate) fn fill_from(places: &mut Places, from: usize, filling: Filling<'_>)
         Filling::Same => {}
         Filling::Unknown => places.forget(from, to),
         Filling::Null => places.hold_nulls(from, to),
+        Filling::Text(_) if to - from < SHORT => fill_each(places, from, filling),
         Filling::Text(text) => places.tell(from, to, text),
         Filling::Told => fill_each(places, from, filling),
     }

@@ -59,8 +59,10 @@ fn pasts_of(places: &Places) -> [Past; CELL_COUNT]
         telling: None,
         fresh: false,
     }; CELL_COUNT];
-    for place in 0..places.len() {
+    let mut place = places.attribute_from(0);
+    while place < CELL_COUNT {
         pasts[place] = past_of(places.get(place));
+        place = places.attribute_from(place + 1);
     }
     pasts
 }
