@@ -8,7 +8,9 @@ mod laying;
 mod painting;
 mod reads;
 mod screen;
+mod wanted;
 
 pub use belief::{FormerShadow, known_in};
 pub use fields::Known;
 pub use screen::FormerScreen;
+pub use wanted::FormerWanted;

@@ -1,5 +1,5 @@
 //! Whether former and present answer the same.
-use crate::former::{FormerScreen, FormerShadow, Known, known_in};
+use crate::former::{FormerScreen, FormerShadow, FormerWanted, Known, known_in};
 use crate::wanting::{WANTINGS, wanted_of};
 use codes3270::{Addr, CELLS};
 use datastream::{Memory, Wanted};
@@ -86,12 +86,13 @@ fn paints_alike(
     answers: &mut Answers,
 ) -> Alike {
     answers.clear();
-    let former_fits = former.fits(wanted);
+    let former_wanted = FormerWanted::new(wanted);
+    let former_fits = former.fits(&former_wanted);
     if !shadow.fits(wanted) {
         return alike_at(!former_fits, "fits", 0);
     }
     alike_at(former_fits, "fits", 0)?;
-    let former_put = former.paint(&mut answers.former, wanted);
+    let former_put = former.paint(&mut answers.former, &former_wanted);
     let put = shadow.paint(&mut answers.present, wanted);
     answers.alike(former_put, put, "paint")
 }

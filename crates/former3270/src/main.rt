@@ -2,9 +2,10 @@
 //! searched for attributes. Standard input is a script of cases (`stdin` is the repository's own). After each line of a case both have to answer the
 //! same: what is known of each cell, each fact and its text, the writes that paint wanted screens; each cell, what is printed of it, the
 //! fields, the field of each cell, and what reads answer. For each case a line says so, or what is otherwise first. The exit status is 1 if
-//! something was.
+//! something was. With a word on the command line it prints what both take, in nanoseconds, and reads nothing.
 #![tactic(auto)]
 
+mod figures;
 mod former;
 mod likeness;
 mod script;
@@ -14,6 +15,7 @@ mod wanting;
 use likeness::Difference;
 use script::{put_bytes, step_of};
 use std::alloc::Global;
+use std::env;
 use std::io::{self, ErrorKind};
 use subjects::{Subjects, Tally};
 
@@ -88,6 +90,9 @@ fn hold_all(
 }
 
 fn main(rt: HostRuntime) -> io::Result<()> {
+    if env::args(&rt)?.count() > 1 {
+        return figures::figures(&rt);
+    }
     let text = io::read_to_string(rt.alloc(), rt.reader())?;
     let mut subjects = Subjects::new(rt.alloc());
     if hold_all(&rt, text.as_str(), &mut subjects)? {

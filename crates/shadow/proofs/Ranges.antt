@@ -12,7 +12,7 @@ use Rattle.shadow.specs.Filled.{Fill, filled, first_told, fill_next, fill_after,
 use Rattle.shadow.specs.InPlace.{is_attribute, chars_known}
 use Rattle.datastream.specs.Rows.{has_bit, is_within, kept}
 use Rattle.shadow.specs.Rows.{no_head, is_known, place_kept, place_by, MarksKnown}
-use Rattle.shadow.proofs.Keeping.{kept_at, length_kept}
+use Rattle.datastream.proofs.Keeping.{kept_at, length_kept}
 use Rattle.shadow.proofs.Passing.{fills}
 use Rattle.shadow.proofs.Stretches.{attribute_bit, drop_drop}
 use Rattle.shadow.proofs.Walks.{fill_here, fill_further, front_parts}

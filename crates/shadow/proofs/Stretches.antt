@@ -8,7 +8,7 @@ use Rattle.shadow.specs.declared.places.Head.{Head}
 use Rattle.shadow.specs.InPlace.{is_attribute, chars_known, beliefs_held}
 use Rattle.datastream.specs.Rows.{has_bit, kept}
 use Rattle.shadow.specs.Rows.{no_head, place_kept, place_by}
-use Rattle.shadow.proofs.Keeping.{kept_at, length_kept}
+use Rattle.datastream.proofs.Keeping.{kept_at, length_kept}
 
 -- ---- where the first attribute stands
 

@@ -1,12 +1,13 @@
 //! What was believed of a screen.
-use crate::former::fields::{CELL_COUNT, Fields, Known};
+use crate::former::fields::{Fields, Known};
 use crate::former::hearing::{after_attention, any_other, heard_fields};
 use crate::former::laying::{Cells, Chars, fields_of, laid_out, push_chars};
 use crate::former::painting::{fits_fields, put_cells};
+use crate::former::wanted::FormerWanted;
 use arrayvec::ArrayVec;
-use codes3270::{Addr, Aid, Cell, Wcc};
+use codes3270::{Addr, Aid, CELL_COUNT, Cell, Wcc};
 use datastream::{
-    Command, CommandCode, CommandWriter, Form, Inbound, Memory, Order, Orders, Wanted,
+    Command, CommandCode, CommandWriter, Form, Inbound, Memory, Order, Orders,
 };
 use shadow::{Fact, HeardFault, Mark};
 
@@ -208,14 +209,14 @@ impl FormerShadow {
         }
     }
 
-    pub fn fits(&self, wanted: &Wanted) -> bool {
+    pub fn fits(&self, wanted: &FormerWanted) -> bool {
         match self {
-            FormerShadow::Formatted(fields) => fits_fields(fields, wanted.cells()),
-            _ => fits_fields(&Fields::new(), wanted.cells()),
+            FormerShadow::Formatted(fields) => fits_fields(fields, &wanted.cells),
+            _ => fits_fields(&Fields::new(), &wanted.cells),
         }
     }
 
-    pub fn paint(&self, out: &mut Vec<u8>, wanted: &Wanted) -> Result<(), Memory> {
+    pub fn paint(&self, out: &mut Vec<u8>, wanted: &FormerWanted) -> Result<(), Memory> {
         let (code, mut cells) = match self {
             FormerShadow::Formatted(fields) => (CommandCode::Write, laid_out(fields)),
             _ => (
@@ -223,13 +224,13 @@ impl FormerShadow {
                 unformatted(nulls_known().as_slice()),
             ),
         };
-        if wanted.reset() {
+        if wanted.reset {
             marks_off(cells.as_mut_slice());
         }
         let wcc = Wcc {
             alarm: false,
             restore: true,
-            reset: wanted.reset(),
+            reset: wanted.reset,
         };
         CommandWriter::new(out).begin(code, wcc)?;
         put_cells(out, wanted, cells.as_slice())

@@ -1,9 +1,7 @@
 //! The list of fields that a belief was, in fixed space.
 use arrayvec::ArrayVec;
-use codes3270::{Attr, CELLS, Display};
+use codes3270::{Attr, CELL_COUNT, Display};
 use shadow::{Fact, Mark};
-
-pub const CELL_COUNT: usize = CELLS as usize;
 
 /// What is known of a cell.
 #[derive(Clone, Copy)]

@@ -1,7 +1,7 @@
 //! The fields of a belief after what a terminal sent.
-use crate::former::fields::{CELL_COUNT, Fields, Head, Lent};
+use crate::former::fields::{Fields, Head, Lent};
 use arrayvec::ArrayVec;
-use codes3270::attr_code;
+use codes3270::{CELL_COUNT, attr_code};
 use datastream::{Inbound, ReturnedFields};
 use shadow::{Fact, HeardFault, Mark};
 

@@ -1,5 +1,6 @@
 //! The cells that fields are laid out to, and the fields that cells make.
-use crate::former::fields::{CELL_COUNT, Fields, Head, Known, Lent};
+use crate::former::fields::{Fields, Head, Known, Lent};
+use codes3270::CELL_COUNT;
 use arrayvec::ArrayVec;
 use shadow::Fact;
 

@@ -1,8 +1,9 @@
 //! The bytes of a paint, and whether what is to be kept is believed to be there.
 use crate::former::cells::next_of;
 use crate::former::fields::{Fields, Known};
+use crate::former::wanted::FormerWanted;
 use codes3270::{Addr, Attr, CELLS, Cell, attr_code, storable};
-use datastream::{CommandWriter, Memory, Want, Wanted};
+use datastream::{CommandWriter, Memory, Want};
 use shadow::Mark;
 
 fn is_attribute(want: &Want) -> bool {
@@ -97,12 +98,16 @@ fn put_store(out: &mut Vec<u8>, at: Option<u16>, place: u16, cell: Cell) -> Resu
 }
 
 /// Puts the cells that aren't known to be right, and then the cursor.
-pub fn put_cells(out: &mut Vec<u8>, wanted: &Wanted, known: &[Known]) -> Result<(), Memory> {
-    let wants = wanted.cells();
+pub fn put_cells(
+    out: &mut Vec<u8>,
+    wanted: &FormerWanted,
+    known: &[Known],
+) -> Result<(), Memory> {
+    let wants = wanted.cells.as_slice();
     let mut at = None;
     for place in 0..CELLS {
         let index = usize::from(place);
-        let want = wanted.want(Addr::first().forward(place));
+        let want = wants.get(index).copied().unwrap_or(Want::Keep);
         let known = known.get(index).copied().unwrap_or_default();
         let behind = wants.get(index.saturating_add(1)..).unwrap_or(&[]);
         if let Some(cell) = cell_to_store(want, known, behind, wants) {
@@ -111,6 +116,6 @@ pub fn put_cells(out: &mut Vec<u8>, wanted: &Wanted, known: &[Known]) -> Result<
         }
     }
     let mut writer = CommandWriter::new(out);
-    writer.sba(wanted.cursor())?;
+    writer.sba(wanted.cursor)?;
     writer.ic()
 }

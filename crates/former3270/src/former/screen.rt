@@ -4,8 +4,7 @@ use crate::former::cells::{
     distance_to, erase_unprotected_in, field_length, fill, home_of, is_character, is_open, next_of,
     put,
 };
-use crate::former::fields::CELL_COUNT;
-use codes3270::{Aid, CELLS, Cell, Display, Wcc, to_latin1};
+use codes3270::{Aid, CELL_COUNT, CELLS, Cell, Display, Wcc, to_latin1};
 use datastream::{Command, CommandCode, Order, Orders};
 use presentation::Applied;
 

@@ -1,7 +1,7 @@
 use Rattle.std.proofs.Common.{ap, sym, ◌∙◌, length}
 use Rattle.codes3270.specs.Size.{cell_count}
 use Rattle.shadow.specs.Rows.{place_by}
-use Rattle.shadow.proofs.Keeping.{length_kept}
+use Rattle.datastream.proofs.Keeping.{length_kept}
 use Rattle.shadow.proofs.Stretches.{first_attribute}
 use Rattle.shadow.proofs.places.Places.attribute_from.Goals as goal
 
