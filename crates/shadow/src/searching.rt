@@ -1,5 +1,5 @@
 //! The search for the cells that a paint stores, 64 at a time.
-ghost use Rattle.std.specs.Prelude.{◌≡◌, ◌<◌, ◌≤◌, ◌+◌, ◌*◌, ◌/◌, ◌%◌, ℕ, IfSome, false, length, slice_index_or};
+ghost use Rattle.std.specs.Prelude.{◌≡◌, ◌<◌, ◌≤◌, ◌+◌, ◌*◌, ◌/◌, ◌%◌, ℕ, IfSome, true, false, length, slice_index_or};
 ghost use Rattle.std.specs.Int.{bit_at};
 ghost use Rattle.codes3270.specs.Size.{cell_count};
 ghost use Rattle.datastream.specs.Rows.{word_count};
@@ -51,6 +51,42 @@ fn differ(one: &[u8], other: &[u8], cell: usize) -> bool
     cell < CELL_COUNT && one[cell] != other[cell]
 }
 
+/// The bytes of eight cells, or as many as are left.
+fn eight(bytes: &[u8], cell: usize) -> &[u8]
+    requires inside { cell ≤ cell_count }
+    requires whole { length bytes.now ≡ cell_count }
+    ensures { (place : ℕ) → place < 8 → cell + place < cell_count → slice_index_or result.now place 0 ≡ slice_index_or bytes.now (cell + place) 0 }
+{
+    let end = (cell + 8).min(CELL_COUNT);
+    &bytes[cell..end]
+}
+
+fn are_same(one: &[u8], other: &[u8]) -> bool
+    ensures { result ≡ true → one.now ≡ other.now }
+{
+    one == other
+}
+
+/// The bits, with one set for each of eight cells of a word whose bytes differ.
+fn marked_eight(one: &[u8], other: &[u8], word: usize, first: usize, bits: u64) -> u64
+    requires word { word < word_count }
+    requires first { first + 8 ≤ 64 }
+    requires one { length one.now ≡ cell_count }
+    requires other { length other.now ≡ cell_count }
+    ensures here { (place : ℕ) → first ≤ place → place < first + 8 → 64 * word + place < cell_count → bit_at result place ≡ 0 → slice_index_or one.now (64 * word + place) 0 ≡ slice_index_or other.now (64 * word + place) 0 }
+    ensures others { (place : ℕ) → bit_at result place ≡ 0 → bit_at bits place ≡ 0 }
+{
+    let cell = (BITS * word + first).min(CELL_COUNT);
+    if are_same(eight(one, cell), eight(other, cell)) {
+        return bits;
+    }
+    let mut marks = bits;
+    for place in first..first + 8 {
+        marks = marked(marks, place, differ(one, other, BITS * word + place));
+    }
+    marks
+}
+
 /// A bit for each cell of a word, set where the bytes differ.
 fn bits_differing(one: &[u8], other: &[u8], word: usize) -> u64
     requires word { word < word_count }
@@ -59,8 +95,8 @@ fn bits_differing(one: &[u8], other: &[u8], word: usize) -> u64
     ensures { SetUnless (λ cell. slice_index_or one.now cell 0 ≡ slice_index_or other.now cell 0) word result }
 {
     let mut bits = 0;
-    for place in 0..BITS {
-        bits = marked(bits, place, differ(one, other, BITS * word + place));
+    for group in 0..BITS / 8 {
+        bits = marked_eight(one, other, word, 8 * group, bits);
     }
     bits
 }

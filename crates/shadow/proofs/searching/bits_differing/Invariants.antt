@@ -3,5 +3,5 @@ use Rattle.std.specs.Int.{bit_at}
 use Rattle.codes3270.specs.Size.{cell_count}
 use Rattle.shadow.proofs.searching.bits_differing.Given as goal
 
-abbrev pub invariant-loop-place : goal.invariant-loop-place
-invariant-loop-place l = (place : ℕ) → place < l.place → 64 * l.word + place < cell_count → bit_at l.bits place ≡ 0 → get_or l.one (64 * l.word + place) 0 ≡ get_or l.other (64 * l.word + place) 0
+abbrev pub invariant-loop-group : goal.invariant-loop-group
+invariant-loop-group l = (place : ℕ) → place < 8 * l.group → 64 * l.word + place < cell_count → bit_at l.bits place ≡ 0 → get_or l.one (64 * l.word + place) 0 ≡ get_or l.other (64 * l.word + place) 0
