@@ -5,7 +5,9 @@ use Rattle.datastream.specs.Screen.{Screen, blank_screen}
 use Rattle.datastream.specs.Grammar.{CommandParts, IsCommand, IsNoCommand}
 use Rattle.datastream.specs.Meaning.{after_command}
 use Rattle.datastream.specs.declared.fault.CommandFault.{CommandFault}
-use Rattle.datastream.specs.declared.fault.CommandFault.TheVariants.{BadCommand, BadOrder, BadAddress, Truncated}
+use Rattle.datastream.specs.declared.fault.Sense.{Sense}
+use Rattle.datastream.specs.declared.fault.Sense.TheVariants.{CommandReject, OperationCheck}
+use Rattle.datastream.specs.Senses.{sense_of}
 use Rattle.panel3270.specs.HexLines.{lines_of, bytes_of_line}
 use Rattle.term_core.specs.ScreenText.{newline}
 use Rattle.panel3270.specs.ScreenText.{screen_text}
@@ -14,15 +16,13 @@ use Rattle.panel3270.specs.ScreenText.{screen_text}
 unfoldable pub first_screen : Screen
 first_screen = blank_screen cell_count
 
--- the negative response to a command with a fault (RFC 1647, section 10.4)
-abbrev pub response_to : CommandFault → List ℕ
-response_to BadCommand = codes "COMMAND-REJECT"
-response_to BadOrder = codes "OPERATION-CHECK"
-response_to BadAddress = codes "OPERATION-CHECK"
-response_to Truncated = codes "OPERATION-CHECK"
+-- what a negative response says (RFC 1647, section 10.4)
+abbrev pub sense_text : Sense → List ℕ
+sense_text CommandReject = codes "COMMAND-REJECT"
+sense_text OperationCheck = codes "OPERATION-CHECK"
 
 abbrev pub refusal_line : CommandFault → List ℕ
-refusal_line fault = codes "refused " ++ response_to fault ++ newline ∷ []
+refusal_line fault = codes "refused " ++ sense_text (sense_of fault) ++ newline ∷ []
 
 -- The bytes of a line are taken, and so much is said: the command that they spell is applied, and one with a fault is
 -- refused and changes nothing.

@@ -1,10 +1,10 @@
 //! What is printed of commands that come in lines of hexadecimal.
 ghost use Rattle.std.specs.Prelude.{◌≡◌, ◌++◌, ℕ, List, Option, IfOk, OnOk, string_bytes};
-ghost use Rattle.panel3270.specs.Pages.{first_screen, response_to, TakesCommand, IsPage};
+ghost use Rattle.panel3270.specs.Pages.{first_screen, sense_text, TakesCommand, IsPage};
 
 use crate::hex_line::bytes_of_line;
 use crate::screen_text::put_screen;
-use datastream::{CommandFault, read_command};
+use datastream::{Sense, read_command};
 use presentation::Screen;
 use std::alloc::{AllocError, Global};
 
@@ -24,15 +24,13 @@ fn first_screen() -> Screen
     Screen::blank()
 }
 
-/// The negative response that a terminal gives to a command with a fault (RFC 1647, section 10.4).
-fn response_to(fault: CommandFault) -> &'static str
-    ensures { result.now ≡ response_to fault }
+/// What a negative response says (RFC 1647, section 10.4).
+fn sense_text(sense: Sense) -> &'static str
+    ensures { result.now ≡ sense_text sense }
 {
-    match fault {
-        CommandFault::BadCommand => "COMMAND-REJECT",
-        CommandFault::BadOrder | CommandFault::BadAddress | CommandFault::Truncated => {
-            "OPERATION-CHECK"
-        }
+    match sense {
+        Sense::CommandReject => "COMMAND-REJECT",
+        Sense::OperationCheck => "OPERATION-CHECK",
     }
 }
 
@@ -47,7 +45,7 @@ fn take_command(screen: &mut Screen, bytes: &[u8], text: &mut String) -> Result<
             Ok(())
         }
         Err(fault) => {
-            let response = response_to(fault);
+            let response = sense_text(fault.sense());
             write!(text, "refused {response}\n")
         }
     }
