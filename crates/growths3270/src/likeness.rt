@@ -2,7 +2,7 @@
 ghost use Rattle.std.specs.Prelude.{◌<◌};
 ghost use Rattle.host_core.specs.State.{most_connections};
 
-use codes3270::{Addr, CELLS};
+use codes3270::{Addr, CELL_COUNT};
 use host_core::Host;
 use presentation::Screen;
 use shadow::Shadow;
@@ -10,7 +10,7 @@ use term_core::Terminal;
 
 /// Whether the characters that are believed of a field are the same.
 fn believe_same_text(one: &Shadow, other: &Shadow, at: Addr) -> bool {
-    for index in 0..usize::from(CELLS) {
+    for index in 0..CELL_COUNT {
         let value = one.value(at, index);
         if value != other.value(at, index) {
             return false;
@@ -30,9 +30,7 @@ fn believe_same_at(one: &Shadow, other: &Shadow, at: Addr) -> bool {
 }
 
 fn believe_same(one: &Shadow, other: &Shadow) -> bool {
-    (0..CELLS)
-        .filter_map(Addr::new)
-        .all(|at| believe_same_at(one, other, at))
+    Addr::all().all(|at| believe_same_at(one, other, at))
 }
 
 /// Whether a connection looks the same at two hosts.
@@ -49,9 +47,7 @@ pub fn hosts_look_same(one: &Host, other: &Host, conn: usize) -> bool
 fn screens_look_same(one: &Screen, other: &Screen) -> bool {
     one.cursor().get() == other.cursor().get()
         && one.aid() == other.aid()
-        && (0..CELLS)
-            .filter_map(Addr::new)
-            .all(|at| one.cell(at) == other.cell(at))
+        && Addr::all().all(|at| one.cell(at) == other.cell(at))
 }
 
 /// Whether two terminals look the same.

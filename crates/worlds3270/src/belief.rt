@@ -7,24 +7,15 @@ use shadow::{Fact, Shadow};
 /// fields, and what is known of each cell.
 pub fn is_believed(shadow: &Shadow, screen: &Screen) -> bool {
     if has_fields(shadow) {
-        (0..CELLS)
-            .filter_map(Addr::new)
-            .all(|at| is_field_there(shadow, screen, at))
+        Addr::all().all(|at| is_field_there(shadow, screen, at))
     } else {
-        (0..CELLS).filter_map(Addr::new).all(|at| is_there(shadow, screen, at)
-            && is_character(screen, at))
+        Addr::all().all(|at| is_there(shadow, screen, at) && screen.cell(at).is_character())
     }
 }
 
 /// Whether the host believes in a field.
 fn has_fields(shadow: &Shadow) -> bool {
-    (0..CELLS)
-        .filter_map(Addr::new)
-        .any(|at| shadow.fact(at).is_some())
-}
-
-fn is_character(screen: &Screen, at: Addr) -> bool {
-    matches!(screen.cell(at), Cell::Char(_))
+    Addr::all().any(|at| shadow.fact(at).is_some())
 }
 
 /// Whether what is known of a cell, if something is, is there. MDT may differ.
@@ -46,8 +37,8 @@ fn unmarked(cell: Cell) -> Cell {
 /// Whether a field is at an address exactly where one is believed to be, with its attribute and its text.
 fn is_field_there(shadow: &Shadow, screen: &Screen, at: Addr) -> bool {
     match shadow.fact(at) {
-        None => is_character(screen, at),
-        Some(fact) => !is_character(screen, at)
+        None => screen.cell(at).is_character(),
+        Some(fact) => !screen.cell(at).is_character()
             && is_there(shadow, screen, at)
             && has_text(shadow, screen, at, fact),
     }
@@ -131,7 +122,7 @@ fn are_known_there(shadow: &Shadow, screen: &Screen, at: Addr) -> bool {
         let Some(place) = address(at, index) else {
             return false;
         };
-        if !is_character(screen, place) {
+        if !screen.cell(place).is_character() {
             return true;
         }
         if !is_there(shadow, screen, place) {

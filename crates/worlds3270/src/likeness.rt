@@ -1,6 +1,6 @@
 //! Whether two worlds look the same.
 use crate::town::{TERMINALS, Town};
-use codes3270::{Addr, CELLS};
+use codes3270::Addr;
 use host_core::MOST_CONNECTIONS;
 use presentation::Screen;
 use term_core::Terminal;
@@ -9,9 +9,7 @@ use term_core::Terminal;
 fn screens_are_same(one: &Screen, other: &Screen) -> bool {
     one.cursor().get() == other.cursor().get()
         && one.aid() == other.aid()
-        && (0..CELLS)
-            .filter_map(Addr::new)
-            .all(|at| one.cell(at) == other.cell(at))
+        && Addr::all().all(|at| one.cell(at) == other.cell(at))
 }
 
 /// Whether two terminals have the same screen and lock, and are as far with their hosts.

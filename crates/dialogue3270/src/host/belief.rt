@@ -1,5 +1,5 @@
 //! What is believed of a screen, in words and in bytes.
-use codes3270::{Addr, CELLS, Cell, attr_code};
+use codes3270::{Addr, CELL_COUNT, Cell, attr_code};
 use shadow::{Fact, Shadow};
 use std::alloc::AllocError;
 
@@ -16,13 +16,12 @@ pub fn belief_word(shadow: &Shadow) -> &'static str {
 
 /// No cell is known, and no field.
 fn knows_nothing(shadow: &Shadow) -> bool {
-    (0..CELLS).filter_map(Addr::new).all(|at| shadow.known(at).is_none()
-        && shadow.fact(at).is_none())
+    Addr::all().all(|at| shadow.known(at).is_none() && shadow.fact(at).is_none())
 }
 
 /// Each cell is known to be null, and no field is.
 fn knows_nulls(shadow: &Shadow) -> bool {
-    (0..CELLS).filter_map(Addr::new).all(|at| matches!(shadow.known(at), Some(Cell::Char(0)))
+    Addr::all().all(|at| matches!(shadow.known(at), Some(Cell::Char(0)))
         && shadow.fact(at).is_none())
 }
 
@@ -40,7 +39,7 @@ pub fn fact_word(shadow: &Shadow, at: Addr) -> &'static str {
 
 /// Appends the characters that this fact speaks of.
 pub fn put_text(bytes: &mut Vec<u8>, shadow: &Shadow, at: Addr) -> Result<(), AllocError> {
-    for index in 0..usize::from(CELLS) {
+    for index in 0..CELL_COUNT {
         match shadow.value(at, index) {
             Some(byte) => bytes.push(byte)?,
             None => return Ok(()),
@@ -51,10 +50,8 @@ pub fn put_text(bytes: &mut Vec<u8>, shadow: &Shadow, at: Addr) -> Result<(), Al
 
 /// Appends what is believed of each field: its attribute's address and code, the fact, and the characters.
 pub fn put_fields(bytes: &mut Vec<u8>, shadow: &Shadow) -> Result<(), AllocError> {
-    for number in 0..CELLS {
-        if let Some(at) = Addr::new(number) {
-            put_field(bytes, shadow, at)?;
-        }
+    for at in Addr::all() {
+        put_field(bytes, shadow, at)?;
     }
     Ok(())
 }
