@@ -62,8 +62,9 @@ fn made<T: Drop>(made: Result<T, AllocError>) -> Answer {
 
 /// Whether two panels want the same screen.
 fn want_same(one: &Panel, other: &Panel, values: &Values) -> bool {
-    one.wanted(values, Message::Fresh, false).cells()
-        == other.wanted(values, Message::Fresh, false).cells()
+    let one = one.wanted(values, Message::Fresh, false);
+    let other = other.wanted(values, Message::Fresh, false);
+    one.cells().eq(other.cells())
 }
 
 /// Whether the panels with a number are the same.
