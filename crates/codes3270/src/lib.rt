@@ -14,8 +14,6 @@ mod laws;
 mod six_bit;
 mod size;
 mod storable_codes;
-#[cfg(test)]
-mod tests;
 mod write_control;
 
 pub use address::{Addr, AddrFault, Addrs, addr_from_bytes, addr_to_bytes};

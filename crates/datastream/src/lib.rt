@@ -32,15 +32,11 @@ mod inbound_fields;
 mod inbound_laws;
 mod inbound_part;
 mod inbound_reader;
-#[cfg(test)]
-mod inbound_tests;
 mod laws;
 mod order;
 mod order_codes;
 mod orders;
 mod row;
-#[cfg(test)]
-mod tests;
 mod wanted;
 mod writer;
 

@@ -16,8 +16,6 @@ mod key;
 mod keyboard;
 mod laws;
 mod places;
-#[cfg(test)]
-mod tests;
 
 pub use codes3270::{PaNo, PfNo};
 pub use key::{Key, Lock, Pressed, Refusal};

@@ -48,6 +48,3 @@ pub fn holders_stay_below()
     ensures back { BelowWhenBack }
     ensures all_back { AllBackIsAllFree }
 {}
-
-#[cfg(test)]
-mod tests;

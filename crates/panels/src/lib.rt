@@ -50,8 +50,6 @@ mod rules;
 mod screen;
 mod size;
 mod survey;
-#[cfg(test)]
-mod tests;
 mod tree;
 mod values;
 

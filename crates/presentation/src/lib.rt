@@ -20,8 +20,6 @@ mod index;
 mod packed_cell;
 mod read;
 mod screen;
-#[cfg(test)]
-mod tests;
 mod write;
 
 pub use fields::{Field, Fields};

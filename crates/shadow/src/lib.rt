@@ -52,8 +52,3 @@ pub use laws::{
 pub use mark::Mark;
 pub use shadow::Shadow;
 pub use writing::plain;
-
-#[cfg(test)]
-mod paint_tests;
-#[cfg(test)]
-mod tests;

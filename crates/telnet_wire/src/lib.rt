@@ -57,6 +57,3 @@ pub fn one_reading()
     ensures item { ItemIsRead }
     ensures written { ItemsAreRead }
 {}
-
-#[cfg(test)]
-mod tests;

@@ -35,8 +35,6 @@ mod room;
 mod screen_text;
 mod station;
 mod terminal;
-#[cfg(test)]
-mod tests;
 
 pub use keyboard::{Key, Lock, Pressed, Refusal};
 pub use laws::one_machine;

@@ -73,8 +73,3 @@ pub fn one_reading()
     ensures hearing { OneHearing }
     ensures name { NameIsReadAsItself }
 {}
-
-#[cfg(test)]
-mod talk_tests;
-#[cfg(test)]
-mod tests;

@@ -1,5 +1,5 @@
 //! The talks, item by item, with the bytes that each end sends.
-use super::*;
+use tn3270e_msg::{After, Cause, Device, HostTalk, Lu, Reason, Reply, Sending, TermState, TermTalk, put_sub_message, talks_agree};
 use std::alloc::Global;
 use std::test::Fail;
 use telnet_wire::{Item, Memory, Verb, put_option};

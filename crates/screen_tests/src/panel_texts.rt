@@ -6,7 +6,7 @@ mod many;
 mod screens;
 mod texts;
 
-use crate::{At, PanelFault, PanelSet, TreeFault, Values};
+use panels::{At, PanelFault, PanelSet, TreeFault, Values};
 use faults::FAULTS;
 use first_faults::FIRST_FAULTS;
 use std::alloc::{AllocError, Global};

@@ -1,6 +1,6 @@
 //! Pools of few LUs: what is printed, who holds one, and refused memory. The talk of a host that asks its pool is told by dialogue3270's
 //! dialogues.
-use super::*;
+use lu_pool::{Pool, PoolFault};
 use std::alloc::{AllocError, Global};
 use tn3270e_msg::{Lu, Reason};
 

@@ -3,7 +3,7 @@ use super::{
     ERASE, ERASE_WRITES, FIELDS, NULLED_ROUND_THE_END, REPEATED_AND_ERASED, SIGN_ON, Shown, TABS,
     THREE_FIELDS, at, obey, obeys, type_at,
 };
-use crate::{Field, Screen};
+use presentation::{Field, Screen};
 use codes3270::{Addr, Attr, CELLS};
 
 /// Where the attribute stands that is the nearest before a cell, round the end.

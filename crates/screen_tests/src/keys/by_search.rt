@@ -1,39 +1,48 @@
 //! Where New Line goes, beside what a search from cell to cell finds.
-ghost use Rattle.std.specs.Prelude.{◌≡◌, length};
-ghost use Rattle.codes3270.specs.Size.{cell_count};
-
-use super::{SIGN_ON, obey};
-use crate::places;
-use codes3270::{Addr, CELLS, COLUMNS, ROWS};
+use super::{DONE, SIGN_ON, free, obey, presses_one};
+use codes3270::{Addr, CELLS, COLUMNS, Cell, ROWS};
+use keyboard::Key;
 use presentation::Screen;
+
+/// Whether a cell is a character that isn't protected.
+fn may_be_typed_into(screen: &Screen, at: Addr) -> bool {
+    let is_protected = screen.attribute_over(at).is_some_and(|attr| attr.protected);
+    match screen.cell(at) {
+        Cell::Char(_) => !is_protected,
+        Cell::Attr(_) => false,
+    }
+}
 
 /// The first cell behind a row that may be typed into, round the end, each looked up by itself; 0 if there is none.
 fn searched_line(screen: &Screen, row: u16) -> Addr {
     let behind = Addr::first().forward((row % ROWS) * COLUMNS);
     for step in 0..CELLS {
         let place = behind.forward(COLUMNS).forward(step);
-        if places::is_free(screen, place) {
+        if may_be_typed_into(screen, place) {
             return place;
         }
     }
     Addr::first()
 }
 
+/// Whether New Line goes there from a cell.
+fn goes_from(screen: &mut Screen, at: Addr, wanted: Addr) -> bool {
+    screen.set_cursor(at);
+    presses_one(&mut free(), screen, (Key::NewLine, DONE, wanted.get()))
+}
+
 /// Whether New Line goes there from the first and the last cell of a row.
-fn goes_to(screen: &Screen, row: u16, wanted: Addr) -> bool
-    requires { length screen.now.cells ≡ cell_count }
-{
+fn goes_to(screen: &mut Screen, row: u16, wanted: Addr) -> bool {
     let first = Addr::first().forward((row % ROWS) * COLUMNS);
-    places::next_line(screen, first) == wanted
-        && places::next_line(screen, first.forward(COLUMNS - 1)) == wanted
+    goes_from(screen, first, wanted) && goes_from(screen, first.forward(COLUMNS - 1), wanted)
 }
 
 /// Whether New Line goes from each row to where a search does, on the screen that a command makes.
 fn goes_as_searched(screen: &mut Screen, command: &[u8]) -> bool {
     let is_obeyed = obey(screen, command).is_some();
-    let _cursor = screen.cursor();
     for row in 0..ROWS {
-        if !goes_to(screen, row, searched_line(screen, row)) {
+        let wanted = searched_line(screen, row);
+        if !goes_to(screen, row, wanted) {
             return false;
         }
     }

@@ -3,7 +3,7 @@
 //! In an ordinary run no growth is refused. `rt try --test --fail-alloc N` refuses the Nth one: the helpers then ask again,
 //! and the tests pass at every N, whichever growth it meets.
 
-use super::*;
+use term_core::{TermPhase, Terminal};
 use codes3270::Aid;
 use keyboard::{Key, Pressed};
 use std::alloc::Global;

@@ -1,7 +1,7 @@
 //! Screens that panels ask for, with cells and addresses from outside.
 use super::prints;
 use super::texts::SIGN_ON;
-use crate::{Field, Message, Next, Panel, PanelFault, PanelSet, Values};
+use panels::{Field, Message, Next, Panel, PanelFault, PanelSet, Values};
 use codes3270::{Aid, Attr, PaNo, PfNo};
 use datastream::{Want, Wants};
 use std::alloc::{AllocError, Global};

@@ -1,11 +1,11 @@
 //! Worked dialogues that end in a paint: the bytes that make of a screen that is believed the one that is wanted.
 ghost use Rattle.datastream.specs.Wanted.{IsProper};
 
-use crate::tests::{
+use crate::beliefs::{
     SIGN_ON, answered_in_part, believes, contradicts, fact_at, followed_by, has_no_field, hears,
     hears_buffer, is_unknown, known_at, knows, sign_on, take,
 };
-use crate::{Fact, Shadow};
+use shadow::{Fact, Shadow};
 use codes3270::{Addr, Attr, CELLS, Cell, storable};
 use datastream::{Form, Memory, Want, Wanted};
 use std::alloc::{AllocError, Global};

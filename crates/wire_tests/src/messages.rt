@@ -1,5 +1,5 @@
 //! Headers, names and messages as bytes, which no contract gives as such, and refused memory.
-use super::*;
+use tn3270e_msg::{ALWAYS_RESPONSE, DataType, Device, ERROR_RESPONSE, HeadFault, Header, Lu, NEGATIVE, NO_RESPONSE, POSITIVE, SubFault, flag_laws, header_bytes, next_seq, one_reading, put_sub_message, read_header, read_sub};
 use std::alloc::{AllocError, Global};
 use std::fmt::Display;
 use telnet_wire::put_record;

@@ -1,4 +1,4 @@
-use Rattle.lu_pool.proofs.tests.ask.Goals as goal
+use Rattle.wire_tests.proofs.pools.ask.Goals as goal
 
 pub ask-requires : goal.ask-requires
 ask-requires c = c.in-None.ensures.none

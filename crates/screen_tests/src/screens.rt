@@ -5,7 +5,7 @@ ghost use Rattle.codes3270.specs.Size.{rows};
 
 mod by_search;
 
-use crate::{Applied, Field, Screen};
+use presentation::{Applied, Field, Screen};
 use codes3270::{Addr, Aid, Attr, CELLS, COLUMNS, Cell, PaNo, ROWS};
 use datastream::read_command;
 use std::test::Fail;

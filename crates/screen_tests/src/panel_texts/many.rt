@@ -1,7 +1,7 @@
 //! Texts with as much as there may be, and with more.
 use super::prints;
 use super::texts::{AIRLINE, BANK};
-use crate::{Next, PanelFault, PanelSet};
+use panels::{Next, PanelFault, PanelSet};
 use codes3270::{Aid, PfNo};
 use std::alloc::{AllocError, Global};
 use std::test::Fail;
