@@ -48,9 +48,9 @@ word_bits words index word is = λ place low inside.
     let remainder : (64 * index + place) % 64 ≡ place = omega arith in
     one_bit (bit_at word place) (bit_at-lt word place)
     ∙ sym (ap bit_of (
-      ap (λ i. nat_eq (bit_at (get_or words i 0) ((64 * index + place) % 64)) 1) quotient
-      ∙ ap (λ i. nat_eq (bit_at (get_or words index 0) i) 1) remainder
-      ∙ ap (λ w. nat_eq (bit_at w place) 1) (sym is)
+    ap (λ i. nat_eq (bit_at (get_or words i 0) ((64 * index + place) % 64)) 1) quotient
+    ∙ ap (λ i. nat_eq (bit_at (get_or words index 0) i) 1) remainder
+    ∙ ap (λ w. nat_eq (bit_at w place) 1) (sym is)
     ))
 
 -- ---- cells

@@ -1,8 +1,8 @@
 //! Worked dialogues: what is believed after commands were taken and data was heard. What is owned lives in helpers that answer
 //! whether all is as it should be, so that a test has few ways out.
-use shadow::{Fact, HeardFault, Shadow, plain};
 use codes3270::{Addr, CELLS, Cell};
 use datastream::{Form, InboundFault, read_command, read_inbound};
+use shadow::{Fact, HeardFault, Shadow, plain};
 use std::alloc::{AllocError, Global};
 use std::test::Fail;
 

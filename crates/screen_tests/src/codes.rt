@@ -1,7 +1,11 @@
 //! The published tables of codes, byte by byte, and each call once on its happy path.
 //!
 //! A helper says of a table whether all of it is right, and the test asserts once: each assertion costs a proof.
-use codes3270::{Addr, AddrFault, Aid, Attr, CELLS, CELL_COUNT, COLUMNS, Cell, Display, PaNo, PfNo, ROWS, Wcc, addr_from_bytes, addr_to_bytes, aid_byte, aid_from_byte, attr_code, code_laws, from_latin1, size_laws, storable, to_latin1};
+use codes3270::{
+    Addr, AddrFault, Aid, Attr, CELL_COUNT, CELLS, COLUMNS, Cell, Display, PaNo, PfNo, ROWS, Wcc,
+    addr_from_bytes, addr_to_bytes, aid_byte, aid_from_byte, attr_code, code_laws, from_latin1,
+    size_laws, storable, to_latin1,
+};
 use std::alloc::{AllocError, Global};
 use std::ops::RangeInclusive;
 use std::test::Fail;

@@ -1,8 +1,12 @@
 //! Commands read and written, byte for byte, and wanted screens. What is owned lives in helpers that answer whether all is as
 //! it should be, so that a test has few ways out.
 
-use datastream::{Command, CommandCode, CommandFault, CommandWriter, Memory, Order, Want, Wanted, fields_both_ways, kept_since_the_write, one_reading, read_command, spans_are_steps, tabs_by_place, what_a_note_keeps, written_is_read};
 use codes3270::{Addr, Attr, CELL_COUNT, CELLS, COLUMNS, Wcc};
+use datastream::{
+    Command, CommandCode, CommandFault, CommandWriter, Memory, Order, Want, Wanted,
+    fields_both_ways, kept_since_the_write, one_reading, read_command, spans_are_steps,
+    tabs_by_place, what_a_note_keeps, written_is_read,
+};
 use std::alloc::Global;
 use std::fmt;
 use std::test::Fail;

@@ -1,6 +1,6 @@
 //! Inbound data as bytes: what a 3278 sends in worked dialogues, whole buffers, and what isn't inbound data.
-use datastream::{Form, Inbound, InboundFault, Part, parts_are_fields, read_inbound, sent_is_read};
 use codes3270::{Addr, Aid, Attr, CELLS, Cell, PaNo};
+use datastream::{Form, Inbound, InboundFault, Part, parts_are_fields, read_inbound, sent_is_read};
 use std::alloc::{AllocError, Global};
 use std::fmt;
 use std::test::Fail;

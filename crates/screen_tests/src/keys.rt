@@ -2,9 +2,13 @@
 //! makes what is owned and lends it to one helper, which answers whether all is as it should be.
 mod by_search;
 
-use keyboard::{Key, Keyboard, Lock, PaNo, PfNo, Pressed, Refusal, edits_rewrite_the_text, keys_are_real, keys_go_to_the_nearest, keys_keep_what_was_left, locks_hold, sent_keys_wait, what_keys_leave_can_be_sent};
 use codes3270::{Aid, CELL_COUNT};
 use datastream::read_command;
+use keyboard::{
+    Key, Keyboard, Lock, PaNo, PfNo, Pressed, Refusal, edits_rewrite_the_text, keys_are_real,
+    keys_go_to_the_nearest, keys_keep_what_was_left, locks_hold, sent_keys_wait,
+    what_keys_leave_can_be_sent,
+};
 use presentation::Screen;
 use std::test::Fail;
 

@@ -2,18 +2,18 @@
 //! printed texts, and growths refused. They stand in a crate of their own, so that each library is proved once.
 
 #[cfg(test)]
+mod beliefs;
+#[cfg(test)]
 mod codes;
 #[cfg(test)]
 mod commands;
 #[cfg(test)]
 mod inbound;
 #[cfg(test)]
-mod screens;
-#[cfg(test)]
 mod keys;
-#[cfg(test)]
-mod beliefs;
 #[cfg(test)]
 mod paints;
 #[cfg(test)]
 mod panel_texts;
+#[cfg(test)]
+mod screens;

@@ -5,9 +5,9 @@ use crate::beliefs::{
     SIGN_ON, answered_in_part, believes, contradicts, fact_at, followed_by, has_no_field, hears,
     hears_buffer, is_unknown, known_at, knows, sign_on, take,
 };
-use shadow::{Fact, Shadow};
 use codes3270::{Addr, Attr, CELLS, Cell, storable};
 use datastream::{Form, Memory, Want, Wanted};
+use shadow::{Fact, Shadow};
 use std::alloc::{AllocError, Global};
 use std::test::Fail;
 

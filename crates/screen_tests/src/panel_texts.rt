@@ -6,9 +6,9 @@ mod many;
 mod screens;
 mod texts;
 
-use panels::{At, PanelFault, PanelSet, TreeFault, Values};
 use faults::FAULTS;
 use first_faults::FIRST_FAULTS;
+use panels::{At, PanelFault, PanelSet, TreeFault, Values};
 use std::alloc::{AllocError, Global};
 use std::test::Fail;
 use texts::{ONE_BELOW, ONE_OVER, SIGN_ON, TWO_BELOW};

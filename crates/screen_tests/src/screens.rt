@@ -5,9 +5,9 @@ ghost use Rattle.codes3270.specs.Size.{rows};
 
 mod by_search;
 
-use presentation::{Applied, Field, Screen};
 use codes3270::{Addr, Aid, Attr, CELLS, COLUMNS, Cell, PaNo, ROWS};
 use datastream::read_command;
+use presentation::{Applied, Field, Screen};
 use std::test::Fail;
 
 // ---- helpers

@@ -1,5 +1,5 @@
 -- What each change makes of what is believed of a field.
-use Rattle.std.proofs.Common.{◌≡◌, ℕ, zero, suc, ◌+◌, ◌<◌, ◌≤◌, Bool, true, false, not, ◌&&◌, List, [], ◌∷◌, ◌++◌, length, map, replicate, Option, Some, None, refl, ap, sym, subst, arith, ◌∙◌, drop, get_or, if◌then◌else◌, append-nil, option_map}
+use Rattle.std.proofs.Common.{◌≡◌, ℕ, zero, suc, ◌+◌, ◌≤◌, Bool, true, false, not, ◌&&◌, List, [], ◌∷◌, ◌++◌, length, map, replicate, Option, Some, None, refl, ap, sym, subst, arith, ◌∙◌, if◌then◌else◌, append-nil, option_map}
 use Rattle.std.specs.Prelude.{⊤, nat_eq, nat_lt, bytes_eq}
 use Rattle.std.proofs.lemmas.List.{length-replicate}
 use Rattle.std.proofs.lemmas.Bool.{ltb-false}
@@ -17,7 +17,7 @@ use Rattle.shadow.specs.declared.place.Place.{Place}
 use Rattle.shadow.specs.declared.place.Place.TheVariants.{Attr, Known, Told, Unknown}
 use Rattle.shadow.specs.Belief.{Fact, Belief, nulls, next_address}
 use Rattle.shadow.specs.Came.{text_at, came_past}
-use Rattle.shadow.specs.Filled.{Fill, Change, filled, fill_next, came_behind, key_changes, after_key, unreturned_by, unreturned_at, unreturned_from, unreturned_change, input_change, field_change, long_changes, is_possible, long_after, all_changed, last_fill, front_filled}
+use Rattle.shadow.specs.Filled.{Fill, Change, filled, fill_next, came_behind, key_changes, after_key, unreturned_by, unreturned_from, unreturned_change, input_change, field_change, long_changes, is_possible, long_after, all_changed, last_fill, front_filled}
 use Rattle.shadow.specs.Heard.{after_attention, after_long, or_nulls, text_fact, unknown_fact, contradicts_text, mark_of}
 use Rattle.shadow.specs.Held.{answer}
 use Rattle.shadow.specs.InPlace.{chars_known, text_told, fact_told, fact_held, belief_held, beliefs_held, SaysCells, AreHeld, IsHeld, is_whole, known_text}
@@ -308,16 +308,3 @@ key_changed ps after held is =
     let whole : after ≡ all_changed g cs ps = is ∙ front_walk g cs ps even in
     subst (λ (qs : List Place). (beliefs_held qs 0 qs ≡ map after_attention (beliefs_held ps 0 ps)) × IsHeld qs) (sym whole)
     (key_each ps (all_changed g cs ps) g (goes_round g cs ps even) 0 g ps held (last_again cs ps even))
-
--- ---- what isn't returned, place by place
-
-pub length-unreturned : (whole ps : List Place) → length (unreturned_from whole ps) ≡ length ps
-length-unreturned whole [] = refl
-length-unreturned whole (p ∷ ps) = ap suc (length-unreturned whole ps)
-
-pub unreturned_here : (whole ps : List Place) (i : ℕ) (one : Unreturned) → i < length ps → get_or (unreturned_from whole ps) i one ≡ unreturned_at (get_or ps i Unknown) (drop (i + 1) ps ++ whole)
-unreturned_here whole [] i one within = absurd (omega arith)
-unreturned_here whole (p ∷ ps) zero one within = refl
-unreturned_here whole (p ∷ ps) (suc i) one within =
-    let next : suc (i + 1) ≡ suc i + 1 = omega arith in
-    unreturned_here whole ps i one (omega arith) ∙ ap (λ (n : ℕ). unreturned_at (get_or ps i Unknown) (drop n (p ∷ ps) ++ whole)) next

@@ -36,9 +36,6 @@ possible_step whole n held came within is =
     ∙ ap (λ x. is_possible (beliefs_held whole n (x ∷ drop (n + 1) whole)) came) (sym is)
     ∙ possible_on whole n held (drop (n + 1) whole) came
 
-pub possible_end : (came : List Returned) → is_possible [] came ≡ is_possible [] came
-possible_end came = refl
-
 lost_on : (whole : List Place) (n : ℕ) (held : Place) (rest : List Place) (came : List Returned)
     → any_lost (beliefs_held whole n (held ∷ rest)) came ≡ (lost_held held n (rest ++ whole) (text_came held n came) || any_lost (beliefs_held whole (n + 1) rest) (came_behind held n came))
 lost_on whole n (Attr a m t) rest came = refl

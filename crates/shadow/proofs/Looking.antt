@@ -1,12 +1,12 @@
 -- How the search for the cells to store goes on.
-use Rattle.std.proofs.Common.{◌≡◌, ℕ, zero, suc, ◌+◌, ◌-◌, ◌*◌, ◌^◌, ◌/◌, ◌%◌, ◌<◌, ◌≤◌, Bool, true, false, List, [], ◌∷◌, ◌++◌, length, replicate, drop, get_or, map, if◌then◌else◌, Option, Some, None, refl, ap, sym, subst, arith, ◌∙◌, inl, inr, eq-eqb}
-use Rattle.std.specs.Prelude.{nat_eq, bit_and, bit_or, min, max}
+use Rattle.std.proofs.Common.{◌≡◌, ℕ, zero, suc, ◌+◌, ◌-◌, ◌*◌, ◌^◌, ◌/◌, ◌%◌, ◌<◌, ◌≤◌, Bool, true, false, List, ◌++◌, length, replicate, drop, get_or, map, if◌then◌else◌, Option, Some, None, refl, ap, sym, subst, arith, ◌∙◌, inl, inr, eq-eqb}
+use Rattle.std.specs.Prelude.{bit_and, bit_or, min, max}
 use Rattle.std.specs.Int.{bit_at, w64, bit_not, trailing_zeros}
 use Rattle.std.proofs.Math.Nat.{div-div-eq-div-mul}
 use Rattle.std.proofs.lemmas.Bool.{cases_lt}
 use Rattle.std.proofs.lemmas.Nat.{pow-add}
 use Rattle.std.proofs.lemmas.Nat.Bits.{bit_at-zero, bit_at-lt, bit_at-trailing_zeros, bit_at_above, bit_at_or, bit_at_and, bit_at_not}
-use Rattle.std.proofs.lemmas.List.{get_or-map, drop_more, get_or_default, length-map, length-replicate}
+use Rattle.std.proofs.lemmas.List.{get_or-map, get_or_default, length-map, length-replicate}
 use Rattle.codes3270.specs.Size.{cell_count}
 use Rattle.codes3270.specs.declared.attribute.Cell.{Cell}
 use Rattle.codes3270.specs.declared.attribute.Cell.TheVariants.{Char}
@@ -16,8 +16,8 @@ use Rattle.datastream.specs.declared.wanted.Want.{Want}
 use Rattle.datastream.specs.declared.wanted.Want.TheVariants.{Char as WantChar, Attr as WantAttr, Keep}
 use Rattle.shadow.specs.declared.known.Known.{Known}
 use Rattle.shadow.specs.declared.known.Known.TheVariants.{Char as KnownChar}
-use Rattle.shadow.specs.Stores.{Store, store_also}
-use Rattle.shadow.specs.Paint.{cell_to_store, to_store, unless, is_there, known_nulls}
+use Rattle.shadow.specs.Stores.{store_also}
+use Rattle.shadow.specs.Paint.{cell_to_store, unless, is_there, known_nulls}
 use Rattle.shadow.specs.Looks.{SetUnless, stores_from, IsRight}
 use Rattle.shadow.specs.declared.place.Place.{Place}
 use Rattle.shadow.specs.declared.place.Place.TheVariants.{Known as KnownPlace, Unknown}

@@ -76,21 +76,14 @@ fn are_others(known: Ahead<'_>, rest: Cells<'_>, whole: Cells<'_>) -> bool
 }
 
 /// Whether a cell that was read shows that a screen isn't the one that is believed; `rest`: those behind it.
-fn is_other(
-    places: &Places,
-    place: usize,
-    cell: Cell,
-    rest: &Cells<'_>,
-    whole: &Cells<'_>,
-) -> bool
+fn is_other(places: &Places, place: usize, cell: Cell, rest: &Cells<'_>, whole: &Cells<'_>) -> bool
     requires { place < cell_count }
     ensures { result ≡ other_here (slice_index_or places.now place Unknown) (place_stored cell) (drop (place + 1) places.now ++ places.now) (places_stored rest.now ++ places_stored whole.now) }
 {
     match (places.get(place), cell) {
         (Place::Attr(believed, _, _), Cell::Attr(attr)) => {
             !same_attr(attr.with_mdt(false), believed)
-                || believed.protected
-                    && are_others(places.ahead(place), rest.copy(), whole.copy())
+                || believed.protected && are_others(places.ahead(place), rest.copy(), whole.copy())
         }
         (Place::Attr(_, _, _), Cell::Char(_)) => true,
         (_, Cell::Attr(_)) => true,

@@ -1,6 +1,5 @@
 -- How long what a terminal sends can be.
-use Rattle.std.proofs.Common.{◌≡◌, ℕ, ◌+◌, ◌*◌, ◌<◌, ◌≤◌, not, ◌==◌, ◌&&◌, Bool, true, false, List, [], ◌∷◌, ◌++◌, length, map, arith, sym, ◌∙◌, ap, refl, length-append, suc, rules, if◌then◌else◌, Result, Ok, Err, OnErr, IsOk}
-use Rattle.std.specs.declared.alloc.AllocError.{AllocError}
+use Rattle.std.proofs.Common.{◌≡◌, ℕ, ◌+◌, ◌*◌, ◌≤◌, not, ◌==◌, ◌&&◌, Bool, true, false, List, [], ◌∷◌, ◌++◌, length, map, arith, sym, ◌∙◌, ap, refl, length-append, suc, if◌then◌else◌}
 use Rattle.std.specs.List.{flat_map, list_all, sum_by, Contains}
 use Rattle.std.proofs.lemmas.List.Concat.{flat_map-cons}
 use Rattle.std.proofs.lemmas.List.Sums.{sum_by-cons}
@@ -13,8 +12,6 @@ use Rattle.datastream.specs.Screen.{Screen, is_char, text_before_attribute, fiel
 use Rattle.datastream.specs.Fields.{Field, fields}
 use Rattle.datastream.specs.FieldLaws.{FieldsAscend, FieldsAreListed, FieldsTakeAll, attribute_places}
 use Rattle.datastream.specs.Inbound.{without_nulls, is_modified, modified_field, modified_text, read_modified, cell_bytes, read_buffer}
-use Rattle.telnet_wire.specs.Token.{Sub, escaped, spelling, text}
-use Rattle.telnet_wire.specs.Items.{record_tokens}
 use Rattle.term_core.specs.Room.{longest_reading}
 
 -- ---- what a read gets

@@ -1,21 +1,17 @@
 -- A record, an item, a byte and bytes, as the code takes them.
-use Rattle.std.proofs.Common.{◌≡◌, ◌≢◌, ℕ, ◌+◌, ◌<◌, List, [], ◌∷◌, ◌++◌, length, take, get_or, sym, ◌∙◌, ap, subst, refl, Option, None, Some, Vec, lit≤}
+use Rattle.std.proofs.Common.{◌≡◌, ◌≢◌, ℕ, ◌+◌, ◌<◌, List, [], ◌∷◌, ◌++◌, length, take, get_or, sym, ap, subst, refl, Option, None, Some, Vec}
 use Rattle.std.proofs.lemmas.List.{append-nil, take_more}
 use Rattle.std.proofs.lemmas.Bool.{ne_eqb}
 use Rattle.std.specs.Borrow.{Bor}
 use Rattle.std.specs.declared.alloc.Global.{Global}
-use Rattle.std.specs.Option.{option_to_list}
 use Rattle.datastream.specs.Grammar.{CommandParts, IsCommand, IsNoCommand}
 use Rattle.datastream.specs.declared.fault.CommandFault.{CommandFault}
 use Rattle.telnet_wire.specs.declared.wire.Step.TheVariants.{More}
 use Rattle.telnet_wire.specs.declared.wire.WireFault.{WireFault}
-use Rattle.telnet_wire.specs.declared.wire.WireFault.TheVariants.{TooLong, BadSub, Failed, Memory}
-use Rattle.telnet_wire.specs.Token.{End}
 use Rattle.telnet_wire.specs.declared.wire.Item.{Item}
 use Rattle.telnet_wire.specs.declared.wire.Item.TheVariants as lent
 use Rattle.telnet_wire.specs.Items.{WireItem, Record, Opt, Sub, Other, item_of, sent_bytes}
-use Rattle.telnet_wire.specs.Reading.{Rest, nothing, IsRest, Delivers, GoesWrong}
-use Rattle.telnet_wire.specs.Held.{Held, fresh, Takes, Refuses, step_of}
+use Rattle.telnet_wire.specs.Held.{Held, Takes, Refuses, step_of}
 use Rattle.tn3270e_msg.specs.declared.cause.Cause.{Cause}
 use Rattle.tn3270e_msg.specs.declared.cause.Cause.TheVariants.{BadRecord, Wire}
 use Rattle.tn3270e_msg.specs.declared.header.DataType.TheVariants.{Data3270}

@@ -1,6 +1,6 @@
 -- The steps as the code takes them (our profile), for the contracts of private functions and for what a terminal's parts
 -- are seen as: over these parts, and what is sent is appended to a vector.
-use Rattle.std.specs.Prelude.{◌≡◌, ℕ, false, List, ◌++◌, Option, None, Some, Vec}
+use Rattle.std.specs.Prelude.{◌≡◌, ℕ, List, ◌++◌, Option, None, Some, Vec}
 use Rattle.std.specs.declared.alloc.Global.{Global}
 use Rattle.telnet_wire.specs.Items.{WireItem, sent_bytes}
 use Rattle.telnet_wire.specs.Held.{Held, IsRunning as Running}

@@ -2,12 +2,12 @@
 //! growths refused. They stand in a crate of their own, so that each library is proved once.
 
 #[cfg(test)]
-mod wire;
-#[cfg(test)]
-mod talks;
-#[cfg(test)]
 mod messages;
 #[cfg(test)]
 mod pools;
 #[cfg(test)]
+mod talks;
+#[cfg(test)]
 mod terminals;
+#[cfg(test)]
+mod wire;

@@ -1,8 +1,12 @@
 //! Headers, names and messages as bytes, which no contract gives as such, and refused memory.
-use tn3270e_msg::{ALWAYS_RESPONSE, DataType, Device, ERROR_RESPONSE, HeadFault, Header, Lu, NEGATIVE, NO_RESPONSE, POSITIVE, SubFault, flag_laws, header_bytes, next_seq, one_reading, put_sub_message, read_header, read_sub};
 use std::alloc::{AllocError, Global};
 use std::fmt::Display;
 use telnet_wire::put_record;
+use tn3270e_msg::{
+    ALWAYS_RESPONSE, DataType, Device, ERROR_RESPONSE, HeadFault, Header, Lu, NEGATIVE,
+    NO_RESPONSE, POSITIVE, SubFault, flag_laws, header_bytes, next_seq, one_reading,
+    put_sub_message, read_header, read_sub,
+};
 
 // Whether these bytes begin with this header, and this is the body behind it.
 fn is_read_as(bytes: &[u8], header: Header, body: &[u8]) -> bool {

@@ -1,8 +1,11 @@
 //! The talks, item by item, with the bytes that each end sends.
-use tn3270e_msg::{After, Cause, Device, HostTalk, Lu, Reason, Reply, Sending, TermState, TermTalk, put_sub_message, talks_agree};
 use std::alloc::Global;
 use std::test::Fail;
 use telnet_wire::{Item, Memory, Verb, put_option};
+use tn3270e_msg::{
+    After, Cause, Device, HostTalk, Lu, Reason, Reply, Sending, TermState, TermTalk,
+    put_sub_message, talks_agree,
+};
 
 const fn option(verb: Verb, code: u8) -> Item<'static> {
     Item::Opt { verb, code }

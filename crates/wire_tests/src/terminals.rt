@@ -3,12 +3,12 @@
 //! In an ordinary run no growth is refused. `rt try --test --fail-alloc N` refuses the Nth one: the helpers then ask again,
 //! and the tests pass at every N, whichever growth it meets.
 
-use term_core::{TermPhase, Terminal};
 use codes3270::Aid;
 use keyboard::{Key, Pressed};
 use std::alloc::Global;
 use std::test::Fail;
 use telnet_wire::Memory;
+use term_core::{TermPhase, Terminal};
 use tn3270e_msg::{Fed, Lu, Stop};
 
 /// What a host says of an LU, in order: DO TN3270E, SEND DEVICE-TYPE, DEVICE-TYPE IS, FUNCTIONS IS.

@@ -2,9 +2,12 @@
 //!
 //! A test makes what is owned, and a helper that borrows it says whether all is right: each way out of a function costs a
 //! proof for what the function owns.
-use telnet_wire::{Decoder, Item, Memory, Step, Verb, WireFault, one_reading, put_option, put_record, put_sub, put_sub_parts};
 use std::alloc::Global;
 use std::test::Fail;
+use telnet_wire::{
+    Decoder, Item, Memory, Step, Verb, WireFault, one_reading, put_option, put_record, put_sub,
+    put_sub_parts,
+};
 
 /// The data bytes that a record of a TN3270E session may have.
 const RECORD_LIMIT: usize = 16_384;

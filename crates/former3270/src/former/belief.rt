@@ -6,9 +6,7 @@ use crate::former::painting::{fits_fields, put_cells};
 use crate::former::wanted::FormerWanted;
 use arrayvec::ArrayVec;
 use codes3270::{Addr, Aid, CELL_COUNT, Cell, Wcc};
-use datastream::{
-    Command, CommandCode, CommandWriter, Form, Inbound, Memory, Order, Orders,
-};
+use datastream::{Command, CommandCode, CommandWriter, Form, Inbound, Memory, Order, Orders};
 use shadow::{Fact, HeardFault, Mark};
 
 /// What was believed of a screen.

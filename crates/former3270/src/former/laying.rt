@@ -1,7 +1,7 @@
 //! The cells that fields are laid out to, and the fields that cells make.
 use crate::former::fields::{Fields, Head, Known, Lent};
-use codes3270::CELL_COUNT;
 use arrayvec::ArrayVec;
+use codes3270::CELL_COUNT;
 use shadow::Fact;
 
 /// Characters, where they are known.

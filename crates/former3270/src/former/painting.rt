@@ -98,11 +98,7 @@ fn put_store(out: &mut Vec<u8>, at: Option<u16>, place: u16, cell: Cell) -> Resu
 }
 
 /// Puts the cells that aren't known to be right, and then the cursor.
-pub fn put_cells(
-    out: &mut Vec<u8>,
-    wanted: &FormerWanted,
-    known: &[Known],
-) -> Result<(), Memory> {
+pub fn put_cells(out: &mut Vec<u8>, wanted: &FormerWanted, known: &[Known]) -> Result<(), Memory> {
     let wants = wanted.cells.as_slice();
     let mut at = None;
     for place in 0..CELLS {

@@ -1,8 +1,8 @@
 //! Texts with as much as there may be, and with more.
 use super::prints;
 use super::texts::{AIRLINE, BANK};
-use panels::{Next, PanelFault, PanelSet};
 use codes3270::{Aid, PfNo};
+use panels::{Next, PanelFault, PanelSet};
 use std::alloc::{AllocError, Global};
 use std::test::Fail;
 

@@ -1,9 +1,9 @@
 //! Screens that panels ask for, with cells and addresses from outside.
 use super::prints;
 use super::texts::SIGN_ON;
-use panels::{Field, Message, Next, Panel, PanelFault, PanelSet, Values};
 use codes3270::{Aid, Attr, PaNo, PfNo};
 use datastream::{Want, Wants};
+use panels::{Field, Message, Next, Panel, PanelFault, PanelSet, Values};
 use std::alloc::{AllocError, Global};
 use std::test::Fail;
 

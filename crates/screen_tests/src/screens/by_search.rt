@@ -3,8 +3,8 @@ use super::{
     ERASE, ERASE_WRITES, FIELDS, NULLED_ROUND_THE_END, REPEATED_AND_ERASED, SIGN_ON, Shown, TABS,
     THREE_FIELDS, at, obey, obeys, type_at,
 };
-use presentation::{Field, Screen};
 use codes3270::{Addr, Attr, CELLS};
+use presentation::{Field, Screen};
 
 /// Where the attribute stands that is the nearest before a cell, round the end.
 fn searched_place(screen: &Screen, at: Addr) -> Option<Addr> {

@@ -1,4 +1,4 @@
-use Rattle.std.proofs.Common.{◌≡◌, ◌∙◌, ap, sym, arith, List, ℕ, Option, Some, None, [], Err, refl, append-nil, ◌++◌, ◌∷◌}
+use Rattle.std.proofs.Common.{◌≡◌, ◌∙◌, ap, sym, List, ℕ, Option, Some, None, [], Err, refl, append-nil, ◌++◌, ◌∷◌}
 use Rattle.codes3270.specs.Size.{cell_count}
 use Rattle.datastream.specs.Writing.{orders_bytes}
 use Rattle.shadow.specs.Base.{known_base}

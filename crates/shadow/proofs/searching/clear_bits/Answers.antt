@@ -1,6 +1,5 @@
-use Rattle.std.proofs.Common.{◌^◌, ◌/◌, ◌<◌, arith}
+use Rattle.std.proofs.Common.{◌^◌, ◌/◌, arith}
 use Rattle.std.proofs.lemmas.Nat.{shr_le}
-use Rattle.std.proofs.lemmas.Bool.{cases_lt, cases_eq}
 use Rattle.shadow.proofs.Looking.{none_behind, lowest_behind, lowest_within, some_left}
 use Rattle.shadow.proofs.searching.clear_bits.Goals as goal
 

@@ -1,4 +1,3 @@
-use Rattle.codes3270.specs.Size.{cell_count}
 use Rattle.shadow.specs.Base.{known_base}
 use Rattle.shadow.proofs.Looking.{covered}
 use Rattle.shadow.proofs.searching.word_to_look.Goals as goal

@@ -1,7 +1,6 @@
-use Rattle.std.proofs.Common.{◌≡◌, ◌∙◌, ℕ, Bool, List, All, length, set, ap, subst, sym, arith}
+use Rattle.std.proofs.Common.{◌∙◌, ℕ, Bool, List, All, length, set, ap, subst, sym, arith}
 use Rattle.std.proofs.lemmas.List.{length-set}
 use Rattle.std.proofs.lemmas.List.Elements.{All-set}
-use Rattle.codes3270.specs.Size.{cell_count}
 use Rattle.datastream.specs.Rows.{kept}
 use Rattle.datastream.specs.Wanted.{IsProper, WantedScreen, want_by}
 use Rattle.datastream.specs.declared.wanted.Want.{Want}
@@ -17,8 +16,8 @@ invariant_of-self c =
     let before = c.self.invariant.0 in
     let same_size = length_kept (want_by i.attributes i.characters) 0 i.bytes in
     let same = put_kept i.attributes i.characters i.bytes c.args.cell c.args.want (omega (arith, before.size, same_size)) c.self.invariant.1
-        c.byte_of.result c.byte_of.ensures.byte c.byte_of.ensures.kept c.put.new.self c.put-2.new.self
-        c.is_attribute.result c.is_character.result c.is_attribute.ensures c.is_character.ensures c.put.ensures c.put-2.ensures in (
+    c.byte_of.result c.byte_of.ensures.byte c.byte_of.ensures.kept c.put.new.self c.put-2.new.self
+    c.is_attribute.result c.is_character.result c.is_attribute.ensures c.is_character.ensures c.put.ensures c.put-2.ensures in (
       record {
         size = ap length same ∙ length-set (kept (want_by i.attributes i.characters) 0 i.bytes) c.args.cell c.args.want ∙ before.size;
         proper = subst (λ (cells : List Want). All IsProper cells) (sym same)

@@ -1,4 +1,4 @@
-use Rattle.std.proofs.Common.{◌≡◌, ◌∙◌, ◌+◌, ◌*◌, ℕ, Bool, Some, None, false, ap, sym, arith, get_or, if◌then◌else◌}
+use Rattle.std.proofs.Common.{◌∙◌, ◌+◌, ◌*◌, ℕ, Bool, Some, None, false, ap, sym, arith, get_or, if◌then◌else◌}
 use Rattle.codes3270.specs.Size.{cell_count}
 use Rattle.shadow.specs.declared.known.Known.TheVariants.{Char as KnownChar}
 use Rattle.shadow.specs.InPlace.{cells_known}

@@ -1,9 +1,6 @@
-use Rattle.std.proofs.Common.{◌≡◌, ◌∙◌, ◌+◌, ◌*◌, List, Bool, ap, sym, arith, get_or}
-use Rattle.std.specs.Prelude.{slice_index_or}
+use Rattle.std.proofs.Common.{◌∙◌, ◌+◌, ◌*◌, ap, sym, arith}
 use Rattle.datastream.specs.Rows.{has_bit}
-use Rattle.shadow.specs.declared.place.Place.{Place}
-use Rattle.shadow.specs.declared.place.Place.TheVariants.{Known, Unknown}
-use Rattle.shadow.specs.Rows.{place_by}
+use Rattle.shadow.specs.declared.place.Place.TheVariants.{Known}
 use Rattle.shadow.proofs.Keeping.{character_seen}
 use Rattle.shadow.proofs.Looking.{plain_bits, bit_true, bit_false}
 use Rattle.shadow.proofs.places.Places.unlike.Goals as goal

@@ -1,13 +1,8 @@
-use Rattle.std.proofs.Common.{◌≡◌, ◌∙◌, ◌+◌, ◌<◌, ◌≤◌, ℕ, List, Option, Some, None, ap, sym, arith, drop, length, get_or, ◌++◌, false}
+use Rattle.std.proofs.Common.{◌∙◌, ◌<◌, ℕ, Some, None, ap, sym, arith}
 use Rattle.codes3270.specs.Size.{cell_count}
-use Rattle.codes3270.specs.declared.attribute.Cell.{Cell}
-use Rattle.datastream.specs.declared.wanted.Want.{Want}
-use Rattle.datastream.specs.declared.wanted.Want.TheVariants.{Keep}
 use Rattle.shadow.specs.Base.{known_base}
 use Rattle.shadow.specs.Looks.{stores_from}
 use Rattle.shadow.specs.Stores.{store_also}
-use Rattle.shadow.specs.Paint.{cell_to_store}
-use Rattle.shadow.specs.declared.known.Known.{Known}
 use Rattle.shadow.proofs.PaintBytes.{none_left}
 use Rattle.shadow.proofs.Looking.{passed, here_known}
 use Rattle.shadow.proofs.searching.Search.next_to_store.Goals as goal
