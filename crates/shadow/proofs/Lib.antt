@@ -44,5 +44,6 @@ pub mod Whole
 pub mod Keeping
 pub mod Stretches
 pub mod Walks
+pub mod KeyWalks
 pub mod Ranges
 pub mod Settles

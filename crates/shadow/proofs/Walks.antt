@@ -171,10 +171,10 @@ module _ (erased : Bool) (whole : List Place) where
     long : length (xs ++ new ∷ fills one.fill rest) ≡ at + 1 + k
     long = omega (arith, length-append xs (new ∷ fills one.fill rest), length-fills one.fill rest)
 
-    taken : take (at + 1 + k) (xs ++ new ∷ front_filled one.fill rest) ≡ xs ++ new ∷ fills one.fill rest
+    pub taken : take (at + 1 + k) (xs ++ new ∷ front_filled one.fill rest) ≡ xs ++ new ∷ fills one.fill rest
     taken = ap (take (at + 1 + k)) parts ∙ take_at (xs ++ new ∷ fills one.fill rest) (drop k rest) (at + 1 + k) long
 
-    dropped : drop (at + 1 + k) (xs ++ new ∷ front_filled one.fill rest) ≡ drop k rest
+    pub dropped : drop (at + 1 + k) (xs ++ new ∷ front_filled one.fill rest) ≡ drop k rest
     dropped = ap (drop (at + 1 + k)) parts ∙ drop_at (xs ++ new ∷ fills one.fill rest) (drop k rest) (at + 1 + k) long
 
     known_before : (ys zs : List Place) (n : Mark) (u : Telling) → chars_known (xs ++ new ∷ ys) ≡ chars_known (xs ++ Attr a n u ∷ zs)

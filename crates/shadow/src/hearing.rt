@@ -336,11 +336,15 @@ pub(crate) fn after_attention(places: &mut Places)
     ensures held { IsHeld places.new }
 {
     let mut filling = Filling::Same;
-    for place in 0..places.len() {
+    let mut place = places.attribute_from(0);
+    while place < CELL_COUNT {
         let held = places.get(place);
+        let end = places.attribute_from(place + 1);
         let one = key_change_of(held);
         places.set(place, place_after(held, filling, one));
-        filling = filling_behind(held, filling, one);
+        fill_from(places, place + 1, one.filling);
+        filling = filling_after(one.filling, end - place - 1);
+        place = end;
     }
     fill_from(places, 0, filling);
 }

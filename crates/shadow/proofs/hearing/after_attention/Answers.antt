@@ -1,25 +1,38 @@
-use Rattle.std.proofs.Common.{◌∙◌, ap, sym, arith, List, refl}
-use Rattle.std.proofs.lemmas.List.{at_drop_all}
+use Rattle.std.proofs.Common.{◌≡◌, ◌∙◌, ◌+◌, ◌++◌, ◌-◌, ap, sym, arith, subst, drop, take, set, List, ℕ}
 use Rattle.shadow.specs.declared.place.Place.{Place}
-use Rattle.shadow.specs.Filled.{Fill, fill_of, key_changes, all_changed, last_fill, front_filled}
-use Rattle.shadow.proofs.Changes.{all_changed as all_passed}
+use Rattle.shadow.specs.Filled.{Fill, fill_of, fill_after, change_of, front_filled}
 use Rattle.shadow.proofs.Changing.{key_changed}
+use Rattle.shadow.proofs.KeyWalks.{Between, begins, step, finished}
 use Rattle.shadow.proofs.hearing.after_attention.Goals as goal
 
-pub returns-clause-fields : goal.returns-clause-fields
-returns-clause-fields c =
-    let f = fill_of c.loop-place.filling in
+pub loop-place-init : goal.loop-place-init
+loop-place-init c = record {
+  within = c.attribute_from-place.ensures.within;
+  walked = begins c.args.places.now c.attribute_from-place.result c.attribute_from-place.ensures.place;
+}
+
+pub loop-place-preserved : goal.loop-place-preserved
+loop-place-preserved c =
+    let whole = c.args.places.now in
     let now = c.loop-place.places in
-    let i = c.loop-place.place in
-    let passed = c.loop-place.invariant.changed ∙ all_passed (λ (ps : List Place). all_changed f (key_changes ps) ps) now i (omega arith) refl in
-    let last = c.loop-place.invariant.last ∙ at_drop_all (λ (ps : List Place). last_fill f (key_changes ps) ps) now i (omega arith) in
-    (key_changed c.args.places.now c.fill_from.new.places c.requires (c.fill_from.ensures ∙ ap (λ (g : Fill). front_filled g now) (sym last) ∙ ap (front_filled _) (sym passed))).0
+    let at = c.loop-place.place in
+    let held = c.get-held.result in
+    let end = c.attribute_from-end.result in
+    let f = fill_of c.loop-place.filling in
+    let one = change_of c.key_change_of-one.result in
+    let k = end - at - 1 in
+    let there : at + 1 + k ≡ end = omega (arith, c.attribute_from-end.ensures.place) in
+    let after = c.fill_from.ensures
+    ∙ ap (λ (ps : List Place). take (at + 1) ps ++ front_filled one.fill (drop (at + 1) ps)) (c.set.ensures.places ∙ ap (set now at) c.place_after.ensures) in
+    let next = step whole f at k now c.fill_from.new.places held one c.loop-place.invariant.walked (omega (arith, c.get-held.ensures.whole)) c.get-held.ensures.place c.key_change_of-one.ensures (omega (arith, c.attribute_from-end.ensures.place)) after in
+    record {
+      within = c.attribute_from-end.ensures.within;
+      walked = subst (λ (g : Fill). Between whole g end c.fill_from.new.places) (sym c.filling_after-filling.ensures)
+          (subst (λ (n : ℕ). Between whole (fill_after k one.fill) n c.fill_from.new.places) there next);
+    }
+
+pub returns-clause-fields : goal.returns-clause-fields
+returns-clause-fields c = (key_changed c.args.places.now c.fill_from-2.new.places c.requires (c.fill_from-2.ensures ∙ finished c.args.places.now (fill_of c.loop-place.filling) c.loop-place.place c.loop-place.places c.loop-place.invariant.walked (omega arith))).0
 
 pub returns-clause-held : goal.returns-clause-held
-returns-clause-held c =
-    let f = fill_of c.loop-place.filling in
-    let now = c.loop-place.places in
-    let i = c.loop-place.place in
-    let passed = c.loop-place.invariant.changed ∙ all_passed (λ (ps : List Place). all_changed f (key_changes ps) ps) now i (omega arith) refl in
-    let last = c.loop-place.invariant.last ∙ at_drop_all (λ (ps : List Place). last_fill f (key_changes ps) ps) now i (omega arith) in
-    (key_changed c.args.places.now c.fill_from.new.places c.requires (c.fill_from.ensures ∙ ap (λ (g : Fill). front_filled g now) (sym last) ∙ ap (front_filled _) (sym passed))).1
+returns-clause-held c = (key_changed c.args.places.now c.fill_from-2.new.places c.requires (c.fill_from-2.ensures ∙ finished c.args.places.now (fill_of c.loop-place.filling) c.loop-place.place c.loop-place.places c.loop-place.invariant.walked (omega arith))).1

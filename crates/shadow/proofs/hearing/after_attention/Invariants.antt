@@ -1,11 +1,14 @@
-use Rattle.std.proofs.Common.{◌≡◌, ◌++◌, length, take, drop}
+use Rattle.std.proofs.Common.{◌≤◌, ◌-◌}
 use Rattle.codes3270.specs.Size.{cell_count}
-use Rattle.shadow.specs.Filled.{Fill, fill_of, key_changes, all_changed, last_fill}
+use Rattle.shadow.specs.Filled.{fill_of}
+use Rattle.shadow.proofs.KeyWalks.{Between}
 use Rattle.shadow.proofs.hearing.after_attention.Given as goal
 
 abbrev pub invariant-loop-place : goal.invariant-loop-place
 invariant-loop-place l = record {
-  size : length l.places ≡ cell_count;
-  changed : all_changed Fill.Same (key_changes l.fn.places) l.fn.places ≡ take l.place l.places ++ all_changed (fill_of l.filling) (key_changes (drop l.place l.places)) (drop l.place l.places);
-  last : last_fill Fill.Same (key_changes l.fn.places) l.fn.places ≡ last_fill (fill_of l.filling) (key_changes (drop l.place l.places)) (drop l.place l.places);
+  within : l.place ≤ cell_count;
+  walked : Between l.fn.places (fill_of l.filling) l.place l.places;
 }
+
+abbrev pub decreases-loop-place : goal.decreases-loop-place
+decreases-loop-place l = cell_count - l.place
