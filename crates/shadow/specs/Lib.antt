@@ -19,6 +19,7 @@ pub mod Held
 pub mod Came
 pub mod Appending
 pub mod InPlace
+pub mod Former
 pub mod Since
 pub mod Filled
 pub mod Base

@@ -12,7 +12,7 @@ ghost use Rattle.shadow.specs.Stores.{is_plain, stores};
 ghost use Rattle.shadow.specs.Taken.{believed, known_after, known_stored, new_cell, resets as resets_marks, taken_erase};
 
 use crate::mark::Mark;
-use crate::place::{Past, Place, Telling};
+use crate::place::{Former, NO_FIELD, Past, Place, Telling};
 use crate::places::Places;
 use crate::writing::{mark_seen, resets};
 use codes3270::{Addr, CELL_COUNT, Cell, Wcc};
@@ -38,13 +38,14 @@ fn past_at(pasts: &[Past], place: usize) -> Past
 fn past_of(place: Place) -> Past
     ensures { result ≡ record { telling = telling_of place; fresh = false } }
 {
+    let telling = match place {
+        Place::Attr(_, _, telling) => Some(telling),
+        Place::Known(_) => None,
+        Place::Told(_) => None,
+        Place::Unknown => None,
+    };
     Past {
-        telling: match place {
-            Place::Attr(_, _, telling) => Some(telling),
-            Place::Known(_) => None,
-            Place::Told(_) => None,
-            Place::Unknown => None,
-        },
+        telling: Former::new(telling),
         fresh: false,
     }
 }
@@ -56,7 +57,7 @@ fn pasts_of(places: &Places) -> [Past; CELL_COUNT]
     ensures size { length result ≡ cell_count }
 {
     let mut pasts = [Past {
-        telling: None,
+        telling: NO_FIELD,
         fresh: false,
     }; CELL_COUNT];
     let mut place = places.attribute_from(0);
@@ -155,7 +156,7 @@ fn touch(place: Place, past: Past) -> Option<bool>
     ensures { (cells : List KnownCell) → (pasts : List PastPlace) → is_touched (cell_known place past.fresh ∷ cells) (past ∷ pasts) ≡ unwrap_or result (is_touched cells pasts) }
 {
     match place {
-        Place::Attr(_, _, _) => Some(past.telling.is_none()),
+        Place::Attr(_, _, _) => Some(past.telling.get().is_none()),
         Place::Known(_) => fresh_touch(past),
         Place::Told(_) => fresh_touch(past),
         Place::Unknown => fresh_touch(past),
@@ -194,7 +195,7 @@ fn is_field_touched(places: &Places, pasts: &[Past], place: usize) -> bool
 fn telling_after(past: Past, touched: bool) -> Telling
     ensures { result ≡ telling_then past touched }
 {
-    match past.telling {
+    match past.telling.get() {
         Some(telling) if !touched => telling,
         _ => Telling::Cells,
     }
@@ -253,7 +254,7 @@ pub(crate) fn erase_over(places: &mut Places, command: &Command<'_>)
 {
     places.fill(Place::Known(0));
     let mut pasts = [Past {
-        telling: None,
+        telling: NO_FIELD,
         fresh: true,
     }; CELL_COUNT];
     store(places, &mut pasts, command.orders());
