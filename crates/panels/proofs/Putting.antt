@@ -1,11 +1,12 @@
 -- One thing put over another.
-use Rattle.std.proofs.Common.{◌≡◌, ◌<◌, ◌≤◌, ◌+◌, ◌-◌, ℕ, List, ◌∷◌, length, get_or, set, drop, Bool, true, false, cond, Option, Some, None, refl, ap, sym, ◌∙◌, arith, inl, inr}
+use Rattle.std.proofs.Common.{◌≡◌, ◌<◌, ◌≤◌, ◌+◌, ◌-◌, ℕ, List, ◌∷◌, length, get_or, set, drop, Bool, true, false, cond, Option, Some, None, refl, ap, sym, subst, ◌∙◌, arith, inl, inr}
 use Rattle.std.specs.Prelude.{◌≢◌, ◌&&◌, nat_le, nat_lt, unwrap_or}
 use Rattle.std.specs.Option.{option_or}
-use Rattle.std.proofs.lemmas.List.{drop_more, get_or-set_same, get_or-set_other}
+use Rattle.std.proofs.lemmas.List.{drop_more, get_or-set_same, get_or-set_other, length-set}
 use Rattle.std.proofs.lemmas.Bool.{cases_eq}
 use Rattle.std.proofs.lemmas.Bool.Decides.{nat_tests}
 use Rattle.codes3270.specs.Size.{cell_count}
+use Rattle.datastream.specs.Wanted.{WantedScreen}
 use Rattle.datastream.specs.declared.wanted.Want.{Want}
 use Rattle.datastream.specs.declared.wanted.Want.TheVariants as want
 use Rattle.panels.specs.declared.message.Message.{Message}
@@ -69,6 +70,19 @@ put_more start n f base old size within before cell default below =
           get_or-set_other old (start + n) cell (f n) default other ∙ before cell default below
           ∙ ap (λ b. unwrap_or (cond b (Some (f (cell - start))) None) (get_or base cell default)) (sym (others_within start n cell other))
     ]
+
+-- a screen on which a cell was put, so that it has all its cells, had them before
+size_before : (place : ℕ) (want : Want) (old new : WantedScreen) → new ≡ record old { cells = set old.cells place want } → length new.cells ≡ cell_count → length old.cells ≡ cell_count
+size_before place want old new is size =
+    sym (length-set old.cells place want) ∙ ap length (sym (ap (λ (screen : WantedScreen). screen.cells) is)) ∙ size
+
+pub put_next : (start n place : ℕ) (f : ℕ → Want) (base : List Want) (want : Want) (old new : WantedScreen) → place ≡ start + n → want ≡ f n → start + n < cell_count
+    → new ≡ record old { cells = set old.cells place want } → length new.cells ≡ cell_count
+    → IsPutFrom start n f base old.cells → IsPutFrom start (n + 1) f base new.cells
+put_next start n place f base want old new at wants within is size before =
+    let cells : new.cells ≡ set old.cells (start + n) (f n) =
+    ap (λ (screen : WantedScreen). screen.cells) is ∙ ap (λ p. set old.cells p want) at ∙ ap (set old.cells (start + n)) wants in
+    subst (IsPutFrom start (n + 1) f base) (sym cells) (put_more start n f base old.cells (size_before place want old new is size) within before)
 
 all_within : (n cell : ℕ) → n ≡ cell_count → cell < cell_count → (nat_le 0 cell && nat_lt cell (0 + n)) ≡ true
 all_within n cell is below = grind (arith, nat_tests)

@@ -1,6 +1,5 @@
 //! Where an item of a panel stands.
-ghost use Rattle.std.specs.Prelude.{◌≡◌, ◌≤◌, ◌<◌, ◌+◌};
-ghost use Rattle.codes3270.specs.Size.{cell_count};
+ghost use Rattle.std.specs.Prelude.{◌≡◌, ◌≤◌, ◌+◌};
 ghost use Rattle.panels.specs.Size.{message_start};
 
 use codes3270::Addr;
@@ -16,29 +15,18 @@ pub struct Extent {
     ghost above_message: { first + length ≤ message_start },
 }
 
-/// The address at a place on the screen.
-fn address(position: u16) -> Addr
-    requires { position < cell_count }
-    ensures { result ≡ position }
-{
-    match Addr::new(position) {
-        Some(addr) => addr,
-        None => unreachable!(),
-    }
-}
-
 impl Extent {
     /// The address of its attribute.
     pub fn attr(self) -> Addr
         ensures { result + 1 ≡ self.first }
     {
-        address(self.first - 1)
+        Addr::first().forward(self.first - 1)
     }
 
     /// The address of its first character.
     pub fn first_cell(self) -> Addr
         ensures { result ≡ self.first }
     {
-        address(self.first)
+        Addr::first().forward(self.first)
     }
 }

@@ -1,5 +1,5 @@
 //! The screen that a panel asks for.
-ghost use Rattle.std.specs.Prelude.{◌≡◌, ◌==◌, ◌<◌, ℕ, position, true, false, IfSome, All, length, option_map, slice_index_or, option_copied, unwrap_or};
+ghost use Rattle.std.specs.Prelude.{◌≡◌, ◌==◌, ◌<◌, ℕ, position, true, false, IfSome, option_map, slice_index_or, option_copied, unwrap_or};
 ghost use Rattle.codes3270.specs.Size.{cell_count};
 ghost use Rattle.codes3270.specs.CodePage.{code_of};
 ghost use Rattle.codes3270.specs.Storable.{is_storable};
@@ -20,11 +20,7 @@ use datastream::{Want, Wanted};
 
 /// Puts nulls into all cells.
 fn put_nulls(wanted: &mut Wanted)
-    requires size { length wanted.old.cells ≡ cell_count }
-    requires proper { All IsProper wanted.old.cells }
-    ensures put { (cell : ℕ) (default : Wish) → cell < cell_count → slice_index_or wanted.new.cells cell default ≡ Char 0 }
-    ensures size { length wanted.new.cells ≡ cell_count }
-    ensures proper { All IsProper wanted.new.cells }
+    ensures { (cell : ℕ) (default : Wish) → cell < cell_count → slice_index_or wanted.new.cells cell default ≡ Char 0 }
 {
     for cell in 0..CELL_COUNT {
         wanted.put(cell, Want::Char(0));
@@ -57,12 +53,8 @@ fn cell_of(attr: Attr, content: Option<&[u8]>, distance: u16) -> Want
 
 /// Puts the cells of an item, its attribute first, over what stood there.
 fn put_item(wanted: &mut Wanted, extent: Extent, attr: Attr, content: Option<&[u8]>)
-    requires size { length wanted.old.cells ≡ cell_count }
-    requires characters { IfSome content (λ bytes. AreCharacters bytes.now) }
-    requires proper { All IsProper wanted.old.cells }
-    ensures put { IsPut (λ cell. option_map (cell_with attr (option_map (λ bytes. bytes.now) content.entry)) (distance_in extent cell)) wanted.old.cells wanted.new.cells }
-    ensures size { length wanted.new.cells ≡ cell_count }
-    ensures proper { All IsProper wanted.new.cells }
+    requires { IfSome content (λ bytes. AreCharacters bytes.now) }
+    ensures { IsPut (λ cell. option_map (cell_with attr (option_map (λ bytes. bytes.now) content.entry)) (distance_in extent cell)) wanted.old.cells wanted.new.cells }
 {
     let start = extent.first - 1;
     for distance in 0..extent.length + 1 {
@@ -102,11 +94,7 @@ fn shown_bytes<'a>(values: &'a Values, content: &'a Content) -> &'a [u8]
 
 /// Puts the cells of a text.
 fn put_text(wanted: &mut Wanted, values: &Values, text: &TextItem)
-    requires size { length wanted.old.cells ≡ cell_count }
-    requires proper { All IsProper wanted.old.cells }
-    ensures put { IsPut (λ cell. text_cell values.now cell text.now) wanted.old.cells wanted.new.cells }
-    ensures size { length wanted.new.cells ≡ cell_count }
-    ensures proper { All IsProper wanted.new.cells }
+    ensures { IsPut (λ cell. text_cell values.now cell text.now) wanted.old.cells wanted.new.cells }
 {
     let content = shown_bytes(values, &text.content);
     put_item(
@@ -119,11 +107,7 @@ fn put_text(wanted: &mut Wanted, values: &Values, text: &TextItem)
 
 /// Puts the cells of texts, the first over all others.
 fn put_texts(wanted: &mut Wanted, values: &Values, texts: &[TextItem])
-    requires size { length wanted.old.cells ≡ cell_count }
-    requires proper { All IsProper wanted.old.cells }
-    ensures put { IsPut (λ cell. first_some (text_cell values.now cell) texts.now) wanted.old.cells wanted.new.cells }
-    ensures size { length wanted.new.cells ≡ cell_count }
-    ensures proper { All IsProper wanted.new.cells }
+    ensures { IsPut (λ cell. first_some (text_cell values.now cell) texts.now) wanted.old.cells wanted.new.cells }
 {
     for index in (0..texts.len()).rev() {
         put_text(wanted, values, &texts[index]);
@@ -169,11 +153,7 @@ fn content_of_field<'a>(values: &'a Values, message: Message, field: &'a Field) 
 
 /// Puts the cells of a field.
 fn put_field(wanted: &mut Wanted, values: &Values, message: Message, keep: bool, field: &Field)
-    requires size { length wanted.old.cells ≡ cell_count }
-    requires proper { All IsProper wanted.old.cells }
-    ensures put { IsPut (λ cell. field_cell values.now message keep cell field.now) wanted.old.cells wanted.new.cells }
-    ensures size { length wanted.new.cells ≡ cell_count }
-    ensures proper { All IsProper wanted.new.cells }
+    ensures { IsPut (λ cell. field_cell values.now message keep cell field.now) wanted.old.cells wanted.new.cells }
 {
     let attr = attr_of_field(values, message, keep, field);
     let content = if keep {
@@ -186,11 +166,7 @@ fn put_field(wanted: &mut Wanted, values: &Values, message: Message, keep: bool,
 
 /// Puts the cells of fields, the first over all others.
 fn put_fields(wanted: &mut Wanted, values: &Values, message: Message, keep: bool, fields: &[Field])
-    requires size { length wanted.old.cells ≡ cell_count }
-    requires proper { All IsProper wanted.old.cells }
-    ensures put { IsPut (λ cell. first_some (field_cell values.now message keep cell) fields.now) wanted.old.cells wanted.new.cells }
-    ensures size { length wanted.new.cells ≡ cell_count }
-    ensures proper { All IsProper wanted.new.cells }
+    ensures { IsPut (λ cell. first_some (field_cell values.now message keep cell) fields.now) wanted.old.cells wanted.new.cells }
 {
     for index in (0..fields.len()).rev() {
         put_field(wanted, values, message, keep, &fields[index]);
@@ -199,11 +175,7 @@ fn put_fields(wanted: &mut Wanted, values: &Values, message: Message, keep: bool
 
 /// Puts the attribute behind a field, where it ends.
 fn put_stopper(wanted: &mut Wanted, field: &Field)
-    requires size { length wanted.old.cells ≡ cell_count }
-    requires proper { All IsProper wanted.old.cells }
-    ensures put { IsPut (λ cell. stopper_cell cell field.now) wanted.old.cells wanted.new.cells }
-    ensures size { length wanted.new.cells ≡ cell_count }
-    ensures proper { All IsProper wanted.new.cells }
+    ensures { IsPut (λ cell. stopper_cell cell field.now) wanted.old.cells wanted.new.cells }
 {
     let end = field.extent.first + field.extent.length;
     wanted.put(end as usize, Want::Attr(skipped_attr(false)));
@@ -211,11 +183,7 @@ fn put_stopper(wanted: &mut Wanted, field: &Field)
 
 /// Puts the attributes behind fields.
 fn put_stoppers(wanted: &mut Wanted, fields: &[Field])
-    requires size { length wanted.old.cells ≡ cell_count }
-    requires proper { All IsProper wanted.old.cells }
-    ensures put { IsPut (λ cell. first_some (stopper_cell cell) fields.now) wanted.old.cells wanted.new.cells }
-    ensures size { length wanted.new.cells ≡ cell_count }
-    ensures proper { All IsProper wanted.new.cells }
+    ensures { IsPut (λ cell. first_some (stopper_cell cell) fields.now) wanted.old.cells wanted.new.cells }
 {
     for index in (0..fields.len()).rev() {
         put_stopper(wanted, &fields[index]);
@@ -300,11 +268,7 @@ fn cell_of_message(message: Message, name: &[u8], distance: u16) -> Want
 
 /// Puts the message's row.
 fn put_message(wanted: &mut Wanted, fields: &[Field], message: Message)
-    requires size { length wanted.old.cells ≡ cell_count }
-    requires proper { All IsProper wanted.old.cells }
-    ensures put { IsPut (message_cell fields.now message) wanted.old.cells wanted.new.cells }
-    ensures size { length wanted.new.cells ≡ cell_count }
-    ensures proper { All IsProper wanted.new.cells }
+    ensures { IsPut (message_cell fields.now message) wanted.old.cells wanted.new.cells }
 {
     let name = name_in(message, fields);
     for distance in 0..CELLS - MESSAGE_START {
@@ -349,12 +313,13 @@ impl Panel {
         ensures screen { wanted.new ≡ screen_of self.now values.now message keep }
     {
         let fields = self.fields.as_slice();
-        let _replaced = wanted.cells();
         put_nulls(wanted);
         put_stoppers(wanted, fields);
         put_message(wanted, fields, message);
         put_fields(wanted, values, message, keep, fields);
         put_texts(wanted, values, self.texts.as_slice());
+        // For its contract: all cells are there.
+        let _whole = wanted.cells();
         wanted.aim(self.cursor_for(message), message == Message::Fresh);
     }
 }

@@ -1,14 +1,7 @@
 use Rattle.std.proofs.Common.{drop}
-use Rattle.std.specs.Prelude.{◌≡◌, length, All}
-use Rattle.codes3270.specs.Size.{cell_count}
-use Rattle.datastream.specs.Wanted.{IsProper}
 use Rattle.panels.specs.Screen.{first_some, field_cell}
 use Rattle.panels.specs.Put.{IsPut}
 use Rattle.panels.proofs.screen.put_fields.Given as goal
 
 abbrev pub invariant-loop-index : goal.invariant-loop-index
-invariant-loop-index l = record {
-  put : IsPut (λ cell. first_some (field_cell l.values l.message l.keep cell) (drop l.index l.fields)) l.initial.wanted.cells l.wanted.cells;
-  size : length l.wanted.cells ≡ cell_count;
-  proper : All IsProper l.wanted.cells;
-}
+invariant-loop-index l = IsPut (λ cell. first_some (field_cell l.values l.message l.keep cell) (drop l.index l.fields)) l.initial.wanted.cells l.wanted.cells

@@ -1,27 +1,16 @@
-use Rattle.std.proofs.Common.{◌≡◌, ◌<◌, ◌+◌, ap, set, sym, subst, arith}
+use Rattle.std.proofs.Common.{◌≡◌, ◌<◌, ◌+◌, refl, arith}
 use Rattle.codes3270.specs.Size.{cell_count}
-use Rattle.datastream.specs.Wanted.{WantedScreen}
 use Rattle.datastream.specs.declared.wanted.Want.TheVariants.{Char}
-use Rattle.panels.proofs.Putting.{IsPutFrom, put_more, nulls_put}
+use Rattle.panels.proofs.Putting.{put_next, nulls_put}
 use Rattle.panels.proofs.screen.put_nulls.Goals as goal
 
 pub loop-cell-preserved : goal.loop-cell-preserved
 loop-cell-preserved c =
-    let n = c.loop-cell.cell in
-    let base = c.args.wanted.now.cells in
-    let old = c.loop-cell.wanted.cells in
-    let within : 0 + n < cell_count = omega arith in
-    let there : 0 + n ≡ n = omega arith in
-    record {
-      put =
-          subst (λ cells. IsPutFrom 0 (n + 1) (λ distance. Char 0) base cells) (sym (ap (λ (screen : WantedScreen). screen.cells) c.put.ensures.put))
-          (subst (λ place. IsPutFrom 0 (n + 1) (λ distance. Char 0) base (set old place (Char 0))) there
-          (put_more 0 n (λ distance. Char 0) base old c.loop-cell.invariant.size within c.loop-cell.invariant.put));
-      size = c.put.ensures.size;
-      proper = c.put.ensures.proper;
-    }
+    let there : c.loop-cell.cell ≡ 0 + c.loop-cell.cell = omega arith in
+    let within : 0 + c.loop-cell.cell < cell_count = omega arith in
+    put_next 0 c.loop-cell.cell _ (λ distance. Char 0) c.args.wanted.now.cells _ c.loop-cell.wanted _ there refl within c.put.ensures.put c.put.ensures.size c.loop-cell.invariant
 
-pub returns-clause-put : goal.returns-clause-put
-returns-clause-put c =
+pub returns : goal.returns
+returns c =
     let over : c.loop-cell.cell ≡ cell_count = omega arith in
-    nulls_put c.loop-cell.cell c.args.wanted.now.cells c.loop-cell.wanted.cells over c.loop-cell.invariant.put
+    nulls_put c.loop-cell.cell c.args.wanted.now.cells c.loop-cell.wanted.cells over c.loop-cell.invariant

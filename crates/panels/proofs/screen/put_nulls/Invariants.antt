@@ -1,13 +1,6 @@
-use Rattle.std.specs.Prelude.{◌≡◌, length, All}
-use Rattle.codes3270.specs.Size.{cell_count}
-use Rattle.datastream.specs.Wanted.{IsProper}
 use Rattle.datastream.specs.declared.wanted.Want.TheVariants.{Char}
 use Rattle.panels.proofs.Putting.{IsPutFrom}
 use Rattle.panels.proofs.screen.put_nulls.Given as goal
 
 abbrev pub invariant-loop-cell : goal.invariant-loop-cell
-invariant-loop-cell l = record {
-  put : IsPutFrom 0 l.cell (λ distance. Char 0) l.initial.wanted.cells l.wanted.cells;
-  size : length l.wanted.cells ≡ cell_count;
-  proper : All IsProper l.wanted.cells;
-}
+invariant-loop-cell l = IsPutFrom 0 l.cell (λ distance. Char 0) l.initial.wanted.cells l.wanted.cells

@@ -1,7 +1,7 @@
-use Rattle.std.proofs.Common.{◌≡◌, ◌<◌, ◌∙◌, All, List, length, ap, sym, subst, arith, rules, Some}
+use Rattle.std.proofs.Common.{◌≡◌, ◌<◌, ◌∙◌, List, length, ap, sym, subst, rules, Some}
 use Rattle.std.proofs.lemmas.Option.{slice_get-get_or}
 use Rattle.codes3270.specs.Size.{cell_count}
-use Rattle.datastream.specs.Wanted.{IsProper, WantedScreen}
+use Rattle.datastream.specs.Wanted.{WantedScreen}
 use Rattle.datastream.specs.declared.wanted.Want.{Want}
 use Rattle.datastream.specs.declared.wanted.Want.TheVariants as want
 use Rattle.panels.specs.Panel.{PanelParts}
@@ -10,11 +10,8 @@ use Rattle.panels.proofs.Putting.{put_all}
 use Rattle.panels.proofs.Screens.{is_screen_of}
 use Rattle.panels.proofs.panel.Panel.put_wanted.Goals as goal
 
-pub put_nulls-requires-clause-size : goal.put_nulls-requires-clause-size
-put_nulls-requires-clause-size c = subst (λ (cells : List Want). length cells ≡ cell_count) c.cells-replaced.ensures.cells c.cells-replaced.ensures.size
-
-pub put_nulls-requires-clause-proper : goal.put_nulls-requires-clause-proper
-put_nulls-requires-clause-proper c = subst (λ (cells : List Want). All IsProper cells) c.cells-replaced.ensures.cells c.cells-replaced.ensures.proper
+all_there : (shown cells : List Want) → shown ≡ cells → length shown ≡ cell_count → length cells ≡ cell_count
+all_there shown cells same size = sym (ap length same) ∙ size
 
 pub returns-clause-wanted : goal.returns-clause-wanted
 returns-clause-wanted c =
@@ -23,14 +20,14 @@ returns-clause-wanted c =
     subst (λ screen. IsWantedOf panel c.args.values.now c.args.message c.args.keep screen) (sym c.aim.ensures)
     (record {
       cells = λ cell below.
-          let fits : cell < length c.put_texts.new.wanted.cells = omega (arith, c.put_texts.ensures.size) in
+          let fits : cell < length c.put_texts.new.wanted.cells = subst (λ n. cell < n) (sym (all_there c.cells-whole.result c.put_texts.new.wanted.cells c.cells-whole.ensures.cells c.cells-whole.ensures.size)) below in
           slice_get-get_or c.put_texts.new.wanted.cells cell want.Keep fits
           ∙ ap Some
           (put_all panel c.args.values.now c.args.message c.args.keep c.as_slice.result.now c.as_slice-fields.result.now c.put_nulls.new.wanted.cells
           c.put_stoppers.new.wanted.cells c.put_message.new.wanted.cells c.put_fields.new.wanted.cells c.put_texts.new.wanted.cells
           (c.as_slice.ensures.value ∙ ap (λ (p : PanelParts). p.texts) c.self.view_is) (c.as_slice-fields.ensures.value ∙ ap (λ (p : PanelParts). p.fields) c.self.view_is)
-          c.put_nulls.ensures.put
-          c.put_stoppers.ensures.put c.put_message.ensures.put c.put_fields.ensures.put c.put_texts.ensures.put cell want.Keep below);
+          c.put_nulls.ensures
+          c.put_stoppers.ensures c.put_message.ensures c.put_fields.ensures c.put_texts.ensures cell want.Keep below);
       cursor = c.cursor_for.ensures;
       reset = fresh;
     })
@@ -38,5 +35,5 @@ returns-clause-wanted c =
 pub returns-clause-screen : goal.returns-clause-screen
 returns-clause-screen c =
     is_screen_of c.args.self.now c.args.values.now c.args.message c.args.keep c.aim.new.self
-    (subst (λ (screen : WantedScreen). length screen.cells ≡ cell_count) (sym c.aim.ensures) c.put_texts.ensures.size)
+    (subst (λ (screen : WantedScreen). length screen.cells ≡ cell_count) (sym c.aim.ensures) (all_there c.cells-whole.result c.put_texts.new.wanted.cells c.cells-whole.ensures.cells c.cells-whole.ensures.size))
     (returns-clause-wanted c)
