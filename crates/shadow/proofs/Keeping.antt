@@ -2,16 +2,18 @@
 use Rattle.std.proofs.Common.{◌≡◌, ℕ, ◌<◌, Bool, true, false, List, length, replicate, set, get_or, refl, ap, sym, subst, arith, ◌∙◌, ne_eqb, eq-eqb, inl, inr, if◌then◌else◌}
 use Rattle.std.specs.Prelude.{nat_eq}
 use Rattle.std.proofs.lemmas.Bool.{cases_eq}
-use Rattle.std.proofs.lemmas.List.{get_or-set_other, get_or-set_same, get_or-replicate, get_or_default, length-set, length-replicate}
+use Rattle.std.proofs.lemmas.List.{get_or-set_other, get_or-set_same, get_or-replicate, get_or_default, set-get_or, length-set, length-replicate}
 use Rattle.codes3270.specs.declared.attribute.Attr.{Attr as Attribute}
 use Rattle.codes3270.specs.Attribute.{attr_of}
+use Rattle.shadow.specs.declared.mark.Mark.{Mark}
+use Rattle.shadow.specs.declared.place.Telling.{Telling}
 use Rattle.shadow.specs.declared.place.Place.{Place}
 use Rattle.shadow.specs.declared.place.Place.TheVariants.{Attr, Known, Told, Unknown}
 use Rattle.shadow.specs.declared.places.Head.{Head}
 use Rattle.shadow.specs.InPlace.{is_attribute}
 use Rattle.datastream.specs.Rows.{has_bit, kept}
 use Rattle.datastream.proofs.Keeping.{length_kept, kept_at, kept_set, kept_all}
-use Rattle.shadow.specs.Rows.{no_head, head_of, is_known, is_told, place_kept, place_by, MarksKnown}
+use Rattle.shadow.specs.Rows.{no_head, head_of, with_head, is_known, is_told, place_kept, place_by, MarksKnown}
 
 -- one place is kept anew
 module _ (heads : List Head) (attributes known told attributes_ known_ told_ : List ℕ) (at : ℕ) (p : Place) (within : at < length heads)
@@ -152,3 +154,47 @@ module _ (heads : List Head) (attributes known told bytes : List ℕ) (at : ℕ)
       ∙ kept_at (place_by heads attributes known told) bytes at (get_or bytes at 0) Unknown within (get_or_default bytes at 0 (get_or bytes at 0) within)
       ∙ ap (λ b. place_kept (get_or heads at no_head) b (has_bit known at) (has_bit told at) (get_or bytes at 0)) a
       ∙ ap (λ b. place_kept (get_or heads at no_head) false b (has_bit told at) (get_or bytes at 0)) k
+
+-- ---- the head of an attribute is held anew
+
+headed_kept : (h : Head) (m : Mark) (u : Telling) (a k t : Bool) (byte : ℕ) → place_kept (record { mark = m; telling = u }) a k t byte ≡ with_head m u (place_kept h a k t byte)
+headed_kept h m u true k t byte = refl
+headed_kept h m u false true t byte = refl
+headed_kept h m u false false true byte = refl
+headed_kept h m u false false false byte = refl
+
+headed_known : (m : Mark) (u : Telling) (p : Place) → is_known (with_head m u p) ≡ is_known p
+headed_known m u (Attr a n v) = refl
+headed_known m u (Known c) = refl
+headed_known m u (Told c) = refl
+headed_known m u Unknown = refl
+
+module _ (heads : List Head) (attributes known told bytes : List ℕ) (at : ℕ) (inside : at < length heads) (within : at < length bytes) (m : Mark) (u : Telling) (now : List Place)
+    (view : kept (place_by heads attributes known told) 0 bytes ≡ now) where
+  abbrev head : Head
+  head = record { mark = m; telling = u }
+
+  abbrev old_one : Place
+  old_one = get_or now at Unknown
+
+  one_is : place_by (set heads at head) attributes known told at (get_or bytes at 0) ≡ with_head m u old_one
+  one_is =
+      ap (λ (h : Head). place_kept h (has_bit attributes at) (has_bit known at) (has_bit told at) (get_or bytes at 0)) (get_or-set_same heads at head no_head inside)
+      ∙ headed_kept (get_or heads at no_head) m u (has_bit attributes at) (has_bit known at) (has_bit told at) (get_or bytes at 0)
+      ∙ ap (with_head m u) (sym (kept_at (place_by heads attributes known told) bytes at (get_or bytes at 0) Unknown within (get_or_default bytes at 0 (get_or bytes at 0) within)) ∙ ap (λ (ps : List Place). get_or ps at Unknown) view)
+
+  pub head_kept : kept (place_by (set heads at head) attributes known told) 0 bytes ≡ set now at (with_head m u (get_or now at Unknown))
+  head_kept =
+      ap (kept (place_by (set heads at head) attributes known told) 0) (sym (set-get_or bytes at 0))
+      ∙ kept_set (place_by heads attributes known told) (place_by (set heads at head) attributes known told) bytes at (get_or bytes at 0) (with_head m u old_one)
+      (λ j byte apart. ap (λ (h : Head). place_kept h (has_bit attributes j) (has_bit known j) (has_bit told j) byte) (get_or-set_other heads at j head no_head apart)) one_is
+      ∙ ap (λ (ps : List Place). set ps at (with_head m u old_one)) view
+
+  pub head_marked : MarksKnown known now → MarksKnown known (kept (place_by (set heads at head) attributes known told) 0 bytes)
+  head_marked marked =
+      let size : length now ≡ length bytes = sym (ap length view) ∙ length_kept (place_by heads attributes known told) 0 bytes in
+      let before : at < length now = omega arith in
+      subst (MarksKnown known) (sym head_kept) (marked_set known known now at (with_head m u old_one) before marked (λ other. elim (cases_eq other at) [
+        | inl same ↦ ap (has_bit known) same ∙ marked at before ∙ sym (headed_known m u old_one) ∙ sym (ap (λ t. if t then is_known (with_head m u old_one) else has_bit known other) (eq-eqb other at same))
+        | inr apart ↦ sym (ap (λ t. if t then is_known (with_head m u old_one) else has_bit known other) (ne_eqb other at apart))
+      ]))

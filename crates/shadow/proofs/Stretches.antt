@@ -1,11 +1,13 @@
 -- The characters between two attributes, passed in one step.
-use Rattle.std.proofs.Common.{◌≡◌, ℕ, zero, suc, ◌+◌, ◌-◌, ◌<◌, ◌≤◌, Bool, true, false, List, [], ◌∷◌, ◌++◌, length, drop, get_or, refl, ap, sym, arith, ◌∙◌, append-nil}
-use Rattle.std.proofs.lemmas.List.{get_or-drop, get_or_default, length-drop}
+use Rattle.std.proofs.Common.{◌≡◌, ℕ, zero, suc, ◌+◌, ◌-◌, ◌<◌, ◌≤◌, Bool, true, false, List, [], ◌∷◌, ◌++◌, length, drop, get_or, refl, ap, sym, arith, ◌∙◌, inl, inr, append-nil}
+use Rattle.std.specs.Prelude.{nat_lt}
 use Rattle.std.proofs.Math.Seq.{drop-nil}
+use Rattle.std.proofs.lemmas.Bool.{cases_lt, lt-ltb, le-ltb}
+use Rattle.std.proofs.lemmas.List.{get_or-drop, get_or_default, length-drop}
 use Rattle.shadow.specs.declared.place.Place.{Place}
 use Rattle.shadow.specs.declared.place.Place.TheVariants.{Attr, Known, Told, Unknown}
 use Rattle.shadow.specs.declared.places.Head.{Head}
-use Rattle.shadow.specs.InPlace.{is_attribute, chars_known, beliefs_held}
+use Rattle.shadow.specs.InPlace.{is_attribute, has_attribute, chars_known, beliefs_held}
 use Rattle.datastream.specs.Rows.{has_bit, kept}
 use Rattle.shadow.specs.Rows.{no_head, place_kept, place_by}
 use Rattle.datastream.proofs.Keeping.{kept_at, length_kept}
@@ -49,6 +51,26 @@ module _ (heads : List Head) (attributes known told bytes : List ℕ) (now : Lis
       (λ i low. ap is_attribute (get_or-drop from now i Unknown) ∙ attribute_bit (from + i) (omega arith) ∙ clear (from + i) (omega arith) (omega arith))
       (λ low. ap is_attribute (get_or-drop from now k Unknown) ∙ attribute_bit (from + k) (omega (arith, size, length-drop from now)) ∙ ap (has_bit attributes) there ∙ set (omega (arith, size, length-drop from now))) in
       omega arith
+
+-- ---- whether there is one
+
+less_further : (a b : ℕ) → nat_lt (suc a) (suc b) ≡ nat_lt a b
+less_further a b = elim (cases_lt a b) [
+  | inl low ↦ lt-ltb (suc a) (suc b) (omega arith) ∙ sym (lt-ltb a b low)
+  | inr high ↦ le-ltb (suc a) (suc b) (omega arith) ∙ sym (le-ltb a b high)
+]
+
+any_within : (ps : List Place) → nat_lt (length (chars_known ps)) (length ps) ≡ has_attribute ps
+any_within [] = refl
+any_within (Attr a m t ∷ ps) = lt-ltb 0 (suc (length ps)) (omega arith)
+any_within (Known c ∷ ps) = less_further (length (chars_known ps)) (length ps) ∙ any_within ps
+any_within (Told c ∷ ps) = less_further (length (chars_known ps)) (length ps) ∙ any_within ps
+any_within (Unknown ∷ ps) = less_further (length (chars_known ps)) (length ps) ∙ any_within ps
+
+pub any_before : (ps : List Place) (first size : ℕ) → first ≡ 0 + length (chars_known (drop 0 ps)) → size ≡ length ps → nat_lt first size ≡ has_attribute ps
+any_before ps first size is all =
+    let same : first ≡ length (chars_known ps) = omega arith in
+    ap (λ (n : ℕ). nat_lt n size) same ∙ ap (nat_lt (length (chars_known ps))) all ∙ any_within ps
 
 -- ---- how many characters a field has
 

@@ -1,7 +1,7 @@
 -- A walk that changes fields from attribute to attribute is the walk over all places.
 use Rattle.std.proofs.Common.{◌≡◌, ℕ, suc, ◌+◌, ◌<◌, ◌≤◌, Bool, List, [], ◌∷◌, ◌++◌, length, take, drop, set, get_or, Option, Some, None, refl, ap, sym, subst, arith, ◌∙◌, append_assoc, append-nil, length-append}
 use Rattle.std.proofs.Math.Seq.{drop-nil}
-use Rattle.std.proofs.lemmas.List.{drop_more, take_more_set, drop-set-lt, take_at, drop_at, length-take-le, take-append-drop, take_all, at_drop_all}
+use Rattle.std.proofs.lemmas.List.{get_or_default, drop_more, take_more_set, drop-set-lt, take_at, drop_at, length-take-le, take-append-drop, take_all, at_drop_all}
 use Rattle.codes3270.specs.declared.attribute.Attr.{Attr as Attribute}
 use Rattle.datastream.specs.InboundFields.{Returned}
 use Rattle.shadow.specs.declared.mark.Mark.{Mark}
@@ -12,6 +12,7 @@ use Rattle.shadow.specs.declared.place.Place.TheVariants.{Attr, Known, Told, Unk
 use Rattle.shadow.specs.declared.hearing.Unreturned.{Unreturned}
 use Rattle.shadow.specs.Filled.{Fill, Change, filled, fill_next, fill_after, changed, came_behind, text_came, of_known, unreturned_at, unreturned_from, long_change, long_changes, all_changed, last_fill, front_filled}
 use Rattle.shadow.specs.InPlace.{chars_known}
+use Rattle.shadow.specs.Rows.{with_head}
 use Rattle.shadow.proofs.Passing.{fills}
 use Rattle.shadow.proofs.Stretches.{drop_drop}
 
@@ -242,6 +243,20 @@ module _ (erased : Bool) (whole : List Place) where
       by_place (Known c) there stands is_one is_after = absurd (let no = ap (λ (qs : List Place). length (chars_known qs)) there in omega arith)
       by_place (Told c) there stands is_one is_after = absurd (let no = ap (λ (qs : List Place). length (chars_known qs)) there in omega arith)
       by_place Unknown there stands is_one is_after = absurd (let no = ap (λ (qs : List Place). length (chars_known qs)) there in omega arith)
+
+-- an attribute's head alone is changed
+headed : (p : Place) (rest : List Place) (f : Fill) (one : Change) → length (chars_known (p ∷ rest)) ≡ 0 → with_head one.mark one.telling p ≡ changed p f one
+headed (Attr a m t) rest f one none = refl
+headed (Known c) rest f one none = absurd (omega arith)
+headed (Told c) rest f one none = absurd (omega arith)
+headed Unknown rest f one none = absurd (omega arith)
+
+pub head_changed : (now : List Place) (at : ℕ) (held : Place) (f : Fill) (one : Change) → at < length now → held ≡ get_or now at held → length (chars_known (drop at now)) ≡ 0
+    → set now at (with_head one.mark one.telling (get_or now at Unknown)) ≡ set now at (changed held f one)
+head_changed now at held f one within is stands =
+    let there : drop at now ≡ held ∷ drop (at + 1) now = drop_more now at held within ∙ ap (λ (p : Place). p ∷ drop (at + 1) now) (sym is) in
+    let none : length (chars_known (held ∷ drop (at + 1) now)) ≡ 0 = ap (λ (qs : List Place). length (chars_known qs)) (sym there) ∙ stands in
+    ap (set now at) (ap (with_head one.mark one.telling) (get_or_default now at Unknown held within ∙ sym is) ∙ headed held (drop (at + 1) now) f one none)
 
 -- what is filled with what it holds stays
 pub same_filled : (from : ℕ) (ps : List Place) → ps ≡ take from ps ++ front_filled Fill.Same (drop from ps)

@@ -2,7 +2,9 @@
 use Rattle.std.specs.Prelude.{◌≡◌, ◌<◌, ℕ, length, Bool, true, false, List, slice_index_or}
 use Rattle.codes3270.specs.Attribute.{attr_of}
 use Rattle.datastream.specs.Rows.{has_bit}
+use Rattle.shadow.specs.declared.mark.Mark.{Mark}
 use Rattle.shadow.specs.declared.mark.Mark.TheVariants.{Unknown as UnknownMark}
+use Rattle.shadow.specs.declared.place.Telling.{Telling}
 use Rattle.shadow.specs.declared.place.Telling.TheVariants.{Cells}
 use Rattle.shadow.specs.declared.place.Place.{Place}
 use Rattle.shadow.specs.declared.place.Place.TheVariants.{Attr, Known, Told, Unknown}
@@ -16,6 +18,13 @@ head_of (Attr attribute mark telling) = record { mark = mark; telling = telling 
 head_of (Known char) = no_head
 head_of (Told char) = no_head
 head_of Unknown = no_head
+
+-- an attribute with another head
+abbrev pub with_head : Mark → Telling → Place → Place
+with_head mark telling (Attr attribute was_mark was_telling) = Attr attribute mark telling
+with_head mark telling (Known char) = Known char
+with_head mark telling (Told char) = Told char
+with_head mark telling Unknown = Unknown
 
 -- an attribute, or a character that is known
 abbrev pub is_known : Place → Bool

@@ -231,10 +231,5 @@ pub(crate) fn is_attribute(place: Place) -> bool
 pub(crate) fn has_attribute(places: &Places) -> bool
     ensures { result ≡ any_attribute places.now }
 {
-    for place in 0..places.len() {
-        if is_attribute(places.get(place)) {
-            return true;
-        }
-    }
-    false
+    places.attribute_from(0) < places.len()
 }

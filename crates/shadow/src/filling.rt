@@ -1,7 +1,8 @@
 //! What becomes of the places of a field.
-ghost use Rattle.std.specs.Prelude.{◌≡◌, ◌≤◌, ◌++◌, length, take, drop};
+ghost use Rattle.std.specs.Prelude.{◌≡◌, ◌≤◌, ◌+◌, ◌++◌, length, take, drop};
 ghost use Rattle.codes3270.specs.Size.{cell_count};
-ghost use Rattle.shadow.specs.Filled.{fill_of, filled, place_told, fill_next, fill_after, change_of, changed, fill_behind, front_filled};
+ghost use Rattle.shadow.specs.InPlace.{chars_known};
+ghost use Rattle.shadow.specs.Filled.{fill_of, filled, place_told, fill_next, fill_after, front_filled};
 
 use crate::mark::Mark;
 use crate::place::{Place, Telling};
@@ -21,9 +22,6 @@ pub(crate) enum Filling<'a> {
     /// Those that are known tell a text.
     Told,
 }
-
-/// Texts of fields shorter than this are put one by one, which is then faster.
-const SHORT: usize = 8;
 
 /// What becomes of a field.
 #[derive(Clone, Copy)]
@@ -68,34 +66,6 @@ pub(crate) fn filling_next(filling: Filling<'_>) -> Filling<'_>
     }
 }
 
-/// What becomes of a place: of an attribute by its change, of a character by what its field is filled with.
-pub(crate) fn place_after(held: Place, filling: Filling<'_>, change: Change<'_>) -> Place
-    ensures { result ≡ changed held (fill_of filling.entry) (change_of change.entry) }
-{
-    match held {
-        Place::Attr(attr, _, _) => Place::Attr(attr, change.mark, change.telling),
-        Place::Known(_) => fill(held, filling),
-        Place::Told(_) => fill(held, filling),
-        Place::Unknown => fill(held, filling),
-    }
-}
-
-/// What the place behind it is filled with.
-pub(crate) fn filling_behind<'a>(
-    held: Place,
-    filling: Filling<'a>,
-    change: Change<'a>,
-) -> Filling<'a>
-    ensures { fill_of result ≡ fill_behind held (fill_of filling.entry) (change_of change.entry) }
-{
-    match held {
-        Place::Attr(_, _, _) => change.filling,
-        Place::Known(_) => filling_next(filling),
-        Place::Told(_) => filling_next(filling),
-        Place::Unknown => filling_next(filling),
-    }
-}
-
 /// The bytes behind so many.
 fn text_after(text: &[u8], count: usize) -> &[u8]
     ensures { result.now ≡ drop count text.now }
@@ -136,18 +106,25 @@ fn fill_each(places: &mut Places, from: usize, filling: Filling<'_>)
     }
 }
 
-/// Fills the characters from an address to the next attribute, or to the end.
-pub(crate) fn fill_from(places: &mut Places, from: usize, filling: Filling<'_>)
-    requires { from ≤ cell_count }
+/// Fills the characters from an address to another, where the next attribute stands, or the end.
+pub(crate) fn fill_between(places: &mut Places, from: usize, to: usize, filling: Filling<'_>)
+    requires few { to ≤ cell_count }
+    requires chars { to ≡ from + length (chars_known (drop from places.old)) }
     ensures { places.new ≡ take from places.old ++ front_filled (fill_of filling.entry) (drop from places.old) }
 {
-    let to = places.attribute_from(from);
     match filling {
         Filling::Same => {}
         Filling::Unknown => places.forget(from, to),
         Filling::Null => places.hold_nulls(from, to),
-        Filling::Text(_) if to - from < SHORT => fill_each(places, from, filling),
         Filling::Text(text) => places.tell(from, to, text),
         Filling::Told => fill_each(places, from, filling),
     }
+}
+
+/// Fills the characters from the first address to the first attribute, or to the end.
+pub(crate) fn fill_front(places: &mut Places, filling: Filling<'_>)
+    ensures { places.new ≡ front_filled (fill_of filling.entry) places.old }
+{
+    let to = places.attribute_from(0);
+    fill_between(places, 0, to, filling);
 }

@@ -16,7 +16,7 @@ ghost use Rattle.shadow.specs.InPlace.{chars_known, fact_held, beliefs_held, IsH
 use crate::asking::{all_known, are_null, denies, is_attribute};
 use crate::came::{next_behind, next_of, text_for};
 use crate::fault::HeardFault;
-use crate::filling::{Change, Filling, fill_from, filling_after, filling_behind, place_after};
+use crate::filling::{Change, Filling, fill_between, fill_front, filling_after};
 use crate::mark::Mark;
 use crate::place::{Place, Telling};
 use crate::places::Places;
@@ -287,13 +287,13 @@ fn take_fields<'a>(places: &mut Places, erased: bool, returned: ReturnedFields<'
         let held = places.get(place);
         let end = places.attribute_from(place + 1);
         let one = change_after(places, place, held, erased, text_for(held, place, next));
-        places.set(place, place_after(held, filling, one));
-        fill_from(places, place + 1, one.filling);
+        places.set_head(place, one.mark, one.telling);
+        fill_between(places, place + 1, end, one.filling);
         filling = filling_after(one.filling, end - place - 1);
         next = next_behind(&mut rest, next, held, place);
         place = end;
     }
-    fill_from(places, 0, filling);
+    fill_front(places, filling);
 }
 
 /// Takes in data that is possible, of a screen with fields; `erased`: the operator erased the input.
@@ -341,10 +341,10 @@ pub(crate) fn after_attention(places: &mut Places)
         let held = places.get(place);
         let end = places.attribute_from(place + 1);
         let one = key_change_of(held);
-        places.set(place, place_after(held, filling, one));
-        fill_from(places, place + 1, one.filling);
+        places.set_head(place, one.mark, one.telling);
+        fill_between(places, place + 1, end, one.filling);
         filling = filling_after(one.filling, end - place - 1);
         place = end;
     }
-    fill_from(places, 0, filling);
+    fill_front(places, filling);
 }

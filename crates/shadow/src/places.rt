@@ -6,7 +6,7 @@ ghost use Rattle.shadow.specs.InPlace.{is_attribute as is_attribute_held, chars_
 ghost use Rattle.datastream.specs.Rows.{word_count};
 ghost use Rattle.shadow.specs.Looks.{SetUnless};
 ghost use Rattle.shadow.specs.declared.place.Place.TheVariants.{Known, Unknown};
-ghost use Rattle.shadow.specs.Rows.{head_of as head_held, is_known as is_known_held, is_told as is_told_held, place_kept};
+ghost use Rattle.shadow.specs.Rows.{head_of as head_held, with_head, is_known as is_known_held, is_told as is_told_held, place_kept};
 
 use crate::asking::is_attribute;
 use crate::mark::Mark;
@@ -181,6 +181,14 @@ impl Places {
         self.attributes.put(at, is_attribute(place));
         self.known.put(at, is_known(place));
         self.told.put(at, is_told(place));
+    }
+
+    /// Holds a mark and a telling with the attribute at an address. Where a character stands, nothing changes.
+    pub(crate) fn set_head(&mut self, at: usize, mark: Mark, telling: Telling)
+        requires { at < cell_count }
+        ensures { self.new ≡ slice_set self.old at (with_head mark telling (slice_index_or self.old at Unknown)) }
+    {
+        self.heads[at] = Head { mark, telling };
     }
 
     /// Holds the same place everywhere.

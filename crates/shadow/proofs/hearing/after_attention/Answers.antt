@@ -1,8 +1,9 @@
-use Rattle.std.proofs.Common.{◌≡◌, ◌∙◌, ◌+◌, ◌++◌, ◌-◌, ap, sym, arith, subst, drop, take, set, List, ℕ}
+use Rattle.std.proofs.Common.{◌≡◌, ◌∙◌, ◌+◌, ◌++◌, ◌-◌, ap, sym, arith, subst, drop, take, List, ℕ}
 use Rattle.shadow.specs.declared.place.Place.{Place}
 use Rattle.shadow.specs.Filled.{Fill, fill_of, fill_after, change_of, front_filled}
 use Rattle.shadow.proofs.Changing.{key_changed}
 use Rattle.shadow.proofs.KeyWalks.{Between, begins, step, finished}
+use Rattle.shadow.proofs.Walks.{head_changed}
 use Rattle.shadow.proofs.hearing.after_attention.Goals as goal
 
 pub loop-place-init : goal.loop-place-init
@@ -22,17 +23,17 @@ loop-place-preserved c =
     let one = change_of c.key_change_of-one.result in
     let k = end - at - 1 in
     let there : at + 1 + k ≡ end = omega (arith, c.attribute_from-end.ensures.place) in
-    let after = c.fill_from.ensures
-    ∙ ap (λ (ps : List Place). take (at + 1) ps ++ front_filled one.fill (drop (at + 1) ps)) (c.set.ensures.places ∙ ap (set now at) c.place_after.ensures) in
-    let next = step whole f at k now c.fill_from.new.places held one c.loop-place.invariant.walked (omega (arith, c.get-held.ensures.whole)) c.get-held.ensures.place c.key_change_of-one.ensures (omega (arith, c.attribute_from-end.ensures.place)) after in
+    let set_is = c.set_head.ensures ∙ head_changed now at held f one (omega (arith, c.get-held.ensures.whole)) c.get-held.ensures.place c.loop-place.invariant.walked.stands in
+    let after = c.fill_between.ensures ∙ ap (λ (ps : List Place). take (at + 1) ps ++ front_filled one.fill (drop (at + 1) ps)) set_is in
+    let next = step whole f at k now c.fill_between.new.places held one c.loop-place.invariant.walked (omega (arith, c.get-held.ensures.whole)) c.get-held.ensures.place c.key_change_of-one.ensures (omega (arith, c.attribute_from-end.ensures.place)) after in
     record {
       within = c.attribute_from-end.ensures.within;
-      walked = subst (λ (g : Fill). Between whole g end c.fill_from.new.places) (sym c.filling_after-filling.ensures)
-          (subst (λ (n : ℕ). Between whole (fill_after k one.fill) n c.fill_from.new.places) there next);
+      walked = subst (λ (g : Fill). Between whole g end c.fill_between.new.places) (sym c.filling_after-filling.ensures)
+          (subst (λ (n : ℕ). Between whole (fill_after k one.fill) n c.fill_between.new.places) there next);
     }
 
 pub returns-clause-fields : goal.returns-clause-fields
-returns-clause-fields c = (key_changed c.args.places.now c.fill_from-2.new.places c.requires (c.fill_from-2.ensures ∙ finished c.args.places.now (fill_of c.loop-place.filling) c.loop-place.place c.loop-place.places c.loop-place.invariant.walked (omega arith))).0
+returns-clause-fields c = (key_changed c.args.places.now c.fill_front.new.places c.requires (c.fill_front.ensures ∙ finished c.args.places.now (fill_of c.loop-place.filling) c.loop-place.place c.loop-place.places c.loop-place.invariant.walked (omega arith))).0
 
 pub returns-clause-held : goal.returns-clause-held
-returns-clause-held c = (key_changed c.args.places.now c.fill_from-2.new.places c.requires (c.fill_from-2.ensures ∙ finished c.args.places.now (fill_of c.loop-place.filling) c.loop-place.place c.loop-place.places c.loop-place.invariant.walked (omega arith))).1
+returns-clause-held c = (key_changed c.args.places.now c.fill_front.new.places c.requires (c.fill_front.ensures ∙ finished c.args.places.now (fill_of c.loop-place.filling) c.loop-place.place c.loop-place.places c.loop-place.invariant.walked (omega arith))).1

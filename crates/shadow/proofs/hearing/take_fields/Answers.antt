@@ -1,9 +1,9 @@
-use Rattle.std.proofs.Common.{◌≡◌, ◌∙◌, ◌+◌, ◌++◌, ◌-◌, ap, sym, arith, subst, drop, take, set, List, ℕ}
+use Rattle.std.proofs.Common.{◌≡◌, ◌∙◌, ◌+◌, ◌++◌, ◌-◌, ap, sym, arith, subst, drop, take, List, ℕ}
 use Rattle.datastream.specs.InboundFields.{Returned}
 use Rattle.shadow.specs.declared.place.Place.{Place}
 use Rattle.shadow.specs.Came.{came_of}
 use Rattle.shadow.specs.Filled.{Fill, fill_of, fill_after, change_of, text_came, came_behind, unreturned_at, long_change, front_filled}
-use Rattle.shadow.proofs.Walks.{Between, begins, step, finished}
+use Rattle.shadow.proofs.Walks.{Between, begins, step, finished, head_changed}
 use Rattle.shadow.proofs.hearing.take_fields.Goals as goal
 
 pub loop-place-init : goal.loop-place-init
@@ -31,15 +31,15 @@ loop-place-preserved c =
     let there : at + 1 + k ≡ end = omega (arith, c.attribute_from-end.ensures.place) in
     let is_one : one ≡ long_change c.args.erased held (unreturned_at held (drop (at + 1) now ++ now)) (text_came held at came) =
     c.change_after-one.ensures ∙ ap (long_change c.args.erased held (unreturned_at held (drop (at + 1) now ++ now))) (c.text_for.ensures c.loop-place.rest) in
-    let after = c.fill_from.ensures
-    ∙ ap (λ (ps : List Place). take (at + 1) ps ++ front_filled one.fill (drop (at + 1) ps)) (c.set.ensures.places ∙ ap (set now at) c.place_after.ensures) in
-    let next = step c.args.erased whole f at k came c.args.returned now c.fill_from.new.places held one c.loop-place.invariant.walked (omega (arith, c.get-held.ensures.whole)) c.get-held.ensures.place is_one (omega (arith, c.attribute_from-end.ensures.place)) after in
+    let set_is = c.set_head.ensures ∙ head_changed now at held f one (omega (arith, c.get-held.ensures.whole)) c.get-held.ensures.place c.loop-place.invariant.walked.stands in
+    let after = c.fill_between.ensures ∙ ap (λ (ps : List Place). take (at + 1) ps ++ front_filled one.fill (drop (at + 1) ps)) set_is in
+    let next = step c.args.erased whole f at k came c.args.returned now c.fill_between.new.places held one c.loop-place.invariant.walked (omega (arith, c.get-held.ensures.whole)) c.get-held.ensures.place is_one (omega (arith, c.attribute_from-end.ensures.place)) after in
     record {
       within = c.attribute_from-end.ensures.within;
-      walked = subst (λ (rs : List Returned). Between c.args.erased whole (fill_of c.filling_after-filling.result) end rs c.args.returned c.fill_from.new.places) (sym c.next_behind-next.ensures)
-          (subst (λ (g : Fill). Between c.args.erased whole g end behind c.args.returned c.fill_from.new.places) (sym c.filling_after-filling.ensures)
-          (subst (λ (n : ℕ). Between c.args.erased whole (fill_after k one.fill) n behind c.args.returned c.fill_from.new.places) there next));
+      walked = subst (λ (rs : List Returned). Between c.args.erased whole (fill_of c.filling_after-filling.result) end rs c.args.returned c.fill_between.new.places) (sym c.next_behind-next.ensures)
+          (subst (λ (g : Fill). Between c.args.erased whole g end behind c.args.returned c.fill_between.new.places) (sym c.filling_after-filling.ensures)
+          (subst (λ (n : ℕ). Between c.args.erased whole (fill_after k one.fill) n behind c.args.returned c.fill_between.new.places) there next));
     }
 
 pub returns : goal.returns
-returns c = c.fill_from-2.ensures ∙ finished c.args.erased c.args.places.now (fill_of c.loop-place.filling) c.loop-place.place (came_of c.loop-place.next c.loop-place.rest) c.args.returned c.loop-place.places c.loop-place.invariant.walked (omega arith)
+returns c = c.fill_front.ensures ∙ finished c.args.erased c.args.places.now (fill_of c.loop-place.filling) c.loop-place.place (came_of c.loop-place.next c.loop-place.rest) c.args.returned c.loop-place.places c.loop-place.invariant.walked (omega arith)

@@ -2,7 +2,7 @@ use Rattle.std.proofs.Common.{ap, sym, ◌∙◌, ◌++◌, take, drop}
 use Rattle.shadow.specs.declared.filling.Filling.{Filling}
 use Rattle.shadow.specs.Filled.{fill_of, front_filled}
 use Rattle.shadow.proofs.Walks.{same_filled}
-use Rattle.shadow.proofs.filling.fill_from.Goals as goal
+use Rattle.shadow.proofs.filling.fill_between.Goals as goal
 
 pub returns-in-Same : goal.returns-in-Same
 returns-in-Same c =
