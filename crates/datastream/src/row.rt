@@ -1,5 +1,5 @@
 //! A bit for each cell of a screen, in words of 64.
-ghost use Rattle.std.specs.Prelude.{◌≡◌, ◌<◌, ◌≤◌, ℕ, false, true, nat_eq, nat_lt, if◌then◌else◌, MatchOption};
+ghost use Rattle.std.specs.Prelude.{◌≡◌, ◌<◌, ◌≤◌, ◌+◌, ◌*◌, ◌/◌, ℕ, false, true, nat_eq, nat_lt, if◌then◌else◌, MatchOption};
 ghost use Rattle.codes3270.specs.Size.{cell_count};
 ghost use Rattle.std.specs.Int.{bit_at};
 ghost use Rattle.datastream.specs.Rows.{bit_of, has_bit, is_within, word_count, AreBits};
@@ -85,6 +85,34 @@ impl Row {
 
     /// Sets the bits of the cells from one to another, or clears them.
     pub fn put_range(&mut self, from: usize, to: usize, bit: bool)
+        requires order { from ≤ to }
+        requires few { to ≤ cell_count }
+        ensures { (other : ℕ) → has_bit self.new other ≡ (if is_within from to other then bit else has_bit self.old other) }
+    {
+        if from < to {
+            if to <= (from / BITS + 1) * BITS {
+                self.put_in_word(from, to, bit);
+            } else {
+                self.put_in_words(from, to, bit);
+            }
+        }
+    }
+
+    /// The same of cells whose bits are all in one word.
+    fn put_in_word(&mut self, from: usize, to: usize, bit: bool)
+        requires order { from < to }
+        requires few { to ≤ cell_count }
+        requires one { to ≤ (from / 64 + 1) * 64 }
+        ensures { (other : ℕ) → has_bit self.new other ≡ (if is_within from to other then bit else has_bit self.old other) }
+    {
+        let index = from / BITS;
+        let start = index * BITS;
+        let word = with_bits(self.words[index], from - start, to - start, bit);
+        self.words[index] = word;
+    }
+
+    /// The same of cells whose bits are in any words.
+    fn put_in_words(&mut self, from: usize, to: usize, bit: bool)
         requires order { from ≤ to }
         requires few { to ≤ cell_count }
         ensures { (other : ℕ) → has_bit self.new other ≡ (if is_within from to other then bit else has_bit self.old other) }

@@ -112,12 +112,16 @@ fn same_heads(head: Head) -> [Head; CELL_COUNT]
     [head; CELL_COUNT]
 }
 
-/// Puts bytes from an index on.
+/// Puts bytes from an index on. One byte is stored, which is then cheaper than a copy.
 fn put_bytes(bytes: &mut [u8], from: usize, text: &[u8])
     requires { from + length text.now ≤ length bytes.old }
     ensures { bytes.new ≡ take from bytes.old ++ (text.now ++ drop (from + length text.now) bytes.old) }
 {
-    bytes[from..from + text.len()].copy_from_slice(text);
+    if let [byte] = text {
+        bytes[from] = *byte;
+    } else {
+        bytes[from..from + text.len()].copy_from_slice(text);
+    }
 }
 
 /// Puts nulls from an index to another.

@@ -1,6 +1,6 @@
 use Rattle.std.proofs.Common.{◌≡◌, ◌<◌, ◌≤◌, ◌*◌, ℕ, length, if◌then◌else◌}
 use Rattle.datastream.specs.Rows.{word_count, has_bit, is_within}
-use Rattle.datastream.proofs.row.Row.put_range.Given as goal
+use Rattle.datastream.proofs.row.Row.put_in_words.Given as goal
 
 abbrev pub invariant-loop-index : goal.invariant-loop-index
 invariant-loop-index l = record {
