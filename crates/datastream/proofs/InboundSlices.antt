@@ -1,5 +1,5 @@
 -- Fields of inbound data as slices of its bytes.
-use Rattle.std.proofs.Common.{◌≡◌, ℕ, ◌+◌, ◌-◌, ◌^◌, ◌<◌, ◌≤◌, zero, suc, List, [], ◌∷◌, ◌++◌, length, get_or, take, drop, true, false, cond, refl, ap, sym, ◌∙◌, subst, arith, ◌⊎◌, inl, inr, Result, Ok, Err}
+use Rattle.std.proofs.Common.{◌≡◌, ℕ, ◌+◌, ◌-◌, ◌^◌, ◌<◌, ◌≤◌, zero, suc, List, [], ◌∷◌, ◌++◌, length, get_or, take, drop, Bool, true, false, cond, refl, ap, sym, ◌∙◌, subst, arith, ◌⊎◌, inl, inr, Result, Ok, Err}
 use Rattle.std.specs.List.{prefix_len}
 use Rattle.std.proofs.lemmas.Bool.{and_parts}
 use Rattle.std.proofs.lemmas.List.{take_all}
@@ -68,6 +68,19 @@ more_in_prefix char rest is = cond_when (is_storable char) (1 + prefix_len is_st
 
 no_prefix : (first : ℕ) (rest : List ℕ) → is_storable first ≡ false → prefix_len is_storable (first ∷ rest) ≡ 0
 no_prefix first rest is = ap (λ b. cond b (1 + prefix_len is_storable rest) 0) is
+
+-- behind them no other stands before what is none
+pub none_before : (text : List ℕ) → prefix_len is_storable (drop (prefix_len is_storable text) text) ≡ 0
+none_before [] = refl
+none_before (char ∷ rest) = cases (is_storable char) refl (none_before rest)
+  where
+    cases : (b : Bool) → is_storable char ≡ b → prefix_len is_storable (drop (prefix_len is_storable rest) rest) ≡ 0 → prefix_len is_storable (drop (prefix_len is_storable (char ∷ rest)) (char ∷ rest)) ≡ 0
+    cases true is later = ap (λ (n : ℕ). prefix_len is_storable (drop n (char ∷ rest))) (more_in_prefix char rest is) ∙ later
+    cases false is later = ap (λ (n : ℕ). prefix_len is_storable (drop n (char ∷ rest))) (no_prefix char rest is) ∙ no_prefix char rest is
+
+-- so a text that begins with none is what stands behind none
+pub from_start : (text : List ℕ) → prefix_len is_storable text ≡ 0 → text ≡ drop (prefix_len is_storable text) text
+from_start text start = ap (λ (n : ℕ). drop n text) (sym start)
 
 split_at : (form : Form) (parts : List Part) (text : List ℕ) (n : ℕ) → prefix_len is_storable text ≡ n → (take n text ≡ lead parts) × AreParts form (past_lead parts) (drop n text) → IsSplit form parts text
 split_at form parts text n is split =
@@ -215,6 +228,13 @@ no_field text fields are is_fields short =
       | inl (none, empty) ↦ sym (returned_past_lead parts) ∙ ap returned none
       | inr next ↦ let long : length fields ≡ suc (suc (suc (length next.back))) = ap length next.bytes_are in absurd (omega arith)
     ]
+
+-- the fields are those behind the first characters
+pub fields_behind : (text rest : List ℕ) → AreFields text → rest ≡ drop (prefix_len is_storable text) text → AreFields rest × (returned (parts_in Modified rest) ≡ returned (parts_in Modified text))
+fields_behind text rest are is =
+    let parts : List Part = parts_in Modified text in
+    let behind : AreParts Modified (past_lead parts) rest = subst (λ (b : List ℕ). AreParts Modified (past_lead parts) b) (sym is) (split Modified parts text are).1 in
+    (are_fields (past_lead parts) rest behind, returned_in (past_lead parts) rest behind ∙ returned_past_lead parts)
 
 -- ---- the two forms of modified fields have the same parts
 

@@ -1,14 +1,16 @@
 //! Inbound data.
 ghost use Rattle.std.specs.Prelude.{◌≡◌, [], ◌∷◌, Some, true, false, All as Each, MatchOption, MatchResult, IfSome, length, ◌<◌, ◌^◌};
+ghost use Rattle.std.specs.List.{prefix_len};
 ghost use Rattle.codes3270.specs.Aid.{aid_of};
 ghost use Rattle.codes3270.specs.Size.{cell_count};
+ghost use Rattle.codes3270.specs.Storable.{is_storable};
 ghost use Rattle.datastream.specs.declared.inbound_part.Form.TheVariants.{Modified, Buffer};
 ghost use Rattle.datastream.specs.declared.inbound_part.InboundFault.{InboundFault as Fault};
 ghost use Rattle.datastream.specs.InboundText.{AreParts, InboundParts, IsInbound, IsSent, IsNoInbound, IsProperPart, is_text_char, stands_alone};
 ghost use Rattle.datastream.specs.InboundReading.{parts_in};
 ghost use Rattle.datastream.specs.InboundFields.{lead, returned, cells_sent, IsProperReturned, IsStorableCell};
 
-use crate::inbound_fields::{ReturnedFields, split_characters};
+use crate::inbound_fields::{ReturnedFields, count_characters};
 use crate::inbound_part::{Form, InboundFault};
 use crate::inbound_reader::{Cells, Parts, check_parts};
 use codes3270::{Addr, Aid, addr_from_bytes, aid_from_byte};
@@ -21,9 +23,14 @@ pub struct Inbound<'a> {
     aid: Aid,
     cursor: Option<Addr>,
     text: &'a [u8],
+    /// How many characters the text begins with, counted once.
+    lead: usize,
 }
 
 impl<'a> Model for Inbound<'a> {
+    ghost use Rattle.std.specs.Prelude.{◌≡◌, ◌≤◌, length};
+    ghost use Rattle.std.specs.List.{prefix_len};
+    ghost use Rattle.codes3270.specs.Storable.{is_storable};
     ghost use Rattle.datastream.specs.InboundText.{InboundParts, IsSent, AreParts};
     ghost use Rattle.datastream.specs.InboundReading.{parts_in};
 
@@ -33,7 +40,9 @@ impl<'a> Model for Inbound<'a> {
 
     ghost invariant = { λ inbound.
         IsSent (record { form = inbound.form; aid = inbound.aid; cursor = inbound.cursor; parts = parts_in inbound.form inbound.text.now })
-        × AreParts inbound.form (parts_in inbound.form inbound.text.now) inbound.text.now };
+        × AreParts inbound.form (parts_in inbound.form inbound.text.now) inbound.text.now
+        × (inbound.lead ≡ prefix_len is_storable inbound.text.now)
+        × (inbound.lead ≤ length inbound.text.now) };
 }
 
 impl<'a> Inbound<'a> {
@@ -86,8 +95,7 @@ impl<'a> Inbound<'a> {
         ensures proper { (self.now.form ≡ Buffer → ⊥) → Each (λ char. is_text_char char ≡ true) result.now }
         ensures sent { IsSent self.now }
     {
-        let (lead, _) = split_characters(self.text);
-        lead
+        &self.text[..self.lead]
     }
 
     /// The fields that came, each with the address of its first cell. A buffer has none: its cells are its parts.
@@ -114,14 +122,16 @@ impl<'a> Inbound<'a> {
         Cells { text: self.text }
     }
 
-    /// The bytes that have the fields that came.
+    /// The bytes that have the fields that came, from the first one's order on.
     fn field_bytes(&self) -> &'a [u8]
         ensures parts { AreParts Modified (parts_in Modified result.now) result.now }
+        ensures start { prefix_len is_storable result.now ≡ 0 }
         ensures fields { returned (parts_in Modified result.now) ≡ returned self.now.parts }
     {
+        let fields = &self.text[self.lead..];
         match self.form {
-            Form::Modified => self.text,
-            Form::All => self.text,
+            Form::Modified => fields,
+            Form::All => fields,
             Form::Buffer => &[],
         }
     }
@@ -166,6 +176,7 @@ fn alone_inbound(form: Form, aid: Aid, byte: u8, rest: &[u8]) -> Result<Inbound<
             aid,
             cursor: None,
             text: rest,
+            lead: 0,
         })
     } else {
         Err(InboundFault::BadForm)
@@ -190,6 +201,7 @@ fn long_inbound(form: Form, aid: Aid, byte: u8, rest: &[u8]) -> Result<Inbound<'
         aid,
         cursor: Some(cursor),
         text,
+        lead: count_characters(text),
     })
 }
 

@@ -24,7 +24,9 @@ pub struct ReturnedFields<'a> {
 }
 
 impl<'a> Model for ReturnedFields<'a> {
-    ghost use Rattle.std.specs.Prelude.{List};
+    ghost use Rattle.std.specs.Prelude.{◌≡◌, List};
+    ghost use Rattle.std.specs.List.{prefix_len};
+    ghost use Rattle.codes3270.specs.Storable.{is_storable};
     ghost use Rattle.datastream.specs.declared.inbound_part.Form.TheVariants.{Modified};
     ghost use Rattle.datastream.specs.InboundText.{AreParts};
     ghost use Rattle.datastream.specs.InboundReading.{parts_in};
@@ -34,7 +36,8 @@ impl<'a> Model for ReturnedFields<'a> {
 
     ghost view = { λ fields. returned (parts_in Modified fields.text.now) };
 
-    ghost invariant = { λ fields. AreParts Modified (parts_in Modified fields.text.now) fields.text.now };
+    // No character stands before the first address.
+    ghost invariant = { λ fields. AreParts Modified (parts_in Modified fields.text.now) fields.text.now × (prefix_len is_storable fields.text.now ≡ 0) };
 }
 
 impl<'a> Iterator for ReturnedFields<'a> {
@@ -45,8 +48,7 @@ impl<'a> Iterator for ReturnedFields<'a> {
     ghost remaining = { item_count (λ fields. fields) };
 
     fn next(&mut self) -> Option<ReturnedField<'a>> {
-        let (_, fields) = split_characters(self.text);
-        let [_, high, low, rest @ ..] = fields else {
+        let [_, high, low, rest @ ..] = self.text else {
             return None;
         };
         let Ok(first) = addr_from_bytes([*high, *low]) else {
@@ -59,7 +61,7 @@ impl<'a> Iterator for ReturnedFields<'a> {
 }
 
 /// How many characters come before the first byte that is none.
-fn count_characters(text: &[u8]) -> usize
+pub(crate) fn count_characters(text: &[u8]) -> usize
     ensures value { result ≡ prefix_len is_storable text.now }
     ensures bound { result ≤ length text.now }
 {
@@ -67,7 +69,7 @@ fn count_characters(text: &[u8]) -> usize
 }
 
 /// The characters at the front, and the bytes from the first one on that is none.
-pub(crate) fn split_characters(text: &[u8]) -> (&[u8], &[u8])
+fn split_characters(text: &[u8]) -> (&[u8], &[u8])
     ensures characters { result.0.now ≡ take (prefix_len is_storable text.now) text.now }
     ensures rest { result.1.now ≡ drop (prefix_len is_storable text.now) text.now }
 {

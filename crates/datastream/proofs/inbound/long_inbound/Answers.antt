@@ -22,6 +22,8 @@ invariant_of-result c =
     let is = two_up c.args.rest.now c.in-len2-up.len_at_least in (
       (c.args.byte ∷ c.args.rest.now, long_read _ _ _ _ _ _ _ _ c.requires.known c.requires.long is c.in-Ok.ensures.0 c.in-Ok.ensures.1 c.in_ok-check_parts.ensures.0 c.in_ok-check_parts.ensures.1),
       c.in_ok-check_parts.ensures.0,
+      c.count_characters.ensures.value,
+      c.count_characters.ensures.bound,
     )
 
 pub returns : goal.returns

@@ -1,4 +1,4 @@
-use Rattle.std.proofs.Common.{◌≡◌, ◌∙◌, true, sym, subst, All}
+use Rattle.std.proofs.Common.{◌≡◌, ◌∙◌, true, ap, sym, subst, take, All, ℕ}
 use Rattle.datastream.specs.InboundText.{is_text_char}
 use Rattle.datastream.specs.InboundReading.{parts_in}
 use Rattle.datastream.specs.InboundFields.{lead}
@@ -8,11 +8,11 @@ use Rattle.datastream.proofs.InboundViews.{lead_proper}
 use Rattle.datastream.proofs.inbound.Inbound.lead.Goals as goal
 
 pub returns-clause-lead : goal.returns-clause-lead
-returns-clause-lead c = rw (← c.self.view_is) (c.split_characters.ensures.characters ∙ (split _ _ _ c.self.invariant.1).0)
+returns-clause-lead c = rw (← c.self.view_is) (ap (λ (n : ℕ). take n c.self.inside.text.now) c.self.invariant.2 ∙ (split _ _ _ c.self.invariant.1).0)
 
 pub returns-clause-proper : goal.returns-clause-proper
 returns-clause-proper c =
-    let is : c.split_characters.result.0.now ≡ lead (parts_in c.self.inside.form c.self.inside.text.now) = c.split_characters.ensures.characters ∙ (split _ _ _ c.self.invariant.1).0 in
+    let is : take c.self.inside.lead c.self.inside.text.now ≡ lead (parts_in c.self.inside.form c.self.inside.text.now) = ap (λ (n : ℕ). take n c.self.inside.text.now) c.self.invariant.2 ∙ (split _ _ _ c.self.invariant.1).0 in
     rw (← c.self.view_is) (λ other. subst (λ chars. All (λ char. is_text_char char ≡ true) chars) (sym is) (lead_proper c.self.inside.form _ other (inbound_proper _ c.self.invariant.0)))
 
 pub returns-clause-sent : goal.returns-clause-sent
