@@ -14,7 +14,7 @@ ghost use Rattle.shadow.specs.Held.{text_of};
 ghost use Rattle.shadow.specs.InPlace.{chars_known, fact_held, beliefs_held, IsHeld};
 
 use crate::asking::{all_known, are_null, denies, is_attribute};
-use crate::came::{next_behind, next_of, text_for};
+use crate::came::Coming;
 use crate::fault::HeardFault;
 use crate::filling::{Change, Filling, fill_between, fill_front, filling_after};
 use crate::mark::Mark;
@@ -108,22 +108,24 @@ fn erased_if_possible(places: &Places, returned: ReturnedFields<'_>) -> Option<b
     ensures { let beliefs = beliefs_held places.now 0 places.now in
         MatchOption result (can_be beliefs returned.entry ≡ false) (λ erased. (can_be beliefs returned.entry ≡ true) × (any_lost beliefs returned.entry ≡ erased)) }
 {
-    let mut rest = returned;
-    let mut next = next_of(&mut rest);
+    let mut coming = Coming::new(returned);
     let mut erased = false;
     let mut place = places.attribute_from(0);
     while place < CELL_COUNT {
         let held = places.get(place);
         let count = places.count_behind(place);
-        let text = text_for(held, place, next);
+        let text = coming.take(held, place);
         if contradicts(places, place, count, held, text) {
             return None;
         }
         erased |= was_erased(held, text);
-        next = next_behind(&mut rest, next, held, place);
         place = place + 1 + count;
     }
-    if next.is_none() { Some(erased) } else { None }
+    if coming.is_empty() {
+        Some(erased)
+    } else {
+        None
+    }
 }
 
 /// Why what came can't be of a screen that is so believed.
@@ -279,21 +281,22 @@ fn take_fields<'a>(places: &mut Places, erased: bool, returned: ReturnedFields<'
     ensures { let changes = long_changes erased 0 returned.entry places.old (unreturned_from places.old places.old) in
         places.new ≡ front_filled (last_fill Same changes places.old) (all_changed Same changes places.old) }
 {
-    let mut rest = returned;
-    let mut next = next_of(&mut rest);
+    let mut coming = Coming::new(returned);
     let mut filling = Filling::Same;
+    let mut filled = 0;
     let mut place = places.attribute_from(0);
     while place < CELL_COUNT {
         let held = places.get(place);
         let end = places.attribute_from(place + 1);
-        let one = change_after(places, place, held, erased, text_for(held, place, next));
+        let text = coming.take(held, place);
+        let one = change_after(places, place, held, erased, text);
         places.set_head(place, one.mark, one.telling);
         fill_between(places, place + 1, end, one.filling);
-        filling = filling_after(one.filling, end - place - 1);
-        next = next_behind(&mut rest, next, held, place);
+        filling = one.filling;
+        filled = end - place - 1;
         place = end;
     }
-    fill_front(places, filling);
+    fill_front(places, filling_after(filling, filled));
 }
 
 /// Takes in data that is possible, of a screen with fields; `erased`: the operator erased the input.
@@ -336,6 +339,7 @@ pub(crate) fn after_attention(places: &mut Places)
     ensures held { IsHeld places.new }
 {
     let mut filling = Filling::Same;
+    let mut filled = 0;
     let mut place = places.attribute_from(0);
     while place < CELL_COUNT {
         let held = places.get(place);
@@ -343,8 +347,9 @@ pub(crate) fn after_attention(places: &mut Places)
         let one = key_change_of(held);
         places.set_head(place, one.mark, one.telling);
         fill_between(places, place + 1, end, one.filling);
-        filling = filling_after(one.filling, end - place - 1);
+        filling = one.filling;
+        filled = end - place - 1;
         place = end;
     }
-    fill_front(places, filling);
+    fill_front(places, filling_after(filling, filled));
 }

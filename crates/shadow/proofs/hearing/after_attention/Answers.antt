@@ -19,7 +19,7 @@ loop-place-preserved c =
     let at = c.loop-place.place in
     let held = c.get-held.result in
     let end = c.attribute_from-end.result in
-    let f = fill_of c.loop-place.filling in
+    let f = fill_after c.loop-place.filled (fill_of c.loop-place.filling) in
     let one = change_of c.key_change_of-one.result in
     let k = end - at - 1 in
     let there : at + 1 + k ≡ end = omega (arith, c.attribute_from-end.ensures.place) in
@@ -28,12 +28,19 @@ loop-place-preserved c =
     let next = step whole f at k now c.fill_between.new.places held one c.loop-place.invariant.walked (omega (arith, c.get-held.ensures.whole)) c.get-held.ensures.place c.key_change_of-one.ensures (omega (arith, c.attribute_from-end.ensures.place)) after in
     record {
       within = c.attribute_from-end.ensures.within;
-      walked = subst (λ (g : Fill). Between whole g end c.fill_between.new.places) (sym c.filling_after-filling.ensures)
-          (subst (λ (n : ℕ). Between whole (fill_after k one.fill) n c.fill_between.new.places) there next);
+      walked = subst (λ (n : ℕ). Between whole (fill_after k one.fill) n c.fill_between.new.places) there next;
     }
 
 pub returns-clause-fields : goal.returns-clause-fields
-returns-clause-fields c = (key_changed c.args.places.now c.fill_front.new.places c.requires (c.fill_front.ensures ∙ finished c.args.places.now (fill_of c.loop-place.filling) c.loop-place.place c.loop-place.places c.loop-place.invariant.walked (omega arith))).0
+returns-clause-fields c =
+    let last = fill_after c.loop-place.filled (fill_of c.loop-place.filling) in
+    let all = c.fill_front.ensures ∙ ap (λ (g : Fill). front_filled g c.loop-place.places) c.filling_after.ensures
+    ∙ finished c.args.places.now last c.loop-place.place c.loop-place.places c.loop-place.invariant.walked (omega arith) in
+    (key_changed c.args.places.now c.fill_front.new.places c.requires all).0
 
 pub returns-clause-held : goal.returns-clause-held
-returns-clause-held c = (key_changed c.args.places.now c.fill_front.new.places c.requires (c.fill_front.ensures ∙ finished c.args.places.now (fill_of c.loop-place.filling) c.loop-place.place c.loop-place.places c.loop-place.invariant.walked (omega arith))).1
+returns-clause-held c =
+    let last = fill_after c.loop-place.filled (fill_of c.loop-place.filling) in
+    let all = c.fill_front.ensures ∙ ap (λ (g : Fill). front_filled g c.loop-place.places) c.filling_after.ensures
+    ∙ finished c.args.places.now last c.loop-place.place c.loop-place.places c.loop-place.invariant.walked (omega arith) in
+    (key_changed c.args.places.now c.fill_front.new.places c.requires all).1

@@ -1,7 +1,6 @@
 use Rattle.std.proofs.Common.{◌≡◌, ◌∙◌, ◌+◌, ◌++◌, ◌&&◌, ◌||◌, not, ap, sym, arith, drop, Bool, false, List}
 use Rattle.datastream.specs.InboundFields.{Returned}
 use Rattle.shadow.specs.Belief.{Belief}
-use Rattle.shadow.specs.Came.{came_of}
 use Rattle.shadow.specs.Filled.{is_possible, any_lost, contradicts_held, lost_held, text_came, came_behind}
 use Rattle.shadow.specs.InPlace.{beliefs_held}
 use Rattle.shadow.proofs.HeardSteps.{possible_step, lost_step, or_more}
@@ -14,8 +13,8 @@ loop-place-init c =
     let p = c.attribute_from-place.result in
     let start = fields_first whole p c.attribute_from-place.ensures.place in
     record {
-      possible = ap (λ (bs : List Belief). is_possible bs c.args.returned) start ∙ ap (is_possible (beliefs_held whole p (drop p whole))) (sym c.next_of-next.ensures);
-      lost = ap (λ (bs : List Belief). any_lost bs c.args.returned) start ∙ ap (any_lost (beliefs_held whole p (drop p whole))) (sym c.next_of-next.ensures);
+      possible = ap (λ (bs : List Belief). is_possible bs c.args.returned) start ∙ ap (is_possible (beliefs_held whole p (drop p whole))) (sym c.new-coming.ensures);
+      lost = ap (λ (bs : List Belief). any_lost bs c.args.returned) start ∙ ap (any_lost (beliefs_held whole p (drop p whole))) (sym c.new-coming.ensures);
     }
 
 pub loop-place-preserved : goal.loop-place-preserved
@@ -24,11 +23,11 @@ loop-place-preserved c =
     let n = c.loop-place.place in
     let m = n + 1 + c.count_behind-count.result in
     let held = c.get-held.result in
-    let came = came_of c.loop-place.next c.loop-place.rest in
+    let came = c.loop-place.coming in
     let ahead = drop (n + 1) whole ++ whole in
     let behind = came_behind held n came in
     let here = c.get-held.ensures.place in
-    let text = sym (c.text_for-text.ensures c.loop-place.rest) in
+    let text = sym c.take-text.ensures.text in
     let passed = fields_next whole n c.count_behind-count.result c.count_behind-count.ensures.count in
     let can : contradicts_held held n ahead (text_came held n came) ≡ false = ap (contradicts_held held n ahead) text ∙ sym c.contradicts.ensures ∙ c.if-contradicts.false in
     let lost : lost_held held n ahead (text_came held n came) ≡ c.was_erased-erased.result = ap (lost_held held n ahead) text ∙ sym (c.was_erased-erased.ensures n ahead) in
@@ -36,11 +35,11 @@ loop-place-preserved c =
       possible = c.loop-place.invariant.possible ∙ possible_step whole n held came (omega arith) here
           ∙ ap (λ (t : Bool). not t && is_possible (beliefs_held whole (n + 1) (drop (n + 1) whole)) behind) can
           ∙ ap (λ (bs : List Belief). is_possible bs behind) passed
-          ∙ ap (is_possible (beliefs_held whole m (drop m whole))) (sym c.next_behind-next.ensures);
+          ∙ ap (is_possible (beliefs_held whole m (drop m whole))) (sym c.take-text.ensures.left);
       lost = c.loop-place.invariant.lost
           ∙ ap (λ (t : Bool). c.loop-place.erased || t) (lost_step whole n held came (omega arith) here
           ∙ ap (λ (t : Bool). t || any_lost (beliefs_held whole (n + 1) (drop (n + 1) whole)) behind) lost
           ∙ ap (λ (bs : List Belief). c.was_erased-erased.result || any_lost bs behind) passed
-          ∙ ap (λ (rs : List Returned). c.was_erased-erased.result || any_lost (beliefs_held whole m (drop m whole)) rs) (sym c.next_behind-next.ensures))
-          ∙ or_more c.loop-place.erased c.was_erased-erased.result (any_lost (beliefs_held whole m (drop m whole)) (came_of c.next_behind-next.result c.next_behind-next.new.rest));
+          ∙ ap (λ (rs : List Returned). c.was_erased-erased.result || any_lost (beliefs_held whole m (drop m whole)) rs) (sym c.take-text.ensures.left))
+          ∙ or_more c.loop-place.erased c.was_erased-erased.result (any_lost (beliefs_held whole m (drop m whole)) c.take-text.new.self);
     }
