@@ -113,7 +113,13 @@ impl Addr {
         ensures value { result ≡ (self + 1) % cell_count }
         ensures in_range { self < cell_count }
     {
-        self.forward(1)
+        if self.position + 1 < CELLS {
+            Addr {
+                position: self.position + 1,
+            }
+        } else {
+            Addr::first()
+        }
     }
 }
 

@@ -47,15 +47,18 @@ by_order x other place below above = elim (cases_lt other place) [
   | inr more ↦ above more ∙ sym (ap bit_of (le-ltb other place more))
 ]
 
-pub no_ones : (other : ℕ) → bit_at 0 other ≡ bit_of (nat_lt other 0)
-no_ones other = by_order (bit_at 0 other) other 0 (λ less. absurd (omega arith)) (λ more. bit_at-zero other)
-
 pub some_ones : (place other : ℕ) → place ≤ 64 → bit_at ((2 ^ 64 - 1) / 2 ^ (64 - place)) other ≡ bit_of (nat_lt other place)
 some_ones place other few =
     let k : ℕ = 64 - place in
     by_order (bit_at ((2 ^ 64 - 1) / 2 ^ k) other) other place
     (λ less. shifted (2 ^ 64 - 1) k other ∙ bit_at_ones 64 (k + other) (omega arith))
     (λ more. shifted (2 ^ 64 - 1) k other ∙ bit_at_ones_above 64 (k + other) (omega arith))
+
+pub fewer_ones : (place other : ℕ) → place < 64 → bit_at ((2 ^ 64 - 1) / 2 ^ 1 / 2 ^ (63 - place)) other ≡ bit_of (nat_lt other place)
+fewer_ones place other few =
+    let k : ℕ = 63 - place in
+    let same : 1 + k ≡ 64 - place = omega arith in
+    ap (λ (n : ℕ). bit_at n other) (shr-shr (2 ^ 64 - 1) 1 k) ∙ ap (λ (j : ℕ). bit_at ((2 ^ 64 - 1) / 2 ^ j) other) same ∙ some_ones place other (omega arith)
 
 run : (t f : Bool) → min (bit_of t) (1 - bit_of f) ≡ bit_of (not f && t)
 run true true = refl

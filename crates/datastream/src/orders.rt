@@ -81,7 +81,8 @@ fn character_of(bytes: &[u8]) -> Result<(u8, &[u8]), CommandFault>
     }
 }
 
-/// The order whose code stands before the bytes.
+/// The order whose code stands before the bytes. Few orders are other than characters.
+#[inline(never)]
 #[tactic(auto, unfolding(crate::specs::Reading::order_after))]
 fn order_behind(code: u8, bytes: &[u8]) -> Result<(Order, &[u8]), CommandFault>
     ensures { Gives (λ x. (x.0, x.1.now)) result (order_after code bytes.now) }
@@ -113,6 +114,7 @@ fn order_behind(code: u8, bytes: &[u8]) -> Result<(Order, &[u8]), CommandFault>
 }
 
 /// The order at the front of the bytes.
+#[inline(always)]
 #[tactic(auto, unfolding(crate::specs::Reading::order_at))]
 pub(crate) fn order_of(bytes: &[u8]) -> Result<(Order, &[u8]), CommandFault>
     ensures { Gives (λ x. (x.0, x.1.now)) result (order_at bytes.now) }

@@ -84,6 +84,7 @@ impl Row {
     }
 
     /// Sets the bits of the cells from one to another, or clears them.
+    #[inline(always)]
     pub fn put_range(&mut self, from: usize, to: usize, bit: bool)
         requires order { from ≤ to }
         requires few { to ≤ cell_count }
@@ -112,6 +113,7 @@ impl Row {
     }
 
     /// The same of cells whose bits are in any words.
+    #[inline(never)]
     fn put_in_words(&mut self, from: usize, to: usize, bit: bool)
         requires order { from ≤ to }
         requires few { to ≤ cell_count }
@@ -137,7 +139,8 @@ impl Row {
 
 /// A word with the bits from one place to another set or cleared.
 fn with_bits(word: u64, from: usize, to: usize, bit: bool) -> u64
-    requires from { from ≤ 64 }
+    requires from { from < 64 }
+    requires some { 0 < to }
     requires to { to ≤ 64 }
     ensures { (other : ℕ) → other < 64 → bit_at result other ≡ (if is_within from to other then bit_of bit else bit_at word other) }
 {
@@ -147,23 +150,29 @@ fn with_bits(word: u64, from: usize, to: usize, bit: bool) -> u64
 
 /// A word whose bits from one place to another are set.
 fn ones_between(from: usize, to: usize) -> u64
-    requires from { from ≤ 64 }
+    requires from { from < 64 }
+    requires some { 0 < to }
     requires to { to ≤ 64 }
     ensures { (other : ℕ) → other < 64 → bit_at result other ≡ bit_of (is_within from to other) }
 {
-    ones_below(to) & !ones_below(from)
+    some_ones_below(to) & !ones_below(from)
 }
 
-/// A word whose bits below a place are set.
-fn ones_below(place: usize) -> u64
-    requires { place ≤ 64 }
+/// A word whose bits below a place are set, at least one.
+fn some_ones_below(place: usize) -> u64
+    requires some { 0 < place }
+    requires few { place ≤ 64 }
     ensures { (other : ℕ) → other < 64 → bit_at result other ≡ bit_of (nat_lt other place) }
 {
-    if place == 0 {
-        0
-    } else {
-        u64::MAX >> (BITS - place)
-    }
+    u64::MAX >> (BITS - place)
+}
+
+/// A word whose bits below a place are set, but never all.
+fn ones_below(place: usize) -> u64
+    requires { place < 64 }
+    ensures { (other : ℕ) → other < 64 → bit_at result other ≡ bit_of (nat_lt other place) }
+{
+    u64::MAX >> 1 >> (BITS - 1 - place)
 }
 
 /// A cell, or the number of cells where it is more.

@@ -52,6 +52,15 @@ module _ (heads : List Head) (attributes known told bytes : List ℕ) (now : Lis
       (λ low. ap is_attribute (get_or-drop from now k Unknown) ∙ attribute_bit (from + k) (omega (arith, size, length-drop from now)) ∙ ap (has_bit attributes) there ∙ set (omega (arith, size, length-drop from now))) in
       omega arith
 
+-- where no character stands, an attribute does
+pub stands_attribute : (ps : List Place) (at : ℕ) → at < length ps → length (chars_known (drop at ps)) ≡ 0 → is_attribute (get_or ps at Unknown) ≡ true
+stands_attribute [] at low none = absurd (omega arith)
+stands_attribute (Attr a m t ∷ ps) zero low none = refl
+stands_attribute (Known c ∷ ps) zero low none = absurd (omega arith)
+stands_attribute (Told c ∷ ps) zero low none = absurd (omega arith)
+stands_attribute (Unknown ∷ ps) zero low none = absurd (omega arith)
+stands_attribute (p ∷ ps) (suc at) low none = stands_attribute ps at (omega arith) none
+
 -- ---- whether there is one
 
 less_further : (a b : ℕ) → nat_lt (suc a) (suc b) ≡ nat_lt a b
@@ -117,12 +126,9 @@ fields_left whole at more =
     let k : ℕ = length (chars_known (drop at whole ++ more)) in
     fields_on whole at (drop at whole) more ∙ ap (beliefs_held whole (at + k)) (drop_drop at k whole)
 
-pub fields_first : (whole : List Place) (first : ℕ) → first ≡ 0 + length (chars_known (drop 0 whole)) → beliefs_held whole 0 whole ≡ beliefs_held whole first (drop first whole)
-fields_first whole first is =
-    let none = ap (λ (ps : List Place). length (chars_known ps)) (append-nil whole) in
-    let same : 0 + length (chars_known (whole ++ [])) ≡ first = omega arith in
-    fields_left whole 0 [] ∙ ap (λ (n : ℕ). beliefs_held whole n (drop n whole)) same
-
--- behind a field's attribute they are those behind its characters
-pub fields_next : (whole : List Place) (at count : ℕ) → count ≡ length (chars_known (drop (at + 1) whole ++ whole)) → beliefs_held whole (at + 1) (drop (at + 1) whole) ≡ beliefs_held whole (at + 1 + count) (drop (at + 1 + count) whole)
-fields_next whole at count is = fields_left whole (at + 1) whole ∙ ap (λ (k : ℕ). beliefs_held whole (at + 1 + k) (drop (at + 1 + k) whole)) (sym is)
+-- from a place on they are those from the next attribute before the end on
+pub fields_until : (whole : List Place) (at next : ℕ) → next ≡ at + length (chars_known (drop at whole)) → beliefs_held whole at (drop at whole) ≡ beliefs_held whole next (drop next whole)
+fields_until whole at next is =
+    let none = ap (λ (ps : List Place). length (chars_known ps)) (append-nil (drop at whole)) in
+    let same : at + length (chars_known (drop at whole ++ [])) ≡ next = omega arith in
+    fields_left whole at [] ∙ ap (λ (n : ℕ). beliefs_held whole n (drop n whole)) same

@@ -88,6 +88,7 @@ pub(crate) fn filling_after(filling: Filling<'_>, count: usize) -> Filling<'_>
 }
 
 /// Fills the characters from an address to the next attribute, or to the end, one by one.
+#[inline(never)]
 fn fill_each(places: &mut Places, from: usize, filling: Filling<'_>)
     requires { from ≤ cell_count }
     ensures { places.new ≡ take from places.old ++ front_filled (fill_of filling.entry) (drop from places.old) }
@@ -107,6 +108,7 @@ fn fill_each(places: &mut Places, from: usize, filling: Filling<'_>)
 }
 
 /// Fills the characters from an address to another, where the next attribute stands, or the end.
+#[inline(always)]
 pub(crate) fn fill_between(places: &mut Places, from: usize, to: usize, filling: Filling<'_>)
     requires few { to ≤ cell_count }
     requires chars { to ≡ from + length (chars_known (drop from places.old)) }
@@ -122,6 +124,7 @@ pub(crate) fn fill_between(places: &mut Places, from: usize, to: usize, filling:
 }
 
 /// Fills the characters from the first address to the first attribute, or to the end.
+#[inline(never)]
 pub(crate) fn fill_front(places: &mut Places, filling: Filling<'_>)
     ensures { places.new ≡ front_filled (fill_of filling.entry) places.old }
 {

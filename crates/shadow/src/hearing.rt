@@ -54,6 +54,7 @@ fn any_nowhere(places: &Places, came: ReturnedFields<'_>) -> bool
 }
 
 /// Whether a protected field with this mark can't have this text.
+#[inline(never)]
 fn contradicts_protected(
     places: &Places,
     place: usize,
@@ -104,6 +105,7 @@ fn was_erased(held: Place, text: Option<&[u8]>) -> bool
 }
 
 /// Whether some field's input was erased, if the fields that came can be those of a screen that is so believed.
+#[inline(never)]
 fn erased_if_possible(places: &Places, returned: ReturnedFields<'_>) -> Option<bool>
     ensures { let beliefs = beliefs_held places.now 0 places.now in
         MatchOption result (can_be beliefs returned.entry ≡ false) (λ erased. (can_be beliefs returned.entry ≡ true) × (any_lost beliefs returned.entry ≡ erased)) }
@@ -112,14 +114,15 @@ fn erased_if_possible(places: &Places, returned: ReturnedFields<'_>) -> Option<b
     let mut erased = false;
     let mut place = places.attribute_from(0);
     while place < CELL_COUNT {
-        let held = places.get(place);
-        let count = places.count_behind(place);
+        let held = places.attribute_at(place);
+        let next = places.attribute_from(place + 1);
+        let count = places.count_behind(place, next);
         let text = coming.take(held, place);
         if contradicts(places, place, count, held, text) {
             return None;
         }
         erased |= was_erased(held, text);
-        place = place + 1 + count;
+        place = next;
     }
     if coming.is_empty() {
         Some(erased)
@@ -129,6 +132,7 @@ fn erased_if_possible(places: &Places, returned: ReturnedFields<'_>) -> Option<b
 }
 
 /// Why what came can't be of a screen that is so believed.
+#[inline(never)]
 fn fault_of(places: &Places, returned: ReturnedFields<'_>) -> HeardFault
     ensures { result ≡ (if list_any (is_nowhere cell_count (beliefs_held places.now 0 places.now)) returned.entry then NoSuchField else Contradiction) }
 {
@@ -156,6 +160,7 @@ pub(crate) fn check_fields(places: &Places, inbound: &Inbound<'_>) -> Result<boo
 }
 
 /// What becomes of the field whose attribute stands at a place, if it isn't returned.
+#[inline(never)]
 fn if_unreturned(places: &Places, place: usize, telling: Telling) -> Unreturned
     requires { place < cell_count }
     ensures { result ≡ unreturned_of telling (drop (place + 1) places.now ++ places.now) }
@@ -277,6 +282,7 @@ fn change_after<'a>(
 
 /// Takes in data that lists those with MDT on; `erased`: the operator erased the input. The last field's characters go on
 /// round the end.
+#[inline(never)]
 fn take_fields<'a>(places: &mut Places, erased: bool, returned: ReturnedFields<'a>)
     ensures { let changes = long_changes erased 0 returned.entry places.old (unreturned_from places.old places.old) in
         places.new ≡ front_filled (last_fill Same changes places.old) (all_changed Same changes places.old) }
@@ -286,7 +292,7 @@ fn take_fields<'a>(places: &mut Places, erased: bool, returned: ReturnedFields<'
     let mut filled = 0;
     let mut place = places.attribute_from(0);
     while place < CELL_COUNT {
-        let held = places.get(place);
+        let held = places.attribute_at(place);
         let end = places.attribute_from(place + 1);
         let text = coming.take(held, place);
         let one = change_after(places, place, held, erased, text);
@@ -342,7 +348,7 @@ pub(crate) fn after_attention(places: &mut Places)
     let mut filled = 0;
     let mut place = places.attribute_from(0);
     while place < CELL_COUNT {
-        let held = places.get(place);
+        let held = places.attribute_at(place);
         let end = places.attribute_from(place + 1);
         let one = key_change_of(held);
         places.set_head(place, one.mark, one.telling);

@@ -214,20 +214,35 @@ impl Places {
     pub(crate) fn attribute_from(&self, from: usize) -> usize
         requires { from ≤ cell_count }
         ensures place { result ≡ from + length (chars_known (drop from self.now)) }
+        ensures stands { length (chars_known (drop result self.now)) ≡ 0 }
         ensures within { result ≤ cell_count }
         ensures whole { length self.now ≡ cell_count }
     {
         self.attributes.first_from(from)
     }
 
-    /// How many characters stand behind an address, round the end, before the first attribute.
-    pub(crate) fn count_behind(&self, place: usize) -> usize
-        requires { place < cell_count }
+    /// The attribute at an address.
+    pub(crate) fn attribute_at(&self, at: usize) -> Place
+        requires placed { at < cell_count }
+        requires stands { length (chars_known (drop at self.now)) ≡ 0 }
+        ensures place { result ≡ slice_index_or self.now at result }
+        ensures whole { length self.now ≡ cell_count }
+    {
+        let head = self.heads[at];
+        Place::Attr(Attr::from_code(self.bytes[at]), head.mark, head.telling)
+    }
+
+    /// How many characters stand behind an address, round the end, before the first attribute; `next`: where that stands, or
+    /// the number of places.
+    pub(crate) fn count_behind(&self, place: usize, next: usize) -> usize
+        requires placed { place < cell_count }
+        requires within { next ≤ cell_count }
+        requires next { next ≡ place + 1 + length (chars_known (drop (place + 1) self.now)) }
         ensures count { result ≡ length (chars_known (drop (place + 1) self.now ++ self.now)) }
         ensures few { result ≤ 2 * cell_count }
         ensures whole { length self.now ≡ cell_count }
     {
-        let next = self.attribute_from(place + 1);
+        let _count = self.len();
         if next < CELL_COUNT {
             next - place - 1
         } else {

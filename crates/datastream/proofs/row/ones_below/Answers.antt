@@ -1,8 +1,6 @@
-use Rattle.datastream.proofs.Words.{no_ones, some_ones}
+use Rattle.std.proofs.Common.{arith}
+use Rattle.datastream.proofs.Words.{fewer_ones}
 use Rattle.datastream.proofs.row.ones_below.Goals as goal
 
-pub returns-then-place-eq0 : goal.returns-then-place-eq0
-returns-then-place-eq0 c = λ other low. rw c.if-place-eq0.true (no_ones other)
-
-pub returns-else-place-eq0 : goal.returns-else-place-eq0
-returns-else-place-eq0 c = λ other low. some_ones c.args.place other c.requires
+pub returns : goal.returns
+returns c = λ other low. fewer_ones c.args.place other c.requires

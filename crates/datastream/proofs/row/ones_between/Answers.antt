@@ -3,4 +3,4 @@ use Rattle.datastream.proofs.Words.{ones_within}
 use Rattle.datastream.proofs.row.ones_between.Goals as goal
 
 pub returns : goal.returns
-returns c = ones_within c.args.from c.args.to c.ones_below.result c.ones_below-2.result (omega arith) c.ones_below.ensures c.ones_below-2.ensures
+returns c = ones_within c.args.from c.args.to c.some_ones_below.result c.ones_below.result (omega arith) c.some_ones_below.ensures c.ones_below.ensures

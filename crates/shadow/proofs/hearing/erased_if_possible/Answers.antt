@@ -4,15 +4,16 @@ use Rattle.shadow.specs.Belief.{Belief}
 use Rattle.shadow.specs.Filled.{is_possible, any_lost, contradicts_held, lost_held, text_came, came_behind}
 use Rattle.shadow.specs.InPlace.{beliefs_held}
 use Rattle.shadow.proofs.HeardSteps.{possible_step, lost_step, or_more}
-use Rattle.shadow.proofs.Stretches.{fields_first, fields_next}
+use Rattle.shadow.proofs.Stretches.{fields_until}
 use Rattle.shadow.proofs.hearing.erased_if_possible.Goals as goal
 
 pub loop-place-init : goal.loop-place-init
 loop-place-init c =
     let whole = c.args.places.now in
     let p = c.attribute_from-place.result in
-    let start = fields_first whole p c.attribute_from-place.ensures.place in
+    let start = fields_until whole 0 p c.attribute_from-place.ensures.place in
     record {
+      stands = c.attribute_from-place.ensures.stands;
       possible = ap (λ (bs : List Belief). is_possible bs c.args.returned) start ∙ ap (is_possible (beliefs_held whole p (drop p whole))) (sym c.new-coming.ensures);
       lost = ap (λ (bs : List Belief). any_lost bs c.args.returned) start ∙ ap (any_lost (beliefs_held whole p (drop p whole))) (sym c.new-coming.ensures);
     }
@@ -21,17 +22,18 @@ pub loop-place-preserved : goal.loop-place-preserved
 loop-place-preserved c =
     let whole = c.args.places.now in
     let n = c.loop-place.place in
-    let m = n + 1 + c.count_behind-count.result in
-    let held = c.get-held.result in
+    let m = c.attribute_from-next.result in
+    let held = c.attribute_at-held.result in
     let came = c.loop-place.coming in
     let ahead = drop (n + 1) whole ++ whole in
     let behind = came_behind held n came in
-    let here = c.get-held.ensures.place in
+    let here = c.attribute_at-held.ensures.place in
     let text = sym c.take-text.ensures.text in
-    let passed = fields_next whole n c.count_behind-count.result c.count_behind-count.ensures.count in
+    let passed = fields_until whole (n + 1) m c.attribute_from-next.ensures.place in
     let can : contradicts_held held n ahead (text_came held n came) ≡ false = ap (contradicts_held held n ahead) text ∙ sym c.contradicts.ensures ∙ c.if-contradicts.false in
     let lost : lost_held held n ahead (text_came held n came) ≡ c.was_erased-erased.result = ap (lost_held held n ahead) text ∙ sym (c.was_erased-erased.ensures n ahead) in
     record {
+      stands = c.attribute_from-next.ensures.stands;
       possible = c.loop-place.invariant.possible ∙ possible_step whole n held came (omega arith) here
           ∙ ap (λ (t : Bool). not t && is_possible (beliefs_held whole (n + 1) (drop (n + 1) whole)) behind) can
           ∙ ap (λ (bs : List Belief). is_possible bs behind) passed

@@ -20,7 +20,7 @@ loop-place-preserved c =
     let whole = c.args.places.now in
     let now = c.loop-place.places in
     let at = c.loop-place.place in
-    let held = c.get-held.result in
+    let held = c.attribute_at-held.result in
     let end = c.attribute_from-end.result in
     let f = fill_after c.loop-place.filled (fill_of c.loop-place.filling) in
     let one = change_of c.change_after-one.result in
@@ -30,9 +30,9 @@ loop-place-preserved c =
     let there : at + 1 + k ≡ end = omega (arith, c.attribute_from-end.ensures.place) in
     let is_one : one ≡ long_change c.args.erased held (unreturned_at held (drop (at + 1) now ++ now)) (text_came held at came) =
     c.change_after-one.ensures ∙ ap (long_change c.args.erased held (unreturned_at held (drop (at + 1) now ++ now))) c.take-text.ensures.text in
-    let set_is = c.set_head.ensures ∙ head_changed now at held f one (omega (arith, c.get-held.ensures.whole)) c.get-held.ensures.place c.loop-place.invariant.walked.stands in
+    let set_is = c.set_head.ensures ∙ head_changed now at held f one (omega (arith, c.attribute_at-held.ensures.whole)) c.attribute_at-held.ensures.place c.loop-place.invariant.walked.stands in
     let after = c.fill_between.ensures ∙ ap (λ (ps : List Place). take (at + 1) ps ++ front_filled one.fill (drop (at + 1) ps)) set_is in
-    let next = step c.args.erased whole f at k came c.args.returned now c.fill_between.new.places held one c.loop-place.invariant.walked (omega (arith, c.get-held.ensures.whole)) c.get-held.ensures.place is_one (omega (arith, c.attribute_from-end.ensures.place)) after in
+    let next = step c.args.erased whole f at k came c.args.returned now c.fill_between.new.places held one c.loop-place.invariant.walked (omega (arith, c.attribute_at-held.ensures.whole)) c.attribute_at-held.ensures.place is_one (omega (arith, c.attribute_from-end.ensures.place)) after in
     record {
       within = c.attribute_from-end.ensures.within;
       walked = subst (λ (rs : List Returned). Between c.args.erased whole (fill_after k one.fill) end rs c.args.returned c.fill_between.new.places) (sym c.take-text.ensures.left)

@@ -7,10 +7,12 @@ pub returns-then-next-lt-CELL_COUNT-clause-count : goal.returns-then-next-lt-CEL
 returns-then-next-lt-CELL_COUNT-clause-count c =
     let ps = c.args.self.now in
     let rest = drop (c.args.place + 1) ps in
-    omega (arith, length-drop (c.args.place + 1) ps, count_inner rest ps (omega (arith, length-drop (c.args.place + 1) ps)))
+    let shorter = length-drop (c.args.place + 1) ps in
+    omega (arith, c.requires.next, count_inner rest ps (omega (arith, c.requires.next, c.len-count.ensures.len, c.len-count.ensures.whole, shorter)))
 
 pub returns-else-next-lt-CELL_COUNT-clause-count : goal.returns-else-next-lt-CELL_COUNT-clause-count
 returns-else-next-lt-CELL_COUNT-clause-count c =
     let ps = c.args.self.now in
     let rest = drop (c.args.place + 1) ps in
-    omega (arith, length-drop (c.args.place + 1) ps, count_round rest ps (omega (arith, length-drop (c.args.place + 1) ps)))
+    let shorter = length-drop (c.args.place + 1) ps in
+    omega (arith, c.requires.next, shorter, count_round rest ps (omega (arith, c.requires.next, shorter)))
