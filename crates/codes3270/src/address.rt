@@ -186,5 +186,9 @@ pub fn addr_from_bytes(bytes: [u8; 2]) -> Result<Addr, AddrFault>
     } else {
         u16::from(high % 64) * 64 + u16::from(low % 64)
     };
-    Addr::new(position).ok_or(AddrFault::TooLarge)
+    if position < CELLS {
+        Ok(Addr { position })
+    } else {
+        Err(AddrFault::TooLarge)
+    }
 }

@@ -81,8 +81,8 @@ fn character_of(bytes: &[u8]) -> Result<(u8, &[u8]), CommandFault>
     }
 }
 
-/// The order whose code stands before the bytes. Few orders are other than characters.
-#[inline(never)]
+/// The order whose code stands before the bytes.
+#[inline(always)]
 #[tactic(auto, unfolding(crate::specs::Reading::order_after))]
 fn order_behind(code: u8, bytes: &[u8]) -> Result<(Order, &[u8]), CommandFault>
     ensures { Gives (λ x. (x.0, x.1.now)) result (order_after code bytes.now) }
