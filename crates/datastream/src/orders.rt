@@ -36,6 +36,7 @@ impl<'a> Iterator for Orders<'a> {
 
     ghost remaining = { item_count (λ orders. orders) };
 
+    #[inline(always)]
     fn next(&mut self) -> Option<Order> {
         match order_of(self.text) {
             Ok((order, rest)) => {

@@ -271,6 +271,7 @@ impl Places {
     }
 
     /// Lets a field's characters from an address to another tell a text, or as much of it as there is room for.
+    #[inline(always)]
     pub(crate) fn tell(&mut self, from: usize, to: usize, text: &[u8])
         requires few { to ≤ cell_count }
         requires chars { to ≡ from + length (chars_known (drop from self.old)) }
