@@ -160,7 +160,6 @@ pub(crate) fn check_fields(places: &Places, inbound: &Inbound<'_>) -> Result<boo
 }
 
 /// What becomes of the field whose attribute stands at a place, if it isn't returned.
-#[inline(never)]
 fn if_unreturned(places: &Places, place: usize, telling: Telling) -> Unreturned
     requires { place < cell_count }
     ensures { result ≡ unreturned_of telling (drop (place + 1) places.now ++ places.now) }
@@ -222,6 +221,7 @@ fn returned_change(text: &[u8]) -> Change<'_>
 }
 
 /// What becomes of an unprotected field that isn't returned, where the operator may have erased the input.
+#[inline(never)]
 fn lost_change<'a>(places: &Places, place: usize, erased: bool, telling: Telling) -> Change<'a>
     requires { place < cell_count }
     ensures { change_of result ≡ input_by erased telling (unreturned_of telling (drop (place + 1) places.now ++ places.now)) None }
