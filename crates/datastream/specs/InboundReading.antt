@@ -1,5 +1,5 @@
 -- Reading inbound data from left to right (our profile): what a value that borrows the bytes has still to give.
-use Rattle.std.specs.Prelude.{◌≡◌, ℕ, zero, suc, List, [], ◌∷◌, length, Result, Ok, Err, nat_lt, ◌==◌, if◌then◌else◌}
+use Rattle.std.specs.Prelude.{◌≡◌, ℕ, zero, suc, Bool, not, List, [], ◌∷◌, length, Result, Ok, Err, nat_lt, ◌==◌, if◌then◌else◌}
 use Rattle.codes3270.specs.Size.{cell_count}
 use Rattle.codes3270.specs.Address.{address_of}
 use Rattle.codes3270.specs.Attribute.{attr_of}
@@ -66,3 +66,7 @@ parts_within form (suc n) text = and_parts (parts_within form n) (part_at form t
 -- the parts at the front of the bytes, up to where none stands
 unfoldable pub parts_in : Form → List ℕ → List Part
 parts_in form text = parts_within form (length text) text
+
+-- a byte that begins no address
+abbrev pub begins_no_address : ℕ → Bool
+begins_no_address byte = not (byte == set_buffer_address)

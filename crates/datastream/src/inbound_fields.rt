@@ -3,8 +3,10 @@ ghost use Rattle.std.specs.Prelude.{◌≡◌, ◌≤◌, length, take, drop};
 ghost use Rattle.std.specs.List.{prefix_len};
 ghost use Rattle.std.specs.Iterator.{YieldsFirstBy, item_count};
 ghost use Rattle.codes3270.specs.Storable.{is_storable};
+ghost use Rattle.datastream.specs.InboundReading.{begins_no_address};
 ghost use Rattle.datastream.specs.InboundReturned.{returned_of_field};
 
+use crate::order_codes::SET_BUFFER_ADDRESS;
 use codes3270::{Addr, addr_from_bytes, storable};
 use std::marker::Model;
 
@@ -54,7 +56,7 @@ impl<'a> Iterator for ReturnedFields<'a> {
         let Ok(first) = addr_from_bytes([*high, *low]) else {
             return None;
         };
-        let (text, others) = split_characters(rest);
+        let (text, others) = split_field(rest);
         self.text = others;
         Some(ReturnedField { first, text })
     }
@@ -68,10 +70,20 @@ pub(crate) fn count_characters(text: &[u8]) -> usize
     text.iter().take_while(|byte| storable(**byte)).count()
 }
 
-/// The characters at the front, and the bytes from the first one on that is none.
-fn split_characters(text: &[u8]) -> (&[u8], &[u8])
-    ensures characters { result.0.now ≡ take (prefix_len is_storable text.now) text.now }
-    ensures rest { result.1.now ≡ drop (prefix_len is_storable text.now) text.now }
+/// How many bytes come before the next address.
+fn count_before_address(text: &[u8]) -> usize
+    ensures value { result ≡ prefix_len begins_no_address text.now }
+    ensures bound { result ≤ length text.now }
 {
-    text.split_at(count_characters(text))
+    text.iter()
+        .take_while(|byte| **byte != SET_BUFFER_ADDRESS)
+        .count()
+}
+
+/// A field's characters, and the bytes from the next address on.
+fn split_field(text: &[u8]) -> (&[u8], &[u8])
+    ensures characters { result.0.now ≡ take (prefix_len begins_no_address text.now) text.now }
+    ensures rest { result.1.now ≡ drop (prefix_len begins_no_address text.now) text.now }
+{
+    text.split_at(count_before_address(text))
 }

@@ -1,4 +1,3 @@
-use Rattle.std.proofs.Common.{arith}
 use Rattle.datastream.proofs.Words.{fewer_ones}
 use Rattle.datastream.proofs.row.ones_below.Goals as goal
 
