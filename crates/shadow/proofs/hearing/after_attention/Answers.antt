@@ -1,4 +1,4 @@
-use Rattle.std.proofs.Common.{◌≡◌, ◌∙◌, ◌+◌, ◌++◌, ◌-◌, ap, sym, arith, subst, drop, take, List, ℕ}
+use Rattle.std.proofs.Common.{◌≡◌, ◌∙◌, ◌+◌, ◌++◌, ◌-◌, ap, arith, subst, drop, take, List, ℕ}
 use Rattle.shadow.specs.declared.place.Place.{Place}
 use Rattle.shadow.specs.Filled.{Fill, fill_of, fill_after, change_of, front_filled}
 use Rattle.shadow.proofs.Changing.{key_changed}
