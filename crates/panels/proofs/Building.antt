@@ -1,13 +1,15 @@
 -- Lists that are built one for one.
-use Rattle.std.proofs.Common.{◌≡◌, ℕ, ◌+◌, ◌<◌, List, [], ◌∷◌, ◌++◌, length, Some, ap, get_or, subst, sym, ◌∙◌, inl, inr, arith, length-append}
+use Rattle.std.proofs.Common.{◌≡◌, ℕ, ◌+◌, ◌<◌, ◌≤◌, map, drop, List, [], ◌∷◌, ◌++◌, length, Some, ap, get_or, subst, sym, ◌∙◌, inl, inr, arith, length-append}
 use Rattle.std.specs.Prelude.{slice_get, ◌⊎◌}
 use Rattle.std.proofs.Math.Seq.{get_or-append_seam}
-use Rattle.std.proofs.lemmas.List.{get_or_append_left}
-use Rattle.std.proofs.lemmas.Option.{slice_get_within, get_or_from_slice_get, slice_get-get_or}
-use Rattle.panels.specs.Survey.{AreEach}
+use Rattle.std.proofs.lemmas.List.{get_or_append_left, at_drop_all, append-nil}
+use Rattle.std.proofs.lemmas.Option.{slice_get_within, get_or_from_slice_get, slice_get-get_or, slice_get_read, same_Some}
+use Rattle.panels.specs.Defines.{IsEachOf}
 
-pub each_none : {X : Type 0} (IsAt : ℕ → X → Type 0) → AreEach IsAt []
-each_none IsAt i x is = cc
+-- so many things are built, each from its draft
+pub record AreBuilt {X Y : Type 0} (IsOf : ℕ → X → Y → Type 0) (drafts : List X) (count : ℕ) (things : List Y) : Type 0 where
+  pub size : length things ≡ count
+  pub are : (i : ℕ) (draft : X) (thing : Y) → slice_get drafts i ≡ Some draft → slice_get things i ≡ Some thing → IsOf i draft thing
 
 below_or_last : (i n : ℕ) → i < n + 1 → (i < n) ⊎ (i ≡ n)
 below_or_last i n below = grind arith
@@ -24,12 +26,30 @@ pushed_cases xs new i x at_i =
       | inr last ↦ inr (last, sym (get_or-append_seam xs new [] x) ∙ subst (λ k. get_or (xs ++ new ∷ []) k x ≡ x) last read)
     ]
 
-pub each_more : {X : Type 0} (IsAt : ℕ → X → Type 0) (n : ℕ) (xs : List X) (new : X) → length xs ≡ n → AreEach IsAt xs → IsAt n new → AreEach IsAt (xs ++ new ∷ [])
-each_more IsAt n xs new size are is i x at_i =
-    elim (pushed_cases xs new i x at_i) [
-      | inl before ↦ are i x before
-      | inr last ↦ subst (λ k. IsAt k x) (sym (last.0 ∙ size)) (subst (IsAt n) last.1 is)
-    ]
+last_built : {X Y : Type 0} (IsOf : ℕ → X → Y → Type 0) (drafts : List X) (n i : ℕ) (own draft : X) (new thing : Y) → slice_get drafts n ≡ Some own → IsOf n own new
+    → i ≡ n → new ≡ thing → slice_get drafts i ≡ Some draft → IsOf i draft thing
+last_built IsOf drafts n i own draft new thing there is same made at_i =
+    let here : own ≡ draft = same_Some _ _ (sym there ∙ subst (λ k. slice_get drafts k ≡ Some draft) same at_i) in
+    subst (λ k. IsOf k draft thing) (sym same) (subst (λ d. IsOf n d thing) here (subst (IsOf n own) made is))
 
-pub size_more : {X : Type 0} (n : ℕ) (xs : List X) (new : X) → length xs ≡ n → length (xs ++ new ∷ []) ≡ n + 1
-size_more n xs new size = length-append xs (new ∷ []) ∙ ap (λ k. k + 1) size
+pub built_more : {X Y : Type 0} (IsOf : ℕ → X → Y → Type 0) (drafts : List X) (n : ℕ) (things : List Y) (own : X) (new : Y) → slice_get drafts n ≡ Some own → IsOf n own new
+    → AreBuilt IsOf drafts n things → AreBuilt IsOf drafts (n + 1) (things ++ new ∷ [])
+built_more IsOf drafts n things own new there is built = record {
+  size = length-append things (new ∷ []) ∙ ap (λ k. k + 1) built.size;
+  are = λ i draft thing at_i has.
+      elim (pushed_cases things new i thing has) [
+        | inl before ↦ built.are i draft thing at_i before
+        | inr last ↦ last_built IsOf drafts n i own draft new thing there is (last.0 ∙ built.size) last.1 at_i
+      ];
+}
+
+pub built_all : {X Y : Type 0} (IsOf : ℕ → X → Y → Type 0) (drafts : List X) (n : ℕ) (things : List Y) → n ≡ length drafts → AreBuilt IsOf drafts n things → IsEachOf IsOf drafts things
+built_all IsOf drafts n things whole built = record { size = built.size ∙ whole; are = built.are }
+
+-- what is read of a list at an index, by another name of the list
+pub read_at : {X : Type 0} (read xs : List X) (i : ℕ) (x : X) → read ≡ xs → i < length read → x ≡ get_or read i x → slice_get xs i ≡ Some x
+read_at read xs i x same below is = slice_get_read xs (length read) i x (ap length same) below (is ∙ ap (λ l. get_or l i x) same)
+
+-- what is done is the whole, where nothing is left
+pub all_done : {X Y : Type 0} (f : X → Y) (whole done : List Y) (xs : List X) (k : ℕ) → length xs ≤ k → whole ≡ done ++ map f (drop k xs) → done ≡ whole
+all_done f whole done xs k past is = sym (is ∙ at_drop_all (λ rest. done ++ map f rest) xs k past ∙ append-nil done)

@@ -1,19 +1,21 @@
 -- An index of names that is built part by part.
-use Rattle.std.proofs.Common.{◌≡◌, ◌<◌, ◌+◌, ℕ, codes, List, Option, Some, None, IsSome, Bool, true, false, cond, refl, ap, sym, ◌∙◌, subst, inl, inr, arith}
-use Rattle.std.specs.Prelude.{◌⊎◌, bytes_eq}
+use Rattle.std.proofs.Common.{◌≡◌, ◌<◌, ◌+◌, ℕ, List, length, Option, Some, None, IsSome, Bool, true, false, cond, refl, ap, sym, ◌∙◌, subst, inl, inr, arith}
+use Rattle.std.specs.Prelude.{◌⊎◌, bytes_eq, option_map, slice_get, is_some}
 use Rattle.std.specs.Option.{option_or, option_and_then}
 use Rattle.std.specs.Map.{update}
 use Rattle.std.proofs.lemmas.Bool.{cases_Bool, false≢true}
-use Rattle.std.proofs.lemmas.Option.{same_Some}
+use Rattle.std.proofs.lemmas.Option.{same_Some, slice_get_within}
 use Rattle.std.proofs.lemmas.Slice.Eq.{bytes_eq-Decides}
-use Rattle.toml.specs.Data.{Members}
 use Rattle.panels.specs.declared.part.Part.{Part}
 use Rattle.panels.specs.declared.part.Part.TheVariants.{Top, Panel, Text, Field, Keys}
 use Rattle.panels.specs.declared.index.NameIndex.{NameIndex}
-use Rattle.panels.specs.Tree.{name_of, text_under, table_under, count_under}
-use Rattle.panels.specs.Faults.{IsNamedBefore}
-use Rattle.panels.specs.Index.{part_named, noted, noted_if, HasFirstOf, IsIndexTo}
-use Rattle.panels.proofs.Trees.{table_below}
+use Rattle.panels.specs.Draft.{DraftItem, DraftPanel}
+use Rattle.panels.specs.Faults.{IsNamedBefore, name_at}
+use Rattle.panels.specs.Index.{part_named, noted, HasFirstOf, IsIndexTo}
+
+pub none_of : {X : Type 0} (o : Option X) → is_some o ≡ false → o ≡ None
+none_of None is = refl
+none_of (Some x) is = absurd (false≢true (sym is))
 
 or_none : {X : Type 0} (o : Option X) → option_or o None ≡ o
 or_none None = refl
@@ -68,24 +70,9 @@ or_kept : (o : Option Part) (p : Option Part) (x : Part) → o ≡ Some x → op
 or_kept None p x is = cc
 or_kept (Some y) p x is = is
 
-step_unnamed : (top : Members) (now next : Part) (old new : NameIndex) → Follows now next → name_of now top ≡ None
-    → ((other : List ℕ) → part_named new other ≡ part_named old other) → IsIndexTo top now old → IsIndexTo top next new
-step_unnamed top now next old new follows none same index = record {
-  named = λ name part is.
-      let was = index.named name part (sym (same name) ∙ is) in
-      (was.0, follows.1 part was.1);
-  first = λ name part has before.
-      elim (follows.0 part before) [
-        | inl earlier ↦ same_first old new name part (same name) (index.first name part has earlier)
-        | inr here ↦
-            let clash : None ≡ Some name = sym none ∙ subst (λ p. name_of p top ≡ Some name) here has in
-            cc
-      ];
-}
-
-step_named : (top : Members) (now next : Part) (old new : NameIndex) (n : List ℕ) → Follows now next → name_of now top ≡ Some n
-    → ((other : List ℕ) → part_named new other ≡ noted (part_named old) n now other) → IsIndexTo top now old → IsIndexTo top next new
-step_named top now next old new n follows name_is after index = record {
+step_named : (panels : List DraftPanel) (now next : Part) (old new : NameIndex) (n : List ℕ) → Follows now next → name_at now panels ≡ Some n
+    → ((other : List ℕ) → part_named new other ≡ noted (part_named old) n now other) → IsIndexTo panels now old → IsIndexTo panels next new
+step_named panels now next old new n follows name_is after index = record {
   named = λ name part is.
       elim (named_of (part_named old name) (bytes_eq n name) now part (sym (after name) ∙ is)) [
         | inl was ↦
@@ -93,7 +80,7 @@ step_named top now next old new n follows name_is after index = record {
             (known.0, follows.1 part known.1)
         | inr fresh ↦
             let same : n ≡ name = (bytes_eq-Decides n name).0 fresh.0 in
-            (subst (λ p. name_of p top ≡ Some name) fresh.1 (subst (λ m. name_of now top ≡ Some m) same name_is), subst (λ p. IsNamedBefore p next) fresh.1 follows.2)
+            (subst (λ p. name_at p panels ≡ Some name) fresh.1 (subst (λ m. name_at now panels ≡ Some m) same name_is), subst (λ p. IsNamedBefore p next) fresh.1 follows.2)
       ];
   first = λ name part has before.
       elim (follows.0 part before) [
@@ -101,17 +88,12 @@ step_named top now next old new n follows name_is after index = record {
             let was = index.first name part has earlier in
             (was.0, after name ∙ or_kept _ _ was.0 was.1, was.2)
         | inr here ↦
-            let same : n ≡ name = same_Some _ _ (sym name_is ∙ subst (λ p. name_of p top ≡ Some name) here has) in
+            let same : n ≡ name = same_Some _ _ (sym name_is ∙ subst (λ p. name_at p panels ≡ Some name) here has) in
             let new_at : part_named new n ≡ option_or (part_named old n) (Some now) = after n ∙ rw (bytes_eq_itself n) refl in
             let found = first_here (part_named old n) now (λ x is. (index.named n x is).1) in
             subst (λ m. HasFirstOf new m part) same (subst (λ p. HasFirstOf new n p) (sym here) (found.0, new_at ∙ found.1, found.2))
       ];
 }
-
-step_by : (top : Members) (now next : Part) (old new : NameIndex) (o : Option (List ℕ)) → Follows now next → name_of now top ≡ o
-    → ((other : List ℕ) → part_named new other ≡ noted_if (part_named old) o now other) → IsIndexTo top now old → IsIndexTo top next new
-step_by top now next old new None follows name_is after index = step_unnamed top now next old new follows name_is after index
-step_by top now next old new (Some n) follows name_is after index = step_named top now next old new n follows name_is after index
 
 pub below_or_at : (i n : ℕ) → i < n + 1 → (i < n) ⊎ (i ≡ n)
 below_or_at i n below = grind arith
@@ -130,11 +112,11 @@ panel_grows p (Text q i) before = absurd before
 panel_grows p (Field q i) before = absurd before
 panel_grows p (Keys q) before = absurd before
 
-pub panel_step : (top : Members) (p : ℕ) (old new : NameIndex) (o : Option (List ℕ)) → o ≡ name_of (Panel p) top
-    → ((other : List ℕ) → part_named new other ≡ noted_if (part_named old) o (Panel p) other) → IsIndexTo top (Panel p) old → IsIndexTo top (Panel (p + 1)) new
-panel_step top p old new o name_is after index =
+pub panel_step : (panels : List DraftPanel) (p : ℕ) (old new : NameIndex) (draft : DraftPanel) → slice_get panels p ≡ Some draft
+    → ((other : List ℕ) → part_named new other ≡ noted (part_named old) draft.name (Panel p) other) → IsIndexTo panels (Panel p) old → IsIndexTo panels (Panel (p + 1)) new
+panel_step panels p old new draft there after index =
     let last : p < p + 1 = omega arith in
-    step_by top (Panel p) (Panel (p + 1)) old new o (panel_split p, panel_grows p, last) (sym name_is) after index
+    step_named panels (Panel p) (Panel (p + 1)) old new draft.name (panel_split p, panel_grows p, last) (ap (option_map (λ (panel : DraftPanel). panel.name)) there) after index
 
 field_split : (p i : ℕ) (part : Part) → IsNamedBefore part (Field p (i + 1)) → IsNamedBefore part (Field p i) ⊎ (part ≡ Field p i)
 field_split p i Top before = absurd before
@@ -163,26 +145,29 @@ field_grows p i (Field q j) before =
           inr (at_p.0, less)
     ]
 
-pub field_step : (top : Members) (p i : ℕ) (old new : NameIndex) (o : Option (List ℕ)) → o ≡ name_of (Field p i) top
-    → ((other : List ℕ) → part_named new other ≡ noted_if (part_named old) o (Field p i) other) → IsIndexTo top (Field p i) old → IsIndexTo top (Field p (i + 1)) new
-field_step top p i old new o name_is after index =
+pub field_step : (panels : List DraftPanel) (p i : ℕ) (old new : NameIndex) (draft : DraftPanel) (item : DraftItem) → slice_get panels p ≡ Some draft → slice_get draft.fields i ≡ Some item
+    → ((other : List ℕ) → part_named new other ≡ noted (part_named old) item.name (Field p i) other) → IsIndexTo panels (Field p i) old → IsIndexTo panels (Field p (i + 1)) new
+field_step panels p i old new draft item there inside after index =
     let last : i < i + 1 = omega arith in
-    step_by top (Field p i) (Field p (i + 1)) old new o (field_split p i, field_grows p i, inr (refl, last)) (sym name_is) after index
+    let named : name_at (Field p i) panels ≡ Some item.name =
+    ap (λ panel. option_map (λ (field : DraftItem). field.name) (option_and_then (λ (panel : DraftPanel). slice_get panel.fields i) panel)) there
+    ∙ ap (option_map (λ (field : DraftItem). field.name)) inside in
+    step_named panels (Field p i) (Field p (i + 1)) old new item.name (field_split p i, field_grows p i, inr (refl, last)) named after index
 
 -- behind a panel's last field
-abbrev NoFieldFrom : Members → ℕ → ℕ → Type 0
-NoFieldFrom top p n = (j : ℕ) (name : List ℕ) → name_of (Field p j) top ≡ Some name → j < n
+abbrev NoFieldFrom : List DraftPanel → ℕ → ℕ → Type 0
+NoFieldFrom panels p n = (j : ℕ) (name : List ℕ) → name_at (Field p j) panels ≡ Some name → j < n
 
-over_split : (top : Members) (p n : ℕ) (name : List ℕ) (part : Part) → NoFieldFrom top p n → name_of part top ≡ Some name → IsNamedBefore part (Field (p + 1) 0) → IsNamedBefore part (Field p n)
-over_split top p n name Top all has before = absurd before
-over_split top p n name (Panel q) all has before = absurd before
-over_split top p n name (Text q j) all has before = absurd before
-over_split top p n name (Keys q) all has before = absurd before
-over_split top p n name (Field q j) all has before =
+over_split : (panels : List DraftPanel) (p n : ℕ) (name : List ℕ) (part : Part) → NoFieldFrom panels p n → name_at part panels ≡ Some name → IsNamedBefore part (Field (p + 1) 0) → IsNamedBefore part (Field p n)
+over_split panels p n name Top all has before = absurd before
+over_split panels p n name (Panel q) all has before = absurd before
+over_split panels p n name (Text q j) all has before = absurd before
+over_split panels p n name (Keys q) all has before = absurd before
+over_split panels p n name (Field q j) all has before =
     elim before [
       | inl less ↦ elim (below_or_at q p less) [
         | inl below ↦ inl below
-        | inr same ↦ inr (same, all j name (subst (λ k. name_of (Field k j) top ≡ Some name) same has))
+        | inr same ↦ inr (same, all j name (subst (λ k. name_at (Field k j) panels ≡ Some name) same has))
       ]
       | inr at_p ↦ absurd (let none : j < 0 = at_p.1 in omega arith)
     ]
@@ -202,28 +187,27 @@ over_grows p n (Field q j) before =
           inl below
     ]
 
-fields_over : (top : Members) (p n : ℕ) (index : NameIndex) → NoFieldFrom top p n → IsIndexTo top (Field p n) index → IsIndexTo top (Field (p + 1) 0) index
-fields_over top p n index all is = record {
+fields_over : (panels : List DraftPanel) (p n : ℕ) (index : NameIndex) → NoFieldFrom panels p n → IsIndexTo panels (Field p n) index → IsIndexTo panels (Field (p + 1) 0) index
+fields_over panels p n index all is = record {
   named = λ name part found. ((is.named name part found).0, over_grows p n part (is.named name part found).1);
-  first = λ name part has before. is.first name part has (over_split top p n name part all has before);
+  first = λ name part has before. is.first name part has (over_split panels p n name part all has before);
 }
 
-pub named_table : (o : Option Members) (name : List ℕ) → option_and_then (text_under (codes "name")) o ≡ Some name → IsSome o
-named_table None name has = cc
-named_table (Some table) name has = refl
+-- the index goes over a panel with its fields
+field_below : (o : Option DraftPanel) (draft : DraftPanel) (j : ℕ) (name : List ℕ) → o ≡ Some draft
+    → option_map (λ (field : DraftItem). field.name) (option_and_then (λ (panel : DraftPanel). slice_get panel.fields j) o) ≡ Some name → j < length draft.fields
+field_below o draft j name there has =
+    let here : option_map (λ (field : DraftItem). field.name) (slice_get draft.fields j) ≡ Some name =
+    subst (λ p. option_map (λ (field : DraftItem). field.name) (option_and_then (λ (panel : DraftPanel). slice_get panel.fields j) p) ≡ Some name) there has in
+    within (slice_get draft.fields j) refl here
+  where
+    within : (item : Option DraftItem) → item ≡ slice_get draft.fields j → option_map (λ (field : DraftItem). field.name) item ≡ Some name → j < length draft.fields
+    within None is has = cc
+    within (Some item) is has = slice_get_within draft.fields j item (sym is)
 
--- the index goes over a panel with its fields, and over one that is no table
-pub panel_over : (top table : Members) (p : ℕ) (index : NameIndex) → table_under (codes "panel") p top ≡ Some table
-    → IsIndexTo top (Field p (count_under (codes "field") table)) index → IsIndexTo top (Field (p + 1) 0) index
-panel_over top table p index found is =
-    fields_over top p _ index (λ j name has.
-    table_below (codes "field") j table
-    (subst (λ panel. IsSome (option_and_then (table_under (codes "field") j) panel)) found (named_table _ name has))) is
-
-pub absent_over : (top : Members) (p : ℕ) (index : NameIndex) → table_under (codes "panel") p top ≡ None → IsIndexTo top (Field p 0) index → IsIndexTo top (Field (p + 1) 0) index
-absent_over top p index none is =
-    fields_over top p 0 index (λ j name has.
-    absurd (false≢true (subst (λ panel. IsSome (option_and_then (table_under (codes "field") j) panel)) none (named_table _ name has)))) is
+pub panel_over : (panels : List DraftPanel) (draft : DraftPanel) (p : ℕ) (index : NameIndex) → slice_get panels p ≡ Some draft
+    → IsIndexTo panels (Field p (length draft.fields)) index → IsIndexTo panels (Field (p + 1) 0) index
+panel_over panels draft p index there is = fields_over panels p _ index (λ j name has. field_below (slice_get panels p) draft j name there has) is
 
 nothing_before_panel : (part : Part) → IsNamedBefore part (Panel 0) → ⊥
 nothing_before_panel Top before = before
@@ -239,14 +223,14 @@ nothing_before_field (Text q i) before = before
 nothing_before_field (Keys q) before = before
 nothing_before_field (Field q i) before = elim before [ inl less ↦ omega arith | inr same ↦ let none : i < 0 = same.1 in omega arith ]
 
-pub no_panels_named : (top : Members) (index : NameIndex) → ((name : List ℕ) → part_named index name ≡ None) → IsIndexTo top (Panel 0) index
-no_panels_named top index none = record {
+pub no_panels_named : (panels : List DraftPanel) (index : NameIndex) → ((name : List ℕ) → part_named index name ≡ None) → IsIndexTo panels (Panel 0) index
+no_panels_named panels index none = record {
   named = λ name part is. let clash : None ≡ Some part = sym (none name) ∙ is in cc;
   first = λ name part has before. absurd (nothing_before_panel part before);
 }
 
-pub no_fields_named : (top : Members) (index : NameIndex) → ((name : List ℕ) → part_named index name ≡ None) → IsIndexTo top (Field 0 0) index
-no_fields_named top index none = record {
+pub no_fields_named : (panels : List DraftPanel) (index : NameIndex) → ((name : List ℕ) → part_named index name ≡ None) → IsIndexTo panels (Field 0 0) index
+no_fields_named panels index none = record {
   named = λ name part is. let clash : None ≡ Some part = sym (none name) ∙ is in cc;
   first = λ name part has before. absurd (nothing_before_field part before);
 }

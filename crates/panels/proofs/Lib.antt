@@ -8,6 +8,7 @@ pub mod Naming
 pub mod Overlapping
 pub mod Sound
 pub mod Linking
+pub mod Faultless
 pub mod Leading
 pub mod Putting
 pub mod Apart

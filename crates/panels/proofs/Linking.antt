@@ -1,119 +1,126 @@
 -- The panels and fields that names stand for.
-use Rattle.std.proofs.Common.{◌≡◌, ◌<◌, ◌≤◌, ◌+◌, ◌*◌, ℕ, codes, List, length, get_or, Option, Some, None, true, false, refl, ap, sym, ◌∙◌, subst, add-one, arith}
-use Rattle.std.specs.Prelude.{slice_get, unwrap_or, [], MatchOption}
-use Rattle.panels.specs.declared.fault.TreeFault.TheVariants as fault
+use Rattle.std.proofs.Common.{◌≡◌, ◌<◌, ◌+◌, ◌*◌, ℕ, suc, List, Bor, true, false, length, map, drop, get_or, Option, Some, None, refl, ap, sym, ◌∙◌, subst, add-one, drop-cons, arith}
+use Rattle.std.specs.Prelude.{slice_get, unwrap_or, MatchOption, Contains, All, IfSome, option_map, bytes_eq, if◌then◌else◌}
+use Rattle.std.specs.Option.{option_and_then, option_map_or}
+use Rattle.std.proofs.lemmas.Option.{slice_get_within, get_or_from_slice_get, slice_get-get_or}
 use Rattle.panels.specs.declared.panel.Field.{Field as FieldItem}
-use Rattle.panels.proofs.Overlapping.{there_or_past}
-use Rattle.std.specs.Option.{option_and_then}
-use Rattle.std.proofs.lemmas.Bool.{false≢true}
-use Rattle.std.proofs.lemmas.Option.{slice_get-get_or}
-use Rattle.toml.specs.Data.{Members}
-use Rattle.panels.specs.declared.part.Part.{Part}
-use Rattle.panels.specs.declared.part.Part.TheVariants.{Top, Panel, Text, Field, Keys}
-use Rattle.panels.specs.Tree.{name_of, text_under, table_under, key_table, count_under, fields_of, fields_before}
-use Rattle.panels.specs.Faults.{IsNamedBefore}
-use Rattle.panels.specs.Index.{panels_end, fields_end, is_unknown}
-use Rattle.panels.specs.declared.index.NameIndex.{NameIndex}
-use Rattle.panels.specs.Link.{panel_in, number_in, HasNumber, AreFirstNumbers}
-use Rattle.panels.specs.Defines.{IsPanelNamed, IsFieldNamed, IsFieldOf, IsEachOf, IsTargetBy, text_of_key}
+use Rattle.panels.specs.declared.part.Part.TheVariants.{Text, Field}
+use Rattle.panels.specs.Limits.{most_panels, most_fields}
+use Rattle.panels.specs.Draft.{DraftItem, DraftPanel, DraftText}
+use Rattle.panels.specs.Faults.{name_at, NamesPanel}
+use Rattle.panels.specs.Items.{is_on_screen}
+use Rattle.panels.specs.Building.{IsTextIn, AreTargetsOf}
+use Rattle.panels.specs.Defines.{IsFieldOf, IsEachOf, IsPanelNamed, IsTargetBy, fields_before, text_at_key}
 use Rattle.panels.specs.Passes.{IsFaultless}
-use Rattle.panels.proofs.Trees.{table_below, some_part}
-use Rattle.panels.proofs.Indexing.{named_table}
-use Rattle.panels.proofs.Sound.{no_fault, few_panels, few_fields, before_few}
+use Rattle.panels.proofs.Sound.{few_panels, few_fields, before_few, cursor_is_there, target_is_there}
+use Rattle.panels.proofs.Building.{AreBuilt}
+use Rattle.panels.proofs.Faultless.{on_screen, there_in}
 
-pub panel_is_named : (top : Members) (part : Part) (name : List ℕ) → name_of part top ≡ Some name → IsNamedBefore part (panels_end top) → IsPanelNamed top name (panel_in part)
-panel_is_named top Top name has before = absurd before
-panel_is_named top (Panel p) name has before = has
-panel_is_named top (Text p i) name has before = absurd before
-panel_is_named top (Field p i) name has before = absurd before
-panel_is_named top (Keys p) name has before = absurd before
+pub contained_at : {X : Type 0} (xs : List X) (i : ℕ) (x : X) → slice_get xs i ≡ Some x → Contains xs x
+contained_at xs i x there = (i, slice_get_within xs i x there, get_or_from_slice_get xs i x x there)
 
-fields_at_panel : (top : Members) (p i : ℕ) (name : List ℕ) (o : Option Members) → IsFaultless top → table_under (codes "panel") p top ≡ o
-    → option_and_then (text_under (codes "name")) (option_and_then (table_under (codes "field") i) o) ≡ Some name → i < 128
-fields_at_panel top p i name None clean there has = cc
-fields_at_panel top p i name (Some panel) clean there has =
-    let below : i < count_under (codes "field") panel = table_below (codes "field") i panel (named_table _ name has) in
-    let most : count_under (codes "field") panel ≤ 128 = few_fields top panel p clean there in
+pub place_of : {X : Type 0} (xs : List X) (x : X) → Contains xs x → (i : ℕ) × (slice_get xs i ≡ Some x)
+place_of xs x (i, below, is) = (i, slice_get-get_or xs i x below ∙ ap Some is)
+
+pub counted_more : (panels : List DraftPanel) (p : ℕ) (panel : DraftPanel) → slice_get panels p ≡ Some panel → fields_before (p + 1) panels ≡ fields_before p panels + length panel.fields
+counted_more panels p panel there = rw (add-one p) (ap (λ o. fields_before p panels + option_map_or (λ (panel : DraftPanel). length panel.fields) o 0) there)
+
+mapped : {X Y : Type 0} (f : X → Y) (o : Option X) (y : Y) → option_map f o ≡ Some y → (x : X) × (o ≡ Some x)
+mapped f None y is = cc
+mapped f (Some x) y is = (x, refl)
+
+place_in : (o : Option DraftPanel) (i : ℕ) (name : List ℕ) → option_map (λ field. field.name) (option_and_then (λ panel. slice_get panel.fields i) o) ≡ Some name
+    → (panel : DraftPanel) × (o ≡ Some panel) × (i < length panel.fields)
+place_in None i name is = cc
+place_in (Some panel) i name is =
+    let (field, there) = mapped (λ field. field.name) (slice_get panel.fields i) name is in
+    (panel, refl, slice_get_within panel.fields i field there)
+
+-- what a field is numbered by is small
+pub number_few : (draft : DraftText) (p i : ℕ) (name : List ℕ) → IsFaultless draft → name_at (Field p i) draft.panels ≡ Some name
+    → fields_before p draft.panels + i < most_fields * most_panels
+number_few draft p i name clean is =
+    let (panel, there, within) = place_in (slice_get draft.panels p) i name is in
+    let below = slice_get_within draft.panels p panel there in
+    let panels = few_panels draft clean in
+    let fields = few_fields draft panel p clean there in
+    let before = before_few draft p clean in
     omega arith
-
-pub first_at : (top : Members) (firsts : List ℕ) (p : ℕ) → AreFirstNumbers top firsts → p < length firsts → get_or firsts p 0 ≡ fields_before p top
-first_at top firsts p are fits = are.are p (get_or firsts p 0) (slice_get-get_or firsts p 0 fits)
-
-abbrev name_table : Members → ℕ → ℕ → Option Members
-name_table top p i = option_and_then (table_under (codes "field") i) (table_under (codes "panel") p top)
-
-pub has_number : (top : Members) (part : Part) (name : List ℕ) (firsts : List ℕ) → IsFaultless top → AreFirstNumbers top firsts → name_of part top ≡ Some name
-    → IsNamedBefore part (fields_end top) → HasNumber part firsts
-has_number top Top name firsts clean are has before = absurd before
-has_number top (Panel p) name firsts clean are has before = absurd before
-has_number top (Text p i) name firsts clean are has before = absurd before
-has_number top (Keys p) name firsts clean are has before = absurd before
-has_number top (Field p i) name firsts clean are has before =
-    let below : p < count_under (codes "panel") top = table_below (codes "panel") p top (some_part (table_under (codes "field") i) (table_under (codes "panel") p top) (named_table (name_table top p i) name has)) in
-    let panels : count_under (codes "panel") top ≤ 64 = few_panels top clean in
-    let fits : p < length firsts = omega (arith, are.size) in
-    let first : get_or firsts p 0 ≡ fields_before p top = first_at top firsts p are fits in
-    let few : fields_before p top ≤ 128 * p = before_few top p clean in
-    let field : i < 128 = fields_at_panel top p i name (table_under (codes "panel") p top) clean refl has in
-    (fits, omega arith)
-
-pub field_is_named : (top : Members) (part : Part) (name : List ℕ) (firsts : List ℕ) → AreFirstNumbers top firsts → name_of part top ≡ Some name
-    → IsNamedBefore part (fields_end top) → IsFieldNamed top name (number_in part firsts)
-field_is_named top Top name firsts are has before = absurd before
-field_is_named top (Panel p) name firsts are has before = absurd before
-field_is_named top (Text p i) name firsts are has before = absurd before
-field_is_named top (Keys p) name firsts are has before = absurd before
-field_is_named top (Field p i) name firsts are has before =
-    let below : p < count_under (codes "panel") top = table_below (codes "panel") p top (some_part (table_under (codes "field") i) (table_under (codes "panel") p top) (named_table (name_table top p i) name has)) in
-    let fits : p < length firsts = omega (arith, are.size) in
-    (p, i, has, ap (λ first. first + i) (first_at top firsts p are fits))
-
-pub before_more : (top : Members) (p : ℕ) → fields_before (p + 1) top ≡ fields_before p top + fields_of p top
-before_more top p = rw (add-one p) refl
-
-pub number_below : (top panel : Members) (p : ℕ) (firsts : List ℕ) → AreFirstNumbers top firsts → table_under (codes "panel") p top ≡ Some panel → p < length firsts
-number_below top panel p firsts are there =
-    let below : p < count_under (codes "panel") top = table_below (codes "panel") p top (rw there refl) in
-    omega (arith, are.size)
-
--- a cursor's name is of a field that was built
-field_of_name : (top panel : Members) (p i : ℕ) (name : List ℕ) (fields : List FieldItem) → IsEachOf (λ i. IsFieldOf (fields_before p top + i)) (codes "field") panel fields
-    → option_and_then (text_under (codes "name")) (table_under (codes "field") i panel) ≡ Some name
-    → (field : FieldItem) × (slice_get fields i ≡ Some field) × (field.name ≡ name)
-field_of_name top panel p i name fields are has =
-    let below : i < count_under (codes "field") panel = table_below (codes "field") i panel (named_table (table_under (codes "field") i panel) name has) in
-    let fits : i < length fields = omega (arith, are.size) in
-    let (field, read) = there_or_past fields i fits in
-    let (inner, there, is) = are.are i field read in
-    let own : text_under (codes "name") inner ≡ Some name = subst (λ o. option_and_then (text_under (codes "name")) o ≡ Some name) there has in
-    (field, read, is.name ∙ ap (λ o. unwrap_or o []) own)
-
-pub cursor_is_there : (top panel : Members) (p : ℕ) (name : List ℕ) (fields : List FieldItem) → IsFaultless top → table_under (codes "panel") p top ≡ Some panel
-    → IsEachOf (λ i. IsFieldOf (fields_before p top + i)) (codes "field") panel fields → text_under (codes "cursor") panel ≡ Some name
-    → ((i : ℕ) (field : FieldItem) → slice_get fields i ≡ Some field → ¬ (field.name ≡ name)) → ⊥
-cursor_is_there top panel p name fields clean there are named none =
-    no_fault top panel (Panel p) fault.NoTarget clean there (
-      name,
-      named,
-      λ (i, has).
-          let inside : option_and_then (text_under (codes "name")) (table_under (codes "field") i panel) ≡ Some name =
-          subst (λ o. option_and_then (text_under (codes "name")) (option_and_then (table_under (codes "field") i) o) ≡ Some name) there has in
-          let found = field_of_name top panel p i name fields are inside in
-          none i found.0 found.1 found.2,
-    )
 
 -- what is known to be found is found
 pub found_or : (P : ℕ → Type 0) (Q : Type 0) (o : Option ℕ) (other : ℕ) → ¬ Q → MatchOption o Q P → P (unwrap_or o other)
 found_or P Q None other found is = absurd (found is)
 found_or P Q (Some n) other found is = is
 
-target_found : (top : Members) (name : List ℕ) (index : NameIndex) (o : Option ℕ) → is_unknown index (Some name) ≡ false
-    → MatchOption o (is_unknown index (Some name) ≡ true) (IsPanelNamed top name) → IsTargetBy top (Some name) o
-target_found top name index None known is = false≢true (sym known ∙ is)
-target_found top name index (Some p) known is = is
+-- a text of a panel is a text of the draft, and so on the screen
+pub text_in : (panels : List DraftPanel) (panel : DraftPanel) (i : ℕ) (item : DraftItem) → Contains panels panel → slice_get panel.texts i ≡ Some item → IsTextIn panels item
+text_in panels panel i item has there =
+    let (p, at_p) = place_of panels panel has in
+    (p, i, ap (option_and_then (λ panel. slice_get panel.texts i)) at_p ∙ there)
 
-pub target_is : (top panel : Members) (key : List ℕ) (keys : Members) (name : List ℕ) (index : NameIndex) (o : Option ℕ) → key_table panel ≡ Some keys
-    → text_under key keys ≡ Some name → is_unknown index (Some name) ≡ false → MatchOption o (is_unknown index (Some name) ≡ true) (IsPanelNamed top name)
-    → IsTargetBy top (text_of_key panel (Some key)) o
-target_is top panel key keys name index o table text known is =
-    subst (λ t. IsTargetBy top t o) (sym (ap (option_and_then (text_under key)) table ∙ text)) (target_found top name index o known is)
+pub text_on_screen : (draft : DraftText) (item : DraftItem) → IsFaultless draft → IsTextIn draft.panels item → is_on_screen item ≡ true
+text_on_screen draft item clean (p, i, there) = on_screen draft (Text p i) item clean there
+
+pub field_on_screen : (draft : DraftText) (panel : DraftPanel) (p i : ℕ) (item : DraftItem) → IsFaultless draft → slice_get draft.panels p ≡ Some panel
+    → slice_get panel.fields i ≡ Some item → is_on_screen item ≡ true
+field_on_screen draft panel p i item clean at_p there = on_screen draft (Field p i) item clean (ap (option_and_then (λ panel. slice_get panel.fields i)) at_p ∙ there)
+
+-- the text at the first of a panel's keys with a name
+abbrev Key : Type 0
+Key = Bor (List ℕ) × Bor (List ℕ)
+
+abbrev seen : Key → List ℕ × List ℕ
+seen key = (key.0.now, key.1.now)
+
+pub key_here : (name : List ℕ) (keys : List Key) (k : ℕ) (d : Key) → k < length keys → bytes_eq (get_or keys k d).0.now name ≡ true
+    → text_at_key name (map seen (drop k keys)) ≡ Some ((get_or keys k d).1.now)
+key_here name keys k d below is =
+    ap (λ l. text_at_key name (map seen l)) (drop-cons keys k d below)
+    ∙ ap (λ b. if b then Some ((get_or keys k d).1.now) else text_at_key name (map seen (drop (suc k) keys))) is
+
+pub key_next : (name : List ℕ) (keys : List Key) (k : ℕ) (d : Key) → k < length keys → bytes_eq (get_or keys k d).0.now name ≡ false
+    → text_at_key name (map seen (drop k keys)) ≡ text_at_key name (map seen (drop (k + 1) keys))
+key_next name keys k d below is =
+    ap (λ l. text_at_key name (map seen l)) (drop-cons keys k d below)
+    ∙ ap (λ b. if b then Some ((get_or keys k d).1.now) else text_at_key name (map seen (drop (suc k) keys))) is
+    ∙ ap (λ n. text_at_key name (map seen (drop n keys))) (sym (add-one k))
+
+-- of the fields that are built one has the cursor's name
+pub cursor_is_named : (draft : DraftText) (panel : DraftPanel) (p : ℕ) (name : List ℕ) (fields : List FieldItem) → IsFaultless draft → slice_get draft.panels p ≡ Some panel
+    → IsEachOf (λ i. IsFieldOf (fields_before p draft.panels + i)) panel.fields fields → panel.cursor ≡ Some name → ¬ All (λ field. ¬ (field.name ≡ name)) fields
+cursor_is_named draft panel p name fields clean there are named = λ none.
+    cursor_is_there draft panel p name clean there named (λ (i, item, at_i, is).
+    let below : i < length fields = omega (arith, slice_get_within panel.fields i item at_i, are.size) in
+    let (field, found) = there_in fields i below in
+    let its = are.are i item field at_i found in
+    let read : get_or fields i field ≡ field = get_or_from_slice_get fields i field field found in
+    none i field below (ap (λ (field : FieldItem). field.name) read ∙ its.name ∙ is))
+
+pub cursor_given : (draft : DraftText) (panel : DraftPanel) (p : ℕ) (cursor : Option (Bor (List ℕ))) (fields : List FieldItem) → IsFaultless draft
+    → slice_get draft.panels p ≡ Some panel → IsEachOf (λ i. IsFieldOf (fields_before p draft.panels + i)) panel.fields fields → option_map (λ name. name.now) cursor ≡ panel.cursor
+    → IfSome cursor (λ name. ¬ All (λ field. ¬ (field.name ≡ name.now)) fields)
+cursor_given draft panel p None fields clean there are same = tt
+cursor_given draft panel p (Some name) fields clean there are same = cursor_is_named draft panel p name.now fields clean there are (sym same)
+
+-- where a key leads is found, as no fault stands
+found_by : (panels : List DraftPanel) (name : List ℕ) (o : Option ℕ) → (¬ NamesPanel name panels → ⊥) → MatchOption o (¬ NamesPanel name panels) (IsPanelNamed panels name)
+    → IsTargetBy panels (Some name) o
+found_by panels name None there found = there found
+found_by panels name (Some p) there found = found
+
+pub target_found : (draft : DraftText) (panel : DraftPanel) (key name : List ℕ) (o : Option ℕ) → IsFaultless draft → Contains draft.panels panel → text_at_key key panel.keys ≡ Some name
+    → MatchOption o (¬ NamesPanel name draft.panels) (IsPanelNamed draft.panels name) → IsTargetBy draft.panels (text_at_key key panel.keys) o
+target_found draft panel key name o clean has at_key found =
+    let (p, there) = place_of draft.panels panel has in
+    subst (λ t. IsTargetBy draft.panels t o) (sym at_key) (found_by draft.panels name o (target_is_there draft panel p key name clean there at_key) found)
+
+-- where keys lead, once for each of their names
+pub targets_are : (panels : List DraftPanel) (panel : DraftPanel) (names : List (List ℕ)) (n : ℕ) (targets : List (Option ℕ)) → n ≡ length names
+    → AreBuilt (λ k name. IsTargetBy panels (text_at_key name panel.keys)) names n targets → AreTargetsOf panels panel names targets
+targets_are panels panel names n targets whole built = record {
+  size = built.size ∙ whole;
+  are = λ k target at_k.
+      let below : k < length names = omega (arith, slice_get_within targets k target at_k, built.size) in
+      let (name, there) = there_in names k below in
+      subst (λ o. IsTargetBy panels (option_and_then (λ name. text_at_key name panel.keys) o) target) (sym there) (built.are k name target there at_k);
+}

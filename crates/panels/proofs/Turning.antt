@@ -1,22 +1,21 @@
--- Turns that pass, table by table.
-use Rattle.std.proofs.Common.{◌≡◌, ◌<◌, ◌≤◌, ◌+◌, ℕ, zero, suc, true, codes, List, [], ◌∷◌, length, get_or, Some, None, IsSome, refl, ap, sym, subst, inl, inr, ◌∙◌, add-one, arith}
-use Rattle.std.specs.Prelude.{◌⊎◌, ◌==◌, All, Contains, slice_get, if◌then◌else◌}
+-- Turns that pass, part by part.
+use Rattle.std.proofs.Common.{◌≡◌, ◌<◌, ◌≤◌, ◌+◌, ℕ, zero, suc, true, List, [], ◌∷◌, length, get_or, Option, Some, None, IsSome, refl, ap, sym, subst, inl, inr, ◌∙◌, add-one, arith}
+use Rattle.std.specs.Prelude.{◌⊎◌, ◌==◌, All, Contains, IsTrue, is_some, slice_get, if◌then◌else◌}
 use Rattle.std.specs.Option.{option_and_then}
 use Rattle.std.proofs.lemmas.Bool.{cases_Bool, false≢true}
 use Rattle.std.proofs.lemmas.Bool.Decides.{Decides-eqb}
-use Rattle.std.proofs.lemmas.Option.{none-some, same_Some, slice_get-get_or}
-use Rattle.toml.specs.Data.{Members}
+use Rattle.std.proofs.lemmas.Option.{none-some, same_Some, slice_get-get_or, slice_get_cases}
 use Rattle.panels.specs.declared.fault.TreeFault.{TreeFault}
 use Rattle.panels.specs.declared.fault.TreeFault.TheVariants.{UnknownKey, Missing, BadKind, BadName, TwiceNamed, OutOfPlace, Overlap, NoCode, NoTarget, BadKey, TooMany}
 use Rattle.panels.specs.declared.part.Part.{Part}
 use Rattle.panels.specs.declared.part.Part.TheVariants.{Top, Panel, Text, Field, Keys}
-use Rattle.panels.specs.Tree.{count_under, table_under, key_table, table_of}
 use Rattle.panels.specs.declared.place.At.{At}
-use Rattle.panels.specs.Faults.{IsFaulty, place_of, faults_of, is_item}
+use Rattle.panels.specs.Draft.{DraftPanel, DraftText}
+use Rattle.panels.specs.Faults.{IsFaulty, place_of, faults_of, is_part, item_at}
 use Rattle.panels.specs.Passes.{IsFirst, IsFaultless}
 use Rattle.panels.specs.Turns.{pass_of, panel_turn, kind_turn, item_turn, fault_turn, turn_of, IsSooner, IsClearTo, IsFirstFault}
-use Rattle.panels.specs.Walk.{turn_at, item_at, IsCleanAt, IsFirstListed}
-use Rattle.panels.proofs.Trees.{table_below, some_part}
+use Rattle.panels.specs.Walk.{turn_at, IsCleanAt, IsFirstListed}
+use Rattle.panels.proofs.Faultless.{there_in}
 
 -- ---- turns, as numbers
 
@@ -129,7 +128,7 @@ next_pass a b c d e a' n soon =
       ]
     ]
 
--- the table that has a turn
+-- the part that has a turn
 abbrev part_from : ℕ → ℕ → ℕ → Part
 part_from zero kind item = Top
 part_from (suc p) zero item = Panel p
@@ -150,12 +149,12 @@ same_part part other panel kind item =
 
 -- ---- what is clear
 
-clean_there : (pass : ℕ) (part other : Part) (top : Members) (fault : TreeFault) → IsCleanAt pass other top → pass_of fault ≡ pass → part ≡ other → ¬ IsFaulty fault part top
-clean_there pass part other top fault clean is same stands = clean fault is (subst (λ q. IsFaulty fault q top) same stands)
+clean_there : (pass : ℕ) (part other : Part) (draft : DraftText) (fault : TreeFault) → IsCleanAt pass other draft → pass_of fault ≡ pass → part ≡ other → ¬ IsFaulty fault part draft
+clean_there pass part other draft fault clean is same stands = clean fault is (subst (λ q. IsFaulty fault q draft) same stands)
 
-pub found : (pass : ℕ) (fault : TreeFault) (part : Part) (top : Members) → IsClearTo (turn_at pass part) top → pass_of fault ≡ pass
-    → ((other : TreeFault) → pass_of other ≡ pass → fault_turn other < fault_turn fault → ¬ IsFaulty other part top) → IsFaulty fault part top → IsFirstFault fault (place_of part) top
-found pass fault part top clear is before stands = record {
+pub found : (pass : ℕ) (fault : TreeFault) (part : Part) (draft : DraftText) → IsClearTo (turn_at pass part) draft → pass_of fault ≡ pass
+    → ((other : TreeFault) → pass_of other ≡ pass → fault_turn other < fault_turn fault → ¬ IsFaulty other part draft) → IsFaulty fault part draft → IsFirstFault fault (place_of part) draft
+found pass fault part draft clear is before stands = record {
   part = part;
   at_place = refl;
   stands = stands;
@@ -163,39 +162,31 @@ found pass fault part top clear is before stands = record {
       elim (next_fault _ _ _ _ _ _ _ _ _ _ soon) [
         | inl sooner ↦ clear other elsewhere (subst (λ n. IsSooner (turn_of other elsewhere) (n ∷ panel_turn part ∷ kind_turn part ∷ item_turn part ∷ 0 ∷ [])) is sooner) faulty
         | inr (at_pass, at_panel, at_kind, at_item, less) ↦
-            before other (at_pass ∙ is) less (subst (λ q. IsFaulty other q top) (same_part elsewhere part at_panel at_kind at_item) faulty)
+            before other (at_pass ∙ is) less (subst (λ q. IsFaulty other q draft) (same_part elsewhere part at_panel at_kind at_item) faulty)
       ];
 }
 
-text_clear_suc : (pass p i : ℕ) (top : Members) → IsClearTo (turn_at pass (Text p i)) top → IsCleanAt pass (Text p i) top → IsClearTo (turn_at pass (Text p (suc i))) top
-text_clear_suc pass p i top clear clean fault part soon faulty =
+text_clear_suc : (pass p i : ℕ) (draft : DraftText) → IsClearTo (turn_at pass (Text p i)) draft → IsCleanAt pass (Text p i) draft → IsClearTo (turn_at pass (Text p (suc i))) draft
+text_clear_suc pass p i draft clear clean fault part soon faulty =
     elim (next_item _ _ _ _ _ _ _ _ _ soon) [
       | inl sooner ↦ clear fault part sooner faulty
-      | inr (at_pass, at_panel, at_kind, at_item) ↦ clean_there pass part (Text p i) top fault clean at_pass (same_part part (Text p i) at_panel at_kind at_item) faulty
+      | inr (at_pass, at_panel, at_kind, at_item) ↦ clean_there pass part (Text p i) draft fault clean at_pass (same_part part (Text p i) at_panel at_kind at_item) faulty
     ]
 
-text_clear : (pass p i : ℕ) (top : Members) → IsClearTo (turn_at pass (Text p i)) top → IsCleanAt pass (Text p i) top → IsClearTo (turn_at pass (Text p (i + 1))) top
-text_clear pass p i top clear clean = subst (λ n. IsClearTo (turn_at pass (Text p n)) top) (sym (add-one i)) (text_clear_suc pass p i top clear clean)
+pub text_clear : (pass p i : ℕ) (draft : DraftText) → IsClearTo (turn_at pass (Text p i)) draft → IsCleanAt pass (Text p i) draft → IsClearTo (turn_at pass (Text p (i + 1))) draft
+text_clear pass p i draft clear clean = subst (λ n. IsClearTo (turn_at pass (Text p n)) draft) (sym (add-one i)) (text_clear_suc pass p i draft clear clean)
 
-field_clear_suc : (pass p i : ℕ) (top : Members) → IsClearTo (turn_at pass (Field p i)) top → IsCleanAt pass (Field p i) top → IsClearTo (turn_at pass (Field p (suc i))) top
-field_clear_suc pass p i top clear clean fault part soon faulty =
+field_clear_suc : (pass p i : ℕ) (draft : DraftText) → IsClearTo (turn_at pass (Field p i)) draft → IsCleanAt pass (Field p i) draft → IsClearTo (turn_at pass (Field p (suc i))) draft
+field_clear_suc pass p i draft clear clean fault part soon faulty =
     elim (next_item _ _ _ _ _ _ _ _ _ soon) [
       | inl sooner ↦ clear fault part sooner faulty
-      | inr (at_pass, at_panel, at_kind, at_item) ↦ clean_there pass part (Field p i) top fault clean at_pass (same_part part (Field p i) at_panel at_kind at_item) faulty
+      | inr (at_pass, at_panel, at_kind, at_item) ↦ clean_there pass part (Field p i) draft fault clean at_pass (same_part part (Field p i) at_panel at_kind at_item) faulty
     ]
 
-field_clear : (pass p i : ℕ) (top : Members) → IsClearTo (turn_at pass (Field p i)) top → IsCleanAt pass (Field p i) top → IsClearTo (turn_at pass (Field p (i + 1))) top
-field_clear pass p i top clear clean = subst (λ n. IsClearTo (turn_at pass (Field p n)) top) (sym (add-one i)) (field_clear_suc pass p i top clear clean)
+pub field_clear : (pass p i : ℕ) (draft : DraftText) → IsClearTo (turn_at pass (Field p i)) draft → IsCleanAt pass (Field p i) draft → IsClearTo (turn_at pass (Field p (i + 1))) draft
+field_clear pass p i draft clear clean = subst (λ n. IsClearTo (turn_at pass (Field p n)) draft) (sym (add-one i)) (field_clear_suc pass p i draft clear clean)
 
-pub item_clear : (pass : ℕ) (item : Part) (i : ℕ) (top : Members) → is_item item ≡ true → IsClearTo (turn_at pass (item_at item i)) top
-    → IsCleanAt pass (item_at item i) top → IsClearTo (turn_at pass (item_at item (i + 1))) top
-item_clear pass Top i top is clear clean = cc
-item_clear pass (Panel p) i top is clear clean = cc
-item_clear pass (Text p j) i top is clear clean = text_clear pass p i top clear clean
-item_clear pass (Field p j) i top is clear clean = field_clear pass p i top clear clean
-item_clear pass (Keys p) i top is clear clean = cc
-
--- the table whose turn it is
+-- the part whose turn it is
 from_turns : (part : Part) (panel kind : ℕ) → panel_turn part ≡ panel → kind_turn part ≡ kind → part ≡ part_from panel kind (item_turn part)
 from_turns part panel kind at_panel at_kind =
     sym (has_turn part) ∙ (ap (λ n. part_from n (kind_turn part) (item_turn part)) at_panel ∙ ap (λ n. part_from panel n (item_turn part)) at_kind)
@@ -212,122 +203,98 @@ is_keys (Keys q) p at_panel past =
     let same : q ≡ p = omega arith in
     ap Keys same
 
-pub top_clear : (pass : ℕ) (top : Members) → IsClearTo (turn_at pass Top) top → IsCleanAt pass Top top → IsClearTo (turn_at pass (Panel 0)) top
-top_clear pass top clear clean fault part soon faulty =
+pub top_clear : (pass : ℕ) (draft : DraftText) → IsClearTo (turn_at pass Top) draft → IsCleanAt pass Top draft → IsClearTo (turn_at pass (Panel 0)) draft
+top_clear pass draft clear clean fault part soon faulty =
     elim (next_panel _ _ _ _ _ _ 0 0 soon) [
       | inl sooner ↦ clear fault part sooner faulty
-      | inr (at_pass, at_panel, past) ↦ clean_there pass part Top top fault clean at_pass (is_top part at_panel) faulty
+      | inr (at_pass, at_panel, past) ↦ clean_there pass part Top draft fault clean at_pass (is_top part at_panel) faulty
     ]
 
-pub panel_clear : (pass p : ℕ) (top : Members) → IsClearTo (turn_at pass (Panel p)) top → IsCleanAt pass (Panel p) top → IsClearTo (turn_at pass (Text p 0)) top
-panel_clear pass p top clear clean fault part soon faulty =
+pub panel_clear : (pass p : ℕ) (draft : DraftText) → IsClearTo (turn_at pass (Panel p)) draft → IsCleanAt pass (Panel p) draft → IsClearTo (turn_at pass (Text p 0)) draft
+panel_clear pass p draft clear clean fault part soon faulty =
     elim (next_kind _ _ _ _ _ _ _ 0 0 soon) [
       | inl sooner ↦ clear fault part sooner faulty
-      | inr (at_pass, at_panel, at_kind, past) ↦ clean_there pass part (Panel p) top fault clean at_pass (from_turns part (suc p) 0 at_panel at_kind) faulty
+      | inr (at_pass, at_panel, at_kind, past) ↦ clean_there pass part (Panel p) draft fault clean at_pass (from_turns part (suc p) 0 at_panel at_kind) faulty
     ]
 
--- no item of a kind stands from a number on
-abbrev EndsAt : (ℕ → Part) → ℕ → Members → Type 0
-EndsAt part n top = (i : ℕ) → n ≤ i → ¬ IsSome (table_of (part i) top)
+-- no part of a kind is in the text from a number on
+abbrev EndsAt : (ℕ → Part) → ℕ → DraftText → Type 0
+EndsAt part n draft = (i : ℕ) → n ≤ i → ¬ IsTrue (is_part (part i) draft.panels)
 
-faulty_there : (fault : TreeFault) (part : Part) (top : Members) → IsFaulty fault part top → IsSome (table_of part top)
-faulty_there fault part top stands = rw stands.is_there refl
+below_end : {X : Type 0} (xs : List X) (i : ℕ) → IsSome (slice_get xs i) → i < length xs
+below_end xs i is =
+    elim (slice_get_cases xs i).1 [
+      | inl there ↦ there.1
+      | inr past ↦ absurd (false≢true (subst (λ o. IsSome o) past.1 is))
+    ]
 
-pub texts_clear : (pass p n : ℕ) (top : Members) → EndsAt (Text p) n top → IsClearTo (turn_at pass (Text p n)) top → IsClearTo (turn_at pass (Field p 0)) top
-texts_clear pass p n top ends clear fault part soon faulty =
+some_part : {X Y : Type 0} (f : X → Option Y) (o : Option X) → IsSome (option_and_then f o) → IsSome o
+some_part f None is = absurd (false≢true is)
+some_part f (Some x) is = refl
+
+pub texts_clear : (pass p n : ℕ) (draft : DraftText) → EndsAt (Text p) n draft → IsClearTo (turn_at pass (Text p n)) draft → IsClearTo (turn_at pass (Field p 0)) draft
+texts_clear pass p n draft ends clear fault part soon faulty =
     elim (next_kind _ _ _ _ _ _ _ 1 n soon) [
       | inl sooner ↦ clear fault part sooner faulty
       | inr (at_pass, at_panel, at_kind, past) ↦
-          ends (item_turn part) past (faulty_there fault (Text p (item_turn part)) top (subst (λ q. IsFaulty fault q top) (from_turns part (suc p) 1 at_panel at_kind) faulty))
+          ends (item_turn part) past (subst (λ q. IsTrue (is_part q draft.panels)) (from_turns part (suc p) 1 at_panel at_kind) faulty.0)
     ]
 
-pub no_text_from : (top panel : Members) (p n : ℕ) → table_under (codes "panel") p top ≡ Some panel → n ≡ count_under (codes "text") panel → EndsAt (Text p) n top
-no_text_from top panel p n there all i past stands =
-    let below = table_below (codes "text") i panel (subst (λ o. IsSome (option_and_then (table_under (codes "text") i) o)) there stands) in
+pub no_text_from : (draft : DraftText) (panel : DraftPanel) (p n : ℕ) → slice_get draft.panels p ≡ Some panel → n ≡ length panel.texts → EndsAt (Text p) n draft
+no_text_from draft panel p n there all i past stands =
+    let below = below_end panel.texts i (subst (λ o. IsSome (option_and_then (λ panel. slice_get panel.texts i) o)) there stands) in
     omega arith
 
-pub no_field_from : (top panel : Members) (p n : ℕ) → table_under (codes "panel") p top ≡ Some panel → n ≡ count_under (codes "field") panel → EndsAt (Field p) n top
-no_field_from top panel p n there all i past stands =
-    let below = table_below (codes "field") i panel (subst (λ o. IsSome (option_and_then (table_under (codes "field") i) o)) there stands) in
+pub no_field_from : (draft : DraftText) (panel : DraftPanel) (p n : ℕ) → slice_get draft.panels p ≡ Some panel → n ≡ length panel.fields → EndsAt (Field p) n draft
+no_field_from draft panel p n there all i past stands =
+    let below = below_end panel.fields i (subst (λ o. IsSome (option_and_then (λ panel. slice_get panel.fields i) o)) there stands) in
     omega arith
 
-pub fields_clear : (pass p n : ℕ) (top : Members) → EndsAt (Field p) n top → IsClearTo (turn_at pass (Field p n)) top → IsClearTo (turn_at pass (Keys p)) top
-fields_clear pass p n top ends clear fault part soon faulty =
+pub fields_clear : (pass p n : ℕ) (draft : DraftText) → EndsAt (Field p) n draft → IsClearTo (turn_at pass (Field p n)) draft → IsClearTo (turn_at pass (Keys p)) draft
+fields_clear pass p n draft ends clear fault part soon faulty =
     elim (next_kind _ _ _ _ _ _ _ 2 n soon) [
       | inl sooner ↦ clear fault part sooner faulty
       | inr (at_pass, at_panel, at_kind, past) ↦
-          ends (item_turn part) past (faulty_there fault (Field p (item_turn part)) top (subst (λ q. IsFaulty fault q top) (from_turns part (suc p) 2 at_panel at_kind) faulty))
+          ends (item_turn part) past (subst (λ q. IsTrue (is_part q draft.panels)) (from_turns part (suc p) 2 at_panel at_kind) faulty.0)
     ]
 
-keys_clear_suc : (pass p : ℕ) (top : Members) → IsClearTo (turn_at pass (Keys p)) top → IsCleanAt pass (Keys p) top → IsClearTo (turn_at pass (Panel (suc p))) top
-keys_clear_suc pass p top clear clean fault part soon faulty =
+keys_clear_suc : (pass p : ℕ) (draft : DraftText) → IsClearTo (turn_at pass (Keys p)) draft → IsCleanAt pass (Keys p) draft → IsClearTo (turn_at pass (Panel (suc p))) draft
+keys_clear_suc pass p draft clear clean fault part soon faulty =
     elim (next_panel _ _ _ _ _ _ (suc p) 3 soon) [
       | inl sooner ↦ clear fault part sooner faulty
-      | inr (at_pass, at_panel, past) ↦ clean_there pass part (Keys p) top fault clean at_pass (is_keys part p at_panel past) faulty
+      | inr (at_pass, at_panel, past) ↦ clean_there pass part (Keys p) draft fault clean at_pass (is_keys part p at_panel past) faulty
     ]
 
-pub keys_clear : (pass p : ℕ) (top : Members) → IsClearTo (turn_at pass (Keys p)) top → IsCleanAt pass (Keys p) top → IsClearTo (turn_at pass (Panel (p + 1))) top
-keys_clear pass p top clear clean = subst (λ n. IsClearTo (turn_at pass (Panel n)) top) (sym (add-one p)) (keys_clear_suc pass p top clear clean)
+pub keys_clear : (pass p : ℕ) (draft : DraftText) → IsClearTo (turn_at pass (Keys p)) draft → IsCleanAt pass (Keys p) draft → IsClearTo (turn_at pass (Panel (p + 1))) draft
+keys_clear pass p draft clear clean = subst (λ n. IsClearTo (turn_at pass (Panel n)) draft) (sym (add-one p)) (keys_clear_suc pass p draft clear clean)
 
--- a panel that is no table has no tables
-of_absent : (pass p : ℕ) (top : Members) (fault : TreeFault) (part : Part) → table_under (codes "panel") p top ≡ None → panel_turn part ≡ suc p → IsCleanAt pass (Panel p) top
-    → pass_of fault ≡ pass → ¬ IsFaulty fault part top
-of_absent pass p top fault Top none at_panel clean is faulty = absurd (omega arith)
-of_absent pass p top fault (Panel q) none at_panel clean is faulty =
-    let same : q ≡ p = omega arith in
-    clean_there pass (Panel q) (Panel p) top fault clean is (ap Panel same) faulty
-of_absent pass p top fault (Text q i) none at_panel clean is faulty =
-    let same : q ≡ p = omega arith in
-    let there = some_part (table_under (codes "text") i) _ (faulty_there fault (Text q i) top faulty) in
-    absurd (false≢true (subst (λ panel. IsSome panel) none (subst (λ k. IsSome (table_under (codes "panel") k top)) same there)))
-of_absent pass p top fault (Field q i) none at_panel clean is faulty =
-    let same : q ≡ p = omega arith in
-    let there = some_part (table_under (codes "field") i) _ (faulty_there fault (Field q i) top faulty) in
-    absurd (false≢true (subst (λ panel. IsSome panel) none (subst (λ k. IsSome (table_under (codes "panel") k top)) same there)))
-of_absent pass p top fault (Keys q) none at_panel clean is faulty =
-    let same : q ≡ p = omega arith in
-    let there = some_part key_table _ (faulty_there fault (Keys q) top faulty) in
-    absurd (false≢true (subst (λ panel. IsSome panel) none (subst (λ k. IsSome (table_under (codes "panel") k top)) same there)))
-
-absent_clear_suc : (pass p : ℕ) (top : Members) → table_under (codes "panel") p top ≡ None → IsClearTo (turn_at pass (Panel p)) top → IsCleanAt pass (Panel p) top
-    → IsClearTo (turn_at pass (Panel (suc p))) top
-absent_clear_suc pass p top none clear clean fault part soon faulty =
-    elim (next_panel _ _ _ _ _ _ (suc p) 0 soon) [
-      | inl sooner ↦ clear fault part sooner faulty
-      | inr (at_pass, at_panel, past) ↦ of_absent pass p top fault part none at_panel clean at_pass faulty
-    ]
-
-pub absent_clear : (pass p : ℕ) (top : Members) → table_under (codes "panel") p top ≡ None → IsClearTo (turn_at pass (Panel p)) top → IsCleanAt pass (Panel p) top
-    → IsClearTo (turn_at pass (Panel (p + 1))) top
-absent_clear pass p top none clear clean = subst (λ n. IsClearTo (turn_at pass (Panel n)) top) (sym (add-one p)) (absent_clear_suc pass p top none clear clean)
-
--- a table is the top, or of a panel that there is
-panel_of_table : (part : Part) (top : Members) → IsSome (table_of part top) → panel_turn part ≤ count_under (codes "panel") top
-panel_of_table Top top there = omega arith
-panel_of_table (Panel p) top there =
-    let below = table_below (codes "panel") p top there in
+-- a part is the top, or of a panel that there is
+panel_of_part : (part : Part) (panels : List DraftPanel) → IsTrue (is_part part panels) → panel_turn part ≤ length panels
+panel_of_part Top panels there = omega arith
+panel_of_part (Panel p) panels there =
+    let below = below_end panels p there in
     omega arith
-panel_of_table (Text p i) top there =
-    let below = table_below (codes "panel") p top (some_part (table_under (codes "text") i) _ there) in
+panel_of_part (Text p i) panels there =
+    let below = below_end panels p (some_part (λ panel. slice_get panel.texts i) _ there) in
     omega arith
-panel_of_table (Field p i) top there =
-    let below = table_below (codes "panel") p top (some_part (table_under (codes "field") i) _ there) in
+panel_of_part (Field p i) panels there =
+    let below = below_end panels p (some_part (λ panel. slice_get panel.fields i) _ there) in
     omega arith
-panel_of_table (Keys p) top there =
-    let below = table_below (codes "panel") p top (some_part key_table _ there) in
+panel_of_part (Keys p) panels there =
+    let below = below_end panels p there in
     omega arith
 
-panels_clear_suc : (pass n : ℕ) (top : Members) → n ≡ count_under (codes "panel") top → IsClearTo (turn_at pass (Panel n)) top → IsClearTo (turn_at (suc pass) Top) top
-panels_clear_suc pass n top all clear fault part soon faulty =
+panels_clear_suc : (pass n : ℕ) (draft : DraftText) → n ≡ length draft.panels → IsClearTo (turn_at pass (Panel n)) draft → IsClearTo (turn_at (suc pass) Top) draft
+panels_clear_suc pass n draft all clear fault part soon faulty =
     elim (next_pass _ _ _ _ _ _ (suc n) soon) [
       | inl sooner ↦ clear fault part sooner faulty
       | inr (at_pass, past) ↦
-          let within = panel_of_table part top (faulty_there fault part top faulty) in
+          let within = panel_of_part part draft.panels faulty.0 in
           absurd (omega arith)
     ]
 
-pub panels_clear : (pass n : ℕ) (top : Members) → n ≡ count_under (codes "panel") top → IsClearTo (turn_at pass (Panel n)) top → IsClearTo (turn_at (pass + 1) Top) top
-panels_clear pass n top all clear = subst (λ n. IsClearTo (turn_at n Top) top) (sym (add-one pass)) (panels_clear_suc pass n top all clear)
+pub panels_clear : (pass n : ℕ) (draft : DraftText) → n ≡ length draft.panels → IsClearTo (turn_at pass (Panel n)) draft → IsClearTo (turn_at (pass + 1) Top) draft
+panels_clear pass n draft all clear = subst (λ n. IsClearTo (turn_at n Top) draft) (sym (add-one pass)) (panels_clear_suc pass n draft all clear)
 
 -- there are six passes
 pass_some : (fault : TreeFault) → 1 ≤ pass_of fault
@@ -356,8 +323,8 @@ pass_below NoCode = omega arith
 pass_below Overlap = omega arith
 pass_below NoTarget = omega arith
 
-pub first_clear : (top : Members) → IsClearTo (turn_at 1 Top) top
-first_clear top fault part soon faulty =
+pub first_clear : (draft : DraftText) → IsClearTo (turn_at 1 Top) draft
+first_clear draft fault part soon faulty =
     let some = pass_some fault in
     elim soon [
       | inl less ↦ absurd (omega arith)
@@ -373,8 +340,8 @@ first_clear top fault part soon faulty =
       ]
     ]
 
-pub all_clear : (top : Members) → IsClearTo (turn_at 7 Top) top → IsFaultless top
-all_clear top clear fault part faulty = clear fault part (inl (pass_below fault)) faulty
+pub all_clear : (draft : DraftText) → IsClearTo (turn_at 7 Top) draft → IsFaultless draft
+all_clear draft clear fault part faulty = clear fault part (inl (pass_below fault)) faulty
 
 -- ---- the passes' lists
 
@@ -433,8 +400,8 @@ in_turn pass =
     (at_pass pass 6 _ _ (one_in_turn 6 NoTarget refl refl) (none_in_turn pass))))))
 
 -- what is first in its turn is of the first pass that finds any
-pub first_of_pass : (fault : TreeFault) (place : At) (top : Members) → IsFirstFault fault place top → IsFirst fault place top
-first_of_pass fault place top first = record {
+pub first_of_pass : (fault : TreeFault) (place : At) (draft : DraftText) → IsFirstFault fault place draft → IsFirst fault place draft
+first_of_pass fault place draft first = record {
   pass = pass_of fault;
   looked_for = looked_for fault;
   stands = (first.part, first.at_place, first.stands);
@@ -444,12 +411,12 @@ first_of_pass fault place top first = record {
 }
 
 -- a pass that finds none of its faults in a table
-pub none_listed : (pass : ℕ) (part : Part) (top : Members) → All (λ fault. ¬ IsFaulty fault part top) (faults_of pass) → IsCleanAt pass part top
-none_listed pass part top none fault is =
+pub none_listed : (pass : ℕ) (part : Part) (draft : DraftText) → All (λ fault. ¬ IsFaulty fault part draft) (faults_of pass) → IsCleanAt pass part draft
+none_listed pass part draft none fault is =
     let (k, below, at_k) = looked_for fault in
     let fits : k < length (faults_of pass) = rw (← is) below in
     let here : get_or (faults_of pass) k fault ≡ fault = rw (← is) at_k in
-    subst (λ f. ¬ IsFaulty f part top) here (none k fault fits)
+    subst (λ f. ¬ IsFaulty f part draft) here (none k fault fits)
 
 its_turn : (fault : TreeFault) → slice_get (faults_of (pass_of fault)) (fault_turn fault) ≡ Some fault
 its_turn UnknownKey = refl
@@ -464,10 +431,15 @@ its_turn NoCode = refl
 its_turn Overlap = refl
 its_turn NoTarget = refl
 
-pub first_listed : (pass : ℕ) (part : Part) (top : Members) (fault : TreeFault) → IsClearTo (turn_at pass part) top → IsFirstListed (faults_of pass) part top fault
-    → IsFirstFault fault (place_of part) top
-first_listed pass part top fault clear first =
+pub first_listed : (pass : ℕ) (part : Part) (draft : DraftText) (fault : TreeFault) → IsClearTo (turn_at pass part) draft → IsFirstListed (faults_of pass) part draft fault
+    → IsFirstFault fault (place_of part) draft
+first_listed pass part draft fault clear first =
     let (at_pass, at_turn) = in_turn pass first.turn fault first.listed in
-    found pass fault part top clear at_pass
+    found pass fault part draft clear at_pass
     (λ other is less. first.before (fault_turn other) other (rw (← at_turn) less) (rw (← is) (its_turn other)))
     first.stands
+
+pub field_there : (panels : List DraftPanel) (draft : DraftPanel) (p i : ℕ) → slice_get panels p ≡ Some draft → i < length draft.fields → is_some (item_at (Field p i) panels) ≡ true
+field_there panels draft p i there below =
+    let (item, at_i) = there_in draft.fields i below in
+    ap (λ o. is_some (option_and_then (λ (panel : DraftPanel). slice_get panel.fields i) o)) there ∙ ap is_some at_i

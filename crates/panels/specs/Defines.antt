@@ -1,5 +1,6 @@
--- The panels that a tree defines (our profile).
-use Rattle.std.specs.Prelude.{◌≡◌, codes, ℕ, ◌+◌, List, [], ◌∷◌, length, Option, Some, None, option_and_then, slice_get, IsTrue, IsFalse}
+-- The panels that a draft defines (our profile).
+use Rattle.std.specs.Prelude.{◌≡◌, ℕ, zero, suc, ◌+◌, List, [], ◌∷◌, length, Option, Some, None, option_and_then, slice_get, bytes_eq, chars, if◌then◌else◌}
+use Rattle.std.specs.Option.{option_map_or}
 use Rattle.codes3270.specs.declared.attention.Aid.{Aid}
 use Rattle.toml.specs.Data.{Members}
 use Rattle.toml.specs.Parse.{parse_document}
@@ -9,46 +10,50 @@ use Rattle.panels.specs.declared.panel.Content.TheVariants.{Literal, Show}
 use Rattle.panels.specs.declared.panel.TextItem.{TextItem}
 use Rattle.panels.specs.declared.panel.Field.{Field}
 use Rattle.panels.specs.Characters.{codes_of}
-use Rattle.panels.specs.Tree.{text_under, count_under, table_under, texts_under, key_table, name_of, fields_before}
-use Rattle.panels.specs.Items.{characters_at, text_or_empty, is_set}
-use Rattle.panels.specs.Shape.{has_key}
+use Rattle.panels.specs.Draft.{DraftItem, DraftPanel, DraftText, draft_of}
+use Rattle.panels.specs.Faults.{name_at}
+use Rattle.panels.specs.Items.{IsExtentOf}
 use Rattle.panels.specs.Keys.{key_names, name_of_key, IsKey}
-use Rattle.panels.specs.Survey.{AreEach, IsExtentOf}
 use Rattle.panels.specs.Panel.{PanelParts, target_of, Panels}
 use Rattle.panels.specs.Passes.{IsFaultless}
 
+-- how many fields stand in the panels before one; a field's number over the whole text counts them
+abbrev pub fields_before : ℕ → List DraftPanel → ℕ
+fields_before zero panels = 0
+fields_before (suc p) panels = fields_before p panels + option_map_or (λ panel. length panel.fields) (slice_get panels p) 0
+
 -- the panel at an index has the name
-abbrev pub IsPanelNamed : Members → List ℕ → ℕ → Type 0
-IsPanelNamed top name p = name_of (part.Panel p) top ≡ Some name
+abbrev pub IsPanelNamed : List DraftPanel → List ℕ → ℕ → Type 0
+IsPanelNamed panels name p = name_at (part.Panel p) panels ≡ Some name
 
 -- the field with a number, over the whole text, has the name
-abbrev pub IsFieldNamed : Members → List ℕ → ℕ → Type 0
-IsFieldNamed top name number = (p : ℕ) × (i : ℕ) × (name_of (part.Field p i) top ≡ Some name) × (number ≡ fields_before p top + i)
+abbrev pub IsFieldNamed : List DraftPanel → List ℕ → ℕ → Type 0
+IsFieldNamed panels name number = (p : ℕ) × (i : ℕ) × (name_at (part.Field p i) panels ≡ Some name) × (number ≡ fields_before p panels + i)
 
 -- a text item shows its own text, or the value of the field that it names
-abbrev pub IsContentOf : Members → Members → Content → Type 0
-IsContentOf top table (Literal text) = IsTrue (has_key (codes "text") table) × (text ≡ codes_of (characters_at (codes "text") table))
-IsContentOf top table (Show number) = IsFalse (has_key (codes "text") table) × IsFieldNamed top (text_or_empty (codes "show") table) number
+abbrev pub IsContentOf : List DraftPanel → DraftItem → Content → Type 0
+IsContentOf panels item (Literal shown) = (text : List ℕ) × (item.text ≡ Some text) × (shown ≡ codes_of (chars text))
+IsContentOf panels item (Show number) = (item.text ≡ None) × IsFieldNamed panels item.show number
 
-pub record IsTextOf (top table : Members) (text : TextItem) : Type 0 where
-  pub extent : IsExtentOf table text.extent
-  pub bright : text.bright ≡ is_set (codes "bright") table
-  pub content : IsContentOf top table text.content
+pub record IsTextOf (panels : List DraftPanel) (item : DraftItem) (text : TextItem) : Type 0 where
+  pub extent : IsExtentOf item text.extent
+  pub bright : text.bright ≡ item.bright
+  pub content : IsContentOf panels item text.content
 
-pub record IsFieldOf (n : ℕ) (table : Members) (field : Field) : Type 0 where
+pub record IsFieldOf (n : ℕ) (item : DraftItem) (field : Field) : Type 0 where
   pub number : field.number ≡ n
-  pub name : field.name ≡ text_or_empty (codes "name") table
-  pub extent : IsExtentOf table field.extent
-  pub numeric : field.numeric ≡ is_set (codes "numeric") table
-  pub hidden : field.hidden ≡ is_set (codes "hidden") table
-  pub required : field.required ≡ is_set (codes "required") table
-  pub marked : field.marked ≡ is_set (codes "marked") table
-  pub fill : field.fill ≡ codes_of (characters_at (codes "fill") table)
+  pub name : field.name ≡ item.name
+  pub extent : IsExtentOf item field.extent
+  pub numeric : field.numeric ≡ item.numeric
+  pub hidden : field.hidden ≡ item.hidden
+  pub required : field.required ≡ item.required
+  pub marked : field.marked ≡ item.marked
+  pub fill : field.fill ≡ codes_of (chars item.fill)
 
--- the things are those of the tables of the array at a key, one for one
-pub record IsEachOf {X : Type 0} (IsOf : ℕ → Members → X → Type 0) (key : List ℕ) (table : Members) (things : List X) : Type 0 where
-  pub size : length things ≡ count_under key table
-  pub are : AreEach (λ i thing. (inner : Members) × (table_under key i table ≡ Some inner) × IsOf i inner thing) things
+-- the things are those of the drafts, one for one
+pub record IsEachOf {X Y : Type 0} (IsOf : ℕ → X → Y → Type 0) (drafts : List X) (things : List Y) : Type 0 where
+  pub size : length things ≡ length drafts
+  pub are : (i : ℕ) (draft : X) (thing : Y) → slice_get drafts i ≡ Some draft → slice_get things i ≡ Some thing → IsOf i draft thing
 
 -- where the cursor is: at the first cell of the field that `cursor` names; without it, of the first field; without fields, at 0
 abbrev pub IsCursorBy : Option (List ℕ) → List Field → ℕ → Type 0
@@ -57,35 +62,32 @@ IsCursorBy (Some name) fields cursor =
 IsCursorBy None [] cursor = cursor ≡ 0
 IsCursorBy None (first ∷ more) cursor = cursor ≡ first.extent.first
 
--- where a key leads: to the panel that the table of keys names for it, where it names one
-abbrev pub text_of_key : Members → Option (List ℕ) → Option (List ℕ)
-text_of_key panel key = option_and_then (λ name. option_and_then (text_under name) (key_table panel)) key
+-- where a key leads: to the panel that the panel's keys name for it, where they name one
+abbrev pub text_at_key : List ℕ → List (List ℕ × List ℕ) → Option (List ℕ)
+text_at_key name [] = None
+text_at_key name (key ∷ keys) = if bytes_eq key.0 name then Some key.1 else text_at_key name keys
 
-abbrev pub IsTargetBy : Members → Option (List ℕ) → Option ℕ → Type 0
-IsTargetBy top None target = target ≡ None
-IsTargetBy top (Some name) None = ⊥
-IsTargetBy top (Some name) (Some p) = IsPanelNamed top name p
+abbrev pub IsTargetBy : List DraftPanel → Option (List ℕ) → Option ℕ → Type 0
+IsTargetBy panels None target = target ≡ None
+IsTargetBy panels (Some name) None = ⊥
+IsTargetBy panels (Some name) (Some p) = IsPanelNamed panels name p
 
-pub record IsPanelOf (top : Members) (p : ℕ) (table : Members) (panel : PanelParts) : Type 0 where
-  pub texts : IsEachOf (λ i. IsTextOf top) (codes "text") table panel.texts
-  pub fields : IsEachOf (λ i. IsFieldOf (fields_before p top + i)) (codes "field") table panel.fields
-  pub cursor : IsCursorBy (text_under (codes "cursor") table) panel.fields panel.cursor
+pub record IsPanelOf (panels : List DraftPanel) (p : ℕ) (draft : DraftPanel) (panel : PanelParts) : Type 0 where
+  pub texts : IsEachOf (λ i. IsTextOf panels) draft.texts panel.texts
+  pub fields : IsEachOf (λ i. IsFieldOf (fields_before p panels + i)) draft.fields panel.fields
+  pub cursor : IsCursorBy draft.cursor panel.fields panel.cursor
   pub places : length panel.targets ≡ length key_names
-  pub targets : (aid : Aid) → IsKey aid → IsTargetBy top (text_of_key table (name_of_key aid)) (target_of panel aid)
+  pub targets : (aid : Aid) → IsKey aid → IsTargetBy panels (option_and_then (λ name. text_at_key name draft.keys) (name_of_key aid)) (target_of panel aid)
 
--- the first panel is the one that `start` names
-abbrev pub IsStartOf : Members → ℕ → Type 0
-IsStartOf top p = (name : List ℕ) × (text_under (codes "start") top ≡ Some name) × IsPanelNamed top name p
+-- a draft defines the panels; the first to be shown is the one that `start` names
+pub record Defines (draft : DraftText) (set : Panels) : Type 0 where
+  pub start : IsPanelNamed draft.panels draft.start set.start
+  pub lus : set.lus ≡ draft.lus
+  pub panels : IsEachOf (IsPanelOf draft.panels) draft.panels set.panels
 
--- a tree defines the panels
-pub record Defines (top : Members) (set : Panels) : Type 0 where
-  pub start : IsStartOf top set.start
-  pub lus : set.lus ≡ texts_under (codes "lus") top
-  pub panels : IsEachOf (IsPanelOf top) (codes "panel") top set.panels
-
--- the text is that of a tree without a fault, which defines the panels
+-- the text is that of a draft without a fault, which defines the panels
 abbrev pub IsReadFrom : List ℕ → Panels → Type 0
-IsReadFrom text set = (top : Members) × (parse_document text ≡ Some top) × IsFaultless top × Defines top set
+IsReadFrom text set = (top : Members) × (parse_document text ≡ Some top) × IsFaultless (draft_of top) × Defines (draft_of top) set
 
 -- a text defines its panels once
 abbrev pub DefinesOnce : Type 0

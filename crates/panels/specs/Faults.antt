@@ -1,17 +1,16 @@
 -- What is wrong with a panel text, and where (our profile).
-use Rattle.std.specs.Prelude.{◌≡◌, codes, ℕ, ◌<◌, ◌==◌, nat_lt, Bool, true, false, not, ◌&&◌, ◌||◌, ◌⊎◌, List, [], ◌∷◌, Option, Some, None, option_and_then, IsTrue, ℤ, Contains, if◌then◌else◌}
+use Rattle.std.specs.Prelude.{◌≡◌, ℕ, ◌<◌, ◌==◌, nat_lt, Bool, true, false, not, ◌||◌, ◌⊎◌, List, [], ◌∷◌, length, Option, Some, None, is_some, option_map, option_and_then, slice_get, IsTrue, ℤ, Contains, if◌then◌else◌}
 use Rattle.std.specs.List.{list_any}
-use Rattle.toml.specs.Data.{Items, no_items, item, Members, get_member, as_array}
+use Rattle.std.specs.Option.{option_map_or}
 use Rattle.panels.specs.declared.fault.TreeFault.{TreeFault}
 use Rattle.panels.specs.declared.fault.TreeFault.TheVariants.{UnknownKey, Missing, BadKind, BadName, TwiceNamed, OutOfPlace, Overlap, NoCode, NoTarget, BadKey, TooMany}
 use Rattle.panels.specs.declared.part.Part.{Part}
 use Rattle.panels.specs.declared.part.Part.TheVariants.{Top, Panel, Text, Field, Keys}
 use Rattle.panels.specs.declared.place.At.{At}
 use Rattle.panels.specs.declared.place.At.TheVariants as place
-use Rattle.panels.specs.Tree.{text_under, count_under, table_of, name_of, keys, texts}
 use Rattle.panels.specs.Limits.{most_panels, most_texts, most_fields}
-use Rattle.panels.specs.Shape.{has_unknown_key, lacks_key, has_bad_kind}
-use Rattle.panels.specs.Items.{is_panel_name, is_field_name, text_or_empty, is_on_screen, is_in_place, HasCell, lacks_code}
+use Rattle.panels.specs.Draft.{DraftItem, DraftPanel, DraftText}
+use Rattle.panels.specs.Items.{is_panel_name, is_field_name, is_on_screen, is_in_place, HasCell, lacks_code}
 use Rattle.panels.specs.Keys.{is_key_name}
 
 -- the faults that a pass looks for; there are six passes, from 1 on
@@ -25,35 +24,47 @@ faults_of pass =
     else if pass == 6 then NoTarget ∷ []
     else []
 
-abbrev pub is_empty : Option Items → Bool
-is_empty (Some no_items) = true
-is_empty (Some (item value values)) = false
-is_empty None = false
+-- the text or field that is a part of the text
+abbrev pub item_at : Part → List DraftPanel → Option DraftItem
+item_at (Text p i) panels = option_and_then (λ panel. slice_get panel.texts i) (slice_get panels p)
+item_at (Field p i) panels = option_and_then (λ panel. slice_get panel.fields i) (slice_get panels p)
+item_at _ panels = None
 
--- there is an array of panels, and it is empty
-abbrev pub has_no_panel : Part → Members → Bool
-has_no_panel Top table = is_empty (option_and_then as_array (get_member (codes "panel") table))
-has_no_panel _ table = false
+-- the text has such a part
+abbrev pub is_part : Part → List DraftPanel → Bool
+is_part Top panels = true
+is_part (Panel p) panels = is_some (slice_get panels p)
+is_part (Keys p) panels = is_some (slice_get panels p)
+is_part part panels = is_some (item_at part panels)
+
+-- what is wrong with the keys of a part
+abbrev pub wrong_at : Part → DraftText → Option TreeFault
+wrong_at Top draft = draft.wrong
+wrong_at (Panel p) draft = option_and_then (λ panel. panel.wrong) (slice_get draft.panels p)
+wrong_at (Keys p) draft = option_and_then (λ panel. panel.wrong_keys) (slice_get draft.panels p)
+wrong_at part draft = option_and_then (λ item. item.wrong) (item_at part draft.panels)
+
+-- the name of a panel, or of a field
+abbrev pub name_at : Part → List DraftPanel → Option (List ℕ)
+name_at (Panel p) panels = option_map (λ panel. panel.name) (slice_get panels p)
+name_at (Field p i) panels = option_map (λ field. field.name) (item_at (Field p i) panels)
+name_at _ panels = None
 
 -- more panels in the text, or more texts or fields in a panel, than there may be
-abbrev pub has_too_many : Part → Members → Bool
-has_too_many Top table = nat_lt most_panels (count_under (codes "panel") table)
-has_too_many (Panel p) table = nat_lt most_texts (count_under (codes "text") table) || nat_lt most_fields (count_under (codes "field") table)
-has_too_many _ table = false
+abbrev pub has_too_many : Part → List DraftPanel → Bool
+has_too_many Top panels = nat_lt most_panels (length panels)
+has_too_many (Panel p) panels =
+    option_map_or (λ panel. nat_lt most_texts (length panel.texts) || nat_lt most_fields (length panel.fields)) (slice_get panels p) false
+has_too_many _ panels = false
 
-abbrev pub has_bad_name : Part → Members → Bool
-has_bad_name (Panel p) table = not (is_panel_name (text_or_empty (codes "name") table))
-has_bad_name (Field p i) table = not (is_field_name (text_or_empty (codes "name") table))
-has_bad_name _ table = false
+abbrev pub has_bad_name : Part → List DraftPanel → Bool
+has_bad_name (Panel p) panels = option_map_or (λ name. not (is_panel_name name)) (name_at (Panel p) panels) false
+has_bad_name (Field p i) panels = option_map_or (λ name. not (is_field_name name)) (name_at (Field p i) panels) false
+has_bad_name _ panels = false
 
-abbrev pub has_bad_key : Part → Members → Bool
-has_bad_key (Keys p) table = list_any (λ key. not (is_key_name key)) (keys table)
-has_bad_key _ table = false
-
-abbrev pub is_item : Part → Bool
-is_item (Text p i) = true
-is_item (Field p i) = true
-is_item _ = false
+abbrev pub has_bad_key : Part → List DraftPanel → Bool
+has_bad_key (Keys p) panels = option_map_or (λ panel. list_any (λ key. not (is_key_name key.0)) panel.keys) (slice_get panels p) false
+has_bad_key _ panels = false
 
 -- the first part comes before the second, and both are named in one space: panels, or fields
 abbrev pub IsNamedBefore : Part → Part → Type 0
@@ -69,52 +80,58 @@ IsItemBefore (Field p i) (Field q j) = (p ≡ q) × (i < j)
 IsItemBefore _ _ = ⊥
 
 -- two items above the message row share a cell
-pub record Overlaps (table other : Members) : Type 0 where
-  pub on_screen : is_on_screen table ≡ true
+pub record Overlaps (item other : DraftItem) : Type 0 where
+  pub on_screen : is_on_screen item ≡ true
   pub other_on_screen : is_on_screen other ≡ true
   pub cell : ℤ
-  pub has_cell : HasCell table cell
+  pub has_cell : HasCell item cell
   pub other_has_cell : HasCell other cell
 
-abbrev pub NamesPanel : List ℕ → Members → Type 0
-NamesPanel name top = (p : ℕ) × (name_of (Panel p) top ≡ Some name)
+-- some panel, some field, or a field of one panel has the name
+abbrev pub NamesPanel : List ℕ → List DraftPanel → Type 0
+NamesPanel name panels = (p : ℕ) × (name_at (Panel p) panels ≡ Some name)
 
-abbrev pub NamesField : List ℕ → Members → Type 0
-NamesField name top = (p : ℕ) × (i : ℕ) × (name_of (Field p i) top ≡ Some name)
+abbrev pub NamesField : List ℕ → List DraftPanel → Type 0
+NamesField name panels = (p : ℕ) × (i : ℕ) × (name_at (Field p i) panels ≡ Some name)
 
-abbrev pub NamesFieldOf : ℕ → List ℕ → Members → Type 0
-NamesFieldOf p name top = (i : ℕ) × (name_of (Field p i) top ≡ Some name)
+abbrev pub HasFieldNamed : List ℕ → DraftPanel → Type 0
+HasFieldNamed name panel = (i : ℕ) × (field : DraftItem) × (slice_get panel.fields i ≡ Some field) × (field.name ≡ name)
 
 -- a name that must be of a panel, of one of the panel's own fields, or of any field, is of none
-abbrev pub LacksTarget : Part → Members → Members → Type 0
-LacksTarget Top table top = (name : List ℕ) × (text_under (codes "start") table ≡ Some name) × ¬ NamesPanel name top
-LacksTarget (Panel p) table top = (name : List ℕ) × (text_under (codes "cursor") table ≡ Some name) × ¬ NamesFieldOf p name top
-LacksTarget (Text p i) table top = (name : List ℕ) × (text_under (codes "show") table ≡ Some name) × ¬ NamesField name top
-LacksTarget (Field p i) table top = ⊥
-LacksTarget (Keys p) table top = (name : List ℕ) × Contains (texts table) name × ¬ NamesPanel name top
+abbrev pub LacksTarget : Part → DraftText → Type 0
+LacksTarget Top draft = ¬ NamesPanel draft.start draft.panels
+LacksTarget (Panel p) draft =
+    (panel : DraftPanel) × (name : List ℕ) × (slice_get draft.panels p ≡ Some panel) × (panel.cursor ≡ Some name) × ¬ HasFieldNamed name panel
+LacksTarget (Text p i) draft =
+    (item : DraftItem) × (item_at (Text p i) draft.panels ≡ Some item) × (item.text ≡ None) × ¬ NamesField item.show draft.panels
+LacksTarget (Field p i) draft = ⊥
+LacksTarget (Keys p) draft =
+    (panel : DraftPanel) × (key : List ℕ × List ℕ) × (slice_get draft.panels p ≡ Some panel) × Contains panel.keys key × ¬ NamesPanel key.1 draft.panels
 
 -- an earlier panel or field has the name
-abbrev pub IsTwiceNamed : Part → Members → Members → Type 0
-IsTwiceNamed part table top =
-    (earlier : Part) × (name : List ℕ) × IsNamedBefore earlier part × (name_of earlier top ≡ Some name) × (text_under (codes "name") table ≡ Some name)
+abbrev pub IsTwiceNamed : Part → List DraftPanel → Type 0
+IsTwiceNamed part panels =
+    (earlier : Part) × (name : List ℕ) × IsNamedBefore earlier part × (name_at earlier panels ≡ Some name) × (name_at part panels ≡ Some name)
 
 -- an earlier item of the panel shares a cell
-abbrev pub IsOverlapping : Part → Members → Members → Type 0
-IsOverlapping part table top = (earlier : Part) × (other : Members) × IsItemBefore earlier part × (table_of earlier top ≡ Some other) × Overlaps table other
+abbrev pub IsOverlapping : Part → List DraftPanel → Type 0
+IsOverlapping part panels =
+    (earlier : Part) × (item : DraftItem) × (other : DraftItem) × IsItemBefore earlier part
+    × (item_at part panels ≡ Some item) × (item_at earlier panels ≡ Some other) × Overlaps item other
 
--- what is wrong with the table that is a part of the text
-abbrev pub HasFault : TreeFault → Part → Members → Members → Type 0
-HasFault UnknownKey part table top = IsTrue (has_unknown_key part table)
-HasFault Missing part table top = IsTrue (lacks_key part table || has_no_panel part table)
-HasFault BadKind part table top = IsTrue (has_bad_kind part table)
-HasFault TooMany part table top = IsTrue (has_too_many part table)
-HasFault BadName part table top = IsTrue (has_bad_name part table)
-HasFault BadKey part table top = IsTrue (has_bad_key part table)
-HasFault TwiceNamed part table top = IsTwiceNamed part table top
-HasFault OutOfPlace part table top = IsTrue (is_item part && not (is_in_place table))
-HasFault NoCode part table top = IsTrue (is_item part && lacks_code table)
-HasFault Overlap part table top = IsOverlapping part table top
-HasFault NoTarget part table top = LacksTarget part table top
+-- what is wrong with a part of the text
+abbrev pub HasFault : TreeFault → Part → DraftText → Type 0
+HasFault UnknownKey part draft = wrong_at part draft ≡ Some UnknownKey
+HasFault Missing part draft = wrong_at part draft ≡ Some Missing
+HasFault BadKind part draft = wrong_at part draft ≡ Some BadKind
+HasFault TooMany part draft = IsTrue (has_too_many part draft.panels)
+HasFault BadName part draft = IsTrue (has_bad_name part draft.panels)
+HasFault BadKey part draft = IsTrue (has_bad_key part draft.panels)
+HasFault TwiceNamed part draft = IsTwiceNamed part draft.panels
+HasFault OutOfPlace part draft = IsTrue (option_map_or (λ item. not (is_in_place item)) (item_at part draft.panels) false)
+HasFault NoCode part draft = IsTrue (option_map_or lacks_code (item_at part draft.panels) false)
+HasFault Overlap part draft = IsOverlapping part draft.panels
+HasFault NoTarget part draft = LacksTarget part draft
 
 -- where a fault of a part is reported: one of a panel's keys is the panel's
 abbrev pub place_of : Part → At
@@ -124,16 +141,14 @@ place_of (Text p i) = place.Text p i
 place_of (Field p i) = place.Field p i
 place_of (Keys p) = place.Panel p
 
--- a part of the text has the fault
-pub record IsFaulty (fault : TreeFault) (part : Part) (top : Members) : Type 0 where
-  pub table : Members
-  pub is_there : table_of part top ≡ Some table
-  pub has_fault : HasFault fault part table top
+-- a part that the text has is faulty
+abbrev pub IsFaulty : TreeFault → Part → DraftText → Type 0
+IsFaulty fault part draft = IsTrue (is_part part draft.panels) × HasFault fault part draft
 
 -- a fault stands at a place of the text
-abbrev pub Stands : TreeFault → At → Members → Type 0
-Stands fault at_place top = (part : Part) × (place_of part ≡ at_place) × IsFaulty fault part top
+abbrev pub Stands : TreeFault → At → DraftText → Type 0
+Stands fault at_place draft = (part : Part) × (place_of part ≡ at_place) × IsFaulty fault part draft
 
 -- no fault of a pass stands anywhere
-abbrev pub IsCleanIn : ℕ → Members → Type 0
-IsCleanIn pass top = (fault : TreeFault) (part : Part) → Contains (faults_of pass) fault → ¬ IsFaulty fault part top
+abbrev pub IsCleanIn : ℕ → DraftText → Type 0
+IsCleanIn pass draft = (fault : TreeFault) (part : Part) → Contains (faults_of pass) fault → ¬ IsFaulty fault part draft

@@ -4,6 +4,7 @@ pub mod Characters
 pub mod Tree
 pub mod Shape
 pub mod Rules
+pub mod Draft
 pub mod Items
 pub mod Keys
 pub mod Faults
@@ -12,7 +13,6 @@ pub mod Passes
 pub mod Turns
 pub mod Walk
 pub mod Index
-pub mod Survey
 pub mod Values
 pub mod Panel
 pub mod Next
@@ -21,4 +21,4 @@ pub mod MessageRow
 pub mod KeptFields
 pub mod Put
 pub mod Defines
-pub mod Link
+pub mod Building

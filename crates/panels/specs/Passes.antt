@@ -1,6 +1,7 @@
 -- What reading a panel text answers (our profile).
 use Rattle.std.specs.Prelude.{◌≡◌, ℕ, ◌<◌, List, Contains, None, Some}
 use Rattle.toml.specs.Data.{Members}
+use Rattle.panels.specs.Draft.{DraftText, draft_of}
 use Rattle.toml.specs.Parse.{parse_document}
 use Rattle.panels.specs.declared.fault.TreeFault.{TreeFault}
 use Rattle.panels.specs.declared.fault.PanelFault.{PanelFault}
@@ -10,24 +11,24 @@ use Rattle.panels.specs.declared.place.At.{At}
 use Rattle.panels.specs.Faults.{Stands, IsFaulty, faults_of, IsCleanIn}
 
 -- the fault stands at the place, and no earlier pass than the one that looks for it has one
-pub record IsFirst (fault : TreeFault) (place : At) (top : Members) : Type 0 where
+pub record IsFirst (fault : TreeFault) (place : At) (draft : DraftText) : Type 0 where
   pub pass : ℕ
   pub looked_for : Contains (faults_of pass) fault
-  pub stands : Stands fault place top
-  pub earlier : (before : ℕ) → before < pass → IsCleanIn before top
+  pub stands : Stands fault place draft
+  pub earlier : (before : ℕ) → before < pass → IsCleanIn before draft
 
 -- no fault stands anywhere
-abbrev pub IsFaultless : Members → Type 0
-IsFaultless top = (fault : TreeFault) (part : Part) → ¬ IsFaulty fault part top
+abbrev pub IsFaultless : DraftText → Type 0
+IsFaultless draft = (fault : TreeFault) (part : Part) → ¬ IsFaulty fault part draft
 
--- the answer is a reason why a tree defines no panels; want of memory says nothing of the tree
-abbrev pub IsReasonIn : Members → PanelFault → Type 0
-IsReasonIn top Memory = Unit {0}
-IsReasonIn top NotToml = ⊥
-IsReasonIn top (Tree fault place) = IsFirst fault place top
+-- the answer is a reason why a draft defines no panels; want of memory says nothing of the draft
+abbrev pub IsReasonIn : DraftText → PanelFault → Type 0
+IsReasonIn draft Memory = Unit {0}
+IsReasonIn draft NotToml = ⊥
+IsReasonIn draft (Tree fault place) = IsFirst fault place draft
 
 -- the same of a text
 abbrev pub IsReason : List ℕ → PanelFault → Type 0
 IsReason text Memory = Unit {0}
 IsReason text NotToml = parse_document text ≡ None
-IsReason text (Tree fault place) = (top : Members) × (parse_document text ≡ Some top) × IsFirst fault place top
+IsReason text (Tree fault place) = (top : Members) × (parse_document text ≡ Some top) × IsFirst fault place (draft_of top)

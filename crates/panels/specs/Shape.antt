@@ -1,14 +1,13 @@
 -- Which keys each table has, and the types of their values (our profile).
 use Rattle.std.specs.Prelude.{codes, ℕ, Bool, true, false, not, ◌&&◌, List, [], ◌∷◌, Option, Some, None, is_some, bytes_eq, if◌then◌else◌}
 use Rattle.std.specs.List.{list_any}
-use Rattle.std.specs.Option.{option_map_or}
 use Rattle.toml.specs.Data as tree
 use Rattle.toml.specs.Data.{Data, Items, no_items, item, Members, no_members, member, get_member, as_str, as_table}
-use Rattle.panels.specs.declared.part.Part.{Part}
-use Rattle.panels.specs.declared.part.Part.TheVariants as part
+use Rattle.panels.specs.declared.fault.TreeFault.{TreeFault}
+use Rattle.panels.specs.declared.fault.TreeFault.TheVariants.{UnknownKey, Missing, BadKind}
 use Rattle.panels.specs.declared.kinds.Kind.{Kind}
 use Rattle.panels.specs.declared.kinds.Kind.TheVariants as kind
-use Rattle.panels.specs.Tree.{keys}
+use Rattle.panels.specs.Tree.{has_key, keys}
 
 abbrev pub is_text : Data → Bool
 is_text value = is_some (as_str value)
@@ -69,16 +68,9 @@ field_rules =
     ∷ may (codes "fill") kind.Text ∷ may (codes "numeric") kind.Truth ∷ may (codes "hidden") kind.Truth ∷ may (codes "required") kind.Truth
     ∷ may (codes "marked") kind.Truth ∷ []
 
-abbrev pub has_key : List ℕ → Members → Bool
-has_key key table = is_some (get_member key table)
-
--- the rules for a table: a text item has its text, or shows a field; for a panel's keys there are none, since each is a key's name
-abbrev pub rules_for : Part → Members → Option (List Rule)
-rules_for part.Top table = Some top_rules
-rules_for (part.Panel p) table = Some panel_rules
-rules_for (part.Text p i) table = Some (if has_key (codes "text") table then literal_rules else show_rules)
-rules_for (part.Field p i) table = Some field_rules
-rules_for (part.Keys p) table = None
+-- a text item has its text, or shows a field
+abbrev pub text_rules : Members → List Rule
+text_rules table = if has_key (codes "text") table then literal_rules else show_rules
 
 abbrev pub is_known : List Rule → List ℕ → Bool
 is_known rules key = list_any (λ rule. bytes_eq rule.key key) rules
@@ -87,15 +79,15 @@ is_known rules key = list_any (λ rule. bytes_eq rule.key key) rules
 abbrev pub breaks_keys : List Rule → Members → Bool
 breaks_keys rules table = list_any (λ key. not (is_known rules key)) (keys table)
 
-abbrev pub has_unknown_key : Part → Members → Bool
-has_unknown_key part table = option_map_or (λ rules. breaks_keys rules table) (rules_for part table) false
+-- nothing stands there, or no table in an array that has to have some
+abbrev pub is_lacking : Kind → Option Data → Bool
+is_lacking kind None = true
+is_lacking kind.Tables (Some (tree.array no_items)) = true
+is_lacking kind (Some value) = false
 
 -- some needed key is absent
 abbrev pub breaks_needs : List Rule → Members → Bool
-breaks_needs rules table = list_any (λ rule. rule.needed && not (has_key rule.key table)) rules
-
-abbrev pub lacks_key : Part → Members → Bool
-lacks_key part table = option_map_or (λ rules. breaks_needs rules table) (rules_for part table) false
+breaks_needs rules table = list_any (λ rule. rule.needed && is_lacking rule.kind (get_member rule.key table)) rules
 
 abbrev pub is_misfit : Kind → Option Data → Bool
 is_misfit kind None = false
@@ -105,6 +97,14 @@ is_misfit kind (Some value) = not (is_of_kind kind value)
 abbrev pub breaks_kinds : List Rule → Members → Bool
 breaks_kinds rules table = list_any (λ rule. is_misfit rule.kind (get_member rule.key table)) rules
 
--- the same, or in a panel's keys some value is no text
-abbrev pub has_bad_kind : Part → Members → Bool
-has_bad_kind part table = option_map_or (λ rules. breaks_kinds rules table) (rules_for part table) (not (all_values is_text table))
+-- what is wrong with a table's keys and values: the first of these
+abbrev pub wrong_by : List Rule → Members → Option TreeFault
+wrong_by rules table =
+    if breaks_keys rules table then Some UnknownKey
+    else if breaks_needs rules table then Some Missing
+    else if breaks_kinds rules table then Some BadKind
+    else None
+
+-- in a panel's keys, which are names, some value is no text
+abbrev pub wrong_in_keys : Members → Option TreeFault
+wrong_in_keys table = if all_values is_text table then None else Some BadKind

@@ -1,6 +1,7 @@
 -- In which order the faults of a panel text are looked for (our profile).
 use Rattle.std.specs.Prelude.{◌≡◌, ℕ, suc, ◌<◌, ◌⊎◌, List, [], ◌∷◌, Some}
 use Rattle.toml.specs.Data.{Members}
+use Rattle.panels.specs.Draft.{DraftText, draft_of}
 use Rattle.toml.specs.Parse.{parse_document}
 use Rattle.panels.specs.declared.fault.TreeFault.{TreeFault}
 use Rattle.panels.specs.declared.fault.TreeFault.TheVariants.{UnknownKey, Missing, BadKind, BadName, TwiceNamed, OutOfPlace, Overlap, NoCode, NoTarget, BadKey, TooMany}
@@ -71,22 +72,22 @@ IsSooner (x ∷ xs) (y ∷ ys) = (x < y) ⊎ ((x ≡ y) × IsSooner xs ys)
 IsSooner _ _ = ⊥
 
 -- no fault stands whose turn is sooner
-abbrev pub IsClearTo : List ℕ → Members → Type 0
-IsClearTo turn top = (fault : TreeFault) (part : Part) → IsSooner (turn_of fault part) turn → ¬ IsFaulty fault part top
+abbrev pub IsClearTo : List ℕ → DraftText → Type 0
+IsClearTo turn draft = (fault : TreeFault) (part : Part) → IsSooner (turn_of fault part) turn → ¬ IsFaulty fault part draft
 
 -- the fault stands at the place, and none stands whose turn is sooner
-pub record IsFirstFault (fault : TreeFault) (place : At) (top : Members) : Type 0 where
+pub record IsFirstFault (fault : TreeFault) (place : At) (draft : DraftText) : Type 0 where
   pub part : Part
   pub at_place : place_of part ≡ place
-  pub stands : IsFaulty fault part top
-  pub sooner : IsClearTo (turn_of fault part) top
+  pub stands : IsFaulty fault part draft
+  pub sooner : IsClearTo (turn_of fault part) draft
 
--- where a fault of a tree is answered, it is the first
-abbrev pub IsFirstIn : Members → PanelFault → Type 0
-IsFirstIn top (Tree fault place) = IsFirstFault fault place top
-IsFirstIn top _ = Unit {0}
+-- where a fault of a draft is answered, it is the first
+abbrev pub IsFirstIn : DraftText → PanelFault → Type 0
+IsFirstIn draft (Tree fault place) = IsFirstFault fault place draft
+IsFirstIn draft _ = Unit {0}
 
 -- the same of a text
 abbrev pub IsFirstOf : List ℕ → PanelFault → Type 0
-IsFirstOf text (Tree fault place) = (top : Members) × (parse_document text ≡ Some top) × IsFirstFault fault place top
+IsFirstOf text (Tree fault place) = (top : Members) × (parse_document text ≡ Some top) × IsFirstFault fault place (draft_of top)
 IsFirstOf text _ = Unit {0}

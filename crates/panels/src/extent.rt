@@ -1,5 +1,5 @@
 //! Where an item of a panel stands.
-ghost use Rattle.std.specs.Prelude.{◌≡◌, ◌≤◌, ◌+◌};
+ghost use Rattle.std.specs.Prelude.{◌≡◌, ◌≤◌, ◌+◌, ◌&&◌, nat_le};
 ghost use Rattle.panels.specs.Size.{message_start};
 
 use codes3270::Addr;
@@ -28,5 +28,12 @@ impl Extent {
         ensures { result ≡ self.first }
     {
         Addr::first().forward(self.first)
+    }
+
+    /// Whether it shares a cell with another, each with its attribute.
+    pub(crate) fn meets(self, other: Extent) -> bool
+        ensures { result ≡ (nat_le self.first (other.first + other.length) && nat_le other.first (self.first + self.length)) }
+    {
+        self.first <= other.first + other.length && other.first <= self.first + self.length
     }
 }

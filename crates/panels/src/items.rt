@@ -1,24 +1,14 @@
 //! The items of a panel text.
 ghost use Rattle.std.specs.Prelude.{◌≡◌, ◌≤ℤ◌, ◌<ℤ◌, ◌<◌, ◌^◌, ◌&&◌, true, false, MatchOption, pos, chars, length};
-ghost use Rattle.toml.specs.View.{table_view};
 ghost use Rattle.std.specs.List.{list_any};
-ghost use Rattle.panels.specs.Survey.{IsExtentOf};
 ghost use Rattle.codes3270.specs.Size.{columns};
 ghost use Rattle.panels.specs.Size.{item_rows, message_start};
-ghost use Rattle.panels.specs.Items.{number, is_set, item_length, is_on_screen, is_in_place, lacks_code, has_no_code, is_between, is_above_message, first_of};
+ghost use Rattle.panels.specs.Items.{IsExtentOf, is_on_screen, is_in_place, lacks_code, has_no_code, is_between, is_above_message, first_of};
 
+use crate::draft::ItemDraft;
 use crate::extent::Extent;
 use crate::size::{ITEM_ROWS, MESSAGE_START};
-use crate::tree::{integer_at, text_at, text_of, truth_at};
 use codes3270::{COLUMNS, from_latin1};
-use toml::Table;
-
-/// The number at a key, 0 where there is none.
-fn number_at(table: &Table, key: &str) -> i64
-    ensures { result ≡ number key.now (table_view table.now) }
-{
-    integer_at(table, key).unwrap_or(0)
-}
 
 /// How many characters a text has.
 fn count_characters(text: &str) -> usize
@@ -29,20 +19,10 @@ fn count_characters(text: &str) -> usize
 }
 
 /// The same as a signed number.
-fn characters_in(text: &str) -> i64
+pub(crate) fn characters_in(text: &str) -> i64
     ensures { result ≡ pos (length (chars text.now)) }
 {
     count_characters(text) as i64
-}
-
-/// How many characters an item has.
-fn length_of_item(table: &Table) -> i64
-    ensures { result ≡ item_length (table_view table.now) }
-{
-    match text_at(table, "text") {
-        Some(text) => characters_in(text),
-        None => number_at(table, "length"),
-    }
 }
 
 fn lies_between(low: i64, high: i64, value: i64) -> bool
@@ -86,31 +66,30 @@ fn extent_at(first: i64, length: i64) -> Option<Extent>
     })
 }
 
-/// Where an item stands, if it lies on the screen.
-pub(crate) fn extent_of(table: &Table) -> Option<Extent>
-    ensures { MatchOption result (is_on_screen (table_view table.now) ≡ false)
-        (λ extent. (is_on_screen (table_view table.now) ≡ true) × IsExtentOf (table_view table.now) extent) }
-{
-    let row = number_at(table, "row");
-    let column = number_at(table, "col");
-    if !has_address(row, column) {
-        return None;
+impl<'a> ItemDraft<'a> {
+    /// Where it stands, if it lies on the screen.
+    pub(crate) fn extent(&self) -> Option<Extent>
+        ensures { MatchOption result (is_on_screen self.now ≡ false) (λ extent. (is_on_screen self.now ≡ true) × IsExtentOf self.now extent) }
+    {
+        if !has_address(self.row, self.column) {
+            return None;
+        }
+        extent_at(address_of(self.row, self.column), self.length)
     }
-    extent_at(address_of(row, column), length_of_item(table))
-}
 
-/// Whether an item lies on the screen, and its fill in it.
-pub(crate) fn stands_in_place(table: &Table) -> bool
-    ensures { result ≡ is_in_place (table_view table.now) }
-{
-    extent_of(table).is_some() && characters_in(text_of(table, "fill")) <= length_of_item(table)
-}
+    /// Whether it lies on the screen, and its fill in it.
+    pub(crate) fn stands_in_place(&self) -> bool
+        ensures { result ≡ is_in_place self.now }
+    {
+        self.extent().is_some() && characters_in(self.fill) <= self.length
+    }
 
-/// Whether the truth value at a key is set.
-pub(crate) fn is_true_at(table: &Table, key: &str) -> bool
-    ensures { result ≡ is_set key.now (table_view table.now) }
-{
-    truth_at(table, key).unwrap_or(false)
+    /// Whether some character of it has no code.
+    pub(crate) fn has_no_codes(&self) -> bool
+        ensures { result ≡ lacks_code self.now }
+    {
+        has_uncoded(self.text.unwrap_or("")) || has_uncoded(self.fill)
+    }
 }
 
 /// Whether some character of a text has no code.
@@ -119,11 +98,4 @@ fn has_uncoded(text: &str) -> bool
 {
     text.chars()
         .any(|character| from_latin1(character).is_none())
-}
-
-/// Whether some character of an item has no code.
-pub(crate) fn has_no_codes(table: &Table) -> bool
-    ensures { result ≡ lacks_code (table_view table.now) }
-{
-    has_uncoded(text_of(table, "text")) || has_uncoded(text_of(table, "fill"))
 }

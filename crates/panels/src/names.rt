@@ -1,16 +1,15 @@
 //! The names of a panel text.
-ghost use Rattle.std.specs.Prelude.{◌≡◌, bytes_eq, not, length};
+ghost use Rattle.std.specs.Prelude.{◌≡◌, ◌↔◌, IsTrue, bytes_eq, length, not, option_map};
 ghost use Rattle.std.specs.Int.{is_in_range};
 ghost use Rattle.std.specs.List.{list_all, list_any};
-ghost use Rattle.toml.specs.View.{table_view};
 ghost use Rattle.panels.specs.Items.{is_panel_name, is_field_name, is_panel_letter, is_field_letter};
-ghost use Rattle.panels.specs.Faults.{has_bad_name, has_bad_key};
 ghost use Rattle.panels.specs.Keys.{is_key_name};
-ghost use Rattle.panels.specs.Tree.{keys as keys_in};
+ghost use Rattle.panels.specs.Faults.{has_bad_name, has_bad_key, IsTwiceNamed};
+ghost use Rattle.panels.specs.Index.{IsLater};
 
+use crate::draft::{Draft, PanelDraft};
+use crate::index::NameIndex;
 use crate::part::Part;
-use crate::tree::text_of;
-use toml::Table;
 
 fn is_short(name: &[u8]) -> bool
     ensures { result ≡ is_in_range 1 16 (length name.now) }
@@ -43,17 +42,6 @@ fn names_a_field(name: &str) -> bool
     is_short(name.as_bytes()) && are_field_letters(name.as_bytes())
 }
 
-/// Whether a table has a name that is none.
-pub(crate) fn is_misnamed(part: Part, table: &Table) -> bool
-    ensures { result ≡ has_bad_name part (table_view table.now) }
-{
-    match part {
-        Part::Panel(_) => !names_a_panel(text_of(table, "name")),
-        Part::Field(_, _) => !names_a_field(text_of(table, "name")),
-        _ => false,
-    }
-}
-
 /// The names of the keys that may lead to a panel.
 pub(crate) static KEY_NAMES: [&str; 29] = [
     "enter", "clear", "pa1", "pa2", "pa3", "pf1", "pf2", "pf3", "pf4", "pf5", "pf6", "pf7", "pf8",
@@ -74,18 +62,52 @@ fn names_a_key(name: &str) -> bool
     is_among(&KEY_NAMES, name)
 }
 
-fn has_strange_key(keys: &Table) -> bool
-    ensures { result ≡ list_any (λ key. not (is_key_name key)) (keys_in (table_view keys.now)) }
-{
-    keys.keys().any(|key| !names_a_key(key.as_str()))
+impl<'a> Draft<'a> {
+    pub(crate) fn is_misnamed(&self, part: Part) -> bool
+        ensures { result ≡ has_bad_name part self.now.panels }
+    {
+        match part {
+            Part::Panel(_) => self.name(part).is_some_and(|name| !names_a_panel(name)),
+            Part::Field(_, _) => self.name(part).is_some_and(|name| !names_a_field(name)),
+            Part::Top | Part::Text(_, _) | Part::Keys(_) => false,
+        }
+    }
+
+    /// Whether a name among a panel's keys is of no key.
+    pub(crate) fn has_bad_keys(&self, part: Part) -> bool
+        ensures { result ≡ has_bad_key part self.now.panels }
+    {
+        match part {
+            Part::Keys(panel) => self
+                .panel(panel)
+                .is_some_and(|panel| panel.has_strange_key()),
+            Part::Top | Part::Panel(_) | Part::Text(_, _) | Part::Field(_, _) => false,
+        }
+    }
+
+    /// Whether an earlier panel or field has the name.
+    pub(crate) fn is_named_twice(&self, part: Part) -> bool
+        ensures { IsTrue result ↔ IsTwiceNamed part self.now.panels }
+    {
+        match part {
+            Part::Panel(_) => is_later(&self.panel_names, self.name(part), part),
+            Part::Field(_, _) => is_later(&self.field_names, self.name(part), part),
+            Part::Top | Part::Text(_, _) | Part::Keys(_) => false,
+        }
+    }
 }
 
-/// Whether a panel's table of keys has a name that is of no key.
-pub(crate) fn has_bad_keys(part: Part, table: &Table) -> bool
-    ensures { result ≡ has_bad_key part (table_view table.now) }
-{
-    match part {
-        Part::Keys(_) => has_strange_key(table),
-        _ => false,
+impl<'a> PanelDraft<'a> {
+    fn has_strange_key(&self) -> bool
+        ensures { result ≡ list_any (λ key. not (is_key_name key.0)) self.now.keys }
+    {
+        self.keys.iter().any(|key| !names_a_key(key.0))
     }
+}
+
+/// Whether a name stands earlier in the text.
+fn is_later(index: &NameIndex, name: Option<&str>, part: Part) -> bool
+    ensures { IsTrue result ↔ IsLater index.now (option_map (λ n. n.now) name.entry) part }
+{
+    name.is_some_and(|name| index.part(name).is_some_and(|first| first != part))
 }

@@ -1,7 +1,8 @@
 //! The tables of a panel text.
 ghost use Rattle.std.specs.Prelude.{◌≡◌};
 ghost use Rattle.panels.specs.Faults.{place_of};
-ghost use Rattle.panels.specs.Walk.{item_at};
+ghost use Rattle.panels.specs.Turns.{item_turn};
+ghost use Rattle.panels.specs.Walk.{nth, panel_in};
 
 use crate::place::At;
 
@@ -32,13 +33,34 @@ impl Part {
     }
 
     /// The item at another index of the same array.
-    pub(crate) fn item_at(self, index: usize) -> Part
-        ensures { result ≡ item_at self index }
+    pub(crate) fn nth(self, index: usize) -> Part
+        ensures { result ≡ nth self index }
     {
         match self {
             Part::Text(panel, _) => Part::Text(panel, index),
             Part::Field(panel, _) => Part::Field(panel, index),
             Part::Top | Part::Panel(_) | Part::Keys(_) => self,
+        }
+    }
+
+    /// The index of the panel that it is, or is in.
+    pub(crate) fn panel(self) -> usize
+        ensures { result ≡ panel_in self }
+    {
+        match self {
+            Part::Top => 0,
+            Part::Panel(panel) | Part::Text(panel, _) | Part::Field(panel, _) | Part::Keys(panel) =>
+                panel,
+        }
+    }
+
+    /// Where it stands among its panel's texts or fields.
+    pub(crate) fn item(self) -> usize
+        ensures { result ≡ item_turn self }
+    {
+        match self {
+            Part::Text(_, item) | Part::Field(_, item) => item,
+            Part::Top | Part::Panel(_) | Part::Keys(_) => 0,
         }
     }
 }

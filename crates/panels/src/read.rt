@@ -1,33 +1,32 @@
 //! Reading a panel text.
 ghost use Rattle.std.specs.Prelude.{IfOk, IfErr};
 ghost use Rattle.toml.specs.View.{table_view};
+ghost use Rattle.panels.specs.Draft.{draft_of};
 ghost use Rattle.panels.specs.Passes.{IsFaultless, IsReasonIn, IsReason};
 ghost use Rattle.panels.specs.Turns.{IsFirstIn, IsFirstOf};
 ghost use Rattle.panels.specs.Defines.{Defines, IsReadFrom};
 
-use crate::build::build;
-use crate::checks::check_passes;
+use crate::decode::decode;
 use crate::fault::PanelFault;
 use crate::panel_set::PanelSet;
-use crate::survey::survey_of;
 use std::alloc::{AllocError, Global};
 use toml::Table;
 
 /// The panels that a tree defines, or the first fault in it.
 fn read_tree(alloc: Global, top: &Table) -> Result<PanelSet, PanelFault>
-    ensures panels { IfOk result (λ set. IsFaultless (table_view top.now) × Defines (table_view top.now) set) }
-    ensures fault { IfErr result (IsReasonIn (table_view top.now)) }
-    ensures first { IfErr result (IsFirstIn (table_view top.now)) }
+    ensures panels { IfOk result (λ set. IsFaultless (draft_of (table_view top.now)) × Defines (draft_of (table_view top.now)) set) }
+    ensures fault { IfErr result (IsReasonIn (draft_of (table_view top.now))) }
+    ensures first { IfErr result (IsFirstIn (draft_of (table_view top.now))) }
 {
-    let survey = match survey_of(alloc, top) {
-        Ok(survey) => survey,
+    let draft = match decode(alloc, top) {
+        Ok(draft) => draft,
         Err(AllocError) => return Err(PanelFault::Memory),
     };
-    match check_passes(top, &survey) {
+    match draft.check() {
         Ok(()) => {}
         Err((fault, place)) => return Err(PanelFault::Tree(fault, place)),
     }
-    match build(alloc, top, &survey) {
+    match draft.build(alloc) {
         Ok(set) => Ok(set),
         Err(AllocError) => Err(PanelFault::Memory),
     }

@@ -1,14 +1,14 @@
 //! Which keys the tables of a panel text have.
-ghost use Rattle.std.specs.Prelude.{◌≡◌, map, not, ◌&&◌, option_map};
-ghost use Rattle.toml.specs.View.{table_view};
+ghost use Rattle.std.specs.Prelude.{◌≡◌, map, ◌&&◌, option_map};
+ghost use Rattle.toml.specs.View.{view, table_view};
 ghost use Rattle.toml.specs.Data.{get_member};
 ghost use Rattle.panels.specs.Rules.{rule_of};
-ghost use Rattle.panels.specs.Shape.{rules_for, is_known, breaks_keys, breaks_needs, breaks_kinds, has_unknown_key, lacks_key, has_bad_kind, is_misfit, has_key};
+ghost use Rattle.panels.specs.Shape.{text_rules as rules_of_text, is_known, breaks_keys, is_lacking, breaks_needs, breaks_kinds, is_misfit, wrong_by as fault_by};
 
-use crate::kinds::{Kind, fits_kind, has_texts_alone};
-use crate::part::Part;
+use crate::fault::TreeFault;
+use crate::kinds::{Kind, fits_kind};
 use crate::tree::{stands_at, value_at};
-use toml::Table;
+use toml::{Table, Value};
 
 /// A key that a table may have, and the kind of its value.
 pub(crate) enum KeyRule {
@@ -27,13 +27,13 @@ impl KeyRule {
     }
 }
 
-static TOP_RULES: [KeyRule; 3] = [
+pub(crate) static TOP_RULES: [KeyRule; 3] = [
     KeyRule::Must("start", Kind::Text),
     KeyRule::Must("lus", Kind::Texts),
     KeyRule::Must("panel", Kind::Tables),
 ];
 
-static PANEL_RULES: [KeyRule; 5] = [
+pub(crate) static PANEL_RULES: [KeyRule; 5] = [
     KeyRule::Must("name", Kind::Text),
     KeyRule::May("cursor", Kind::Text),
     KeyRule::May("text", Kind::Tables),
@@ -56,7 +56,7 @@ static SHOW_RULES: [KeyRule; 5] = [
     KeyRule::May("bright", Kind::Truth),
 ];
 
-static FIELD_RULES: [KeyRule; 9] = [
+pub(crate) static FIELD_RULES: [KeyRule; 9] = [
     KeyRule::Must("name", Kind::Text),
     KeyRule::Must("row", Kind::Integer),
     KeyRule::Must("col", Kind::Integer),
@@ -68,18 +68,14 @@ static FIELD_RULES: [KeyRule; 9] = [
     KeyRule::May("marked", Kind::Truth),
 ];
 
-/// The rules for a table of a panel text; none for a panel's keys.
-fn rules_at(part: Part, table: &Table) -> Option<&'static [KeyRule]>
-    ensures { option_map (λ rules. map rule_of rules.now) result ≡ rules_for part (table_view table.now) }
+/// The rules for a text, which has its own text, or shows a field.
+pub(crate) fn text_rules(table: &Table) -> &'static [KeyRule]
+    ensures { map rule_of result.now ≡ rules_of_text (table_view table.now) }
 {
-    match part {
-        Part::Top => Some(&TOP_RULES),
-        Part::Panel(_) => Some(&PANEL_RULES),
-        // A text has its own text, or shows a field.
-        Part::Text(_, _) if stands_at(table, "text") => Some(&LITERAL_RULES),
-        Part::Text(_, _) => Some(&SHOW_RULES),
-        Part::Field(_, _) => Some(&FIELD_RULES),
-        Part::Keys(_) => None,
+    if stands_at(table, "text") {
+        &LITERAL_RULES
+    } else {
+        &SHOW_RULES
     }
 }
 
@@ -95,12 +91,23 @@ fn any_unknown_key(rules: &[KeyRule], table: &Table) -> bool
     table.keys().any(|key| !knows_key(rules, key.as_str()))
 }
 
+/// Whether nothing stands, or no table in an array that has to have some.
+fn is_nothing(kind: Kind, value: Option<&Value>) -> bool
+    ensures { result ≡ is_lacking kind (option_map (λ value. view value.now) value.entry) }
+{
+    match (kind, value) {
+        (_, None) => true,
+        (Kind::Tables, Some(Value::Array(values))) => values.is_empty(),
+        _ => false,
+    }
+}
+
 /// Whether the key of a rule must stand and doesn't.
 fn is_absent(rule: &KeyRule, table: &Table) -> bool
-    ensures { result ≡ ((rule_of rule.now).needed && not (has_key (rule_of rule.now).key (table_view table.now))) }
+    ensures { result ≡ ((rule_of rule.now).needed && is_lacking (rule_of rule.now).kind (get_member (rule_of rule.now).key (table_view table.now))) }
 {
     match rule {
-        KeyRule::Must(key, _) => !stands_at(table, *key),
+        KeyRule::Must(key, kind) => is_nothing(*kind, value_at(table, *key)),
         KeyRule::May(_, _) => false,
     }
 }
@@ -128,26 +135,17 @@ fn any_value_misfits(rules: &[KeyRule], table: &Table) -> bool
     rules.iter().any(|rule| is_of_other_kind(rule, table))
 }
 
-/// Whether a table has a key that its rules don't know.
-pub(crate) fn has_unknown(part: Part, table: &Table) -> bool
-    ensures { result ≡ has_unknown_key part (table_view table.now) }
+/// What is wrong with the keys of a table and their values: one that its rules don't know, one that is absent, a value of another kind.
+pub(crate) fn wrong_by(rules: &[KeyRule], table: &Table) -> Option<TreeFault>
+    ensures { result ≡ fault_by (map rule_of rules.now) (table_view table.now) }
 {
-    rules_at(part, table).is_some_and(|rules| any_unknown_key(rules, table))
-}
-
-/// Whether a table lacks a key that it must have.
-pub(crate) fn has_absent(part: Part, table: &Table) -> bool
-    ensures { result ≡ lacks_key part (table_view table.now) }
-{
-    rules_at(part, table).is_some_and(|rules| any_key_absent(rules, table))
-}
-
-/// Whether a table has a value of another kind than its key's.
-pub(crate) fn has_misfit(part: Part, table: &Table) -> bool
-    ensures { result ≡ has_bad_kind part (table_view table.now) }
-{
-    match rules_at(part, table) {
-        Some(rules) => any_value_misfits(rules, table),
-        None => !has_texts_alone(table),
+    if any_unknown_key(rules, table) {
+        Some(TreeFault::UnknownKey)
+    } else if any_key_absent(rules, table) {
+        Some(TreeFault::Missing)
+    } else if any_value_misfits(rules, table) {
+        Some(TreeFault::BadKind)
+    } else {
+        None
     }
 }

@@ -1,16 +1,16 @@
-use Rattle.std.proofs.Common.{◌≡◌, ℕ, Some, sym, subst}
-use Rattle.std.specs.Prelude.{slice_get}
-use Rattle.toml.specs.View.{table_view}
-use Rattle.panels.specs.declared.panel.Field.{Field}
+use Rattle.std.proofs.Common.{◌∙◌, refl, ap, sym, subst}
+use Rattle.std.specs.Prelude.{option_map}
+use Rattle.std.proofs.lemmas.Slice.Eq.{bytes_eq-Decides}
 use Rattle.panels.specs.Defines.{IsCursorBy}
-use Rattle.panels.proofs.Linking.{cursor_is_there, found_or}
+use Rattle.panels.proofs.Building.{read_at}
 use Rattle.panels.proofs.build.cursor_of.Goals as goal
 
-pub returns-in-Some : goal.returns-in-Some
-returns-in-Some c =
-    rw (← c.in-Some.ensures)
-    (subst (IsCursorBy (Some c.in-Some.name.now) c.args.fields.now) (sym c.unwrap_or.ensures)
-    (found_or (IsCursorBy (Some c.in-Some.name.now) c.args.fields.now)
-    ((i : ℕ) (field : Field) → slice_get c.args.fields.now i ≡ Some field → ¬ (field.name ≡ c.in-Some.name.now)) c.place_named.result c.first.result
-    (cursor_is_there (table_view c.args.top.now) (table_view c.args.panel.now) c.args.number c.in-Some.name.now c.args.fields.now c.requires.faultless c.requires.panel c.requires.fields (sym c.in-Some.ensures))
-    c.place_named.ensures))
+pub returns-then-eq : goal.returns-then-eq
+returns-then-eq c =
+    subst (λ o. IsCursorBy o c.args.fields.now c.first_cell-then-eq.result) (sym (ap (option_map (λ name. name.now)) c.in-Some.is)) (
+      c.loop-field.field-index,
+      c.field-item.result,
+      read_at c.args.fields.now c.args.fields.now c.loop-field.field-index c.field-item.result refl c.loop-field-test.true c.field-item.is,
+      sym c.as_str.ensures ∙ (bytes_eq-Decides c.as_str.result.now c.in-Some.name.now).0 (sym c.if-eq.ensures),
+      c.first_cell-then-eq.ensures,
+    )

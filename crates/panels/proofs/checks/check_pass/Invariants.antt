@@ -1,8 +1,0 @@
-use Rattle.toml.specs.View.{table_view}
-use Rattle.panels.specs.declared.part.Part.TheVariants.{Panel}
-use Rattle.panels.specs.Turns.{IsClearTo}
-use Rattle.panels.specs.Walk.{turn_at}
-use Rattle.panels.proofs.checks.check_pass.Given as goal
-
-abbrev pub invariant-loop-panel : goal.invariant-loop-panel
-invariant-loop-panel l = IsClearTo (turn_at l.pass (Panel l.panel)) (table_view l.top)

@@ -1,0 +1,8 @@
+use Rattle.std.proofs.Common.{◌<◌, ℕ, Some, ◌≡◌}
+use Rattle.panels.specs.Draft.{DraftItem}
+use Rattle.panels.specs.Faults.{Overlaps, item_at}
+use Rattle.panels.specs.Walk.{nth}
+use Rattle.panels.proofs.draft.Draft.meets_one.Given as goal
+
+abbrev pub invariant-loop-index : goal.invariant-loop-index
+invariant-loop-index l = (j : ℕ) → j < l.index → (other : DraftItem) → item_at (nth l.array j) l.self.panels ≡ Some other → ¬ Overlaps l.item other

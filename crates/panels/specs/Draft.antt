@@ -1,0 +1,85 @@
+-- A panel text as it stands: what its tables say, by the types of their keys (our profile).
+use Rattle.std.specs.Prelude.{codes, ℕ, ℤ, pos, Bool, List, length, map, Option, Some, None, chars, unwrap_or}
+use Rattle.toml.specs.Data.{Members, no_members}
+use Rattle.panels.specs.declared.fault.TreeFault.{TreeFault}
+use Rattle.panels.specs.Shape.{wrong_by, top_rules, panel_rules, text_rules, field_rules, wrong_in_keys}
+use Rattle.panels.specs.Tree.{text_under, text_or_empty, number, is_set, table_under, items_under, tables_in, texts_in, texts_by_key}
+
+-- a text or a field: what is wrong with its keys, and what these say; what is absent is 0, unset, or no text
+pub record DraftItem : Type 0 where
+  pub wrong : Option TreeFault
+  pub row : ℤ
+  pub column : ℤ
+  pub size : ℤ
+  pub text : Option (List ℕ)
+  pub show : List ℕ
+  pub name : List ℕ
+  pub fill : List ℕ
+  pub bright : Bool
+  pub numeric : Bool
+  pub hidden : Bool
+  pub required : Bool
+  pub marked : Bool
+
+-- a panel; `keys` has the names in its table of keys, each with the panel that it names
+pub record DraftPanel : Type 0 where
+  pub wrong : Option TreeFault
+  pub name : List ℕ
+  pub cursor : Option (List ℕ)
+  pub texts : List DraftItem
+  pub fields : List DraftItem
+  pub wrong_keys : Option TreeFault
+  pub keys : List (List ℕ × List ℕ)
+
+pub record DraftText : Type 0 where
+  pub wrong : Option TreeFault
+  pub start : List ℕ
+  pub lus : List (List ℕ)
+  pub panels : List DraftPanel
+
+-- how many characters an item has: those of its text, or its `length`
+abbrev pub size_by : Option (List ℕ) → ℤ → ℤ
+size_by (Some text) size = pos (length (chars text))
+size_by None size = size
+
+abbrev pub item_by : Option TreeFault → Members → DraftItem
+item_by wrong table = record {
+  wrong = wrong;
+  row = number (codes "row") table;
+  column = number (codes "col") table;
+  size = size_by (text_under (codes "text") table) (number (codes "length") table);
+  text = text_under (codes "text") table;
+  show = text_or_empty (codes "show") table;
+  name = text_or_empty (codes "name") table;
+  fill = text_or_empty (codes "fill") table;
+  bright = is_set (codes "bright") table;
+  numeric = is_set (codes "numeric") table;
+  hidden = is_set (codes "hidden") table;
+  required = is_set (codes "required") table;
+  marked = is_set (codes "marked") table;
+}
+
+abbrev pub text_item_of : Members → DraftItem
+text_item_of table = item_by (wrong_by (text_rules table) table) table
+
+abbrev pub field_item_of : Members → DraftItem
+field_item_of table = item_by (wrong_by field_rules table) table
+
+abbrev pub panel_of : Members → DraftPanel
+panel_of table = record {
+  wrong = wrong_by panel_rules table;
+  name = text_or_empty (codes "name") table;
+  cursor = text_under (codes "cursor") table;
+  texts = map text_item_of (tables_in (items_under (codes "text") table));
+  fields = map field_item_of (tables_in (items_under (codes "field") table));
+  wrong_keys = wrong_in_keys (unwrap_or (table_under (codes "keys") table) no_members);
+  keys = texts_by_key (unwrap_or (table_under (codes "keys") table) no_members);
+}
+
+abbrev pub draft_of : Members → DraftText
+draft_of top = record {
+  wrong = wrong_by top_rules top;
+  start = text_or_empty (codes "start") top;
+  lus = texts_in (items_under (codes "lus") top);
+  panels = map panel_of (tables_in (items_under (codes "panel") top));
+}

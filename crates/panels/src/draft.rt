@@ -1,0 +1,102 @@
+//! A panel text as it stands: what its tables say, by the types of their keys.
+use crate::fault::TreeFault;
+use crate::index::NameIndex;
+use std::marker::Model;
+
+/// A text or a field. What is absent is 0, unset, or no text.
+#[derive(Drop)]
+pub(crate) struct ItemDraft<'a> {
+    /// What is wrong with its keys and their values.
+    pub wrong: Option<TreeFault>,
+    pub row: i64,
+    pub column: i64,
+    /// How many characters it has: those of its text, or its `length`.
+    pub length: i64,
+    pub text: Option<&'a str>,
+    /// The name of the field that it shows, where it has no text.
+    pub show: &'a str,
+    pub name: &'a str,
+    pub fill: &'a str,
+    pub bright: bool,
+    pub numeric: bool,
+    pub hidden: bool,
+    pub required: bool,
+    pub marked: bool,
+}
+
+impl<'a> Model for ItemDraft<'a> {
+    ghost use Rattle.std.specs.Prelude.{option_map};
+    ghost use Rattle.panels.specs.Draft.{DraftItem};
+
+    ghost Value = { DraftItem };
+
+    ghost view = { λ item. record {
+      wrong = item.wrong;
+      row = item.row;
+      column = item.column;
+      size = item.length;
+      text = option_map (λ text. text.now) item.text;
+      show = item.show.now;
+      name = item.name.now;
+      fill = item.fill.now;
+      bright = item.bright;
+      numeric = item.numeric;
+      hidden = item.hidden;
+      required = item.required;
+      marked = item.marked;
+    } };
+}
+
+/// A panel.
+#[derive(Drop)]
+pub(crate) struct PanelDraft<'a> {
+    pub wrong: Option<TreeFault>,
+    pub name: &'a str,
+    pub cursor: Option<&'a str>,
+    pub texts: Vec<ItemDraft<'a>>,
+    pub fields: Vec<ItemDraft<'a>>,
+    /// What is wrong with its table of keys.
+    pub wrong_keys: Option<TreeFault>,
+    /// The names in that table, each with the panel that it names.
+    pub keys: Vec<(&'a str, &'a str)>,
+}
+
+impl<'a> Model for PanelDraft<'a> {
+    ghost use Rattle.std.specs.Prelude.{map, option_map};
+    ghost use Rattle.panels.specs.Draft.{DraftPanel};
+
+    ghost Value = { DraftPanel };
+
+    ghost view = { λ panel. record {
+      wrong = panel.wrong;
+      name = panel.name.now;
+      cursor = option_map (λ name. name.now) panel.cursor;
+      texts = panel.texts.items;
+      fields = panel.fields.items;
+      wrong_keys = panel.wrong_keys;
+      keys = map (λ key. (key.0.now, key.1.now)) panel.keys.items;
+    } };
+}
+
+/// The whole text, with the first part of each name.
+#[derive(Drop)]
+pub(crate) struct Draft<'a> {
+    pub wrong: Option<TreeFault>,
+    pub start: &'a str,
+    pub lus: Vec<&'a str>,
+    pub panels: Vec<PanelDraft<'a>>,
+    pub panel_names: NameIndex,
+    pub field_names: NameIndex,
+}
+
+impl<'a> Model for Draft<'a> {
+    ghost use Rattle.std.specs.Prelude.{map};
+    ghost use Rattle.panels.specs.Draft.{DraftText};
+    ghost use Rattle.panels.specs.Index.{AreIndexes};
+
+    ghost Value = { DraftText };
+
+    ghost view = { λ draft. record { wrong = draft.wrong; start = draft.start.now; lus = map (λ lu. lu.now) draft.lus.items; panels = draft.panels.items } };
+
+    ghost invariant = { λ draft. AreIndexes draft.panels.items draft.panel_names draft.field_names };
+}
