@@ -245,7 +245,7 @@ module _ (heads : List Head) (attributes known told bytes : List ℕ) (now : Lis
       (get_or-replicate k j 0 0 low))
 
   pub tells : (told_ told__ bytes_ text : List ℕ) (n : ℕ) → n ≡ min (length text) (to - from) → bytes_ ≡ take from bytes ++ (take n text ++ drop (from + length (take n text)) bytes)
-      → ((j : ℕ) → has_bit known_ j ≡ (if is_within from to j then false else has_bit known j)) → ((j : ℕ) → has_bit told_ j ≡ (if is_within from (from + n) j then true else has_bit told j))
+      → ((j : ℕ) → has_bit known_ j ≡ (if is_within from to j then false else has_bit known j)) → ((j : ℕ) → has_bit told_ j ≡ (if is_within from to j then true else has_bit told j))
       → ((j : ℕ) → has_bit told__ j ≡ (if is_within (from + n) to j then false else has_bit told_ j)) → Keeps told__ bytes_ (Fill.Chars text)
   tells told_ told__ bytes_ text n is_n is known_bits first_bits last_bits =
       let k : ℕ = to - from in
@@ -261,12 +261,12 @@ module _ (heads : List Head) (attributes known told bytes : List ℕ) (now : Lis
       ∙ ap (λ (bs : List ℕ). take from bytes ++ bs) (sym (append_assoc (take n text) back (drop (from + k) bytes))))
       (λ j apart. bit_outside from to j false (has_bit known_ j) (has_bit known j) (known_bits j) apart)
       (λ j apart. bit_outside (from + n) to j false (has_bit told__ j) (has_bit told_ j) (last_bits j) (λ above below. apart (omega arith) below)
-      ∙ bit_outside from (from + n) j true (has_bit told_ j) (has_bit told j) (first_bits j) (λ above below. apart above (omega arith)))
+      ∙ bit_outside from to j true (has_bit told_ j) (has_bit told j) (first_bits j) apart)
       (λ j low h. elim (cases_lt j n) [
         | inl less ↦ says_told h (has_bit known_ (from + j)) (has_bit told__ (from + j)) (get_or (take n text ++ back) j 0) (get_or text j 0)
             (bit_inside from to (from + j) false (has_bit known_ (from + j)) (has_bit known (from + j)) (known_bits (from + j)) (omega arith) (omega arith))
             (bit_outside (from + n) to (from + j) false (has_bit told__ (from + j)) (has_bit told_ (from + j)) (last_bits (from + j)) (λ above below. omega arith)
-            ∙ bit_inside from (from + n) (from + j) true (has_bit told_ (from + j)) (has_bit told (from + j)) (first_bits (from + j)) (omega arith) (omega arith))
+            ∙ bit_inside from to (from + j) true (has_bit told_ (from + j)) (has_bit told (from + j)) (first_bits (from + j)) (omega arith) (omega arith))
             (get_or_append_left (take n text) back 0 j (omega arith) ∙ get_or-take n text j 0 less)
             ∙ sym (told_here text j (omega arith))
         | inr more ↦ says_unknown h (has_bit known_ (from + j)) (has_bit told__ (from + j)) (get_or (take n text ++ back) j 0)

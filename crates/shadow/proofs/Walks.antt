@@ -1,5 +1,5 @@
 -- A walk that changes fields from attribute to attribute is the walk over all places.
-use Rattle.std.proofs.Common.{◌≡◌, ℕ, suc, ◌+◌, ◌<◌, ◌≤◌, Bool, List, [], ◌∷◌, ◌++◌, length, take, drop, set, get_or, Option, Some, None, refl, ap, sym, subst, arith, ◌∙◌, append_assoc, append-nil, length-append}
+use Rattle.std.proofs.Common.{◌≡◌, ℕ, suc, ◌+◌, ◌-◌, ◌<◌, ◌≤◌, Bool, List, [], ◌∷◌, ◌++◌, length, take, drop, set, get_or, Option, Some, None, refl, ap, sym, subst, arith, ◌∙◌, append_assoc, append-nil, length-append}
 use Rattle.std.proofs.Math.Seq.{drop-nil}
 use Rattle.std.proofs.lemmas.List.{get_or_default, drop_more, take_more_set, drop-set-lt, take_at, drop_at, length-take-le, take-append-drop, take_all, at_drop_all}
 use Rattle.codes3270.specs.declared.attribute.Attr.{Attr as Attribute}
@@ -53,6 +53,9 @@ same_fills (Attr a m t ∷ ps) = refl
 same_fills (Known c ∷ ps) = ap (λ (qs : List Place). Known c ∷ qs) (same_fills ps)
 same_fills (Told c ∷ ps) = ap (λ (qs : List Place). Told c ∷ qs) (same_fills ps)
 same_fills (Unknown ∷ ps) = ap (λ (qs : List Place). Unknown ∷ qs) (same_fills ps)
+
+pub same_front : (ps : List Place) → front_filled Fill.Same ps ≡ ps
+same_front ps = front_parts Fill.Same ps ∙ ap (λ (qs : List Place). qs ++ drop (length (chars_known ps)) ps) (same_fills ps) ∙ take-append-drop (length (chars_known ps)) ps
 
 -- behind its characters an attribute stands, or nothing
 pub none_left : (ps : List Place) → length (chars_known (drop (length (chars_known ps)) ps)) ≡ 0
@@ -149,6 +152,10 @@ module _ (erased : Bool) (whole : List Place) where
             ∙ ap (λ (n : ℕ). take n whole ++ walk Fill.Same at came (drop n whole)) same;
         ends = fill_passed Fill.Same 0 came whole ∙ ap (λ (n : ℕ). walk_fill Fill.Same n came (drop k whole)) from ∙ ap (λ (n : ℕ). walk_fill Fill.Same at came (drop n whole)) same;
       }
+
+  -- what all fields come to, with those of the last round the end
+  abbrev pub all_taken : List Returned → List Place
+  all_taken all = front_filled (walk_fill Fill.Same 0 all whole) (walk Fill.Same 0 all whole)
 
   -- behind the last one
   pub finished : (f : Fill) (at : ℕ) (came all : List Returned) (now : List Place) → Between f at came all now → length whole ≤ at
@@ -264,3 +271,16 @@ same_filled from ps =
     let rest : List Place = drop from ps in
     sym (take-append-drop from ps) ∙ ap (λ (qs : List Place). take from ps ++ qs)
     (sym (front_parts Fill.Same rest ∙ ap (λ (qs : List Place). qs ++ drop (length (chars_known rest)) rest) (same_fills rest) ∙ take-append-drop (length (chars_known rest)) rest))
+
+-- the step of a field, whose attribute's head is held, and then its characters
+pub passed : (erased : Bool) (whole : List Place) (f : Fill) (at end : ℕ) (came left all : List Returned) (now headed_ after : List Place) (held : Place) (one : Change) → Between erased whole f at came all now
+    → at < length now → held ≡ get_or now at held → one ≡ long_change erased held (unreturned_at held (drop (at + 1) now ++ now)) (text_came held at came)
+    → end ≡ at + 1 + length (chars_known (drop (at + 1) now)) → headed_ ≡ set now at (with_head one.mark one.telling (get_or now at Unknown))
+    → after ≡ take (at + 1) headed_ ++ front_filled one.fill (drop (at + 1) headed_) → left ≡ came_behind held at came → Between erased whole (fill_after (end - at - 1) one.fill) end left all after
+passed erased whole f at end came left all now headed_ after held one h within is is_one is_end is_headed is_after is_left =
+    let k : ℕ = end - at - 1 in
+    let there : at + 1 + k ≡ end = omega arith in
+    let set_is = is_headed ∙ head_changed now at held f one within is h.stands in
+    let next = step erased whole f at k came all now after held one h within is is_one (omega arith) (is_after ∙ ap (λ (ps : List Place). take (at + 1) ps ++ front_filled one.fill (drop (at + 1) ps)) set_is) in
+    subst (λ (rs : List Returned). Between erased whole (fill_after k one.fill) end rs all after) (sym is_left)
+    (subst (λ (n : ℕ). Between erased whole (fill_after k one.fill) n (came_behind held at came) all after) there next)

@@ -288,8 +288,6 @@ fn take_fields<'a>(places: &mut Places, erased: bool, returned: ReturnedFields<'
         places.new ≡ front_filled (last_fill Same changes places.old) (all_changed Same changes places.old) }
 {
     let mut coming = Coming::new(returned);
-    let mut filling = Filling::Same;
-    let mut filled = 0;
     let mut place = places.attribute_from(0);
     while place < CELL_COUNT {
         let held = places.attribute_at(place);
@@ -298,11 +296,12 @@ fn take_fields<'a>(places: &mut Places, erased: bool, returned: ReturnedFields<'
         let one = change_after(places, place, held, erased, text);
         places.set_head(place, one.mark, one.telling);
         fill_between(places, place + 1, end, one.filling);
-        filling = one.filling;
-        filled = end - place - 1;
+        if CELL_COUNT <= end {
+            fill_front(places, filling_after(one.filling, end - place - 1));
+            return;
+        }
         place = end;
     }
-    fill_front(places, filling_after(filling, filled));
 }
 
 /// Takes in data that is possible, of a screen with fields; `erased`: the operator erased the input.

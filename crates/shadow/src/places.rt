@@ -280,7 +280,7 @@ impl Places {
         let count = text.len().min(to - from);
         put_bytes(self.bytes.as_mut_slice(), from, &text[..count]);
         self.known.put_range(from, to, false);
-        self.told.put_range(from, from + count, true);
+        self.told.put_range(from, to, true);
         self.told.put_range(from + count, to, false);
     }
 

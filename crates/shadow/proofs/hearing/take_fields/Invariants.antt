@@ -1,13 +1,16 @@
-use Rattle.std.proofs.Common.{◌≤◌, ◌-◌}
+use Rattle.std.proofs.Common.{◌≡◌, ◌≤◌, ◌-◌}
 use Rattle.codes3270.specs.Size.{cell_count}
-use Rattle.shadow.specs.Filled.{fill_of, fill_after}
-use Rattle.shadow.proofs.Walks.{Between}
+use Rattle.shadow.specs.Filled.{Fill}
+use Rattle.shadow.proofs.Walks.{Between, all_taken}
 use Rattle.shadow.proofs.hearing.take_fields.Given as goal
 
 abbrev pub invariant-loop-place : goal.invariant-loop-place
 invariant-loop-place l = record {
   within : l.place ≤ cell_count;
-  walked : Between l.erased l.fn.places (fill_after l.filled (fill_of l.filling)) l.place l.coming l.fn.returned l.places;
+  filling : Fill;
+  walked : Between l.erased l.fn.places filling l.place l.coming l.fn.returned l.places;
+  -- where no attribute stands the walk ends before it begins
+  none : cell_count ≤ l.place → l.places ≡ all_taken l.erased l.fn.places l.fn.returned;
 }
 
 abbrev pub decreases-loop-place : goal.decreases-loop-place
