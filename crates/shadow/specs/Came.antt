@@ -1,15 +1,11 @@
 -- For proofs alone: the fields that came, one after another (our profile).
 use Rattle.std.specs.Prelude.{◌==◌, ℕ, List, [], ◌∷◌, Option, Some, None, if◌then◌else◌}
+use Rattle.codes3270.specs.Size.{cell_count}
 use Rattle.datastream.specs.InboundFields.{Returned}
-use Rattle.shadow.specs.declared.came.Came.{Came}
 
-abbrev pub returned_of : Came → Returned
-returned_of came = record { first = came.first; text = came.text.now }
-
--- the one that is looked at, and those behind it; without one none is left
-abbrev pub came_of : Option Came → List Returned → List Returned
-came_of None rest = []
-came_of (Some came) rest = returned_of came ∷ rest
+-- the one that is looked at, by the address of its first cell and its text, and those behind it; none is left where the address is no cell's
+abbrev pub came_of : ℕ → List ℕ → List Returned → List Returned
+came_of first text rest = if first == cell_count then [] else record { first = first; text = text } ∷ rest
 
 -- the text of the first, if that begins at an address
 abbrev pub text_at : ℕ → List Returned → Option (List ℕ)

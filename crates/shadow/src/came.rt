@@ -11,17 +11,13 @@ use codes3270::CELL_COUNT;
 use datastream::ReturnedFields;
 use std::marker::Model;
 
-/// A field that came: the address of its first cell, and its characters.
-#[derive(Clone, Copy)]
-struct Came<'a> {
-    first: usize,
-    text: &'a [u8],
-}
-
 /// The fields that came and are left: the next one, and those behind it. Contracts see their list.
 #[derive(Drop)]
 pub(crate) struct Coming<'a> {
-    next: Option<Came<'a>>,
+    /// The address of the next one's first cell, `CELL_COUNT` where none is left.
+    first: usize,
+    /// Its characters.
+    text: &'a [u8],
     behind: ReturnedFields<'a>,
 }
 
@@ -32,27 +28,25 @@ impl<'a> Model for Coming<'a> {
 
     ghost Value = { List Returned };
 
-    ghost view = { λ coming. came_of coming.next coming.behind };
+    ghost view = { λ coming. came_of coming.first coming.text.now coming.behind };
 }
 
 /// The address behind an attribute's.
 fn first_address(place: usize) -> usize
     requires { place < cell_count }
-    ensures { result ≡ next_address cell_count place }
+    ensures address { result ≡ next_address cell_count place }
+    ensures in_range { result < cell_count }
 {
     (place + 1) % CELL_COUNT
 }
 
 /// The first of the fields that are left.
-fn next_of<'a>(rest: &mut ReturnedFields<'a>) -> Option<Came<'a>>
-    ensures { came_of result rest.new ≡ rest.old }
+fn next_of<'a>(rest: &mut ReturnedFields<'a>) -> (usize, &'a [u8])
+    ensures { came_of result.0 result.1.now rest.new ≡ rest.old }
 {
     match rest.next() {
-        Some(field) => Some(Came {
-            first: field.first.get() as usize,
-            text: field.text,
-        }),
-        None => None,
+        Some(field) => (field.first.get() as usize, field.text),
+        None => (CELL_COUNT, &[]),
     }
 }
 
@@ -62,15 +56,19 @@ impl<'a> Coming<'a> {
         ensures { result ≡ fields.entry }
     {
         let mut behind = fields;
-        let next = next_of(&mut behind);
-        Coming { next, behind }
+        let (first, text) = next_of(&mut behind);
+        Coming {
+            first,
+            text,
+            behind,
+        }
     }
 
     /// Whether none is left.
     pub(crate) fn is_empty(&self) -> bool
         ensures { result ≡ (length self.now == 0) }
     {
-        self.next.is_none()
+        self.first == CELL_COUNT
     }
 
     /// The text that came for the field whose attribute is held at a place. That field is passed then.
@@ -89,15 +87,17 @@ impl<'a> Coming<'a> {
 
     /// The text of the next field, if that begins at an address.
     fn take_at(&mut self, first: usize) -> Option<&'a [u8]>
+        requires { first < cell_count }
         ensures text { text_of result ≡ text_at first self.old }
         ensures left { self.new ≡ came_past first self.old }
     {
-        match self.next {
-            Some(field) if first == field.first => {
-                self.next = next_of(&mut self.behind);
-                Some(field.text)
-            }
-            _ => None,
+        if first != self.first {
+            return None;
         }
+        let came = self.text;
+        let (next, text) = next_of(&mut self.behind);
+        self.first = next;
+        self.text = text;
+        Some(came)
     }
 }
