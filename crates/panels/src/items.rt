@@ -11,18 +11,10 @@ use crate::size::{ITEM_ROWS, MESSAGE_START};
 use codes3270::{COLUMNS, from_latin1};
 
 /// How many characters a text has.
-fn count_characters(text: &str) -> usize
-    ensures count { result ≡ length (chars text.now) }
-    ensures small { result < 2 ^ 63 }
-{
-    text.chars().count()
-}
-
-/// The same as a signed number.
 pub(crate) fn characters_in(text: &str) -> i64
     ensures { result ≡ pos (length (chars text.now)) }
 {
-    count_characters(text) as i64
+    text.chars().count() as i64
 }
 
 fn lies_between(low: i64, high: i64, value: i64) -> bool

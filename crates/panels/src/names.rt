@@ -11,12 +11,6 @@ use crate::draft::{Draft, PanelDraft};
 use crate::index::NameIndex;
 use crate::part::Part;
 
-fn is_short(name: &[u8]) -> bool
-    ensures { result ≡ is_in_range 1 16 (length name.now) }
-{
-    1 <= name.len() && name.len() <= 16
-}
-
 fn are_panel_letters(name: &[u8]) -> bool
     ensures { result ≡ list_all is_panel_letter name.now }
 {
@@ -33,13 +27,13 @@ fn are_field_letters(name: &[u8]) -> bool
 fn names_a_panel(name: &str) -> bool
     ensures { result ≡ is_panel_name name.now }
 {
-    is_short(name.as_bytes()) && are_panel_letters(name.as_bytes())
+    (1..=16).contains(&name.len()) && are_panel_letters(name.as_bytes())
 }
 
 fn names_a_field(name: &str) -> bool
     ensures { result ≡ is_field_name name.now }
 {
-    is_short(name.as_bytes()) && are_field_letters(name.as_bytes())
+    (1..=16).contains(&name.len()) && are_field_letters(name.as_bytes())
 }
 
 /// The names of the keys that may lead to a panel.

@@ -7,7 +7,7 @@ ghost use Rattle.panels.specs.Shape.{text_rules as rules_of_text, is_known, brea
 
 use crate::fault::TreeFault;
 use crate::kinds::{Kind, fits_kind};
-use crate::tree::{stands_at, value_at};
+use crate::tree::value_at;
 use toml::{Table, Value};
 
 /// A key that a table may have, and the kind of its value.
@@ -72,7 +72,7 @@ pub(crate) static FIELD_RULES: [KeyRule; 9] = [
 pub(crate) fn text_rules(table: &Table) -> &'static [KeyRule]
     ensures { map rule_of result.now ≡ rules_of_text (table_view table.now) }
 {
-    if stands_at(table, "text") {
+    if value_at(table, "text").is_some() {
         &LITERAL_RULES
     } else {
         &SHOW_RULES

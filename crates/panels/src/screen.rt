@@ -27,15 +27,6 @@ fn put_nulls(wanted: &mut Wanted)
     }
 }
 
-/// A byte of a text, a null behind its end.
-fn byte_at(content: &[u8], index: usize) -> u8
-    requires { AreCharacters content.now }
-    ensures byte { result ≡ slice_index_or content.now index 0 }
-    ensures storable { is_storable result ≡ true }
-{
-    content.get(index).copied().unwrap_or(0)
-}
-
 /// A cell of an item with a content; without one it keeps what it has.
 fn cell_of(attr: Attr, content: Option<&[u8]>, distance: u16) -> Want
     requires { IfSome content (λ bytes. AreCharacters bytes.now) }
@@ -46,7 +37,7 @@ fn cell_of(attr: Attr, content: Option<&[u8]>, distance: u16) -> Want
         return Want::Attr(attr);
     }
     match content {
-        Some(bytes) => Want::Char(byte_at(bytes, distance as usize - 1)),
+        Some(bytes) => Want::Char(bytes.get(distance as usize - 1).copied().unwrap_or(0)),
         None => Want::Keep,
     }
 }
@@ -126,17 +117,13 @@ fn attr_of_field(values: &Values, message: Message, keep: bool, field: &Field) -
         } else {
             Display::Normal
         },
-        mdt: field.marked || (!keep && (message != Message::Fresh && has_value(values, field))),
+        mdt: field.marked
+            || (!keep
+                && (message != Message::Fresh
+                    && values
+                        .get(field.number)
+                        .is_some_and(|value| !value.is_empty()))),
     }
-}
-
-/// Whether a field has a value that isn't empty.
-fn has_value(values: &Values, field: &Field) -> bool
-    ensures { result ≡ is_filled values.now field.now }
-{
-    values
-        .get(field.number)
-        .is_some_and(|value| !value.is_empty())
 }
 
 /// What a field is written with.
@@ -195,29 +182,16 @@ fn coded_byte(text: &[u8], index: usize) -> u8
     ensures byte { result ≡ slice_index_or (coded text.now) index 0 }
     ensures storable { is_storable result ≡ true }
 {
-    text.get(index).map_or(0, |byte| code_or_null(*byte))
-}
-
-/// The code of an ASCII character.
-fn code_or_null(character: u8) -> u8
-    ensures code { result ≡ unwrap_or (code_of character) 0 }
-    ensures storable { is_storable result ≡ true }
-{
-    from_latin1(char::from(character)).unwrap_or(0)
+    text.get(index)
+        .and_then(|byte| from_latin1(char::from(*byte)))
+        .unwrap_or(0)
 }
 
 /// The field with a number, over the whole text.
 fn numbered(number: usize, fields: &[Field]) -> Option<&Field>
     ensures { option_copied result ≡ field_numbered number fields.now }
 {
-    fields.get(place_of_number(number, fields)?)
-}
-
-/// Where the field with a number stands.
-fn place_of_number(number: usize, fields: &[Field]) -> Option<usize>
-    ensures { result ≡ position (λ field. field.number == number) fields.now }
-{
-    fields.iter().position(|field| field.number == number)
+    fields.iter().find(|field| field.number == number)
 }
 
 const KEY_NOT_ACTIVE: &[u8; 14] = b"KEY NOT ACTIVE";

@@ -12,12 +12,6 @@ pub(crate) fn value_at<'a>(table: &'a Table, key: &str) -> Option<&'a Value>
     table.get(key)
 }
 
-pub(crate) fn stands_at(table: &Table, key: &str) -> bool
-    ensures { result ≡ has_key key.now (table_view table.now) }
-{
-    value_at(table, key).is_some()
-}
-
 pub(crate) fn text_at<'a>(table: &'a Table, key: &str) -> Option<&'a str>
     ensures { option_map (λ text. text.now) result ≡ text_under key.now (table_view table.now) }
 {
@@ -59,8 +53,7 @@ pub(crate) fn table_at<'a>(table: &'a Table, key: &str) -> Option<&'a Table>
 pub(crate) fn values_at<'a>(table: &'a Table, key: &str) -> &'a [Value]
     ensures { items_view result.now ≡ items_under key.now (table_view table.now) }
 {
-    match value_at(table, key).and_then(|value| value.as_array()) {
-        Some(values) => values.as_slice(),
-        None => &[],
-    }
+    value_at(table, key)
+        .and_then(|value| value.as_array())
+        .map_or(&[], |values| values.as_slice())
 }
