@@ -17,12 +17,6 @@ pub(crate) fn characters_in(text: &str) -> i64
     text.chars().count() as i64
 }
 
-fn lies_between(low: i64, high: i64, value: i64) -> bool
-    ensures { result ≡ is_between low high value }
-{
-    low <= value && value <= high
-}
-
 /// The address of a row and a column, both from 1 on.
 fn address_of(row: i64, column: i64) -> i64
     requires row_high { row ≤ℤ pos item_rows }
@@ -34,12 +28,6 @@ fn address_of(row: i64, column: i64) -> i64
     ensures high { result <ℤ pos message_start }
 {
     (row - 1) * COLUMNS as i64 + (column - 1)
-}
-
-fn has_address(row: i64, column: i64) -> bool
-    ensures { result ≡ (is_between (pos 1) (pos item_rows) row && is_between (pos 1) (pos columns) column) }
-{
-    lies_between(1, ITEM_ROWS as i64, row) && lies_between(1, COLUMNS as i64, column)
 }
 
 /// The extent from an address, where it ends before the message row.
@@ -63,7 +51,11 @@ impl<'a> ItemDraft<'a> {
     pub(crate) fn extent(&self) -> Option<Extent>
         ensures { MatchOption result (is_on_screen self.now ≡ false) (λ extent. (is_on_screen self.now ≡ true) × IsExtentOf self.now extent) }
     {
-        if !has_address(self.row, self.column) {
+        let is_there = 1 <= self.row
+            && self.row <= ITEM_ROWS as i64
+            && 1 <= self.column
+            && self.column <= COLUMNS as i64;
+        if !is_there {
             return None;
         }
         extent_at(address_of(self.row, self.column), self.length)

@@ -49,13 +49,6 @@ fn is_among(names: &[&str], name: &str) -> bool
     names.iter().any(|known| name == *known)
 }
 
-/// Whether a text names a key.
-fn names_a_key(name: &str) -> bool
-    ensures { result ≡ is_key_name name.now }
-{
-    is_among(&KEY_NAMES, name)
-}
-
 impl<'a> Draft<'a> {
     pub(crate) fn is_misnamed(&self, part: Part) -> bool
         ensures { result ≡ has_bad_name part self.now.panels }
@@ -95,7 +88,7 @@ impl<'a> PanelDraft<'a> {
     fn has_strange_key(&self) -> bool
         ensures { result ≡ list_any (λ key. not (is_key_name key.0)) self.now.keys }
     {
-        self.keys.iter().any(|key| !names_a_key(key.0))
+        self.keys.iter().any(|key| !is_among(&KEY_NAMES, key.0))
     }
 }
 

@@ -102,37 +102,25 @@ fn is_nothing(kind: Kind, value: Option<&Value>) -> bool
     }
 }
 
-/// Whether the key of a rule must stand and doesn't.
-fn is_absent(rule: &KeyRule, table: &Table) -> bool
-    ensures { result ≡ ((rule_of rule.now).needed && is_lacking (rule_of rule.now).kind (get_member (rule_of rule.now).key (table_view table.now))) }
-{
-    match rule {
-        KeyRule::Must(key, kind) => is_nothing(*kind, value_at(table, *key)),
-        KeyRule::May(_, _) => false,
-    }
-}
-
+/// Whether a key that must stand doesn't.
 fn any_key_absent(rules: &[KeyRule], table: &Table) -> bool
     ensures { result ≡ breaks_needs (map rule_of rules.now) (table_view table.now) }
 {
-    rules.iter().any(|rule| is_absent(rule, table))
+    rules.iter().any(|rule| match rule {
+        KeyRule::Must(key, kind) => is_nothing(*kind, value_at(table, *key)),
+        KeyRule::May(_, _) => false,
+    })
 }
 
 /// Whether the key of a rule has a value of another kind.
-fn is_of_other_kind(rule: &KeyRule, table: &Table) -> bool
-    ensures { result ≡ is_misfit (rule_of rule.now).kind (get_member (rule_of rule.now).key (table_view table.now)) }
-{
-    match rule {
-        KeyRule::Must(key, kind) | KeyRule::May(key, kind) => {
-            value_at(table, *key).is_some_and(|value| !fits_kind(*kind, value))
-        }
-    }
-}
-
 fn any_value_misfits(rules: &[KeyRule], table: &Table) -> bool
     ensures { result ≡ breaks_kinds (map rule_of rules.now) (table_view table.now) }
 {
-    rules.iter().any(|rule| is_of_other_kind(rule, table))
+    rules.iter().any(|rule| match rule {
+        KeyRule::Must(key, kind) | KeyRule::May(key, kind) => {
+            value_at(table, *key).is_some_and(|value| !fits_kind(*kind, value))
+        }
+    })
 }
 
 /// What is wrong with the keys of a table and their values: one that its rules don't know, one that is absent, a value of another kind.

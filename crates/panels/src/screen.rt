@@ -109,6 +109,9 @@ fn put_texts(wanted: &mut Wanted, values: &Values, texts: &[TextItem])
 fn attr_of_field(values: &Values, message: Message, keep: bool, field: &Field) -> Attr
     ensures { result ≡ field_attr values.now message keep field.now }
 {
+    let is_filled = values
+        .get(field.number)
+        .is_some_and(|value| !value.is_empty());
     Attr {
         protected: false,
         numeric: field.numeric,
@@ -117,12 +120,7 @@ fn attr_of_field(values: &Values, message: Message, keep: bool, field: &Field) -
         } else {
             Display::Normal
         },
-        mdt: field.marked
-            || (!keep
-                && (message != Message::Fresh
-                    && values
-                        .get(field.number)
-                        .is_some_and(|value| !value.is_empty()))),
+        mdt: field.marked || (!keep && (message != Message::Fresh && is_filled)),
     }
 }
 
@@ -218,13 +216,8 @@ fn message_byte(message: Message, name: &[u8], index: usize) -> u8
     match message {
         Message::Fresh | Message::Plain => 0,
         Message::KeyNotActive => coded_byte(KEY_NOT_ACTIVE, index),
-        Message::Required(_) => {
-            if index < REQUIRED.len() {
-                coded_byte(REQUIRED, index)
-            } else {
-                coded_byte(name, index - REQUIRED.len())
-            }
-        }
+        Message::Required(_) if index < REQUIRED.len() => coded_byte(REQUIRED, index),
+        Message::Required(_) => coded_byte(name, index - REQUIRED.len()),
     }
 }
 

@@ -54,10 +54,9 @@ impl<'a> Draft<'a> {
     {
         match part {
             Part::Top => self.is_no_panel(self.start),
-            Part::Panel(panel) => match self.panel(panel) {
-                Some(panel) => panel.has_lost_cursor(),
-                None => false,
-            },
+            Part::Panel(panel) => self
+                .panel(panel)
+                .is_some_and(|panel| panel.has_lost_cursor()),
             Part::Text(_, _) => match self.item(part) {
                 Some(text) => text.text.is_none() && self.is_no_field(text.show),
                 None => false,
