@@ -1,10 +1,10 @@
 //! The faults of a draft, part by part.
-ghost use Rattle.std.specs.Prelude.{◌≡◌, ◌↔◌, ◌+◌, ◌<◌, IsTrue, All, MatchOption, MatchResult, length};
+ghost use Rattle.std.specs.Prelude.{◌≡◌, ◌↔◌, ◌+◌, ◌<◌, IsTrue, MatchResult, length};
 ghost use Rattle.panels.specs.declared.part.Part.TheVariants as part;
-ghost use Rattle.panels.specs.Faults.{HasFault, IsFaulty, is_part, has_too_many, faults_of};
+ghost use Rattle.panels.specs.Faults.{HasFault, is_part, has_too_many, faults_of};
 ghost use Rattle.panels.specs.Passes.{IsFaultless};
 ghost use Rattle.panels.specs.Turns.{IsClearTo, IsFirstFault};
-ghost use Rattle.panels.specs.Walk.{turn_at, IsCleanAt, IsFirstListed};
+ghost use Rattle.panels.specs.Walk.{turn_at, IsCleanAt};
 
 use crate::draft::{Draft, PanelDraft};
 use crate::fault::TreeFault;

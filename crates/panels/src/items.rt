@@ -1,9 +1,9 @@
 //! The items of a panel text.
-ghost use Rattle.std.specs.Prelude.{◌≡◌, ◌≤ℤ◌, ◌<ℤ◌, ◌<◌, ◌^◌, ◌&&◌, true, false, MatchOption, pos, chars, length};
+ghost use Rattle.std.specs.Prelude.{◌≡◌, ◌≤ℤ◌, ◌<ℤ◌, ◌<◌, ◌&&◌, true, false, MatchOption, pos, chars, length};
 ghost use Rattle.std.specs.List.{list_any};
 ghost use Rattle.codes3270.specs.Size.{columns};
 ghost use Rattle.panels.specs.Size.{item_rows, message_start};
-ghost use Rattle.panels.specs.Items.{IsExtentOf, is_on_screen, is_in_place, lacks_code, has_no_code, is_between, is_above_message, first_of};
+ghost use Rattle.panels.specs.Items.{IsExtentOf, is_on_screen, is_in_place, lacks_code, has_no_code, is_above_message, first_of};
 
 use crate::draft::ItemDraft;
 use crate::extent::Extent;

@@ -72,22 +72,14 @@ fn skipped_attr(bright: bool) -> Attr
     }
 }
 
-/// What a text shows.
-fn shown_bytes<'a>(values: &'a Values, content: &'a Content) -> &'a [u8]
-    ensures bytes { result.now ≡ shown values.now content.now }
-    ensures characters { AreCharacters result.now }
-{
-    match content {
-        Content::Literal(text) => text.as_slice(),
-        Content::Show(number) => values.get(*number).unwrap_or(&[]),
-    }
-}
-
 /// Puts the cells of a text.
 fn put_text(wanted: &mut Wanted, values: &Values, text: &TextItem)
     ensures { IsPut (λ cell. text_cell values.now cell text.now) wanted.old.cells wanted.new.cells }
 {
-    let content = shown_bytes(values, &text.content);
+    let content = match &text.content {
+        Content::Literal(literal) => literal.as_slice(),
+        Content::Show(number) => values.get(*number).unwrap_or(&[]),
+    };
     put_item(
         wanted,
         text.extent,
@@ -158,20 +150,14 @@ fn put_fields(wanted: &mut Wanted, values: &Values, message: Message, keep: bool
     }
 }
 
-/// Puts the attribute behind a field, where it ends.
-fn put_stopper(wanted: &mut Wanted, field: &Field)
-    ensures { IsPut (λ cell. stopper_cell cell field.now) wanted.old.cells wanted.new.cells }
-{
-    let end = field.extent.first + field.extent.length;
-    wanted.put(end as usize, Want::Attr(skipped_attr(false)));
-}
-
-/// Puts the attributes behind fields.
+/// Puts the attributes behind fields, where they end.
 fn put_stoppers(wanted: &mut Wanted, fields: &[Field])
     ensures { IsPut (λ cell. first_some (stopper_cell cell) fields.now) wanted.old.cells wanted.new.cells }
 {
     for index in (0..fields.len()).rev() {
-        put_stopper(wanted, &fields[index]);
+        let extent = fields[index].extent;
+        let end = extent.first + extent.length;
+        wanted.put(end as usize, Want::Attr(skipped_attr(false)));
     }
 }
 
