@@ -1,6 +1,5 @@
 //! The names of a panel text.
-ghost use Rattle.std.specs.Prelude.{◌≡◌, ◌↔◌, IsTrue, bytes_eq, length, not, option_map};
-ghost use Rattle.std.specs.Int.{is_in_range};
+ghost use Rattle.std.specs.Prelude.{◌≡◌, ◌↔◌, IsTrue, bytes_eq, not, option_map};
 ghost use Rattle.std.specs.List.{list_all, list_any};
 ghost use Rattle.panels.specs.Items.{is_panel_name, is_field_name, is_panel_letter, is_field_letter};
 ghost use Rattle.panels.specs.Keys.{is_key_name};

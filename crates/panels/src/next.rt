@@ -1,7 +1,6 @@
 //! Where the keys lead.
 ghost use Rattle.std.specs.Prelude.{◌≡◌};
 ghost use Rattle.panels.specs.Keys.{place_of_key};
-ghost use Rattle.panels.specs.Panel.{target_at};
 
 use crate::panel::Panel;
 use codes3270::Aid;

@@ -1,9 +1,8 @@
 //! Which keys the tables of a panel text have.
-ghost use Rattle.std.specs.Prelude.{◌≡◌, map, ◌&&◌, option_map};
+ghost use Rattle.std.specs.Prelude.{◌≡◌, map, option_map};
 ghost use Rattle.toml.specs.View.{view, table_view};
-ghost use Rattle.toml.specs.Data.{get_member};
 ghost use Rattle.panels.specs.Rules.{rule_of};
-ghost use Rattle.panels.specs.Shape.{text_rules as rules_of_text, is_known, breaks_keys, is_lacking, breaks_needs, breaks_kinds, is_misfit, wrong_by as fault_by};
+ghost use Rattle.panels.specs.Shape.{text_rules as rules_of_text, is_known, breaks_keys, is_lacking, breaks_needs, breaks_kinds, wrong_by as fault_by};
 
 use crate::fault::TreeFault;
 use crate::kinds::{Kind, fits_kind};

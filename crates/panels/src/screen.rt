@@ -1,13 +1,12 @@
 //! The screen that a panel asks for.
-ghost use Rattle.std.specs.Prelude.{◌≡◌, ◌==◌, ◌<◌, ℕ, position, true, false, IfSome, option_map, slice_index_or, option_copied, unwrap_or};
+ghost use Rattle.std.specs.Prelude.{◌≡◌, ◌==◌, ◌<◌, ℕ, true, false, IfSome, option_map, slice_index_or, option_copied, unwrap_or};
 ghost use Rattle.codes3270.specs.Size.{cell_count};
-ghost use Rattle.codes3270.specs.CodePage.{code_of};
 ghost use Rattle.codes3270.specs.Storable.{is_storable};
 ghost use Rattle.datastream.specs.Wanted.{IsProper};
 ghost use Rattle.datastream.specs.declared.wanted.Want.{Want as Wish};
 ghost use Rattle.datastream.specs.declared.wanted.Want.TheVariants.{Char};
 ghost use Rattle.panels.specs.Characters.{AreCharacters};
-ghost use Rattle.panels.specs.Screen.{distance_in, item_cell, autoskip_attr, text_cell, shown, first_some, field_attr, is_filled, field_content, field_cell, stopper_cell, coded, message_cell, field_numbered, wanted_cursor};
+ghost use Rattle.panels.specs.Screen.{distance_in, item_cell, autoskip_attr, text_cell, first_some, field_attr, is_filled, field_content, field_cell, stopper_cell, coded, message_cell, field_numbered, wanted_cursor};
 ghost use Rattle.panels.specs.Put.{IsPut, cell_with, name_spoken, text_with};
 
 use crate::extent::Extent;
@@ -72,28 +71,22 @@ fn skipped_attr(bright: bool) -> Attr
     }
 }
 
-/// Puts the cells of a text.
-fn put_text(wanted: &mut Wanted, values: &Values, text: &TextItem)
-    ensures { IsPut (λ cell. text_cell values.now cell text.now) wanted.old.cells wanted.new.cells }
-{
-    let content = match &text.content {
-        Content::Literal(literal) => literal.as_slice(),
-        Content::Show(number) => values.get(*number).unwrap_or(&[]),
-    };
-    put_item(
-        wanted,
-        text.extent,
-        skipped_attr(text.bright),
-        Some(content),
-    );
-}
-
 /// Puts the cells of texts, the first over all others.
 fn put_texts(wanted: &mut Wanted, values: &Values, texts: &[TextItem])
     ensures { IsPut (λ cell. first_some (text_cell values.now cell) texts.now) wanted.old.cells wanted.new.cells }
 {
     for index in (0..texts.len()).rev() {
-        put_text(wanted, values, &texts[index]);
+        let text = &texts[index];
+        let content = match &text.content {
+            Content::Literal(literal) => literal.as_slice(),
+            Content::Show(number) => values.get(*number).unwrap_or(&[]),
+        };
+        put_item(
+            wanted,
+            text.extent,
+            skipped_attr(text.bright),
+            Some(content),
+        );
     }
 }
 

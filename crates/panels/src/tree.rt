@@ -2,7 +2,7 @@
 ghost use Rattle.std.specs.Prelude.{◌≡◌, option_map};
 ghost use Rattle.toml.specs.View.{view, items_view, table_view};
 ghost use Rattle.toml.specs.Data.{get_member};
-ghost use Rattle.panels.specs.Tree.{has_key, text_under, text_or_empty, number, is_set, table_under, items_under};
+ghost use Rattle.panels.specs.Tree.{text_under, text_or_empty, number, is_set, table_under, items_under};
 
 use toml::{Table, Value};
 
