@@ -121,25 +121,19 @@ fn content_of_field<'a>(values: &'a Values, message: Message, field: &'a Field) 
     values.get(field.number).unwrap_or(fill)
 }
 
-/// Puts the cells of a field.
-fn put_field(wanted: &mut Wanted, values: &Values, message: Message, keep: bool, field: &Field)
-    ensures { IsPut (λ cell. field_cell values.now message keep cell field.now) wanted.old.cells wanted.new.cells }
-{
-    let attr = attr_of_field(values, message, keep, field);
-    let content = if keep {
-        None
-    } else {
-        Some(content_of_field(values, message, field))
-    };
-    put_item(wanted, field.extent, attr, content);
-}
-
 /// Puts the cells of fields, the first over all others.
 fn put_fields(wanted: &mut Wanted, values: &Values, message: Message, keep: bool, fields: &[Field])
     ensures { IsPut (λ cell. first_some (field_cell values.now message keep cell) fields.now) wanted.old.cells wanted.new.cells }
 {
     for index in (0..fields.len()).rev() {
-        put_field(wanted, values, message, keep, &fields[index]);
+        let field = &fields[index];
+        let attr = attr_of_field(values, message, keep, field);
+        let content = if keep {
+            None
+        } else {
+            Some(content_of_field(values, message, field))
+        };
+        put_item(wanted, field.extent, attr, content);
     }
 }
 
