@@ -1,5 +1,5 @@
 -- Lists that are built one for one.
-use Rattle.std.proofs.Common.{◌≡◌, ℕ, ◌+◌, ◌<◌, ◌≤◌, map, drop, List, [], ◌∷◌, ◌++◌, length, Some, ap, get_or, subst, sym, ◌∙◌, inl, inr, arith, length-append}
+use Rattle.std.proofs.Common.{◌≡◌, ℕ, ◌+◌, ◌<◌, ◌≤◌, map, drop, List, [], ◌∷◌, ◌++◌, length, Some, refl, ap, get_or, subst, sym, ◌∙◌, inl, inr, arith, length-append}
 use Rattle.std.specs.Prelude.{slice_get, ◌⊎◌}
 use Rattle.std.proofs.Math.Seq.{get_or-append_seam}
 use Rattle.std.proofs.lemmas.List.{get_or_append_left, at_drop_all, append-nil}
@@ -49,6 +49,9 @@ built_all IsOf drafts n things whole built = record { size = built.size ∙ whol
 -- what is read of a list at an index, by another name of the list
 pub read_at : {X : Type 0} (read xs : List X) (i : ℕ) (x : X) → read ≡ xs → i < length read → x ≡ get_or read i x → slice_get xs i ≡ Some x
 read_at read xs i x same below is = slice_get_read xs (length read) i x (ap length same) below (is ∙ ap (λ l. get_or l i x) same)
+
+pub read_below : {X : Type 0} (read xs : List X) (i : ℕ) (x : X) → read ≡ xs → i < length xs → x ≡ get_or read i x → slice_get xs i ≡ Some x
+read_below read xs i x same below is = slice_get_read xs (length xs) i x refl below (is ∙ ap (λ l. get_or l i x) same)
 
 -- what is done is the whole, where nothing is left
 pub all_done : {X Y : Type 0} (f : X → Y) (whole done : List Y) (xs : List X) (k : ℕ) → length xs ≤ k → whole ≡ done ++ map f (drop k xs) → done ≡ whole

@@ -1,9 +1,9 @@
 -- What a draft in which no fault stands has, and of which of its items a thing is.
-use Rattle.std.proofs.Common.{◌≡◌, ◌<◌, ℕ, List, length, Option, Some, None, Bool, true, false, not, ◌&&◌, refl, ap, ◌∙◌, inl, inr, arith}
+use Rattle.std.proofs.Common.{◌≡◌, ◌<◌, ℕ, List, [], ◌∷◌, length, get_or, Option, Some, None, Bool, true, false, not, ◌&&◌, refl, ap, ◌∙◌, inl, inr, arith}
 use Rattle.std.specs.Prelude.{slice_get, is_some, option_map, IsTrue}
 use Rattle.std.specs.Option.{option_map_or}
 use Rattle.std.proofs.lemmas.Bool.{cases_Bool}
-use Rattle.std.proofs.lemmas.Option.{slice_get_cases, slice_get_within}
+use Rattle.std.proofs.lemmas.Option.{slice_get-get_or, slice_get_within}
 use Rattle.panels.specs.declared.fault.TreeFault.{TreeFault}
 use Rattle.panels.specs.declared.fault.TreeFault.TheVariants as fault
 use Rattle.panels.specs.declared.part.Part.{Part}
@@ -51,11 +51,8 @@ on_screen draft part item clean there =
 
 -- what stands inside a list
 pub there_in : {X : Type 0} (xs : List X) (i : ℕ) → i < length xs → (x : X) × (slice_get xs i ≡ Some x)
-there_in xs i fits =
-    elim (slice_get_cases xs i).1 [
-      | inl there ↦ (there.0, there.2)
-      | inr past ↦ absurd (let over = past.0 in omega arith)
-    ]
+there_in [] i fits = absurd (omega arith)
+there_in (x ∷ xs) i fits = (get_or (x ∷ xs) i x, slice_get-get_or (x ∷ xs) i x fits)
 
 -- each thing is that of the draft at its place
 pub draft_of_each : {X Y : Type 0} (IsOf : ℕ → X → Y → Type 0) (drafts : List X) (things : List Y) (i : ℕ) (thing : Y) → IsEachOf IsOf drafts things → slice_get things i ≡ Some thing

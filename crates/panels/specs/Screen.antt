@@ -1,6 +1,6 @@
 -- The screen that a panel asks for (our profile).
-use Rattle.std.specs.Prelude.{◌≡◌, codes, ℕ, ◌+◌, ◌-◌, ◌<◌, ◌==◌, nat_lt, Bool, true, false, not, ◌&&◌, ◌||◌, List, [], ◌∷◌, ◌++◌, map, Option, Some, None, option_map, option_and_then, unwrap_or, slice_get, slice_index_or, if◌then◌else◌}
-use Rattle.std.specs.List.{position, range_with_len}
+use Rattle.std.specs.Prelude.{◌≡◌, codes, ℕ, ◌+◌, ◌-◌, ◌<◌, ◌==◌, nat_lt, Bool, true, false, not, ◌&&◌, ◌||◌, List, [], ◌∷◌, ◌++◌, map, Option, Some, None, option_map, unwrap_or, find, slice_get, slice_index_or, if◌then◌else◌}
+use Rattle.std.specs.List.{range_with_len}
 use Rattle.std.specs.Option.{option_or, option_map_or}
 use Rattle.std.specs.Int.{is_in_range}
 use Rattle.codes3270.specs.Size.{cell_count}
@@ -86,7 +86,7 @@ stopper_cell cell field = if cell == field.extent.first + field.extent.length th
 
 -- the panel's field with a number, over the whole text
 abbrev pub field_numbered : ℕ → List Field → Option Field
-field_numbered number fields = option_and_then (slice_get fields) (position (λ field. field.number == number) fields)
+field_numbered number fields = find (λ field. field.number == number) fields
 
 abbrev pub coded : List ℕ → List ℕ
 coded text = map (λ character. unwrap_or (code_of character) 0) text

@@ -115,15 +115,12 @@ impl<'a> Draft<'a> {
         requires there { slice_get self.now.panels index ≡ Some panel.now }
         ensures { IfOk result (IsPanelOf self.now.panels index panel.now) }
     {
-        let texts = self.texts(alloc, panel)?;
         let fields = self.fields(alloc, panel, index)?;
-        let cursor = cursor_of(panel.cursor, fields.as_slice());
-        let targets = self.targets(alloc, panel, &KEY_NAMES)?;
         Ok(Panel {
-            texts,
+            texts: self.texts(alloc, panel)?,
+            cursor: cursor_of(panel.cursor, fields.as_slice()),
+            targets: self.targets(alloc, panel, &KEY_NAMES)?,
             fields,
-            cursor,
-            targets,
         })
     }
 

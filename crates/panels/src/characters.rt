@@ -51,7 +51,10 @@ impl Characters {
         ensures { IfOk result (λ characters. characters ≡ codes_of (chars text.now)) }
     {
         Ok(Characters {
-            bytes: codes_of_text(alloc, text)?,
+            bytes: text
+                .chars()
+                .filter_map(|character| from_latin1(character))
+                .collect(alloc)?,
         })
     }
 
@@ -61,13 +64,4 @@ impl Characters {
     {
         self.bytes.as_slice()
     }
-}
-
-/// The codes of a text's characters, as far as they have one.
-fn codes_of_text(alloc: Global, text: &str) -> Result<Vec<u8>, AllocError>
-    ensures { IfOk result (λ bytes. bytes.items ≡ codes_of (chars text.now)) }
-{
-    text.chars()
-        .filter_map(|character| from_latin1(character))
-        .collect(alloc)
 }

@@ -1,10 +1,10 @@
 //! The faults of a draft, part by part.
-ghost use Rattle.std.specs.Prelude.{◌≡◌, ◌↔◌, ◌+◌, ◌<◌, IsTrue, All, MatchOption, MatchResult, length};
+ghost use Rattle.std.specs.Prelude.{◌≡◌, ◌↔◌, ◌+◌, ◌<◌, IsTrue, MatchResult, length};
 ghost use Rattle.panels.specs.declared.part.Part.TheVariants as part;
-ghost use Rattle.panels.specs.Faults.{HasFault, IsFaulty, is_part, has_too_many, faults_of};
+ghost use Rattle.panels.specs.Faults.{HasFault, is_part, has_too_many, faults_of};
 ghost use Rattle.panels.specs.Passes.{IsFaultless};
 ghost use Rattle.panels.specs.Turns.{IsClearTo, IsFirstFault};
-ghost use Rattle.panels.specs.Walk.{turn_at, IsCleanAt, IsFirstListed};
+ghost use Rattle.panels.specs.Walk.{turn_at, IsCleanAt};
 
 use crate::draft::{Draft, PanelDraft};
 use crate::fault::TreeFault;
@@ -55,21 +55,6 @@ impl<'a> Draft<'a> {
         }
     }
 
-    /// The first of some faults that a part has.
-    fn first_at(&self, part: Part, faults: &[TreeFault]) -> Option<TreeFault>
-        requires { IsTrue (is_part part self.now.panels) }
-        ensures { MatchOption result
-            (All (λ fault. ¬ IsFaulty fault part self.now) faults.now)
-            (IsFirstListed faults.now part self.now) }
-    {
-        for fault in faults {
-            if self.has_fault(*fault, part) {
-                return Some(*fault);
-            }
-        }
-        None
-    }
-
     /// Looks for a pass's faults in a part.
     fn check_part(&self, pass: usize, part: Part) -> Checked
         requires there { IsTrue (is_part part self.now.panels) }
@@ -78,10 +63,12 @@ impl<'a> Draft<'a> {
             (λ _. IsCleanAt pass part self.now)
             (λ found. IsFirstFault found.0 found.1 self.now) }
     {
-        match self.first_at(part, faults_in(pass)) {
-            Some(fault) => Err((fault, part.place())),
-            None => Ok(()),
+        for fault in faults_in(pass) {
+            if self.has_fault(*fault, part) {
+                return Err((*fault, part.place()));
+            }
         }
+        Ok(())
     }
 
     /// Looks for a pass's faults in a panel: in its own table, its texts, its fields and its keys.

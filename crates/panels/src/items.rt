@@ -1,9 +1,9 @@
 //! The items of a panel text.
-ghost use Rattle.std.specs.Prelude.{◌≡◌, ◌≤ℤ◌, ◌<ℤ◌, ◌<◌, ◌^◌, ◌&&◌, true, false, MatchOption, pos, chars, length};
+ghost use Rattle.std.specs.Prelude.{◌≡◌, ◌≤ℤ◌, ◌<ℤ◌, ◌<◌, ◌&&◌, true, false, MatchOption, pos, chars, length};
 ghost use Rattle.std.specs.List.{list_any};
 ghost use Rattle.codes3270.specs.Size.{columns};
 ghost use Rattle.panels.specs.Size.{item_rows, message_start};
-ghost use Rattle.panels.specs.Items.{IsExtentOf, is_on_screen, is_in_place, lacks_code, has_no_code, is_between, is_above_message, first_of};
+ghost use Rattle.panels.specs.Items.{IsExtentOf, is_on_screen, is_in_place, lacks_code, has_no_code, is_above_message, first_of};
 
 use crate::draft::ItemDraft;
 use crate::extent::Extent;
@@ -11,24 +11,10 @@ use crate::size::{ITEM_ROWS, MESSAGE_START};
 use codes3270::{COLUMNS, from_latin1};
 
 /// How many characters a text has.
-fn count_characters(text: &str) -> usize
-    ensures count { result ≡ length (chars text.now) }
-    ensures small { result < 2 ^ 63 }
-{
-    text.chars().count()
-}
-
-/// The same as a signed number.
 pub(crate) fn characters_in(text: &str) -> i64
     ensures { result ≡ pos (length (chars text.now)) }
 {
-    count_characters(text) as i64
-}
-
-fn lies_between(low: i64, high: i64, value: i64) -> bool
-    ensures { result ≡ is_between low high value }
-{
-    low <= value && value <= high
+    text.chars().count() as i64
 }
 
 /// The address of a row and a column, both from 1 on.
@@ -42,12 +28,6 @@ fn address_of(row: i64, column: i64) -> i64
     ensures high { result <ℤ pos message_start }
 {
     (row - 1) * COLUMNS as i64 + (column - 1)
-}
-
-fn has_address(row: i64, column: i64) -> bool
-    ensures { result ≡ (is_between (pos 1) (pos item_rows) row && is_between (pos 1) (pos columns) column) }
-{
-    lies_between(1, ITEM_ROWS as i64, row) && lies_between(1, COLUMNS as i64, column)
 }
 
 /// The extent from an address, where it ends before the message row.
@@ -71,7 +51,11 @@ impl<'a> ItemDraft<'a> {
     pub(crate) fn extent(&self) -> Option<Extent>
         ensures { MatchOption result (is_on_screen self.now ≡ false) (λ extent. (is_on_screen self.now ≡ true) × IsExtentOf self.now extent) }
     {
-        if !has_address(self.row, self.column) {
+        let is_there = 1 <= self.row
+            && self.row <= ITEM_ROWS as i64
+            && 1 <= self.column
+            && self.column <= COLUMNS as i64;
+        if !is_there {
             return None;
         }
         extent_at(address_of(self.row, self.column), self.length)

@@ -1,7 +1,7 @@
 //! The types of the values of a panel text.
 ghost use Rattle.std.specs.Prelude.{◌≡◌};
-ghost use Rattle.toml.specs.View.{view, items_view, table_view};
-ghost use Rattle.panels.specs.Shape.{is_of_kind, all_items, all_values, is_text, is_table};
+ghost use Rattle.toml.specs.View.{view, table_view};
+ghost use Rattle.panels.specs.Shape.{is_of_kind, all_values, is_text, is_table};
 
 use toml::{Table, Value};
 
@@ -16,18 +16,6 @@ pub(crate) enum Kind {
     /// An array of tables.
     Tables,
     Table,
-}
-
-fn are_texts(values: &[Value]) -> bool
-    ensures { result ≡ all_items is_text (items_view values.now) }
-{
-    values.iter().all(|value| value.is_str())
-}
-
-fn are_tables(values: &[Value]) -> bool
-    ensures { result ≡ all_items is_table (items_view values.now) }
-{
-    values.iter().all(|value| value.is_table())
 }
 
 /// Whether all values of a table are texts.
@@ -45,8 +33,8 @@ pub(crate) fn fits_kind(kind: Kind, value: &Value) -> bool
         (Kind::Text, Value::String(_)) => true,
         (Kind::Integer, Value::Integer(_)) => true,
         (Kind::Truth, Value::Boolean(_)) => true,
-        (Kind::Texts, Value::Array(values)) => are_texts(values),
-        (Kind::Tables, Value::Array(values)) => are_tables(values),
+        (Kind::Texts, Value::Array(values)) => values.iter().all(|value| value.is_str()),
+        (Kind::Tables, Value::Array(values)) => values.iter().all(|value| value.is_table()),
         (Kind::Table, Value::Table(_)) => true,
         _ => false,
     }

@@ -1,6 +1,5 @@
 //! The names of a panel text.
-ghost use Rattle.std.specs.Prelude.{◌≡◌, ◌↔◌, IsTrue, bytes_eq, length, not, option_map};
-ghost use Rattle.std.specs.Int.{is_in_range};
+ghost use Rattle.std.specs.Prelude.{◌≡◌, ◌↔◌, IsTrue, bytes_eq, not, option_map};
 ghost use Rattle.std.specs.List.{list_all, list_any};
 ghost use Rattle.panels.specs.Items.{is_panel_name, is_field_name, is_panel_letter, is_field_letter};
 ghost use Rattle.panels.specs.Keys.{is_key_name};
@@ -10,12 +9,6 @@ ghost use Rattle.panels.specs.Index.{IsLater};
 use crate::draft::{Draft, PanelDraft};
 use crate::index::NameIndex;
 use crate::part::Part;
-
-fn is_short(name: &[u8]) -> bool
-    ensures { result ≡ is_in_range 1 16 (length name.now) }
-{
-    1 <= name.len() && name.len() <= 16
-}
 
 fn are_panel_letters(name: &[u8]) -> bool
     ensures { result ≡ list_all is_panel_letter name.now }
@@ -33,13 +26,13 @@ fn are_field_letters(name: &[u8]) -> bool
 fn names_a_panel(name: &str) -> bool
     ensures { result ≡ is_panel_name name.now }
 {
-    is_short(name.as_bytes()) && are_panel_letters(name.as_bytes())
+    (1..=16).contains(&name.len()) && are_panel_letters(name.as_bytes())
 }
 
 fn names_a_field(name: &str) -> bool
     ensures { result ≡ is_field_name name.now }
 {
-    is_short(name.as_bytes()) && are_field_letters(name.as_bytes())
+    (1..=16).contains(&name.len()) && are_field_letters(name.as_bytes())
 }
 
 /// The names of the keys that may lead to a panel.
@@ -53,13 +46,6 @@ fn is_among(names: &[&str], name: &str) -> bool
     ensures { result ≡ list_any (λ known. bytes_eq name.now known.now) names.now }
 {
     names.iter().any(|known| name == *known)
-}
-
-/// Whether a text names a key.
-fn names_a_key(name: &str) -> bool
-    ensures { result ≡ is_key_name name.now }
-{
-    is_among(&KEY_NAMES, name)
 }
 
 impl<'a> Draft<'a> {
@@ -101,7 +87,7 @@ impl<'a> PanelDraft<'a> {
     fn has_strange_key(&self) -> bool
         ensures { result ≡ list_any (λ key. not (is_key_name key.0)) self.now.keys }
     {
-        self.keys.iter().any(|key| !names_a_key(key.0))
+        self.keys.iter().any(|key| !is_among(&KEY_NAMES, key.0))
     }
 }
 

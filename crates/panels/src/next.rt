@@ -1,7 +1,6 @@
 //! Where the keys lead.
 ghost use Rattle.std.specs.Prelude.{◌≡◌};
 ghost use Rattle.panels.specs.Keys.{place_of_key};
-ghost use Rattle.panels.specs.Panel.{target_at};
 
 use crate::panel::Panel;
 use codes3270::Aid;
@@ -28,13 +27,6 @@ fn place_of(aid: Aid) -> Option<usize>
     }
 }
 
-/// The panel of the key at a place.
-fn target(targets: &[Option<usize>], place: usize) -> Option<usize>
-    ensures { result ≡ target_at targets.now place }
-{
-    targets.get(place).copied().flatten()
-}
-
 impl Panel {
     ghost use Rattle.panels.specs.Next.{next_of};
 
@@ -44,7 +36,7 @@ impl Panel {
     {
         let targets = self.targets.as_slice();
         place_of(aid)
-            .and_then(|place| target(targets, place))
+            .and_then(|place| targets.get(place).copied().flatten())
             .map_or(Next::Again, |panel| Next::Go(panel))
     }
 }

@@ -22,14 +22,10 @@ fn read_tree(alloc: Global, top: &Table) -> Result<PanelSet, PanelFault>
         Ok(draft) => draft,
         Err(AllocError) => return Err(PanelFault::Memory),
     };
-    match draft.check() {
-        Ok(()) => {}
-        Err((fault, place)) => return Err(PanelFault::Tree(fault, place)),
+    if let Err((fault, place)) = draft.check() {
+        return Err(PanelFault::Tree(fault, place));
     }
-    match draft.build(alloc) {
-        Ok(set) => Ok(set),
-        Err(AllocError) => Err(PanelFault::Memory),
-    }
+    draft.build(alloc).map_err(|_| PanelFault::Memory)
 }
 
 impl PanelSet {
@@ -46,13 +42,8 @@ impl PanelSet {
     {
         match toml::table_from_str(alloc, text) {
             Ok(top) => read_tree(alloc, &top),
-            Err(error) => {
-                if error.is_memory() {
-                    Err(PanelFault::Memory)
-                } else {
-                    Err(PanelFault::NotToml)
-                }
-            }
+            Err(error) if error.is_memory() => Err(PanelFault::Memory),
+            Err(_) => Err(PanelFault::NotToml),
         }
     }
 }

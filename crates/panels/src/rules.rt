@@ -1,13 +1,12 @@
 //! Which keys the tables of a panel text have.
-ghost use Rattle.std.specs.Prelude.{◌≡◌, map, ◌&&◌, option_map};
+ghost use Rattle.std.specs.Prelude.{◌≡◌, map, option_map};
 ghost use Rattle.toml.specs.View.{view, table_view};
-ghost use Rattle.toml.specs.Data.{get_member};
 ghost use Rattle.panels.specs.Rules.{rule_of};
-ghost use Rattle.panels.specs.Shape.{text_rules as rules_of_text, is_known, breaks_keys, is_lacking, breaks_needs, breaks_kinds, is_misfit, wrong_by as fault_by};
+ghost use Rattle.panels.specs.Shape.{text_rules as rules_of_text, is_known, breaks_keys, is_lacking, breaks_needs, breaks_kinds, wrong_by as fault_by};
 
 use crate::fault::TreeFault;
 use crate::kinds::{Kind, fits_kind};
-use crate::tree::{stands_at, value_at};
+use crate::tree::value_at;
 use toml::{Table, Value};
 
 /// A key that a table may have, and the kind of its value.
@@ -72,7 +71,7 @@ pub(crate) static FIELD_RULES: [KeyRule; 9] = [
 pub(crate) fn text_rules(table: &Table) -> &'static [KeyRule]
     ensures { map rule_of result.now ≡ rules_of_text (table_view table.now) }
 {
-    if stands_at(table, "text") {
+    if value_at(table, "text").is_some() {
         &LITERAL_RULES
     } else {
         &SHOW_RULES
@@ -102,37 +101,25 @@ fn is_nothing(kind: Kind, value: Option<&Value>) -> bool
     }
 }
 
-/// Whether the key of a rule must stand and doesn't.
-fn is_absent(rule: &KeyRule, table: &Table) -> bool
-    ensures { result ≡ ((rule_of rule.now).needed && is_lacking (rule_of rule.now).kind (get_member (rule_of rule.now).key (table_view table.now))) }
-{
-    match rule {
-        KeyRule::Must(key, kind) => is_nothing(*kind, value_at(table, *key)),
-        KeyRule::May(_, _) => false,
-    }
-}
-
+/// Whether a key that must stand doesn't.
 fn any_key_absent(rules: &[KeyRule], table: &Table) -> bool
     ensures { result ≡ breaks_needs (map rule_of rules.now) (table_view table.now) }
 {
-    rules.iter().any(|rule| is_absent(rule, table))
+    rules.iter().any(|rule| match rule {
+        KeyRule::Must(key, kind) => is_nothing(*kind, value_at(table, *key)),
+        KeyRule::May(_, _) => false,
+    })
 }
 
 /// Whether the key of a rule has a value of another kind.
-fn is_of_other_kind(rule: &KeyRule, table: &Table) -> bool
-    ensures { result ≡ is_misfit (rule_of rule.now).kind (get_member (rule_of rule.now).key (table_view table.now)) }
-{
-    match rule {
-        KeyRule::Must(key, kind) | KeyRule::May(key, kind) => {
-            value_at(table, *key).is_some_and(|value| !fits_kind(*kind, value))
-        }
-    }
-}
-
 fn any_value_misfits(rules: &[KeyRule], table: &Table) -> bool
     ensures { result ≡ breaks_kinds (map rule_of rules.now) (table_view table.now) }
 {
-    rules.iter().any(|rule| is_of_other_kind(rule, table))
+    rules.iter().any(|rule| match rule {
+        KeyRule::Must(key, kind) | KeyRule::May(key, kind) => {
+            value_at(table, *key).is_some_and(|value| !fits_kind(*kind, value))
+        }
+    })
 }
 
 /// What is wrong with the keys of a table and their values: one that its rules don't know, one that is absent, a value of another kind.

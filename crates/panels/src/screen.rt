@@ -1,13 +1,12 @@
 //! The screen that a panel asks for.
-ghost use Rattle.std.specs.Prelude.{◌≡◌, ◌==◌, ◌<◌, ℕ, position, true, false, IfSome, option_map, slice_index_or, option_copied, unwrap_or};
+ghost use Rattle.std.specs.Prelude.{◌≡◌, ◌==◌, ◌<◌, ℕ, true, false, IfSome, option_map, slice_index_or, option_copied, unwrap_or};
 ghost use Rattle.codes3270.specs.Size.{cell_count};
-ghost use Rattle.codes3270.specs.CodePage.{code_of};
 ghost use Rattle.codes3270.specs.Storable.{is_storable};
 ghost use Rattle.datastream.specs.Wanted.{IsProper};
 ghost use Rattle.datastream.specs.declared.wanted.Want.{Want as Wish};
 ghost use Rattle.datastream.specs.declared.wanted.Want.TheVariants.{Char};
 ghost use Rattle.panels.specs.Characters.{AreCharacters};
-ghost use Rattle.panels.specs.Screen.{distance_in, item_cell, autoskip_attr, text_cell, shown, first_some, field_attr, is_filled, field_content, field_cell, stopper_cell, coded, message_cell, field_numbered, wanted_cursor};
+ghost use Rattle.panels.specs.Screen.{distance_in, item_cell, autoskip_attr, text_cell, first_some, field_attr, is_filled, field_content, field_cell, stopper_cell, coded, message_cell, field_numbered, wanted_cursor};
 ghost use Rattle.panels.specs.Put.{IsPut, cell_with, name_spoken, text_with};
 
 use crate::extent::Extent;
@@ -27,15 +26,6 @@ fn put_nulls(wanted: &mut Wanted)
     }
 }
 
-/// A byte of a text, a null behind its end.
-fn byte_at(content: &[u8], index: usize) -> u8
-    requires { AreCharacters content.now }
-    ensures byte { result ≡ slice_index_or content.now index 0 }
-    ensures storable { is_storable result ≡ true }
-{
-    content.get(index).copied().unwrap_or(0)
-}
-
 /// A cell of an item with a content; without one it keeps what it has.
 fn cell_of(attr: Attr, content: Option<&[u8]>, distance: u16) -> Want
     requires { IfSome content (λ bytes. AreCharacters bytes.now) }
@@ -46,7 +36,7 @@ fn cell_of(attr: Attr, content: Option<&[u8]>, distance: u16) -> Want
         return Want::Attr(attr);
     }
     match content {
-        Some(bytes) => Want::Char(byte_at(bytes, distance as usize - 1)),
+        Some(bytes) => Want::Char(bytes.get(distance as usize - 1).copied().unwrap_or(0)),
         None => Want::Keep,
     }
 }
@@ -81,36 +71,22 @@ fn skipped_attr(bright: bool) -> Attr
     }
 }
 
-/// What a text shows.
-fn shown_bytes<'a>(values: &'a Values, content: &'a Content) -> &'a [u8]
-    ensures bytes { result.now ≡ shown values.now content.now }
-    ensures characters { AreCharacters result.now }
-{
-    match content {
-        Content::Literal(text) => text.as_slice(),
-        Content::Show(number) => values.get(*number).unwrap_or(&[]),
-    }
-}
-
-/// Puts the cells of a text.
-fn put_text(wanted: &mut Wanted, values: &Values, text: &TextItem)
-    ensures { IsPut (λ cell. text_cell values.now cell text.now) wanted.old.cells wanted.new.cells }
-{
-    let content = shown_bytes(values, &text.content);
-    put_item(
-        wanted,
-        text.extent,
-        skipped_attr(text.bright),
-        Some(content),
-    );
-}
-
 /// Puts the cells of texts, the first over all others.
 fn put_texts(wanted: &mut Wanted, values: &Values, texts: &[TextItem])
     ensures { IsPut (λ cell. first_some (text_cell values.now cell) texts.now) wanted.old.cells wanted.new.cells }
 {
     for index in (0..texts.len()).rev() {
-        put_text(wanted, values, &texts[index]);
+        let text = &texts[index];
+        let content = match &text.content {
+            Content::Literal(literal) => literal.as_slice(),
+            Content::Show(number) => values.get(*number).unwrap_or(&[]),
+        };
+        put_item(
+            wanted,
+            text.extent,
+            skipped_attr(text.bright),
+            Some(content),
+        );
     }
 }
 
@@ -118,6 +94,9 @@ fn put_texts(wanted: &mut Wanted, values: &Values, texts: &[TextItem])
 fn attr_of_field(values: &Values, message: Message, keep: bool, field: &Field) -> Attr
     ensures { result ≡ field_attr values.now message keep field.now }
 {
+    let is_filled = values
+        .get(field.number)
+        .is_some_and(|value| !value.is_empty());
     Attr {
         protected: false,
         numeric: field.numeric,
@@ -126,17 +105,8 @@ fn attr_of_field(values: &Values, message: Message, keep: bool, field: &Field) -
         } else {
             Display::Normal
         },
-        mdt: field.marked || (!keep && (message != Message::Fresh && has_value(values, field))),
+        mdt: field.marked || (!keep && (message != Message::Fresh && is_filled)),
     }
-}
-
-/// Whether a field has a value that isn't empty.
-fn has_value(values: &Values, field: &Field) -> bool
-    ensures { result ≡ is_filled values.now field.now }
-{
-    values
-        .get(field.number)
-        .is_some_and(|value| !value.is_empty())
 }
 
 /// What a field is written with.
@@ -151,42 +121,30 @@ fn content_of_field<'a>(values: &'a Values, message: Message, field: &'a Field) 
     values.get(field.number).unwrap_or(fill)
 }
 
-/// Puts the cells of a field.
-fn put_field(wanted: &mut Wanted, values: &Values, message: Message, keep: bool, field: &Field)
-    ensures { IsPut (λ cell. field_cell values.now message keep cell field.now) wanted.old.cells wanted.new.cells }
-{
-    let attr = attr_of_field(values, message, keep, field);
-    let content = if keep {
-        None
-    } else {
-        Some(content_of_field(values, message, field))
-    };
-    put_item(wanted, field.extent, attr, content);
-}
-
 /// Puts the cells of fields, the first over all others.
 fn put_fields(wanted: &mut Wanted, values: &Values, message: Message, keep: bool, fields: &[Field])
     ensures { IsPut (λ cell. first_some (field_cell values.now message keep cell) fields.now) wanted.old.cells wanted.new.cells }
 {
     for index in (0..fields.len()).rev() {
-        put_field(wanted, values, message, keep, &fields[index]);
+        let field = &fields[index];
+        let attr = attr_of_field(values, message, keep, field);
+        let content = if keep {
+            None
+        } else {
+            Some(content_of_field(values, message, field))
+        };
+        put_item(wanted, field.extent, attr, content);
     }
 }
 
-/// Puts the attribute behind a field, where it ends.
-fn put_stopper(wanted: &mut Wanted, field: &Field)
-    ensures { IsPut (λ cell. stopper_cell cell field.now) wanted.old.cells wanted.new.cells }
-{
-    let end = field.extent.first + field.extent.length;
-    wanted.put(end as usize, Want::Attr(skipped_attr(false)));
-}
-
-/// Puts the attributes behind fields.
+/// Puts the attributes behind fields, where they end.
 fn put_stoppers(wanted: &mut Wanted, fields: &[Field])
     ensures { IsPut (λ cell. first_some (stopper_cell cell) fields.now) wanted.old.cells wanted.new.cells }
 {
     for index in (0..fields.len()).rev() {
-        put_stopper(wanted, &fields[index]);
+        let extent = fields[index].extent;
+        let end = extent.first + extent.length;
+        wanted.put(end as usize, Want::Attr(skipped_attr(false)));
     }
 }
 
@@ -195,29 +153,16 @@ fn coded_byte(text: &[u8], index: usize) -> u8
     ensures byte { result ≡ slice_index_or (coded text.now) index 0 }
     ensures storable { is_storable result ≡ true }
 {
-    text.get(index).map_or(0, |byte| code_or_null(*byte))
-}
-
-/// The code of an ASCII character.
-fn code_or_null(character: u8) -> u8
-    ensures code { result ≡ unwrap_or (code_of character) 0 }
-    ensures storable { is_storable result ≡ true }
-{
-    from_latin1(char::from(character)).unwrap_or(0)
+    text.get(index)
+        .and_then(|byte| from_latin1(char::from(*byte)))
+        .unwrap_or(0)
 }
 
 /// The field with a number, over the whole text.
 fn numbered(number: usize, fields: &[Field]) -> Option<&Field>
     ensures { option_copied result ≡ field_numbered number fields.now }
 {
-    fields.get(place_of_number(number, fields)?)
-}
-
-/// Where the field with a number stands.
-fn place_of_number(number: usize, fields: &[Field]) -> Option<usize>
-    ensures { result ≡ position (λ field. field.number == number) fields.now }
-{
-    fields.iter().position(|field| field.number == number)
+    fields.iter().find(|field| field.number == number)
 }
 
 const KEY_NOT_ACTIVE: &[u8; 14] = b"KEY NOT ACTIVE";
@@ -244,13 +189,8 @@ fn message_byte(message: Message, name: &[u8], index: usize) -> u8
     match message {
         Message::Fresh | Message::Plain => 0,
         Message::KeyNotActive => coded_byte(KEY_NOT_ACTIVE, index),
-        Message::Required(_) => {
-            if index < REQUIRED.len() {
-                coded_byte(REQUIRED, index)
-            } else {
-                coded_byte(name, index - REQUIRED.len())
-            }
-        }
+        Message::Required(_) if index < REQUIRED.len() => coded_byte(REQUIRED, index),
+        Message::Required(_) => coded_byte(name, index - REQUIRED.len()),
     }
 }
 

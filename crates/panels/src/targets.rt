@@ -11,8 +11,7 @@ impl<'a> Draft<'a> {
     pub(crate) fn panel_named(&self, name: &str) -> Option<usize>
         ensures { MatchOption result (¬ NamesPanel name.now self.now.panels) (λ panel. name_at (part.Panel panel) self.now.panels ≡ Some name.now) }
     {
-        let part = self.panel_names.part(name)?;
-        Some(part.panel())
+        Some(self.panel_names.part(name)?.panel())
     }
 
     /// The first field with a name: its panel, and where it stands there.
@@ -28,12 +27,6 @@ impl<'a> Draft<'a> {
         ensures { IsTrue result ↔ (¬ NamesPanel name.now self.now.panels) }
     {
         self.panel_named(name).is_none()
-    }
-
-    fn is_no_field(&self, name: &str) -> bool
-        ensures { IsTrue result ↔ (¬ NamesField name.now self.now.panels) }
-    {
-        self.field_named(name).is_none()
     }
 
     /// Whether one of a panel's keys leads to no panel.
@@ -54,12 +47,11 @@ impl<'a> Draft<'a> {
     {
         match part {
             Part::Top => self.is_no_panel(self.start),
-            Part::Panel(panel) => match self.panel(panel) {
-                Some(panel) => panel.has_lost_cursor(),
-                None => false,
-            },
+            Part::Panel(panel) => self
+                .panel(panel)
+                .is_some_and(|panel| panel.has_lost_cursor()),
             Part::Text(_, _) => match self.item(part) {
-                Some(text) => text.text.is_none() && self.is_no_field(text.show),
+                Some(text) => text.text.is_none() && self.field_named(text.show).is_none(),
                 None => false,
             },
             Part::Field(_, _) => false,

@@ -2,7 +2,7 @@
 ghost use Rattle.std.specs.Prelude.{◌≡◌, option_map};
 ghost use Rattle.toml.specs.View.{view, items_view, table_view};
 ghost use Rattle.toml.specs.Data.{get_member};
-ghost use Rattle.panels.specs.Tree.{has_key, text_under, text_or_empty, number, is_set, table_under, items_under};
+ghost use Rattle.panels.specs.Tree.{text_under, text_or_empty, number, is_set, table_under, items_under};
 
 use toml::{Table, Value};
 
@@ -10,12 +10,6 @@ pub(crate) fn value_at<'a>(table: &'a Table, key: &str) -> Option<&'a Value>
     ensures { option_map (λ value. view value.now) result ≡ get_member key.now (table_view table.now) }
 {
     table.get(key)
-}
-
-pub(crate) fn stands_at(table: &Table, key: &str) -> bool
-    ensures { result ≡ has_key key.now (table_view table.now) }
-{
-    value_at(table, key).is_some()
 }
 
 pub(crate) fn text_at<'a>(table: &'a Table, key: &str) -> Option<&'a str>
@@ -59,8 +53,7 @@ pub(crate) fn table_at<'a>(table: &'a Table, key: &str) -> Option<&'a Table>
 pub(crate) fn values_at<'a>(table: &'a Table, key: &str) -> &'a [Value]
     ensures { items_view result.now ≡ items_under key.now (table_view table.now) }
 {
-    match value_at(table, key).and_then(|value| value.as_array()) {
-        Some(values) => values.as_slice(),
-        None => &[],
-    }
+    value_at(table, key)
+        .and_then(|value| value.as_array())
+        .map_or(&[], |values| values.as_slice())
 }

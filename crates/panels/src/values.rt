@@ -67,10 +67,8 @@ impl Values {
         ensures err { OnErr result (self.new ≡ self.old) }
     {
         let value = Characters::copy(self.alloc, bytes)?;
-        match self.values.insert(field, value) {
-            Ok(_) => Ok(()),
-            Err(_) => Err(AllocError),
-        }
+        self.values.insert(field, value)?;
+        Ok(())
     }
 
     /// The same, where there are bytes; without any nothing changes. So that a host changes the values of a panel's fields all

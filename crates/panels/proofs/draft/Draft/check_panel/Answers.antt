@@ -1,7 +1,7 @@
-use Rattle.std.proofs.Common.{◌≡◌, ◌<◌, ◌∙◌, ap, sym, length, Some, arith}
-use Rattle.std.specs.Prelude.{slice_get, is_some}
-use Rattle.std.proofs.lemmas.Option.{slice_get-get_or}
+use Rattle.std.proofs.Common.{◌≡◌, ◌<◌, ap, length, arith}
+use Rattle.std.specs.Prelude.{is_some}
 use Rattle.panels.specs.Draft.{DraftPanel, DraftText}
+use Rattle.panels.proofs.Building.{read_below}
 use Rattle.panels.proofs.Turning.{text_clear, texts_clear, field_clear, fields_clear, keys_clear, no_text_from, no_field_from, field_there}
 use Rattle.panels.proofs.draft.Draft.check_panel.Goals as goal
 
@@ -10,20 +10,14 @@ loop-text-preserved c = text_clear c.args.pass c.args.panel c.loop-text.text c.a
 
 pub loop-field-init : goal.loop-field-init
 loop-field-init c =
-    let seen = ap (λ (draft : DraftText). length draft.panels) c.self.view_is in
-    let below : c.args.panel < length c.self.inside.panels.items = omega (arith, seen, c.requires.there) in
-    let there : slice_get c.args.self.now.panels c.args.panel ≡ Some c.index.result.now =
-    rw (← c.self.view_is) (slice_get-get_or c.self.inside.panels.items c.args.panel c.index.result.now below ∙ ap Some (sym c.index.ensures)) in
+    let there = read_below _ c.args.self.now.panels c.args.panel c.index.result.now (ap (λ (draft : DraftText). draft.panels) c.self.view_is) c.requires.there c.index.ensures in
     let texts = ap (λ (draft : DraftPanel). length draft.texts) c.index-2.view_is in
     let whole : c.loop-text.text ≡ length c.index.result.now.texts = omega (arith, texts, c.len-text-end.ensures, c.loop-text-test.false, c.loop-text.auto.text-end) in
     texts_clear c.args.pass c.args.panel _ c.args.self.now (no_text_from c.args.self.now c.index.result.now c.args.panel _ there whole) c.loop-text.invariant
 
 pub check_part-requires-in-loop-field-clause-there : goal.check_part-requires-in-loop-field-clause-there
 check_part-requires-in-loop-field-clause-there c =
-    let seen = ap (λ (draft : DraftText). length draft.panels) c.self.view_is in
-    let below : c.args.panel < length c.self.inside.panels.items = omega (arith, seen, c.requires.there) in
-    let there : slice_get c.args.self.now.panels c.args.panel ≡ Some c.index.result.now =
-    rw (← c.self.view_is) (slice_get-get_or c.self.inside.panels.items c.args.panel c.index.result.now below ∙ ap Some (sym c.index.ensures)) in
+    let there = read_below _ c.args.self.now.panels c.args.panel c.index.result.now (ap (λ (draft : DraftText). draft.panels) c.self.view_is) c.requires.there c.index.ensures in
     let fields = ap (λ (draft : DraftPanel). length draft.fields) c.index-2.view_is in
     let inside : c.loop-field.field < length c.index.result.now.fields = omega (arith, fields, c.len-field-end.ensures, c.loop-field-test.true) in
     field_there c.args.self.now.panels c.index.result.now c.args.panel c.loop-field.field there inside
@@ -33,28 +27,19 @@ loop-field-preserved c = field_clear c.args.pass c.args.panel c.loop-field.field
 
 pub check_part-requires-2-clause-there : goal.check_part-requires-2-clause-there
 check_part-requires-2-clause-there c =
-    let seen = ap (λ (draft : DraftText). length draft.panels) c.self.view_is in
-    let below : c.args.panel < length c.self.inside.panels.items = omega (arith, seen, c.requires.there) in
-    let there : slice_get c.args.self.now.panels c.args.panel ≡ Some c.index.result.now =
-    rw (← c.self.view_is) (slice_get-get_or c.self.inside.panels.items c.args.panel c.index.result.now below ∙ ap Some (sym c.index.ensures)) in
+    let there = read_below _ c.args.self.now.panels c.args.panel c.index.result.now (ap (λ (draft : DraftText). draft.panels) c.self.view_is) c.requires.there c.index.ensures in
     ap is_some there
 
 pub check_part-requires-2-clause-clear : goal.check_part-requires-2-clause-clear
 check_part-requires-2-clause-clear c =
-    let seen = ap (λ (draft : DraftText). length draft.panels) c.self.view_is in
-    let below : c.args.panel < length c.self.inside.panels.items = omega (arith, seen, c.requires.there) in
-    let there : slice_get c.args.self.now.panels c.args.panel ≡ Some c.index.result.now =
-    rw (← c.self.view_is) (slice_get-get_or c.self.inside.panels.items c.args.panel c.index.result.now below ∙ ap Some (sym c.index.ensures)) in
+    let there = read_below _ c.args.self.now.panels c.args.panel c.index.result.now (ap (λ (draft : DraftText). draft.panels) c.self.view_is) c.requires.there c.index.ensures in
     let fields = ap (λ (draft : DraftPanel). length draft.fields) c.index-2.view_is in
     let whole : c.loop-field.field ≡ length c.index.result.now.fields = omega (arith, fields, c.len-field-end.ensures, c.loop-field-test.false, c.loop-field.auto.field-end) in
     fields_clear c.args.pass c.args.panel _ c.args.self.now (no_field_from c.args.self.now c.index.result.now c.args.panel _ there whole) c.loop-field.invariant
 
 pub returns : goal.returns
 returns c =
-    let seen = ap (λ (draft : DraftText). length draft.panels) c.self.view_is in
-    let below : c.args.panel < length c.self.inside.panels.items = omega (arith, seen, c.requires.there) in
-    let there : slice_get c.args.self.now.panels c.args.panel ≡ Some c.index.result.now =
-    rw (← c.self.view_is) (slice_get-get_or c.self.inside.panels.items c.args.panel c.index.result.now below ∙ ap Some (sym c.index.ensures)) in
+    let there = read_below _ c.args.self.now.panels c.args.panel c.index.result.now (ap (λ (draft : DraftText). draft.panels) c.self.view_is) c.requires.there c.index.ensures in
     let fields = ap (λ (draft : DraftPanel). length draft.fields) c.index-2.view_is in
     let whole : c.loop-field.field ≡ length c.index.result.now.fields = omega (arith, fields, c.len-field-end.ensures, c.loop-field-test.false, c.loop-field.auto.field-end) in
     keys_clear c.args.pass c.args.panel c.args.self.now
