@@ -1,7 +1,7 @@
 -- Panels are an application: each screen has the size, with its cursor on it, and keeps nothing where it isn't told to.
 use Rattle.std.proofs.Common.{length, drop, ap, sym, subst, ◌∙◌, ◌≡◌, ◌==◌, nat_lt, ◌<◌, ◌≤◌, ◌-◌, ◌+◌, ℕ, zero, suc, Bool, true, false, Option, None, Some, List, [], ◌∷◌, map, refl, arith, if◌then◌else◌}
-use Rattle.std.specs.Prelude.{slice_get, slice_index_or, option_map, option_and_then, unwrap_or}
-use Rattle.std.specs.List.{list_all, list_any, position, range_with_len}
+use Rattle.std.specs.Prelude.{slice_get, slice_index_or, option_map, unwrap_or}
+use Rattle.std.specs.List.{list_all, list_any, range_with_len}
 use Rattle.std.specs.Option.{option_or, option_map_or}
 use Rattle.std.proofs.lemmas.List.FromFn.{length-map-range_with_len, get_or-map-range_with_len}
 use Rattle.std.proofs.lemmas.Option.{slice_get-get_or}
@@ -17,7 +17,7 @@ use Rattle.panels.specs.declared.panel.Field.{Field}
 use Rattle.panels.specs.MessageRow.{PanelsLeaveTheRow}
 use Rattle.panels.specs.KeptFields.{FieldsAreKeptWhole, NothingElseIsKept, IsOfField}
 use Rattle.panels.specs.Panel.{PanelParts, Panels, CursorsAreOnTheScreen, HasItemsApart, AreApart}
-use Rattle.panels.specs.Screen.{Values, distance_in, item_cell, autoskip_attr, shown, text_cell, field_attr, field_content, field_cell, stopper_cell, message_text, message_cell, first_some, wanted_cell, wanted_cursor, screen_of}
+use Rattle.panels.specs.Screen.{Values, distance_in, item_cell, autoskip_attr, shown, text_cell, field_attr, field_content, field_cell, stopper_cell, message_text, message_cell, first_some, wanted_cell, field_numbered, wanted_cursor, screen_of}
 use Rattle.panels.specs.Size.{message_start}
 use Rattle.host_core.specs.Application.{IsMessageRow, IsShowable, is_wanted_char, no_panel, panel_at}
 use Rattle.host_core.proofs.KeptWhole.{IsInRun, KeptInRuns, kept_whole}
@@ -88,20 +88,15 @@ none_kept cell_of each (cell ∷ cells) = rw (each cell) (none_kept cell_of each
 field_on : (field : Field) → field.extent.first < cell_count
 field_on field = let some = field.extent.has_cells in let above = field.extent.above_message in omega arith
 
-first_on : (fields : List Field) (cursor : ℕ) → cursor < cell_count → (place : Option ℕ)
-    → option_map_or (λ (field : Field). field.extent.first) (option_and_then (slice_get fields) place) cursor < cell_count
-first_on fields cursor on None = on
-first_on fields cursor on (Some place) = by_field (slice_get fields place)
-  where
-    by_field : (field : Option Field) → option_map_or (λ (f : Field). f.extent.first) field cursor < cell_count
-    by_field None = on
-    by_field (Some field) = field_on field
+first_on : (cursor : ℕ) → cursor < cell_count → (found : Option Field) → option_map_or (λ (field : Field). field.extent.first) found cursor < cell_count
+first_on cursor on None = on
+first_on cursor on (Some field) = field_on field
 
 pub cursor_on : (panel : PanelParts) (message : Message) → panel.cursor < cell_count → wanted_cursor panel message < cell_count
 cursor_on panel Fresh on = on
 cursor_on panel Plain on = on
 cursor_on panel KeyNotActive on = on
-cursor_on panel (Required number) on = first_on panel.fields panel.cursor on (position (λ (field : Field). field.number == number) panel.fields)
+cursor_on panel (Required number) on = first_on panel.cursor on (field_numbered number panel.fields)
 
 -- ---- the last row
 
