@@ -9,8 +9,8 @@ use Rattle.toml.specs.View.{view, items_view, members_view}
 use Rattle.toml.specs.declared.value.Value.{Value}
 use Rattle.panels.specs.Tree.{keys}
 use Rattle.panels.specs.Shape.{all_items, all_values, is_lacking, is_of_kind, is_table, is_text}
-use Rattle.panels.specs.declared.kinds.Kind.{Kind}
-use Rattle.panels.specs.declared.kinds.Kind.TheVariants.{Tables, Texts}
+use Rattle.panels.specs.declared.rules.Kind.{Kind}
+use Rattle.panels.specs.declared.rules.Kind.TheVariants.{Tables, Texts}
 
 pub all_items_view : (test : Data → Bool) (values : List Value) → list_all (λ value. test (view value)) values ≡ all_items test (items_view values)
 all_items_view test [] = refl

@@ -9,7 +9,7 @@ use Rattle.panels.specs.declared.fault.TreeFault.{TreeFault}
 use Rattle.panels.specs.declared.fault.TreeFault.TheVariants.{UnknownKey, Missing, BadKind, BadName, TwiceNamed, OutOfPlace, Overlap, NoCode, NoTarget, BadKey, TooMany}
 use Rattle.panels.specs.declared.part.Part.{Part}
 use Rattle.panels.specs.declared.part.Part.TheVariants.{Top, Panel, Text, Field, Keys}
-use Rattle.panels.specs.declared.place.At.{At}
+use Rattle.panels.specs.declared.fault.At.{At}
 use Rattle.panels.specs.Draft.{DraftPanel, DraftText}
 use Rattle.panels.specs.Faults.{IsFaulty, place_of, faults_of, is_part, item_at}
 use Rattle.panels.specs.Passes.{IsFirst, IsFaultless}

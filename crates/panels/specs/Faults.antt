@@ -6,8 +6,8 @@ use Rattle.panels.specs.declared.fault.TreeFault.{TreeFault}
 use Rattle.panels.specs.declared.fault.TreeFault.TheVariants.{UnknownKey, Missing, BadKind, BadName, TwiceNamed, OutOfPlace, Overlap, NoCode, NoTarget, BadKey, TooMany}
 use Rattle.panels.specs.declared.part.Part.{Part}
 use Rattle.panels.specs.declared.part.Part.TheVariants.{Top, Panel, Text, Field, Keys}
-use Rattle.panels.specs.declared.place.At.{At}
-use Rattle.panels.specs.declared.place.At.TheVariants as place
+use Rattle.panels.specs.declared.fault.At.{At}
+use Rattle.panels.specs.declared.fault.At.TheVariants as place
 use Rattle.panels.specs.Limits.{most_panels, most_texts, most_fields}
 use Rattle.panels.specs.Draft.{DraftItem, DraftPanel, DraftText}
 use Rattle.panels.specs.Items.{is_panel_name, is_field_name, is_on_screen, is_in_place, HasCell, lacks_code}

@@ -1,7 +1,7 @@
 -- What `{}` prints of a fault and of its place (our profile).
 use Rattle.std.specs.Prelude.{ℕ, List, ◌++◌, codes, decimal}
-use Rattle.panels.specs.declared.place.At.{At}
-use Rattle.panels.specs.declared.place.At.TheVariants.{Top, Panel, Text, Field}
+use Rattle.panels.specs.declared.fault.At.{At}
+use Rattle.panels.specs.declared.fault.At.TheVariants.{Top, Panel, Text, Field}
 use Rattle.panels.specs.declared.fault.TreeFault.{TreeFault}
 use Rattle.panels.specs.declared.fault.TreeFault.TheVariants.{UnknownKey, Missing, BadKind, BadName, TwiceNamed, OutOfPlace, Overlap, NoCode, NoTarget, BadKey, TooMany}
 use Rattle.panels.specs.declared.fault.PanelFault.{PanelFault}

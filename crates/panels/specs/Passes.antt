@@ -7,7 +7,7 @@ use Rattle.panels.specs.declared.fault.TreeFault.{TreeFault}
 use Rattle.panels.specs.declared.fault.PanelFault.{PanelFault}
 use Rattle.panels.specs.declared.fault.PanelFault.TheVariants.{Memory, NotToml, Tree}
 use Rattle.panels.specs.declared.part.Part.{Part}
-use Rattle.panels.specs.declared.place.At.{At}
+use Rattle.panels.specs.declared.fault.At.{At}
 use Rattle.panels.specs.Faults.{Stands, IsFaulty, faults_of, IsCleanIn}
 
 -- the fault stands at the place, and no earlier pass than the one that looks for it has one

@@ -5,8 +5,8 @@ use Rattle.toml.specs.Data as tree
 use Rattle.toml.specs.Data.{Data, Items, no_items, item, Members, no_members, member, get_member, as_str, as_table}
 use Rattle.panels.specs.declared.fault.TreeFault.{TreeFault}
 use Rattle.panels.specs.declared.fault.TreeFault.TheVariants.{UnknownKey, Missing, BadKind}
-use Rattle.panels.specs.declared.kinds.Kind.{Kind}
-use Rattle.panels.specs.declared.kinds.Kind.TheVariants as kind
+use Rattle.panels.specs.declared.rules.Kind.{Kind}
+use Rattle.panels.specs.declared.rules.Kind.TheVariants as kind
 use Rattle.panels.specs.Tree.{has_key, keys}
 
 abbrev pub is_text : Data → Bool

@@ -9,7 +9,7 @@ use Rattle.panels.specs.declared.fault.PanelFault.{PanelFault}
 use Rattle.panels.specs.declared.fault.PanelFault.TheVariants.{Tree}
 use Rattle.panels.specs.declared.part.Part.{Part}
 use Rattle.panels.specs.declared.part.Part.TheVariants.{Top, Panel, Text, Field, Keys}
-use Rattle.panels.specs.declared.place.At.{At}
+use Rattle.panels.specs.declared.fault.At.{At}
 use Rattle.panels.specs.Faults.{place_of, IsFaulty}
 
 -- the pass that looks for a fault

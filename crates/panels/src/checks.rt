@@ -7,9 +7,8 @@ ghost use Rattle.panels.specs.Turns.{IsClearTo, IsFirstFault};
 ghost use Rattle.panels.specs.Walk.{turn_at, IsCleanAt};
 
 use crate::draft::{Draft, PanelDraft};
-use crate::fault::TreeFault;
+use crate::fault::{At, TreeFault};
 use crate::part::Part;
-use crate::place::At;
 
 /// Err has the first fault, and where it stands.
 pub(crate) type Checked = Result<(), (TreeFault, At)>;

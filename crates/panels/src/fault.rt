@@ -1,5 +1,4 @@
-//! Why a text defines no panels.
-use crate::place::At;
+//! Why a text defines no panels, and where.
 use std::fmt;
 
 /// What is wrong with a table of a panel text.
@@ -25,6 +24,17 @@ pub enum TreeFault {
     BadKey,
     /// More than 64 panels, or 256 texts or 128 fields of one.
     TooMany,
+}
+
+/// Where a table stands in a panel text. Panels, texts and fields count from 0, in the order of the text.
+#[derive(Clone, Copy, Debug, PartialEq, Eq)]
+pub enum At {
+    Top,
+    Panel(usize),
+    /// A text of a panel.
+    Text(usize, usize),
+    /// A field of a panel.
+    Field(usize, usize),
 }
 
 /// Why a text can't be read as panels.
@@ -57,6 +67,22 @@ impl fmt::Display for TreeFault {
             TreeFault::BadKey => "BadKey",
             TreeFault::TooMany => "TooMany",
         })
+    }
+}
+
+impl fmt::Display for At {
+    ghost use Rattle.std.specs.Prelude.{Some};
+    ghost use Rattle.panels.specs.Messages.{place_text};
+
+    ghost output = { λ place. Some (place_text place) };
+
+    fn fmt<W: fmt::Write>(&self, f: &mut fmt::Formatter<W>) -> fmt::Result {
+        match self {
+            At::Top => f.write_str("top"),
+            At::Panel(panel) => write!(f, "panel {panel}"),
+            At::Text(panel, text) => write!(f, "panel {panel} text {text}"),
+            At::Field(panel, field) => write!(f, "panel {panel} field {field}"),
+        }
     }
 }
 

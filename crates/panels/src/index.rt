@@ -1,9 +1,8 @@
 //! Where each name of a panel text stands first.
-ghost use Rattle.std.specs.Prelude.{◌≡◌, ◌+◌, ◌<◌, ℕ, List, length, IfOk, OnOk};
-ghost use Rattle.panels.specs.declared.part.Part.TheVariants as part;
-ghost use Rattle.panels.specs.Index.{part_named, noted, IsIndexTo};
+ghost use Rattle.std.specs.Prelude.{◌≡◌, ℕ, List, IfOk, OnOk};
+ghost use Rattle.panels.specs.Index.{part_named, noted, AreIndexes};
 
-use crate::draft::{ItemDraft, PanelDraft};
+use crate::draft::PanelDraft;
 use crate::part::Part;
 use std::alloc::{AllocError, Global};
 use std::collections::BTreeMap;
@@ -33,48 +32,31 @@ fn note(index: &mut NameIndex, alloc: Global, name: &str, part: Part) -> Result<
     Ok(())
 }
 
-/// The panels' names.
-pub(crate) fn panel_names(alloc: Global, panels: &[PanelDraft]) -> Result<NameIndex, AllocError>
-    ensures { IfOk result (IsIndexTo panels.now (part.Panel (length panels.now))) }
+/// The names of the panels, and those of the fields of all panels.
+pub(crate) fn name_indexes(
+    alloc: Global,
+    panels: &[PanelDraft],
+) -> Result<(NameIndex, NameIndex), AllocError>
+    ensures { IfOk result (λ indexes. AreIndexes panels.now indexes.0 indexes.1) }
 {
-    let mut index = NameIndex {
+    let mut panel_names = NameIndex {
+        parts: BTreeMap::new(alloc),
+    };
+    let mut field_names = NameIndex {
         parts: BTreeMap::new(alloc),
     };
     for panel in 0..panels.len() {
         let draft = &panels[panel];
-        note(&mut index, alloc, draft.name, Part::Panel(panel))?;
+        note(&mut panel_names, alloc, draft.name, Part::Panel(panel))?;
+        for field in 0..draft.fields.len() {
+            let item = &draft.fields[field];
+            note(
+                &mut field_names,
+                alloc,
+                item.name,
+                Part::Field(panel, field),
+            )?;
+        }
     }
-    Ok(index)
-}
-
-/// Notes the names of a panel's fields.
-fn note_fields(
-    index: &mut NameIndex,
-    alloc: Global,
-    panels: &[PanelDraft],
-    panel: usize,
-) -> Result<(), AllocError>
-    requires there { panel < length panels.now }
-    requires index { IsIndexTo panels.now (part.Field panel 0) index.old }
-    ensures { OnOk result (IsIndexTo panels.now (part.Field (panel + 1) 0) index.new) }
-{
-    let draft = &panels[panel];
-    for field in 0..draft.fields.len() {
-        let item = &draft.fields[field];
-        note(index, alloc, item.name, Part::Field(panel, field))?;
-    }
-    Ok(())
-}
-
-/// The names of the fields of all panels.
-pub(crate) fn field_names(alloc: Global, panels: &[PanelDraft]) -> Result<NameIndex, AllocError>
-    ensures { IfOk result (IsIndexTo panels.now (part.Field (length panels.now) 0)) }
-{
-    let mut index = NameIndex {
-        parts: BTreeMap::new(alloc),
-    };
-    for panel in 0..panels.len() {
-        note_fields(&mut index, alloc, panels, panel)?;
-    }
-    Ok(index)
+    Ok((panel_names, field_names))
 }

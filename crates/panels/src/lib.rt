@@ -37,28 +37,23 @@ mod fault;
 mod field_name;
 mod index;
 mod items;
-mod kinds;
 mod laws;
 mod message;
 mod names;
 mod next;
-mod overlap;
 mod panel;
 mod panel_set;
 mod part;
-mod parts;
-mod place;
 mod read;
 mod rules;
 mod screen;
 mod size;
-mod targets;
 mod tree;
 mod values;
 
 pub use characters::Characters;
 pub use extent::Extent;
-pub use fault::{PanelFault, TreeFault};
+pub use fault::{At, PanelFault, TreeFault};
 pub use field_name::FieldName;
 pub use laws::{
     a_text_defines_its_panels_once, kept_fields_are_whole, the_last_row_is_for_messages,
@@ -67,5 +62,4 @@ pub use message::Message;
 pub use next::Next;
 pub use panel::{Field, Panel};
 pub use panel_set::PanelSet;
-pub use place::At;
 pub use values::Values;

@@ -4,7 +4,7 @@ ghost use Rattle.panels.specs.Faults.{place_of};
 ghost use Rattle.panels.specs.Turns.{item_turn};
 ghost use Rattle.panels.specs.Walk.{nth, panel_in};
 
-use crate::place::At;
+use crate::fault::At;
 
 /// A table of a panel text. Panels, texts and fields count from 0.
 #[derive(Clone, Copy, Debug, PartialEq, Eq)]

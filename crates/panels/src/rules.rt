@@ -1,13 +1,25 @@
-//! Which keys the tables of a panel text have.
+//! Which keys the tables of a panel text have, and values of which types.
 ghost use Rattle.std.specs.Prelude.{◌≡◌, map, option_map};
 ghost use Rattle.toml.specs.View.{view, table_view};
-ghost use Rattle.panels.specs.Rules.{rule_of};
-ghost use Rattle.panels.specs.Shape.{text_rules as rules_of_text, is_known, breaks_keys, is_lacking, breaks_needs, breaks_kinds, wrong_by as fault_by};
+ghost use Rattle.panels.specs.Rules.{rule_of, rules_of_item};
+ghost use Rattle.panels.specs.Shape.{is_of_kind, is_known, breaks_keys, is_lacking, breaks_needs, breaks_kinds, wrong_by as fault_by};
 
 use crate::fault::TreeFault;
-use crate::kinds::{Kind, fits_kind};
 use crate::tree::value_at;
 use toml::{Table, Value};
+
+/// What type the value of a key has.
+#[derive(Clone, Copy, Debug, PartialEq, Eq)]
+pub(crate) enum Kind {
+    Text,
+    Integer,
+    Truth,
+    /// An array of texts.
+    Texts,
+    /// An array of tables.
+    Tables,
+    Table,
+}
 
 /// A key that a table may have, and the kind of its value.
 pub(crate) enum KeyRule {
@@ -55,7 +67,7 @@ static SHOW_RULES: [KeyRule; 5] = [
     KeyRule::May("bright", Kind::Truth),
 ];
 
-pub(crate) static FIELD_RULES: [KeyRule; 9] = [
+static FIELD_RULES: [KeyRule; 9] = [
     KeyRule::Must("name", Kind::Text),
     KeyRule::Must("row", Kind::Integer),
     KeyRule::Must("col", Kind::Integer),
@@ -67,11 +79,13 @@ pub(crate) static FIELD_RULES: [KeyRule; 9] = [
     KeyRule::May("marked", Kind::Truth),
 ];
 
-/// The rules for a text, which has its own text, or shows a field.
-pub(crate) fn text_rules(table: &Table) -> &'static [KeyRule]
-    ensures { map rule_of result.now ≡ rules_of_text (table_view table.now) }
+/// The rules for an item of an array: of fields, or of texts, which have their own text, or show a field.
+pub(crate) fn item_rules(array: &str, table: &Table) -> &'static [KeyRule]
+    ensures { map rule_of result.now ≡ rules_of_item array.now (table_view table.now) }
 {
-    if value_at(table, "text").is_some() {
+    if array == "field" {
+        &FIELD_RULES
+    } else if value_at(table, "text").is_some() {
         &LITERAL_RULES
     } else {
         &SHOW_RULES
@@ -109,6 +123,21 @@ fn any_key_absent(rules: &[KeyRule], table: &Table) -> bool
         KeyRule::Must(key, kind) => is_nothing(*kind, value_at(table, *key)),
         KeyRule::May(_, _) => false,
     })
+}
+
+/// Whether a value is of a kind.
+pub(crate) fn fits_kind(kind: Kind, value: &Value) -> bool
+    ensures { result ≡ is_of_kind kind (view value.now) }
+{
+    match (kind, value) {
+        (Kind::Text, Value::String(_)) => true,
+        (Kind::Integer, Value::Integer(_)) => true,
+        (Kind::Truth, Value::Boolean(_)) => true,
+        (Kind::Texts, Value::Array(values)) => values.iter().all(|value| value.is_str()),
+        (Kind::Tables, Value::Array(values)) => values.iter().all(|value| value.is_table()),
+        (Kind::Table, Value::Table(_)) => true,
+        _ => false,
+    }
 }
 
 /// Whether the key of a rule has a value of another kind.

@@ -2,7 +2,7 @@
 ghost use Rattle.std.specs.Prelude.{◌≡◌, option_map};
 ghost use Rattle.toml.specs.View.{view, items_view, table_view};
 ghost use Rattle.toml.specs.Data.{get_member};
-ghost use Rattle.panels.specs.Tree.{text_under, text_or_empty, number, is_set, table_under, items_under};
+ghost use Rattle.panels.specs.Tree.{text_under, number, is_set, table_under, items_under};
 
 use toml::{Table, Value};
 
@@ -16,13 +16,6 @@ pub(crate) fn text_at<'a>(table: &'a Table, key: &str) -> Option<&'a str>
     ensures { option_map (λ text. text.now) result ≡ text_under key.now (table_view table.now) }
 {
     value_at(table, key)?.as_str()
-}
-
-/// The text at a key, empty where there is none.
-pub(crate) fn text_of<'a>(table: &'a Table, key: &str) -> &'a str
-    ensures { result.now ≡ text_or_empty key.now (table_view table.now) }
-{
-    text_at(table, key).unwrap_or("")
 }
 
 /// The number at a key, 0 where there is none.

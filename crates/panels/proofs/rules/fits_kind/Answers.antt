@@ -7,7 +7,7 @@ use Rattle.toml.specs.declared.value.Value.{the_lemmas}
 use Rattle.toml.proofs.Views.{view-Array}
 use Rattle.panels.specs.Shape.{is_table, is_text}
 use Rattle.panels.proofs.Trees.{fits_tables, fits_texts}
-use Rattle.panels.proofs.kinds.fits_kind.Goals as goal
+use Rattle.panels.proofs.rules.fits_kind.Goals as goal
 
 pub returns-in-Texts-Array : goal.returns-in-Texts-Array
 returns-in-Texts-Array c =
