@@ -1,17 +1,20 @@
 -- Names that are there, twice, or not.
 use Rattle.std.proofs.Common.{◌≡◌, ◌<◌, ℕ, zero, suc, List, [], ◌∷◌, length, map, get_or, Option, Some, None, Bool, true, false, not, refl, sym, ◌∙◌, subst, inl, inr, arith}
-use Rattle.std.specs.Prelude.{◌⊎◌, ◌≢◌, slice_get, option_map, Contains}
-use Rattle.std.specs.Option.{option_and_then}
+use Rattle.std.specs.Prelude.{◌⊎◌, ◌≢◌, IsTrue, MatchOption, is_some, slice_get, option_map, Contains}
+use Rattle.std.specs.Option.{option_and_then, option_map_or}
 use Rattle.std.proofs.lemmas.Bool.{false≢true}
 use Rattle.std.proofs.lemmas.Option.{none-some, same_Some, slice_get_within}
+use Rattle.panels.specs.declared.fault.TreeFault.{TreeFault}
+use Rattle.panels.specs.declared.fault.TreeFault.TheVariants.{BadName}
 use Rattle.panels.specs.declared.part.Part.{Part}
 use Rattle.panels.specs.declared.part.Part.TheVariants.{Top, Panel, Text, Field, Keys}
 use Rattle.panels.specs.declared.index.NameIndex.{NameIndex}
-use Rattle.panels.specs.Draft.{DraftItem, DraftPanel}
-use Rattle.panels.specs.Faults.{IsNamedBefore, IsTwiceNamed, NamesPanel, NamesField, name_at}
+use Rattle.panels.specs.Draft.{DraftItem, DraftPanel, DraftText}
+use Rattle.panels.specs.Faults.{HasFault, has_bad_name, IsNamedBefore, IsTwiceNamed, NamesPanel, NamesField, name_at}
 use Rattle.panels.specs.Index.{part_named, IsLater, IsIndexTo}
+use Rattle.panels.specs.Items.{is_name}
 use Rattle.panels.specs.Turns.{item_turn}
-use Rattle.panels.specs.Walk.{panel_in}
+use Rattle.panels.specs.Walk.{panel_in, is_letter_of}
 
 pub before_itself : (part : Part) → IsNamedBefore part part → ⊥
 before_itself Top before = before
@@ -170,3 +173,23 @@ lost_cursor true cursor name Has is tells = (
   λ (x, at_x, none). absurd (none (subst Has (same_Some name x (sym is ∙ at_x)) (tells.0 refl))),
 )
 lost_cursor false cursor name Has is tells = (λ lost. (name, is, λ has. false≢true (tells.1 has)), λ found. refl)
+
+-- what the code tells of the name of any part is what is said of panels and fields
+bad_names : (part : Part) (panels : List DraftPanel) → option_map_or (λ name. not (is_name (is_letter_of part) name)) (name_at part panels) false ≡ has_bad_name part panels
+bad_names Top panels = refl
+bad_names (Panel p) panels = refl
+bad_names (Text p i) panels = refl
+bad_names (Field p i) panels = refl
+bad_names (Keys p) panels = refl
+
+pub bad_name : (draft : DraftText) (fault : TreeFault) (part : Part) (r : Bool) → fault ≡ BadName
+    → r ≡ option_map_or (λ name. not (is_name (is_letter_of part) name)) (name_at part draft.panels) false
+    → (IsTrue r → HasFault fault part draft) × (HasFault fault part draft → IsTrue r)
+bad_name draft fault part r of_fault tells =
+    subst (λ f. (IsTrue r → HasFault f part draft) × (HasFault f part draft → IsTrue r)) (sym of_fault)
+    (subst (λ b. (IsTrue r → IsTrue b) × (IsTrue b → IsTrue r)) (tells ∙ bad_names part draft.panels) (λ is. is, λ is. is))
+
+-- what isn't found has no name
+pub none_named : (N : Type 0) (F : ℕ → Type 0) (o : Option ℕ) → MatchOption o N F → is_some o ≡ false → N
+none_named N F None is none = is
+none_named N F (Some p) is none = absurd (false≢true (sym none))

@@ -1,10 +1,11 @@
 -- How far a search for faults has come (our profile; only for the contracts of private functions).
-use Rattle.std.specs.Prelude.{◌≡◌, ℕ, ◌<◌, List, [], ◌∷◌, Some, slice_get}
+use Rattle.std.specs.Prelude.{◌≡◌, ℕ, ◌<◌, Bool, List, [], ◌∷◌, Some, slice_get}
 use Rattle.panels.specs.Draft.{DraftText}
 use Rattle.panels.specs.declared.fault.TreeFault.{TreeFault}
 use Rattle.panels.specs.declared.part.Part.{Part}
 use Rattle.panels.specs.declared.part.Part.TheVariants.{Top, Panel, Text, Field, Keys}
 use Rattle.panels.specs.Faults.{IsFaulty}
+use Rattle.panels.specs.Items.{is_panel_letter, is_field_letter}
 use Rattle.panels.specs.Turns.{pass_of, panel_turn, kind_turn, item_turn}
 
 -- before anything is looked for in a table
@@ -35,3 +36,8 @@ panel_in (Panel p) = p
 panel_in (Text p i) = p
 panel_in (Field p i) = p
 panel_in (Keys p) = p
+
+-- the name of a panel, or of a field, may have the letter
+abbrev pub is_letter_of : Part → ℕ → Bool
+is_letter_of (Panel p) letter = is_panel_letter letter
+is_letter_of _ letter = is_field_letter letter

@@ -1,56 +1,60 @@
 //! The faults of a draft, part by part.
 ghost use Rattle.std.specs.Prelude.{◌≡◌, ◌↔◌, ◌+◌, ◌<◌, IsTrue, MatchResult, length};
 ghost use Rattle.panels.specs.declared.part.Part.TheVariants as part;
-ghost use Rattle.panels.specs.Faults.{HasFault, is_part, has_too_many, faults_of};
+ghost use Rattle.panels.specs.Faults.{HasFault, is_part, faults_of};
 ghost use Rattle.panels.specs.Passes.{IsFaultless};
 ghost use Rattle.panels.specs.Turns.{IsClearTo, IsFirstFault};
 ghost use Rattle.panels.specs.Walk.{turn_at, IsCleanAt};
 
 use crate::draft::{Draft, PanelDraft};
+use crate::fault::TreeFault::*;
 use crate::fault::{At, TreeFault};
+use crate::names::{is_later, is_name};
 use crate::part::Part;
 
 /// Err has the first fault, and where it stands.
 pub(crate) type Checked = Result<(), (TreeFault, At)>;
 
-/// The most panels of a text.
+// The most panels of a text, and the most texts and fields of a panel.
 const MOST_PANELS: usize = 64;
 
-/// The most texts of a panel.
 const MOST_TEXTS: usize = 256;
 
-/// The most fields of a panel.
 const MOST_FIELDS: usize = 128;
 
 impl<'a> Draft<'a> {
-    /// Whether the text has more panels, or a panel more texts or fields, than there may be.
-    fn exceeds_limits(&self, part: Part) -> bool
-        ensures { result ≡ has_too_many part self.now.panels }
-    {
-        match part {
-            Part::Top => MOST_PANELS < self.panels.len(),
-            Part::Panel(panel) => self.panel(panel).is_some_and(|panel| {
-                MOST_TEXTS < panel.texts.len() || MOST_FIELDS < panel.fields.len()
-            }),
-            Part::Text(_, _) | Part::Field(_, _) | Part::Keys(_) => false,
-        }
-    }
-
+    /// Whether a part has a fault.
     fn has_fault(&self, fault: TreeFault, part: Part) -> bool
         ensures { IsTrue result ↔ HasFault fault part self.now }
     {
-        match fault {
-            TreeFault::UnknownKey | TreeFault::Missing | TreeFault::BadKind => {
-                self.wrong_keys(part) == Some(fault)
-            }
-            TreeFault::TooMany => self.exceeds_limits(part),
-            TreeFault::BadName => self.is_misnamed(part),
-            TreeFault::BadKey => self.has_bad_keys(part),
-            TreeFault::TwiceNamed => self.is_named_twice(part),
-            TreeFault::OutOfPlace => self.item(part).is_some_and(|item| !item.stands_in_place()),
-            TreeFault::NoCode => self.item(part).is_some_and(|item| item.has_no_codes()),
-            TreeFault::Overlap => self.is_overlapping(part),
-            TreeFault::NoTarget => self.lacks_target(part),
+        match (fault, part) {
+            (UnknownKey | Missing | BadKind, _) => self.wrong_keys(part) == Some(fault),
+            (TooMany, Part::Top) => MOST_PANELS < self.panels.len(),
+            (TooMany, Part::Panel(panel)) => self.panel(panel).is_some_and(|panel| {
+                MOST_TEXTS < panel.texts.len() || MOST_FIELDS < panel.fields.len()
+            }),
+            (BadName, _) => self.name(part).is_some_and(|name| !is_name(part, name)),
+            (BadKey, Part::Keys(panel)) => self
+                .panel(panel)
+                .is_some_and(|panel| panel.has_strange_key()),
+            (TwiceNamed, Part::Panel(_)) => is_later(&self.panel_names, self.name(part), part),
+            (TwiceNamed, Part::Field(_, _)) => is_later(&self.field_names, self.name(part), part),
+            (OutOfPlace, _) => self.item(part).is_some_and(|item| !item.stands_in_place()),
+            (NoCode, _) => self.item(part).is_some_and(|item| item.has_no_codes()),
+            (Overlap, _) => self.is_overlapping(part),
+            (NoTarget, Part::Top) => self.panel_named(self.start).is_none(),
+            (NoTarget, Part::Panel(panel)) => self
+                .panel(panel)
+                .is_some_and(|panel| panel.has_lost_cursor()),
+            (NoTarget, Part::Text(_, _)) => match self.item(part) {
+                Some(text) => text.text.is_none() && self.field_named(text.show).is_none(),
+                None => false,
+            },
+            (NoTarget, Part::Keys(panel)) => match self.panel(panel) {
+                Some(panel) => self.has_lost_key(panel),
+                None => false,
+            },
+            _ => false,
         }
     }
 
@@ -122,16 +126,12 @@ fn faults_in(pass: usize) -> &'static [TreeFault]
     ensures { result.now ≡ faults_of pass }
 {
     match pass {
-        1 => &[
-            TreeFault::UnknownKey,
-            TreeFault::Missing,
-            TreeFault::BadKind,
-        ],
-        2 => &[TreeFault::TooMany],
-        3 => &[TreeFault::BadName, TreeFault::BadKey, TreeFault::TwiceNamed],
-        4 => &[TreeFault::OutOfPlace, TreeFault::NoCode],
-        5 => &[TreeFault::Overlap],
-        6 => &[TreeFault::NoTarget],
+        1 => &[UnknownKey, Missing, BadKind],
+        2 => &[TooMany],
+        3 => &[BadName, BadKey, TwiceNamed],
+        4 => &[OutOfPlace, NoCode],
+        5 => &[Overlap],
+        6 => &[NoTarget],
         _ => &[],
     }
 }

@@ -10,10 +10,10 @@ use Rattle.panels.proofs.index.name_indexes.Goals as goal
 pub loop-field-init : goal.loop-field-init
 loop-field-init c = (
   panel_step c.args.panels.now c.loop-panel.panel c.loop-panel.panel_names c.note.new.index c.index-panels-panel.result
-  (slice_get-get_or c.args.panels.now c.loop-panel.panel c.index-panels-panel.result c.loop-panel-test.true ∙ ap Some (sym c.index-panels-panel.is))
-  (subst (λ (draft : DraftPanel). (other : List ℕ) → part_named c.note.new.index other ≡ noted (part_named c.loop-panel.panel_names) draft.name (Panel c.loop-panel.panel) other)
-  c.draft.view_is c.in_ok-note.ensures)
-  c.loop-panel.invariant.0,
+      (slice_get-get_or c.args.panels.now c.loop-panel.panel c.index-panels-panel.result c.loop-panel-test.true ∙ ap Some (sym c.index-panels-panel.is))
+      (subst (λ (draft : DraftPanel). (other : List ℕ) → part_named c.note.new.index other ≡ noted (part_named c.loop-panel.panel_names) draft.name (Panel c.loop-panel.panel) other)
+      c.draft.view_is c.in_ok-note.ensures)
+      c.loop-panel.invariant.0,
   c.loop-panel.invariant.1,
 )
 
@@ -24,11 +24,11 @@ loop-field-preserved c =
     rw (← c.draft.view_is) (slice_get-get_or c.draft.inside.fields.items c.loop-field.field c.index-item.result.now below ∙ ap Some (sym c.index-item.ensures)) in (
       c.loop-field.invariant.0,
       field_step c.args.panels.now c.loop-panel.panel c.loop-field.field c.loop-field.field_names c.note-in-loop-field.new.index c.index-panels-panel.result c.index-item.result.now
-      (slice_get-get_or c.args.panels.now c.loop-panel.panel c.index-panels-panel.result c.loop-panel-test.true ∙ ap Some (sym c.index-panels-panel.is))
-      inside
-      (subst (λ (item : DraftItem). (other : List ℕ) → part_named c.note-in-loop-field.new.index other ≡ noted (part_named c.loop-field.field_names) item.name (Field c.loop-panel.panel c.loop-field.field) other)
-      c.item.view_is c.in_ok-note-2.ensures)
-      c.loop-field.invariant.1,
+          (slice_get-get_or c.args.panels.now c.loop-panel.panel c.index-panels-panel.result c.loop-panel-test.true ∙ ap Some (sym c.index-panels-panel.is))
+          inside
+          (subst (λ (item : DraftItem). (other : List ℕ) → part_named c.note-in-loop-field.new.index other ≡ noted (part_named c.loop-field.field_names) item.name (Field c.loop-panel.panel c.loop-field.field) other)
+          c.item.view_is c.in_ok-note-2.ensures)
+          c.loop-field.invariant.1,
     )
 
 pub loop-panel-preserved : goal.loop-panel-preserved
@@ -37,6 +37,6 @@ loop-panel-preserved c =
     let seen : length c.draft.inside.fields.items ≡ length c.index-panels-panel.result.fields = rw (← c.draft.view_is) refl in (
       c.loop-field.invariant.0,
       panel_over c.args.panels.now c.index-panels-panel.result c.loop-panel.panel c.loop-field.field_names
-      (slice_get-get_or c.args.panels.now c.loop-panel.panel c.index-panels-panel.result c.loop-panel-test.true ∙ ap Some (sym c.index-panels-panel.is))
-      (subst (λ n. IsIndexTo c.args.panels.now (Field c.loop-panel.panel n) c.loop-field.field_names) (whole ∙ seen) c.loop-field.invariant.1),
+          (slice_get-get_or c.args.panels.now c.loop-panel.panel c.index-panels-panel.result c.loop-panel-test.true ∙ ap Some (sym c.index-panels-panel.is))
+          (subst (λ n. IsIndexTo c.args.panels.now (Field c.loop-panel.panel n) c.loop-field.field_names) (whole ∙ seen) c.loop-field.invariant.1),
     )
