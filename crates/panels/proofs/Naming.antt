@@ -13,8 +13,7 @@ use Rattle.panels.specs.Draft.{DraftItem, DraftPanel, DraftText}
 use Rattle.panels.specs.Faults.{HasFault, has_bad_name, IsNamedBefore, IsTwiceNamed, NamesPanel, NamesField, name_at}
 use Rattle.panels.specs.Index.{part_named, IsLater, IsIndexTo}
 use Rattle.panels.specs.Items.{is_name}
-use Rattle.panels.specs.Turns.{item_turn}
-use Rattle.panels.specs.Walk.{panel_in, is_letter_of}
+use Rattle.panels.specs.Walk.{is_letter_of}
 
 pub before_itself : (part : Part) → IsNamedBefore part part → ⊥
 before_itself Top before = before
@@ -132,22 +131,30 @@ no_field panels index name is none (p, i, has) =
     let known = is.first name (Field p i) has (field_ends panels p i name has) in
     absurd (none-some known.0 (sym none ∙ known.1))
 
--- one that it has is of that part
-pub panel_found : (panels : List DraftPanel) (index : NameIndex) (name : List ℕ) (part : Part) → IsIndexTo panels (Panel (length panels)) index → part_named index name ≡ Some part
-    → name_at (Panel (panel_in part)) panels ≡ Some name
-panel_found panels index name Top is found = absurd (is.named name Top found).1
-panel_found panels index name (Panel p) is found = (is.named name (Panel p) found).0
-panel_found panels index name (Text p i) is found = absurd (is.named name (Text p i) found).1
-panel_found panels index name (Field p i) is found = absurd (is.named name (Field p i) found).1
-panel_found panels index name (Keys p) is found = absurd (is.named name (Keys p) found).1
+-- one that it has is of that part, and this is a panel, or a field
+pub panel_found : (panels : List DraftPanel) (index : NameIndex) (name : List ℕ) (part : Part) (p : ℕ) → IsIndexTo panels (Panel (length panels)) index → part_named index name ≡ Some part
+    → part ≡ Panel p → name_at (Panel p) panels ≡ Some name
+panel_found panels index name part p is found same = subst (λ q. name_at q panels ≡ Some name) same (is.named name part found).0
 
-pub field_found : (panels : List DraftPanel) (index : NameIndex) (name : List ℕ) (part : Part) → IsIndexTo panels (Field (length panels) 0) index → part_named index name ≡ Some part
-    → name_at (Field (panel_in part) (item_turn part)) panels ≡ Some name
-field_found panels index name Top is found = absurd (is.named name Top found).1
-field_found panels index name (Panel p) is found = absurd (is.named name (Panel p) found).1
-field_found panels index name (Text p i) is found = absurd (is.named name (Text p i) found).1
-field_found panels index name (Field p i) is found = (is.named name (Field p i) found).0
-field_found panels index name (Keys p) is found = absurd (is.named name (Keys p) found).1
+pub field_found : (panels : List DraftPanel) (index : NameIndex) (name : List ℕ) (part : Part) (p i : ℕ) → IsIndexTo panels (Field (length panels) 0) index → part_named index name ≡ Some part
+    → part ≡ Field p i → name_at (Field p i) panels ≡ Some name
+field_found panels index name part p i is found same = subst (λ q. name_at q panels ≡ Some name) same (is.named name part found).0
+
+pub finds_panel : (panels : List DraftPanel) (index : NameIndex) (name : List ℕ) (part : Part) → IsIndexTo panels (Panel (length panels)) index → part_named index name ≡ Some part
+    → ((p : ℕ) → part ≡ Panel p → ⊥) → ⊥
+finds_panel panels index name Top is found other = (is.named name Top found).1
+finds_panel panels index name (Panel p) is found other = other p refl
+finds_panel panels index name (Text p i) is found other = (is.named name (Text p i) found).1
+finds_panel panels index name (Field p i) is found other = (is.named name (Field p i) found).1
+finds_panel panels index name (Keys p) is found other = (is.named name (Keys p) found).1
+
+pub finds_field : (panels : List DraftPanel) (index : NameIndex) (name : List ℕ) (part : Part) → IsIndexTo panels (Field (length panels) 0) index → part_named index name ≡ Some part
+    → ((p i : ℕ) → part ≡ Field p i → ⊥) → ⊥
+finds_field panels index name Top is found other = (is.named name Top found).1
+finds_field panels index name (Panel p) is found other = (is.named name (Panel p) found).1
+finds_field panels index name (Text p i) is found other = (is.named name (Text p i) found).1
+finds_field panels index name (Field p i) is found other = other p i refl
+finds_field panels index name (Keys p) is found other = (is.named name (Keys p) found).1
 
 pub map_found : {X Y : Type 0} (f : X → Y) (xs : List X) (i : ℕ) (d : X) → i < length xs → Contains (map f xs) (f (get_or xs i d))
 map_found f [] i d below = absurd (omega arith)

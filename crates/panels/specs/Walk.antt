@@ -29,14 +29,6 @@ nth (Text p i) j = Text p j
 nth (Field p i) j = Field p j
 nth part j = part
 
--- the panel that a part is, or is in; where it stands among the panel's items is its turn among these
-abbrev pub panel_in : Part → ℕ
-panel_in Top = 0
-panel_in (Panel p) = p
-panel_in (Text p i) = p
-panel_in (Field p i) = p
-panel_in (Keys p) = p
-
 -- the name of a panel, or of a field, may have the letter
 abbrev pub is_letter_of : Part → ℕ → Bool
 is_letter_of (Panel p) letter = is_panel_letter letter

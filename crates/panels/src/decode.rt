@@ -11,7 +11,7 @@ use crate::fault::TreeFault;
 use crate::index::name_indexes;
 use crate::items::characters_in;
 use crate::rules::{PANEL_RULES, TOP_RULES, item_rules, wrong_by};
-use crate::tree::{is_true_at, number_at, table_at, text_at, values_at};
+use crate::tree::{is_true_at, number_at, text_at, value_at, values_at};
 use std::alloc::{AllocError, Global};
 use toml::Table;
 
@@ -81,7 +81,7 @@ fn key_drafts<'a>(alloc: Global, keys: &'a Table) -> Result<Vec<(&'a str, &'a st
 fn panel_draft<'a>(alloc: Global, panel: &'a Table) -> Result<PanelDraft<'a>, AllocError>
     ensures { IfOk result (λ draft. draft ≡ panel_of (table_view panel.now)) }
 {
-    let keys = table_at(panel, "keys");
+    let keys = value_at(panel, "keys").and_then(|value| value.as_table());
     Ok(PanelDraft {
         wrong: wrong_by(&PANEL_RULES, panel),
         name: text_at(panel, "name").unwrap_or(""),

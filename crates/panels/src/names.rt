@@ -44,15 +44,6 @@ fn is_among(names: &[&str], name: &str) -> bool
     names.iter().any(|known| name == *known)
 }
 
-impl<'a> PanelDraft<'a> {
-    /// Whether a name among its keys is of no key.
-    pub(crate) fn has_strange_key(&self) -> bool
-        ensures { result ≡ list_any (λ key. not (is_key_name key.0)) self.now.keys }
-    {
-        self.keys.iter().any(|key| !is_among(&KEY_NAMES, key.0))
-    }
-}
-
 /// Whether a name stands earlier in the text.
 pub(crate) fn is_later(index: &NameIndex, name: Option<&str>, part: Part) -> bool
     ensures { IsTrue result ↔ IsLater index.now (option_map (λ n. n.now) name.entry) part }
@@ -65,16 +56,20 @@ impl<'a> Draft<'a> {
     pub(crate) fn panel_named(&self, name: &str) -> Option<usize>
         ensures { MatchOption result (¬ NamesPanel name.now self.now.panels) (λ panel. name_at (part.Panel panel) self.now.panels ≡ Some name.now) }
     {
-        Some(self.panel_names.part(name)?.panel())
+        match self.panel_names.part(name)? {
+            Part::Panel(panel) => Some(panel),
+            _ => None,
+        }
     }
 
     /// The first field with a name: its panel, and where it stands there.
     pub(crate) fn field_named(&self, name: &str) -> Option<(usize, usize)>
         ensures { MatchOption result (¬ NamesField name.now self.now.panels) (λ at. name_at (part.Field at.0 at.1) self.now.panels ≡ Some name.now) }
     {
-        let part = self.field_names.part(name)?;
-        let (panel, field) = (part.panel(), part.item());
-        Some((panel, field))
+        match self.field_names.part(name)? {
+            Part::Field(panel, field) => Some((panel, field)),
+            _ => None,
+        }
     }
 
     /// Whether one of a panel's keys leads to no panel.
@@ -99,6 +94,13 @@ impl<'a> ItemDraft<'a> {
 }
 
 impl<'a> PanelDraft<'a> {
+    /// Whether a name among its keys is of no key.
+    pub(crate) fn has_strange_key(&self) -> bool
+        ensures { result ≡ list_any (λ key. not (is_key_name key.0)) self.now.keys }
+    {
+        self.keys.iter().any(|key| !is_among(&KEY_NAMES, key.0))
+    }
+
     fn has_field_named(&self, name: &str) -> bool
         ensures { IsTrue result ↔ HasFieldNamed name.now self.now }
     {

@@ -1,8 +1,7 @@
 //! The tables of a panel text.
 ghost use Rattle.std.specs.Prelude.{◌≡◌};
 ghost use Rattle.panels.specs.Faults.{place_of};
-ghost use Rattle.panels.specs.Turns.{item_turn};
-ghost use Rattle.panels.specs.Walk.{nth, panel_in};
+ghost use Rattle.panels.specs.Walk.{nth};
 
 use crate::fault::At;
 
@@ -40,27 +39,6 @@ impl Part {
             Part::Text(panel, _) => Part::Text(panel, index),
             Part::Field(panel, _) => Part::Field(panel, index),
             Part::Top | Part::Panel(_) | Part::Keys(_) => self,
-        }
-    }
-
-    /// The index of the panel that it is, or is in.
-    pub(crate) fn panel(self) -> usize
-        ensures { result ≡ panel_in self }
-    {
-        match self {
-            Part::Top => 0,
-            Part::Panel(panel) | Part::Text(panel, _) | Part::Field(panel, _) | Part::Keys(panel) =>
-                panel,
-        }
-    }
-
-    /// Where it stands among its panel's texts or fields.
-    pub(crate) fn item(self) -> usize
-        ensures { result ≡ item_turn self }
-    {
-        match self {
-            Part::Text(_, item) | Part::Field(_, item) => item,
-            Part::Top | Part::Panel(_) | Part::Keys(_) => 0,
         }
     }
 }

@@ -9,7 +9,7 @@ ghost use Rattle.panels.specs.Defines.{Defines, IsReadFrom};
 use crate::decode::decode;
 use crate::fault::PanelFault;
 use crate::panel_set::PanelSet;
-use std::alloc::{AllocError, Global};
+use std::alloc::Global;
 use toml::Table;
 
 /// The panels that a tree defines, or the first fault in it.
@@ -18,10 +18,7 @@ fn read_tree(alloc: Global, top: &Table) -> Result<PanelSet, PanelFault>
     ensures fault { IfErr result (IsReasonIn (draft_of (table_view top.now))) }
     ensures first { IfErr result (IsFirstIn (draft_of (table_view top.now))) }
 {
-    let draft = match decode(alloc, top) {
-        Ok(draft) => draft,
-        Err(AllocError) => return Err(PanelFault::Memory),
-    };
+    let draft = decode(alloc, top).map_err(|_| PanelFault::Memory)?;
     if let Err((fault, place)) = draft.check() {
         return Err(PanelFault::Tree(fault, place));
     }

@@ -2,7 +2,7 @@
 ghost use Rattle.std.specs.Prelude.{◌≡◌, option_map};
 ghost use Rattle.toml.specs.View.{view, items_view, table_view};
 ghost use Rattle.toml.specs.Data.{get_member};
-ghost use Rattle.panels.specs.Tree.{text_under, number, is_set, table_under, items_under};
+ghost use Rattle.panels.specs.Tree.{text_under, number, is_set, items_under};
 
 use toml::{Table, Value};
 
@@ -34,12 +34,6 @@ pub(crate) fn is_true_at(table: &Table, key: &str) -> bool
     value_at(table, key)
         .and_then(|value| value.as_bool())
         .unwrap_or(false)
-}
-
-pub(crate) fn table_at<'a>(table: &'a Table, key: &str) -> Option<&'a Table>
-    ensures { option_map (λ found. table_view found.now) result ≡ table_under key.now (table_view table.now) }
-{
-    value_at(table, key)?.as_table()
 }
 
 /// What the array at a key has, nothing where there is none.

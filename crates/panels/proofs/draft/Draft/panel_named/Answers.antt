@@ -1,9 +1,12 @@
 use Rattle.std.proofs.Common.{sym, ◌∙◌}
-use Rattle.panels.proofs.Naming.{no_panel, panel_found}
+use Rattle.panels.proofs.Naming.{no_panel, panel_found, finds_panel}
 use Rattle.panels.proofs.draft.Draft.panel_named.Goals as goal
 
-pub returns-in_err-part : goal.returns-in_err-part
-returns-in_err-part c = rw (c.from_residual.ensures) (rw (← c.self.view_is) (no_panel _ _ c.args.name.now c.self.invariant.panels_are (sym c.part.ensures ∙ c.in_err-part.was)))
+pub returns-in_err-panel : goal.returns-in_err-panel
+returns-in_err-panel c = rw (c.from_residual.ensures) (rw (← c.self.view_is) (no_panel _ _ c.args.name.now c.self.invariant.panels_are (sym c.part.ensures ∙ c.in_err-panel.was)))
 
-pub returns : goal.returns
-returns c = rw (c.panel.ensures) (rw (← c.self.view_is) (panel_found _ _ c.args.name.now c.in_ok-part.field-0 c.self.invariant.panels_are (sym c.part.ensures ∙ c.in_ok-part.was)))
+pub returns-in-Panel : goal.returns-in-Panel
+returns-in-Panel c = rw (← c.self.view_is) (panel_found _ _ c.args.name.now c.in_ok-panel.field-0 c.in-Panel.panel c.self.invariant.panels_are (sym c.part.ensures ∙ c.in_ok-panel.was) c.in-Panel.is)
+
+pub returns-in_default : goal.returns-in_default
+returns-in_default c = λ named. finds_panel _ _ c.args.name.now c.in_ok-panel.field-0 c.self.invariant.panels_are (sym c.part.ensures ∙ c.in_ok-panel.was) c.in_default.not-Panel
