@@ -8,10 +8,9 @@ use Rattle.std.proofs.lemmas.Option.{same_Some, slice_get_within}
 use Rattle.std.proofs.lemmas.Slice.Eq.{bytes_eq-Decides}
 use Rattle.panels.specs.declared.part.Part.{Part}
 use Rattle.panels.specs.declared.part.Part.TheVariants.{Top, Panel, Text, Field, Keys}
-use Rattle.panels.specs.declared.index.NameIndex.{NameIndex}
 use Rattle.panels.specs.Draft.{DraftItem, DraftPanel}
 use Rattle.panels.specs.Faults.{IsNamedBefore, name_at}
-use Rattle.panels.specs.Index.{part_named, noted, HasFirstOf, IsIndexTo}
+use Rattle.panels.specs.Index.{NameIndex, part_named, noted, HasFirstOf, IsIndexTo}
 
 pub none_of : {X : Type 0} (o : Option X) → is_some o ≡ false → o ≡ None
 none_of None is = refl

@@ -8,10 +8,9 @@ use Rattle.panels.specs.declared.fault.TreeFault.{TreeFault}
 use Rattle.panels.specs.declared.fault.TreeFault.TheVariants.{BadName}
 use Rattle.panels.specs.declared.part.Part.{Part}
 use Rattle.panels.specs.declared.part.Part.TheVariants.{Top, Panel, Text, Field, Keys}
-use Rattle.panels.specs.declared.index.NameIndex.{NameIndex}
 use Rattle.panels.specs.Draft.{DraftItem, DraftPanel, DraftText}
 use Rattle.panels.specs.Faults.{HasFault, has_bad_name, IsNamedBefore, IsTwiceNamed, NamesPanel, NamesField, name_at}
-use Rattle.panels.specs.Index.{part_named, IsLater, IsIndexTo}
+use Rattle.panels.specs.Index.{NameIndex, part_named, IsLater, IsIndexTo}
 use Rattle.panels.specs.Items.{is_name}
 use Rattle.panels.specs.Walk.{is_letter_of}
 

@@ -1,16 +1,20 @@
 -- Where each name of a panel text stands first (our profile; only for the contracts of private functions).
-use Rattle.std.specs.Prelude.{◌≡◌, ◌≢◌, ℕ, List, length, Option, Some, None, ◌⊎◌, bytes_eq, if◌then◌else◌}
+use Rattle.std.specs.Prelude.{◌≡◌, ◌≢◌, ℕ, List, length, Option, Some, None, String, ◌⊎◌, bytes_eq, if◌then◌else◌}
 use Rattle.std.specs.Option.{option_or}
-use Rattle.std.specs.BTreeMap.{get_by_text}
+use Rattle.std.specs.Global.{Global}
+use Rattle.std.specs.BTreeMap.{BTreeMap, get_by_text}
 use Rattle.panels.specs.declared.part.Part.{Part}
 use Rattle.panels.specs.declared.part.Part.TheVariants.{Panel, Field}
-use Rattle.panels.specs.declared.index.NameIndex.{NameIndex}
 use Rattle.panels.specs.Draft.{DraftPanel}
 use Rattle.panels.specs.Faults.{IsNamedBefore, name_at}
 
+-- for each name of a kind, the first part with it
+abbrev pub NameIndex : Type 0
+NameIndex = BTreeMap (String Global) Part
+
 -- the part that the index has for a name
 abbrev pub part_named : NameIndex → List ℕ → Option Part
-part_named index name = get_by_text index.parts name
+part_named index name = get_by_text index name
 
 -- what an index has after a part with a name was noted
 abbrev pub noted : (List ℕ → Option Part) → List ℕ → Part → List ℕ → Option Part

@@ -48,7 +48,7 @@ fn is_among(names: &[&str], name: &str) -> bool
 pub(crate) fn is_later(index: &NameIndex, name: Option<&str>, part: Part) -> bool
     ensures { IsTrue result ↔ IsLater index.now (option_map (λ n. n.now) name.entry) part }
 {
-    name.is_some_and(|name| index.part(name).is_some_and(|first| first != part))
+    name.is_some_and(|name| index.get(name).is_some_and(|first| *first != part))
 }
 
 impl<'a> Draft<'a> {
@@ -56,8 +56,8 @@ impl<'a> Draft<'a> {
     pub(crate) fn panel_named(&self, name: &str) -> Option<usize>
         ensures { MatchOption result (¬ NamesPanel name.now self.now.panels) (λ panel. name_at (part.Panel panel) self.now.panels ≡ Some name.now) }
     {
-        match self.panel_names.part(name)? {
-            Part::Panel(panel) => Some(panel),
+        match self.panel_names.get(name)? {
+            Part::Panel(panel) => Some(*panel),
             _ => None,
         }
     }
@@ -66,8 +66,8 @@ impl<'a> Draft<'a> {
     pub(crate) fn field_named(&self, name: &str) -> Option<(usize, usize)>
         ensures { MatchOption result (¬ NamesField name.now self.now.panels) (λ at. name_at (part.Field at.0 at.1) self.now.panels ≡ Some name.now) }
     {
-        match self.field_names.part(name)? {
-            Part::Field(panel, field) => Some((panel, field)),
+        match self.field_names.get(name)? {
+            Part::Field(panel, field) => Some((*panel, *field)),
             _ => None,
         }
     }

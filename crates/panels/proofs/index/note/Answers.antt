@@ -1,4 +1,4 @@
-use Rattle.std.proofs.Common.{◌≡◌, Some, ap, sym, subst, ◌∙◌, false, string_bytes}
+use Rattle.std.proofs.Common.{◌≡◌, Some, subst, false, string_bytes, rules, tests}
 use Rattle.std.specs.Prelude.{bytes_eq, is_some}
 use Rattle.std.specs.Map.{update}
 use Rattle.std.proofs.lemmas.Map.Text.{btree_map_updates_text}
@@ -8,9 +8,9 @@ use Rattle.panels.proofs.index.note.Goals as goal
 
 pub returns-in_ok-insert : goal.returns-in_ok-insert
 returns-in_ok-insert c = λ other.
-    let absent : is_some (part_named c.args.index.now c.args.name.now) ≡ false = ap is_some (sym c.part.ensures) ∙ c.if-is_none.ensures in
-    noted_absent (part_named c.args.index.now) (part_named (record { parts = c.insert.new.self })) c.args.name.now c.args.part other
+    let absent : is_some (part_named c.args.index.now c.args.name.now) ≡ false = search (rules, tests) in
+    noted_absent (part_named c.args.index.now) (part_named c.insert.new.self) c.args.name.now c.args.part other
     (λ cs.
-    subst (λ n. part_named (record { parts = c.insert.new.self }) cs ≡ update bytes_eq (part_named c.args.index.now) n (Some c.args.part) cs) c.in_ok-from_str.ensures.ok
-    (btree_map_updates_text (string_bytes c.in_ok-from_str.field-0) c.args.index.now.parts c.insert.new.self (Some c.args.part) c.in_ok-insert.ensures.updates cs))
+    subst (λ n. part_named c.insert.new.self cs ≡ update bytes_eq (part_named c.args.index.now) n (Some c.args.part) cs) c.in_ok-from_str.ensures.ok
+    (btree_map_updates_text (string_bytes c.in_ok-from_str.field-0) c.args.index.now c.insert.new.self (Some c.args.part) c.in_ok-insert.ensures.updates cs))
     (none_of _ absent)
