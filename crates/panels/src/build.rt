@@ -62,12 +62,7 @@ impl<'a> Draft<'a> {
     }
 
     /// The panel at an index.
-    fn panel_item(
-        &self,
-        alloc: Global,
-        panel: &PanelDraft,
-        index: usize,
-    ) -> Result<Panel, AllocError>
+    fn panel_at(&self, alloc: Global, panel: &PanelDraft, index: usize) -> Result<Panel, AllocError>
         requires faultless { IsFaultless self.now }
         requires there { slice_get self.now.panels index ≡ Some panel.now }
         ensures { IfOk result (IsPanelOf self.now.panels index panel.now) }
@@ -133,7 +128,7 @@ impl<'a> Draft<'a> {
         }
         let mut panels = Vec::new(alloc);
         for index in 0..self.panels.len() {
-            panels.push(self.panel_item(alloc, &self.panels[index], index)?)?;
+            panels.push(self.panel_at(alloc, &self.panels[index], index)?)?;
         }
         Ok(PanelSet { start, lus, panels })
     }

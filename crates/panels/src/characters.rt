@@ -1,5 +1,5 @@
 //! Texts in the host's code.
-ghost use Rattle.std.specs.Prelude.{◌≡◌, IfOk, chars};
+ghost use Rattle.std.specs.Prelude.{◌≡◌, List, ℕ, IfOk, chars};
 ghost use Rattle.panels.specs.Characters.{AreCharacters, codes_of};
 
 use codes3270::from_latin1;
@@ -13,9 +13,6 @@ pub struct Characters {
 }
 
 impl Model for Characters {
-    ghost use Rattle.std.specs.Prelude.{List, ℕ};
-    ghost use Rattle.panels.specs.Characters.{AreCharacters};
-
     ghost Value = { List ℕ };
 
     ghost view = { λ characters. characters.bytes.items };
@@ -24,8 +21,6 @@ impl Model for Characters {
 }
 
 impl Clone for Characters {
-    ghost use Rattle.std.specs.Prelude.{◌≡◌};
-
     ghost is_clone = { λ old new. new ≡ old };
 
     fn clone(&self) -> Result<Characters, AllocError> {

@@ -6,7 +6,8 @@ ghost use Rattle.datastream.specs.Wanted.{IsProper};
 ghost use Rattle.datastream.specs.declared.wanted.Want.{Want as Wish};
 ghost use Rattle.datastream.specs.declared.wanted.Want.TheVariants.{Char};
 ghost use Rattle.panels.specs.Characters.{AreCharacters};
-ghost use Rattle.panels.specs.Screen.{distance_in, item_cell, autoskip_attr, text_cell, first_some, field_attr, is_filled, field_content, field_cell, stopper_cell, coded, field_numbered, wanted_cursor};
+ghost use Rattle.panels.specs.Screen.{distance_in, item_cell, autoskip_attr, text_cell, first_some, field_attr, is_filled, field_content, field_cell, stopper_cell, coded, IsWantedOf, screen_of};
+ghost use Rattle.panels.specs.declared.message.Message.TheVariants.{Fresh};
 ghost use Rattle.panels.specs.Put.{IsPut, cell_with, content_written, field_spoken, row_cell, text_with};
 
 use crate::extent::Extent;
@@ -33,10 +34,8 @@ fn cell_of(attr: Attr, content: Option<&[u8]>, distance: u16) -> Want
     ensures cell { result ≡ cell_with attr (option_map (λ bytes. bytes.now) content.entry) distance }
     ensures proper { IsProper result }
 {
-    if distance == 0 {
-        return Want::Attr(attr);
-    }
     match content {
+        _ if distance == 0 => Want::Attr(attr),
         Some(bytes) => Want::Char(bytes.get(distance as usize - 1).copied().unwrap_or(0)),
         None => Want::Keep,
     }
@@ -138,8 +137,6 @@ fn coded_byte(text: &[u8], index: usize) -> u8
         .unwrap_or(0)
 }
 
-const KEY_NOT_ACTIVE: &[u8; 14] = b"KEY NOT ACTIVE";
-
 const REQUIRED: &[u8; 10] = b"REQUIRED: ";
 
 /// A byte of the text of a message that speaks of a field with a name, a null behind its end.
@@ -149,7 +146,7 @@ fn message_byte(message: Message, name: &[u8], index: usize) -> u8
 {
     match message {
         Message::Fresh | Message::Plain => 0,
-        Message::KeyNotActive => coded_byte(KEY_NOT_ACTIVE, index),
+        Message::KeyNotActive => coded_byte(b"KEY NOT ACTIVE", index),
         Message::Required(_) if index < REQUIRED.len() => coded_byte(REQUIRED, index),
         Message::Required(_) => coded_byte(name, index - REQUIRED.len()),
     }
@@ -168,9 +165,6 @@ fn put_message(wanted: &mut Wanted, message: Message, name: &[u8])
 }
 
 impl Panel {
-    ghost use Rattle.panels.specs.Screen.{IsWantedOf, screen_of};
-    ghost use Rattle.panels.specs.declared.message.Message.TheVariants.{Fresh};
-
     /// The field that a message speaks of.
     fn field_of(&self, message: Message) -> Option<&Field>
         ensures { option_copied result ≡ field_spoken self.now.fields message }

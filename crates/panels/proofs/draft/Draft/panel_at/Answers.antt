@@ -9,7 +9,7 @@ use Rattle.panels.proofs.Building.{AreBuilt, read_at, built_more, built_all}
 use Rattle.panels.proofs.Leading.{targets_lead}
 use Rattle.panels.proofs.Linking.{contained_at, cursor_given, field_on_screen}
 use Rattle.panels.proofs.Sound.{few_panels, few_fields, before_few}
-use Rattle.panels.proofs.draft.Draft.panel_item.Goals as goal
+use Rattle.panels.proofs.draft.Draft.panel_at.Goals as goal
 
 pub loop-place-preserved-in_default : goal.loop-place-preserved-in_default
 loop-place-preserved-in_default c =
