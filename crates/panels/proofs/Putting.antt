@@ -1,11 +1,13 @@
 -- One thing put over another.
-use Rattle.std.proofs.Common.{◌≡◌, ◌<◌, ◌≤◌, ◌+◌, ◌-◌, ℕ, List, [], ◌∷◌, length, get_or, set, drop, Bool, true, false, cond, Option, Some, None, refl, ap, sym, subst, ◌∙◌, arith, inl, inr}
-use Rattle.std.specs.Prelude.{◌==◌, ◌≢◌, ◌&&◌, nat_le, nat_lt, unwrap_or, slice_index_or}
-use Rattle.std.specs.Option.{option_or, option_map_or}
+use Rattle.std.proofs.Common.{◌≡◌, ◌<◌, ◌≤◌, ◌+◌, ◌-◌, ℕ, zero, suc, Bor, List, [], ◌∷◌, ◌++◌, length, get_or, set, drop, Bool, true, false, cond, Option, Some, None, refl, ap, sym, subst, ◌∙◌, arith, inl, inr}
+use Rattle.std.specs.Prelude.{codes, is_some, option_copied, IfSome, ◌⊎◌, ◌==◌, ◌≢◌, ◌&&◌, nat_le, nat_lt, unwrap_or, slice_get, slice_index_or}
+use Rattle.std.specs.Option.{option_or, option_and_then, option_map_or}
 use Rattle.std.proofs.lemmas.List.{drop_more, get_or-set_same, get_or-set_other, length-set}
 use Rattle.std.proofs.lemmas.Bool.{cases_eq}
+use Rattle.std.proofs.lemmas.Option.{slice_get_past, slice_get-get_or}
 use Rattle.std.proofs.lemmas.Bool.Decides.{nat_tests}
 use Rattle.codes3270.specs.Size.{cell_count}
+use Rattle.codes3270.specs.CodePage.{code_of}
 use Rattle.codes3270.specs.declared.attribute.Attr.{Attr}
 use Rattle.datastream.specs.Wanted.{WantedScreen}
 use Rattle.datastream.specs.declared.wanted.Want.{Want}
@@ -16,7 +18,7 @@ use Rattle.panels.specs.declared.panel.Field.{Field}
 use Rattle.panels.specs.declared.panel.TextItem.{TextItem}
 use Rattle.panels.specs.Size.{message_start}
 use Rattle.panels.specs.Panel.{PanelParts}
-use Rattle.panels.specs.Screen.{Values, item_cell, autoskip_attr, first_some, text_cell, field_cell, stopper_cell, message_text, wanted_cell, wanted_cursor}
+use Rattle.panels.specs.Screen.{Values, item_cell, autoskip_attr, first_some, text_cell, field_cell, stopper_cell, coded, message_text, wanted_cell, wanted_cursor}
 use Rattle.panels.specs.Put.{IsPut, field_spoken, row_cell, text_with}
 
 pub over : {X : Type 0} (one other : Option X) (under : X) → unwrap_or (option_or one other) under ≡ unwrap_or one (unwrap_or other under)
@@ -117,6 +119,46 @@ cursor_is panel Fresh = refl
 cursor_is panel Plain = refl
 cursor_is panel KeyNotActive = refl
 cursor_is panel (Required number) = refl
+
+-- what `get` answers of a text
+pub got : (text : List ℕ) (i : ℕ) (found : Option (Bor ℕ)) → is_some found ≡ nat_lt i (length text) → IfSome found (λ byte. byte.now ≡ slice_index_or text i byte.now)
+    → option_copied found ≡ slice_get text i
+got text i None there is = sym (slice_get_past text i (grind (arith, nat_tests)))
+got text i (Some byte) there is = ap Some is ∙ sym (slice_get-get_or text i byte.now (grind (arith, nat_tests)))
+
+-- a character of a text, in the host's code
+pub coded_at : (text : List ℕ) (i : ℕ) → slice_index_or (coded text) i 0 ≡ unwrap_or (option_and_then code_of (slice_get text i)) 0
+coded_at [] i = refl
+coded_at (character ∷ text) zero = refl
+coded_at (character ∷ text) (suc i) = coded_at text i
+
+-- and of two texts, one behind the other
+behind : (one other : List ℕ) (n i : ℕ) → n ≡ length one → n ≤ i → slice_get (one ++ other) i ≡ slice_get other (i - n)
+behind [] other n i is past =
+    let none : i ≡ i - n = omega (arith, is) in
+    ap (slice_get other) none
+behind (character ∷ one) other n zero is past = absurd (omega (arith, is, past))
+behind (character ∷ one) other n (suc i) is past =
+    let same : i - (n - 1) ≡ suc i - n = omega (arith, is, past) in
+    behind one other (n - 1) i (omega (arith, is)) (omega (arith, past)) ∙ ap (slice_get other) same
+
+before : (one other : List ℕ) (i : ℕ) → i < length one → slice_get (one ++ other) i ≡ slice_get one i
+before [] other i within = absurd (omega (arith, within))
+before (character ∷ one) other zero within = refl
+before (character ∷ one) other (suc i) within = before one other i (omega (arith, within))
+
+-- a message's text, in these two parts
+pub silent : (name : List ℕ) (message : Message) (i : ℕ) → (message ≡ Fresh) ⊎ (message ≡ Plain) → slice_index_or (text_with name message) i 0 ≡ 0
+silent name message i (inl is) = ap (λ m. slice_index_or (text_with name m) i 0) is
+silent name message i (inr is) = ap (λ m. slice_index_or (text_with name m) i 0) is
+
+pub required_first : (name : List ℕ) (number i : ℕ) → i < 10 → slice_index_or (text_with name (Required number)) i 0 ≡ unwrap_or (option_and_then code_of (slice_get (codes "REQUIRED: ") i)) 0
+required_first name number i within =
+    coded_at (codes "REQUIRED: " ++ name) i ∙ ap (λ o. unwrap_or (option_and_then code_of o) 0) (before (codes "REQUIRED: ") name i within)
+
+pub required_rest : (name : List ℕ) (number i : ℕ) → 10 ≤ i → slice_index_or (text_with name (Required number)) i 0 ≡ unwrap_or (option_and_then code_of (slice_get name (i - 10))) 0
+required_rest name number i past =
+    coded_at (codes "REQUIRED: " ++ name) i ∙ ap (λ o. unwrap_or (option_and_then code_of o) 0) (behind (codes "REQUIRED: ") name 10 i refl past)
 
 -- the character behind the attribute, and behind so many others
 pub character_at : (attr : Attr) (text : List ℕ) (n byte : ℕ) → byte ≡ slice_index_or text n 0 → want.Char byte ≡ item_cell attr text (n + 1)

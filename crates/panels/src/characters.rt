@@ -24,9 +24,8 @@ impl Clone for Characters {
     ghost is_clone = { λ old new. new ≡ old };
 
     fn clone(&self) -> Result<Characters, AllocError> {
-        Ok(Characters {
-            bytes: self.bytes.clone()?,
-        })
+        let bytes = self.bytes.clone()?;
+        Ok(Characters { bytes })
     }
 }
 
@@ -36,21 +35,19 @@ impl Characters {
         requires { AreCharacters bytes.now }
         ensures { IfOk result (λ characters. characters ≡ bytes.now) }
     {
-        Ok(Characters {
-            bytes: bytes.to_vec(alloc)?,
-        })
+        let bytes = bytes.to_vec(alloc)?;
+        Ok(Characters { bytes })
     }
 
     /// The codes of a text's characters, as far as they have one.
     pub(crate) fn of_text(alloc: Global, text: &str) -> Result<Characters, AllocError>
         ensures { IfOk result (λ characters. characters ≡ codes_of (chars text.now)) }
     {
-        Ok(Characters {
-            bytes: text
-                .chars()
-                .filter_map(|character| from_latin1(character))
-                .collect(alloc)?,
-        })
+        let bytes = text
+            .chars()
+            .filter_map(|character| from_latin1(character))
+            .collect(alloc)?;
+        Ok(Characters { bytes })
     }
 
     pub fn as_slice(&self) -> &[u8]

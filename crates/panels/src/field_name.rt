@@ -21,9 +21,8 @@ impl FieldName {
     pub(crate) fn of_text(alloc: Global, text: &str) -> Result<FieldName, AllocError>
         ensures { IfOk result (λ name. name ≡ text.now) }
     {
-        Ok(FieldName {
-            text: String::from_str(alloc, text)?,
-        })
+        let text = String::from_str(alloc, text)?;
+        Ok(FieldName { text })
     }
 
     pub fn as_str(&self) -> &str

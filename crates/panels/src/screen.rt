@@ -127,29 +127,21 @@ fn put_stoppers(wanted: &mut Wanted, fields: &[Field])
     }
 }
 
-/// A character of a text of ASCII characters in the host's code, a null behind the end.
-fn coded_byte(text: &[u8], index: usize) -> u8
-    ensures byte { result ≡ slice_index_or (coded text.now) index 0 }
-    ensures storable { is_storable result ≡ true }
-{
-    text.get(index)
-        .and_then(|byte| from_latin1(char::from(*byte)))
-        .unwrap_or(0)
-}
-
 const REQUIRED: &[u8; 10] = b"REQUIRED: ";
 
-/// A byte of the text of a message that speaks of a field with a name, a null behind its end.
+/// A byte, in the host's code, of the text of a message that speaks of a field with a name; a null behind its end.
 fn message_byte(message: Message, name: &[u8], index: usize) -> u8
     ensures byte { result ≡ slice_index_or (text_with name.now message) index 0 }
     ensures storable { is_storable result ≡ true }
 {
-    match message {
-        Message::Fresh | Message::Plain => 0,
-        Message::KeyNotActive => coded_byte(b"KEY NOT ACTIVE", index),
-        Message::Required(_) if index < REQUIRED.len() => coded_byte(REQUIRED, index),
-        Message::Required(_) => coded_byte(name, index - REQUIRED.len()),
-    }
+    let byte = match message {
+        Message::Fresh | Message::Plain => None,
+        Message::KeyNotActive => b"KEY NOT ACTIVE".get(index),
+        Message::Required(_) if index < REQUIRED.len() => REQUIRED.get(index),
+        Message::Required(_) => name.get(index - REQUIRED.len()),
+    };
+    byte.and_then(|byte| from_latin1(char::from(*byte)))
+        .unwrap_or(0)
 }
 
 /// Puts the message's row; `name` is that of the field that the message speaks of.
