@@ -1,5 +1,5 @@
 -- What is put on a wanted screen, one thing over another (our profile; only for the contracts of private functions).
-use Rattle.std.specs.Prelude.{◌≡◌, codes, ℕ, ◌-◌, ◌<◌, nat_lt, Bool, true, List, [], ◌++◌, Option, Some, None, unwrap_or, slice_index_or, if◌then◌else◌}
+use Rattle.std.specs.Prelude.{◌≡◌, codes, ℕ, ◌-◌, ◌<◌, nat_lt, true, List, [], ◌++◌, Option, Some, None, unwrap_or, slice_index_or, if◌then◌else◌}
 use Rattle.codes3270.specs.Size.{cell_count}
 use Rattle.codes3270.specs.declared.attribute.Attr.{Attr}
 use Rattle.datastream.specs.declared.wanted.Want.{Want}
@@ -7,7 +7,7 @@ use Rattle.panels.specs.declared.message.Message.{Message}
 use Rattle.panels.specs.declared.message.Message.TheVariants.{Fresh, Plain, KeyNotActive, Required}
 use Rattle.panels.specs.declared.panel.Field.{Field}
 use Rattle.panels.specs.Size.{message_start}
-use Rattle.panels.specs.Screen.{Values, autoskip_attr, item_cell, kept_cell, field_content, coded, field_numbered}
+use Rattle.panels.specs.Screen.{autoskip_attr, item_cell, kept_cell, coded, field_numbered}
 
 -- the cells of a screen are as before, but for those in which something is put
 abbrev pub IsPut : (ℕ → Option Want) → List Want → List Want → Type 0
@@ -17,10 +17,6 @@ IsPut put old new = (cell : ℕ) (default : Want) → cell < cell_count → slic
 abbrev pub cell_with : Attr → Option (List ℕ) → ℕ → Want
 cell_with attr (Some content) distance = item_cell attr content distance
 cell_with attr None distance = kept_cell attr distance
-
--- what a field is written with, unless that is kept
-abbrev pub content_written : Values → Message → Bool → Field → Option (List ℕ)
-content_written values message keep field = if keep then None else Some (field_content values message field)
 
 -- the field that a message speaks of
 abbrev pub field_spoken : List Field → Message → Option Field

@@ -1,8 +1,8 @@
 //! The panels of a draft in which no fault stands.
-ghost use Rattle.std.specs.Prelude.{◌≡◌, ◌+◌, ◌<◌, Some, None, All, Contains, map, IfOk, IfSome, option_map, slice_get, length};
+ghost use Rattle.std.specs.Prelude.{◌≡◌, ◌+◌, ◌<◌, Some, None, All, Contains, IfOk, IfSome, option_map, slice_get, length};
 ghost use Rattle.panels.specs.Keys.{key_names};
 ghost use Rattle.panels.specs.Passes.{IsFaultless};
-ghost use Rattle.panels.specs.Defines.{fields_before, IsFieldNamed, IsContentOf, IsTextOf, IsFieldOf, IsEachOf, IsCursorBy, IsPanelOf, IsTargetBy, Defines, text_at_key};
+ghost use Rattle.panels.specs.Defines.{fields_before, IsContentOf, IsTextOf, IsEachOf, IsCursorBy, IsPanelOf, IsTargetBy, Defines, text_at_key};
 ghost use Rattle.panels.specs.Building.{IsTextIn, AreTargetsOf};
 
 use crate::characters::Characters;

@@ -1,14 +1,14 @@
 //! The screen that a panel asks for.
-ghost use Rattle.std.specs.Prelude.{◌≡◌, ◌==◌, ◌<◌, ℕ, true, false, IfSome, option_map, slice_index_or, option_copied, unwrap_or};
+ghost use Rattle.std.specs.Prelude.{◌≡◌, ◌<◌, ℕ, true, false, IfSome, option_map, slice_index_or, option_copied};
 ghost use Rattle.codes3270.specs.Size.{cell_count};
 ghost use Rattle.codes3270.specs.Storable.{is_storable};
 ghost use Rattle.datastream.specs.Wanted.{IsProper};
 ghost use Rattle.datastream.specs.declared.wanted.Want.{Want as Wish};
 ghost use Rattle.datastream.specs.declared.wanted.Want.TheVariants.{Char};
 ghost use Rattle.panels.specs.Characters.{AreCharacters};
-ghost use Rattle.panels.specs.Screen.{distance_in, item_cell, autoskip_attr, text_cell, first_some, field_attr, is_filled, field_content, field_cell, stopper_cell, coded, IsWantedOf, screen_of};
+ghost use Rattle.panels.specs.Screen.{distance_in, autoskip_attr, text_cell, first_some, field_cell, stopper_cell, IsWantedOf, screen_of};
 ghost use Rattle.panels.specs.declared.message.Message.TheVariants.{Fresh};
-ghost use Rattle.panels.specs.Put.{IsPut, cell_with, content_written, field_spoken, row_cell, text_with};
+ghost use Rattle.panels.specs.Put.{IsPut, cell_with, field_spoken, row_cell, text_with};
 
 use crate::extent::Extent;
 use crate::message::Message;
@@ -80,16 +80,9 @@ fn put_texts(wanted: &mut Wanted, values: &Values, texts: &[TextItem])
     }
 }
 
-/// The attribute of a field, and what it is written with, unless that is kept.
-fn item_of<'a>(
-    values: &'a Values,
-    message: Message,
-    keep: bool,
-    field: &'a Field,
-) -> (Attr, Option<&'a [u8]>)
-    ensures attr { result.0 ≡ field_attr values.now message keep field.now }
-    ensures content { option_map (λ bytes. bytes.now) result.1 ≡ content_written values.now message keep field.now }
-    ensures characters { IfSome result.1 (λ bytes. AreCharacters bytes.now) }
+/// Puts the cells of a field; with `keep` its attribute alone.
+fn put_field(wanted: &mut Wanted, values: &Values, message: Message, keep: bool, field: &Field)
+    ensures { IsPut (λ cell. field_cell values.now message keep cell field.now) wanted.old.cells wanted.new.cells }
 {
     let value = match message {
         Message::Fresh => None,
@@ -102,7 +95,8 @@ fn item_of<'a>(
         mdt: field.marked || (!keep && value.is_some_and(|value| !value.is_empty())),
     };
     let content = value.unwrap_or(field.fill.as_slice());
-    (attr, if keep { None } else { Some(content) })
+    let written = if keep { None } else { Some(content) };
+    put_item(wanted, field.extent, attr, written);
 }
 
 /// Puts the cells of fields, the first over all others.
@@ -110,9 +104,7 @@ fn put_fields(wanted: &mut Wanted, values: &Values, message: Message, keep: bool
     ensures { IsPut (λ cell. first_some (field_cell values.now message keep cell) fields.now) wanted.old.cells wanted.new.cells }
 {
     for index in (0..fields.len()).rev() {
-        let field = &fields[index];
-        let (attr, content) = item_of(values, message, keep, field);
-        put_item(wanted, field.extent, attr, content);
+        put_field(wanted, values, message, keep, &fields[index]);
     }
 }
 

@@ -40,10 +40,8 @@ impl Values {
     pub fn new(alloc: Global) -> Values
         ensures { result ≡ [] }
     {
-        Values {
-            alloc,
-            values: BTreeMap::new(alloc),
-        }
+        let values = BTreeMap::new(alloc);
+        Values { alloc, values }
     }
 
     /// The value of the field with a number, if it has one: storable bytes without nulls.
