@@ -22,8 +22,7 @@ impl<'a> Draft<'a> {
         ensures { result ≡ fields_before panel self.now.panels }
     {
         let mut count = 0;
-        for index in 0..panel {
-            let panel = &self.panels[index];
+        for panel in &self.panels[..panel] {
             count += panel.fields.len();
         }
         count
