@@ -1,8 +1,8 @@
 -- Lists that are built one for one.
-use Rattle.std.proofs.Common.{◌≡◌, ℕ, ◌+◌, ◌<◌, ◌≤◌, map, drop, List, [], ◌∷◌, ◌++◌, length, Some, refl, ap, get_or, subst, sym, ◌∙◌, inl, inr, arith, length-append}
+use Rattle.std.proofs.Common.{◌≡◌, ℕ, ◌+◌, ◌<◌, ◌≤◌, map, take, drop, List, [], ◌∷◌, ◌++◌, length, Some, refl, ap, get_or, subst, sym, ◌∙◌, inl, inr, arith, length-append}
 use Rattle.std.specs.Prelude.{slice_get, ◌⊎◌}
 use Rattle.std.proofs.Math.Seq.{get_or-append_seam}
-use Rattle.std.proofs.lemmas.List.{get_or_append_left, at_drop_all, append-nil}
+use Rattle.std.proofs.lemmas.List.{get_or_append_left, at_drop_all, append-nil, get_or-take, length-take-le}
 use Rattle.std.proofs.lemmas.Option.{slice_get_within, get_or_from_slice_get, slice_get-get_or, slice_get_read, same_Some}
 use Rattle.panels.specs.Defines.{IsEachOf}
 
@@ -49,6 +49,14 @@ built_all IsOf drafts n things whole built = record { size = built.size ∙ whol
 -- what is read of a list at an index, by another name of the list
 pub read_at : {X : Type 0} (read xs : List X) (i : ℕ) (x : X) → read ≡ xs → i < length read → x ≡ get_or read i x → slice_get xs i ≡ Some x
 read_at read xs i x same below is = slice_get_read xs (length read) i x (ap length same) below (is ∙ ap (λ l. get_or l i x) same)
+
+-- the same of what comes before a place
+pub read_before : {X : Type 0} (read xs : List X) (n i : ℕ) (x : X) → read ≡ xs → n < length xs → i < length (take n read) → x ≡ get_or (take n read) i x → slice_get xs i ≡ Some x
+read_before read xs n i x same fits below is =
+    let size : length read ≡ length xs = ap length same in
+    let taken : length (take n read) ≡ n = length-take-le n read (omega arith) in
+    let first : i < n = omega arith in
+    read_at read xs i x same (omega arith) (is ∙ get_or-take n read i x first)
 
 pub read_below : {X : Type 0} (read xs : List X) (i : ℕ) (x : X) → read ≡ xs → i < length xs → x ≡ get_or read i x → slice_get xs i ≡ Some x
 read_below read xs i x same below is = slice_get_read xs (length xs) i x refl below (is ∙ ap (λ l. get_or l i x) same)

@@ -1,16 +1,21 @@
 -- The panels and fields that names stand for.
-use Rattle.std.proofs.Common.{◌≡◌, ◌<◌, ◌+◌, ◌*◌, ℕ, suc, List, Bor, true, false, length, map, drop, get_or, Option, Some, None, refl, ap, sym, ◌∙◌, subst, add-one, drop-cons, arith}
-use Rattle.std.specs.Prelude.{slice_get, unwrap_or, MatchOption, Contains, All, IfSome, option_map, bytes_eq, if◌then◌else◌}
+use Rattle.std.proofs.Common.{◌≡◌, ◌<◌, ◌+◌, ◌*◌, ℕ, suc, List, [], ◌∷◌, Bor, Bool, true, false, cond, length, map, Option, Some, None, get_or, refl, ap, sym, ◌∙◌, subst, add-one, arith}
+use Rattle.std.specs.Prelude.{find, option_copied, slice_get, unwrap_or, MatchOption, Contains, All, IfSome, option_map, bytes_eq, if◌then◌else◌}
 use Rattle.std.specs.Option.{option_and_then, option_map_or}
-use Rattle.std.proofs.lemmas.Option.{slice_get_within, get_or_from_slice_get, slice_get-get_or}
+use Rattle.std.proofs.lemmas.Bool.{false≢true}
+use Rattle.std.proofs.lemmas.List.Elements.{All-nil, All-cons}
+use Rattle.std.proofs.lemmas.Slice.Eq.{bytes_eq-Decides}
+use Rattle.std.proofs.lemmas.List.{length-map}
+use Rattle.std.proofs.lemmas.Option.{slice_get-map, slice_get_within, get_or_from_slice_get, slice_get-get_or}
 use Rattle.panels.specs.declared.panel.Field.{Field as FieldItem}
 use Rattle.panels.specs.declared.part.Part.TheVariants.{Text, Field}
+use Rattle.panels.specs.Keys.{key_names}
 use Rattle.panels.specs.Limits.{most_panels, most_fields}
 use Rattle.panels.specs.Draft.{DraftItem, DraftPanel, DraftText}
 use Rattle.panels.specs.Faults.{name_at, NamesPanel}
 use Rattle.panels.specs.Items.{is_on_screen}
 use Rattle.panels.specs.Building.{IsTextIn, AreTargetsOf}
-use Rattle.panels.specs.Defines.{IsFieldOf, IsEachOf, IsPanelNamed, IsTargetBy, fields_before, text_at_key}
+use Rattle.panels.specs.Defines.{IsFieldOf, IsEachOf, IsPanelNamed, IsCursorBy, IsTargetBy, fields_before, text_at_key}
 use Rattle.panels.specs.Passes.{IsFaultless}
 use Rattle.panels.proofs.Sound.{few_panels, few_fields, before_few, cursor_is_there, target_is_there}
 use Rattle.panels.proofs.Building.{AreBuilt}
@@ -48,9 +53,9 @@ number_few draft p i name clean is =
     omega arith
 
 -- what is known to be found is found
-pub found_or : (P : ℕ → Type 0) (Q : Type 0) (o : Option ℕ) (other : ℕ) → ¬ Q → MatchOption o Q P → P (unwrap_or o other)
+pub found_or : {X : Type 0} (P : X → Type 0) (Q : Type 0) (o : Option X) (other : X) → ¬ Q → MatchOption o Q P → P (unwrap_or o other)
 found_or P Q None other found is = absurd (found is)
-found_or P Q (Some n) other found is = is
+found_or P Q (Some x) other found is = is
 
 -- a text of a panel is a text of the draft, and so on the screen
 pub text_in : (panels : List DraftPanel) (panel : DraftPanel) (i : ℕ) (item : DraftItem) → Contains panels panel → slice_get panel.texts i ≡ Some item → IsTextIn panels item
@@ -66,24 +71,28 @@ pub field_on_screen : (draft : DraftText) (panel : DraftPanel) (p i : ℕ) (item
 field_on_screen draft panel p i item clean at_p there = on_screen draft (Field p i) item clean (ap (option_and_then (λ panel. slice_get panel.fields i)) at_p ∙ there)
 
 -- the text at the first of a panel's keys with a name
-abbrev Key : Type 0
+abbrev pub Key : Type 0
 Key = Bor (List ℕ) × Bor (List ℕ)
 
-abbrev seen : Key → List ℕ × List ℕ
+abbrev pub seen : Key → List ℕ × List ℕ
 seen key = (key.0.now, key.1.now)
 
-pub key_here : (name : List ℕ) (keys : List Key) (k : ℕ) (d : Key) → k < length keys → bytes_eq (get_or keys k d).0.now name ≡ true
-    → text_at_key name (map seen (drop k keys)) ≡ Some ((get_or keys k d).1.now)
-key_here name keys k d below is =
-    ap (λ l. text_at_key name (map seen l)) (drop-cons keys k d below)
-    ∙ ap (λ b. if b then Some ((get_or keys k d).1.now) else text_at_key name (map seen (drop (suc k) keys))) is
+abbrev pub is_key : List ℕ → Key → Bool
+is_key name key = bytes_eq key.0.now name
 
-pub key_next : (name : List ℕ) (keys : List Key) (k : ℕ) (d : Key) → k < length keys → bytes_eq (get_or keys k d).0.now name ≡ false
-    → text_at_key name (map seen (drop k keys)) ≡ text_at_key name (map seen (drop (k + 1) keys))
-key_next name keys k d below is =
-    ap (λ l. text_at_key name (map seen l)) (drop-cons keys k d below)
-    ∙ ap (λ b. if b then Some ((get_or keys k d).1.now) else text_at_key name (map seen (drop (suc k) keys))) is
-    ∙ ap (λ n. text_at_key name (map seen (drop n keys))) (sym (add-one k))
+first_key : (b : Bool) (key : Key) (text : Option (List ℕ)) (found : Option Key) → text ≡ option_map (λ key. key.1.now) found
+    → (if b then Some key.1.now else text) ≡ option_map (λ key. key.1.now) (cond b (Some key) found)
+first_key true key text found is = refl
+first_key false key text found is = is
+
+key_found : (name : List ℕ) (keys : List Key) → text_at_key name (map seen keys) ≡ option_map (λ key. key.1.now) (find (is_key name) keys)
+key_found name [] = refl
+key_found name (key ∷ keys) = first_key (is_key name key) key (text_at_key name (map seen keys)) (find (is_key name) keys) (key_found name keys)
+
+pub key_searched : (name : List ℕ) (read keys : List Key) (all : List (List ℕ × List ℕ)) (found : Option (Bor Key)) → read ≡ keys → map seen keys ≡ all
+    → option_copied found ≡ find (is_key name) read → text_at_key name all ≡ option_map (λ key. key.1.now) (option_copied found)
+key_searched name read keys all found same is first =
+    ap (text_at_key name) (sym is ∙ ap (map seen) (sym same)) ∙ key_found name read ∙ ap (option_map (λ (key : Key). key.1.now)) (sym first)
 
 -- of the fields that are built one has the cursor's name
 pub cursor_is_named : (draft : DraftText) (panel : DraftPanel) (p : ℕ) (name : List ℕ) (fields : List FieldItem) → IsFaultless draft → slice_get draft.panels p ≡ Some panel
@@ -102,6 +111,27 @@ pub cursor_given : (draft : DraftText) (panel : DraftPanel) (p : ℕ) (cursor : 
 cursor_given draft panel p None fields clean there are same = tt
 cursor_given draft panel p (Some name) fields clean there are same = cursor_is_named draft panel p name.now fields clean there are (sym same)
 
+-- where the cursor stands
+cursor_here : (b : Bool) (field : FieldItem) (fields : List FieldItem) (name : List ℕ) → (b ≡ true → field.name ≡ name) → (b ≡ false → ¬ (field.name ≡ name))
+    → ¬ All (λ field. ¬ (field.name ≡ name)) (field ∷ fields)
+    → (¬ All (λ field. ¬ (field.name ≡ name)) fields → IsCursorBy (Some name) fields (option_map_or (λ field. field.extent.first) (find (λ field. bytes_eq field.name name) fields) 0))
+    → IsCursorBy (Some name) (field ∷ fields) (option_map_or (λ field. field.extent.first) (cond b (Some field) (find (λ field. bytes_eq field.name name) fields)) 0)
+cursor_here true field fields name is other there more = (0, field, refl, is refl, refl)
+cursor_here false field fields name is other there more =
+    let (i, found, at_i, named, first) = more (λ all. there (All-cons (λ field. ¬ (field.name ≡ name)) field fields (other refl) all)) in
+    (suc i, found, at_i, named, first)
+
+pub cursor_found : (fields : List FieldItem) (name : List ℕ) → ¬ All (λ field. ¬ (field.name ≡ name)) fields
+    → IsCursorBy (Some name) fields (option_map_or (λ field. field.extent.first) (find (λ field. bytes_eq field.name name) fields) 0)
+cursor_found [] name there = absurd (there (All-nil (λ (field : FieldItem). ¬ (field.name ≡ name))))
+cursor_found (field ∷ fields) name there =
+    let decides = bytes_eq-Decides field.name name in
+    cursor_here (bytes_eq field.name name) field fields name decides.0 (λ no same. false≢true (sym no ∙ decides.1 same)) there (cursor_found fields name)
+
+pub cursor_first : (fields : List FieldItem) → IsCursorBy None fields (option_map_or (λ field. field.extent.first) (slice_get fields 0) 0)
+cursor_first [] = refl
+cursor_first (field ∷ fields) = refl
+
 -- where a key leads is found, as no fault stands
 found_by : (panels : List DraftPanel) (name : List ℕ) (o : Option ℕ) → (¬ NamesPanel name panels → ⊥) → MatchOption o (¬ NamesPanel name panels) (IsPanelNamed panels name)
     → IsTargetBy panels (Some name) o
@@ -113,6 +143,15 @@ pub target_found : (draft : DraftText) (panel : DraftPanel) (key name : List ℕ
 target_found draft panel key name o clean has at_key found =
     let (p, there) = place_of draft.panels panel has in
     subst (λ t. IsTargetBy draft.panels t o) (sym at_key) (found_by draft.panels name o (target_is_there draft panel p key name clean there at_key) found)
+
+-- the names of keys, as they are borrowed
+pub record AreKeyNames (names : List (Bor (List ℕ))) : Type 0 where
+  pub are : map (λ name. name.now) names ≡ key_names
+
+pub key_at : (names : List (Bor (List ℕ))) → AreKeyNames names → (i : ℕ) (d : Bor (List ℕ)) → i < length key_names → slice_get key_names i ≡ Some ((get_or names i d).now)
+key_at names same i d fits =
+    let within : i < length names = subst (λ n. i < n) (ap length (sym same.are) ∙ length-map names (λ name. name.now)) fits in
+    subst (λ keys. slice_get keys i ≡ Some ((get_or names i d).now)) same.are (slice_get-map (λ name. name.now) names i ∙ ap (option_map (λ name. name.now)) (slice_get-get_or names i d within))
 
 -- where keys lead, once for each of their names
 pub targets_are : (panels : List DraftPanel) (panel : DraftPanel) (names : List (List ℕ)) (n : ℕ) (targets : List (Option ℕ)) → n ≡ length names

@@ -1,11 +1,14 @@
 -- One thing put over another.
-use Rattle.std.proofs.Common.{◌≡◌, ◌<◌, ◌≤◌, ◌+◌, ◌-◌, ℕ, List, ◌∷◌, length, get_or, set, drop, Bool, true, false, cond, Option, Some, None, refl, ap, sym, subst, ◌∙◌, arith, inl, inr}
-use Rattle.std.specs.Prelude.{◌≢◌, ◌&&◌, nat_le, nat_lt, unwrap_or}
-use Rattle.std.specs.Option.{option_or}
+use Rattle.std.proofs.Common.{◌≡◌, ◌<◌, ◌≤◌, ◌+◌, ◌-◌, ℕ, zero, suc, Bor, List, [], ◌∷◌, ◌++◌, length, get_or, set, drop, Bool, true, false, cond, Option, Some, None, refl, ap, sym, subst, ◌∙◌, arith, inl, inr}
+use Rattle.std.specs.Prelude.{codes, is_some, option_copied, IfSome, ◌⊎◌, ◌==◌, ◌≢◌, ◌&&◌, nat_le, nat_lt, unwrap_or, slice_get, slice_index_or}
+use Rattle.std.specs.Option.{option_or, option_and_then, option_map_or}
 use Rattle.std.proofs.lemmas.List.{drop_more, get_or-set_same, get_or-set_other, length-set}
 use Rattle.std.proofs.lemmas.Bool.{cases_eq}
+use Rattle.std.proofs.lemmas.Option.{slice_get_past, slice_get-get_or}
 use Rattle.std.proofs.lemmas.Bool.Decides.{nat_tests}
 use Rattle.codes3270.specs.Size.{cell_count}
+use Rattle.codes3270.specs.CodePage.{code_of}
+use Rattle.codes3270.specs.declared.attribute.Attr.{Attr}
 use Rattle.datastream.specs.Wanted.{WantedScreen}
 use Rattle.datastream.specs.declared.wanted.Want.{Want}
 use Rattle.datastream.specs.declared.wanted.Want.TheVariants as want
@@ -15,8 +18,8 @@ use Rattle.panels.specs.declared.panel.Field.{Field}
 use Rattle.panels.specs.declared.panel.TextItem.{TextItem}
 use Rattle.panels.specs.Size.{message_start}
 use Rattle.panels.specs.Panel.{PanelParts}
-use Rattle.panels.specs.Screen.{Values, item_cell, autoskip_attr, first_some, text_cell, field_cell, stopper_cell, message_text, message_cell, wanted_cell}
-use Rattle.panels.specs.Put.{IsPut, name_spoken, text_with}
+use Rattle.panels.specs.Screen.{Values, item_cell, autoskip_attr, first_some, text_cell, field_cell, stopper_cell, coded, message_text, wanted_cell, wanted_cursor}
+use Rattle.panels.specs.Put.{IsPut, field_spoken, row_cell, text_with}
 
 pub over : {X : Type 0} (one other : Option X) (under : X) → unwrap_or (option_or one other) under ≡ unwrap_or one (unwrap_or other under)
 over None other under = refl
@@ -84,6 +87,16 @@ put_next start n place f base want old new at wants within is size before =
     ap (λ (screen : WantedScreen). screen.cells) is ∙ ap (λ p. set old.cells p want) at ∙ ap (set old.cells (start + n)) wants in
     subst (IsPutFrom start (n + 1) f base) (sym cells) (put_more start n f base old.cells (size_before place want old new is size) within before)
 
+nothing_within : (start cell : ℕ) → (nat_le start cell && nat_lt cell (start + 0)) ≡ false
+nothing_within start cell = grind (arith, nat_tests)
+
+put_none : (start : ℕ) (f : ℕ → Want) (base : List Want) → IsPutFrom start 0 f base base
+put_none start f base cell default below = ap (λ o. unwrap_or o (get_or base cell default)) (sym (if_false _ (Some (f (cell - start))) None (nothing_within start cell)))
+
+pub put_first : (start : ℕ) (f : ℕ → Want) (want : Want) (old new : WantedScreen) → want ≡ f 0 → start + 0 < cell_count
+    → new ≡ record old { cells = set old.cells start want } → length new.cells ≡ cell_count → IsPutFrom start 1 f old.cells new.cells
+put_first start f want old new wants within is size = put_next start 0 start f old.cells want old new (omega arith) wants within is size (put_none start f old.cells)
+
 all_within : (n cell : ℕ) → n ≡ cell_count → cell < cell_count → (nat_le 0 cell && nat_lt cell (0 + n)) ≡ true
 all_within n cell is below = grind (arith, nat_tests)
 
@@ -95,11 +108,64 @@ nulls_put n base now is put cell default below =
 
 -- ---- the message
 
-pub text_is : (fields : List Field) (message : Message) → text_with (name_spoken fields message) message ≡ message_text fields message
+pub text_is : (fields : List Field) (message : Message) → text_with (option_map_or (λ field. field.name) (field_spoken fields message) []) message ≡ message_text fields message
 text_is fields Fresh = refl
 text_is fields Plain = refl
 text_is fields KeyNotActive = refl
 text_is fields (Required number) = refl
+
+pub cursor_is : (panel : PanelParts) (message : Message) → option_map_or (λ field. field.extent.first) (field_spoken panel.fields message) panel.cursor ≡ wanted_cursor panel message
+cursor_is panel Fresh = refl
+cursor_is panel Plain = refl
+cursor_is panel KeyNotActive = refl
+cursor_is panel (Required number) = refl
+
+-- what `get` answers of a text
+pub got : (text : List ℕ) (i : ℕ) (found : Option (Bor ℕ)) → is_some found ≡ nat_lt i (length text) → IfSome found (λ byte. byte.now ≡ slice_index_or text i byte.now)
+    → option_copied found ≡ slice_get text i
+got text i None there is = sym (slice_get_past text i (grind (arith, nat_tests)))
+got text i (Some byte) there is = ap Some is ∙ sym (slice_get-get_or text i byte.now (grind (arith, nat_tests)))
+
+-- a character of a text, in the host's code
+pub coded_at : (text : List ℕ) (i : ℕ) → slice_index_or (coded text) i 0 ≡ unwrap_or (option_and_then code_of (slice_get text i)) 0
+coded_at [] i = refl
+coded_at (character ∷ text) zero = refl
+coded_at (character ∷ text) (suc i) = coded_at text i
+
+-- and of two texts, one behind the other
+behind : (one other : List ℕ) (n i : ℕ) → n ≡ length one → n ≤ i → slice_get (one ++ other) i ≡ slice_get other (i - n)
+behind [] other n i is past =
+    let none : i ≡ i - n = omega (arith, is) in
+    ap (slice_get other) none
+behind (character ∷ one) other n zero is past = absurd (omega (arith, is, past))
+behind (character ∷ one) other n (suc i) is past =
+    let same : i - (n - 1) ≡ suc i - n = omega (arith, is, past) in
+    behind one other (n - 1) i (omega (arith, is)) (omega (arith, past)) ∙ ap (slice_get other) same
+
+before : (one other : List ℕ) (i : ℕ) → i < length one → slice_get (one ++ other) i ≡ slice_get one i
+before [] other i within = absurd (omega (arith, within))
+before (character ∷ one) other zero within = refl
+before (character ∷ one) other (suc i) within = before one other i (omega (arith, within))
+
+-- a message's text, in these two parts
+pub silent : (name : List ℕ) (message : Message) (i : ℕ) → (message ≡ Fresh) ⊎ (message ≡ Plain) → slice_index_or (text_with name message) i 0 ≡ 0
+silent name message i (inl is) = ap (λ m. slice_index_or (text_with name m) i 0) is
+silent name message i (inr is) = ap (λ m. slice_index_or (text_with name m) i 0) is
+
+pub required_first : (name : List ℕ) (number i : ℕ) → i < 10 → slice_index_or (text_with name (Required number)) i 0 ≡ unwrap_or (option_and_then code_of (slice_get (codes "REQUIRED: ") i)) 0
+required_first name number i within =
+    coded_at (codes "REQUIRED: " ++ name) i ∙ ap (λ o. unwrap_or (option_and_then code_of o) 0) (before (codes "REQUIRED: ") name i within)
+
+pub required_rest : (name : List ℕ) (number i : ℕ) → 10 ≤ i → slice_index_or (text_with name (Required number)) i 0 ≡ unwrap_or (option_and_then code_of (slice_get name (i - 10))) 0
+required_rest name number i past =
+    coded_at (codes "REQUIRED: " ++ name) i ∙ ap (λ o. unwrap_or (option_and_then code_of o) 0) (behind (codes "REQUIRED: ") name 10 i refl past)
+
+-- the character behind the attribute, and behind so many others
+pub character_at : (attr : Attr) (text : List ℕ) (n byte : ℕ) → byte ≡ slice_index_or text n 0 → want.Char byte ≡ item_cell attr text (n + 1)
+character_at attr text n byte is =
+    let some : (n + 1 == 0) ≡ false = grind (arith, nat_tests) in
+    let back : n + 1 - 1 ≡ n = omega arith in
+    ap want.Char (is ∙ ap (λ k. slice_index_or text k 0) (sym back)) ∙ sym (if_false (n + 1 == 0) (want.Attr attr) (want.Char (slice_index_or text (n + 1 - 1) 0)) some)
 
 row_range : (cell : ℕ) → cell < cell_count → (nat_le message_start cell && nat_lt cell (message_start + (cell_count - message_start))) ≡ cond (nat_lt cell message_start) false true
 row_range cell below = grind (arith, nat_tests)
@@ -108,16 +174,14 @@ turned : {X : Type 0} (b : Bool) (x : X) → cond (cond b false true) (Some x) N
 turned true x = refl
 turned false x = refl
 
-pub message_put : (fields : List Field) (message : Message) (name : List ℕ) (base now : List Want) → name ≡ name_spoken fields message
-    → IsPutFrom message_start (cell_count - message_start) (item_cell (autoskip_attr true) (text_with name message)) base now
-    → IsPut (message_cell fields message) base now
-message_put fields message name base now is put cell default below =
-    put cell default below
+pub row_put : (text : List ℕ) (n : ℕ) (base now : List Want) → n ≡ cell_count - message_start
+    → IsPutFrom message_start n (item_cell (autoskip_attr true) text) base now
+    → IsPut (row_cell text) base now
+row_put text n base now whole is cell default below =
+    subst (λ n. IsPutFrom message_start n (item_cell (autoskip_attr true) text) base now) whole is cell default below
     ∙ ap (λ o. unwrap_or o (get_or base cell default))
-    (ap (λ b. cond b (Some (item_cell (autoskip_attr true) (text_with name message) (cell - message_start))) None) (row_range cell below)
-    ∙ turned (nat_lt cell message_start) (item_cell (autoskip_attr true) (text_with name message) (cell - message_start))
-    ∙ ap (λ text. cond (nat_lt cell message_start) None (Some (item_cell (autoskip_attr true) text (cell - message_start))))
-    (ap (λ n. text_with n message) is ∙ text_is fields message))
+    (ap (λ b. cond b (Some (item_cell (autoskip_attr true) text (cell - message_start))) None) (row_range cell below)
+    ∙ turned (nat_lt cell message_start) (item_cell (autoskip_attr true) text (cell - message_start)))
 
 -- ---- all of them
 
@@ -129,16 +193,19 @@ layered texts fields message stoppers null base one two three four e0 e1 e2 e3 e
     ∙ sym (over texts (option_or fields (option_or message stoppers)) null
     ∙ ap (unwrap_or texts) (over fields (option_or message stoppers) null ∙ ap (unwrap_or fields) (over message stoppers null)))
 
-pub put_all : (panel : PanelParts) (values : Values) (message : Message) (keep : Bool) (texts : List TextItem) (fields : List Field) (base one two three four : List Want)
-    → texts ≡ panel.texts → fields ≡ panel.fields → ((cell : ℕ) (default : Want) → cell < cell_count → get_or base cell default ≡ want.Char 0)
-    → IsPut (λ cell. first_some (stopper_cell cell) fields) base one → IsPut (message_cell fields message) one two
+pub put_all : (panel : PanelParts) (values : Values) (message : Message) (keep : Bool) (name : List ℕ) (texts : List TextItem) (fields : List Field) (base one two three four : List Want)
+    → name ≡ option_map_or (λ field. field.name) (field_spoken panel.fields message) [] → texts ≡ panel.texts → fields ≡ panel.fields → ((cell : ℕ) (default : Want) → cell < cell_count → get_or base cell default ≡ want.Char 0)
+    → IsPut (λ cell. first_some (stopper_cell cell) fields) base one → IsPut (row_cell (text_with name message)) one two
     → IsPut (λ cell. first_some (field_cell values message keep cell) fields) two three → IsPut (λ cell. first_some (text_cell values cell) texts) three four
     → (cell : ℕ) (default : Want) → cell < cell_count → get_or four cell default ≡ wanted_cell panel values message keep cell
-put_all panel values message keep texts fields base one two three four same_texts same_fields nulls stoppers row inputs labels cell default below =
-    layered (first_some (text_cell values cell) texts) (first_some (field_cell values message keep cell) fields) (message_cell fields message cell)
+put_all panel values message keep name texts fields base one two three four same_name same_texts same_fields nulls stoppers row inputs labels cell default below =
+    layered (first_some (text_cell values cell) texts) (first_some (field_cell values message keep cell) fields) (row_cell (text_with name message) cell)
     (first_some (stopper_cell cell) fields) (want.Char 0) _ _ _ _ _ (nulls cell default below) (stoppers cell default below) (row cell default below)
     (inputs cell default below) (labels cell default below)
     ∙ ap (λ ts. unwrap_or (option_or (first_some (text_cell values cell) ts) (option_or (first_some (field_cell values message keep cell) fields)
-    (option_or (message_cell fields message cell) (first_some (stopper_cell cell) fields)))) (want.Char 0)) same_texts
+    (option_or (row_cell (text_with name message) cell) (first_some (stopper_cell cell) fields)))) (want.Char 0)) same_texts
     ∙ ap (λ fs. unwrap_or (option_or (first_some (text_cell values cell) panel.texts) (option_or (first_some (field_cell values message keep cell) fs)
-    (option_or (message_cell fs message cell) (first_some (stopper_cell cell) fs)))) (want.Char 0)) same_fields
+    (option_or (row_cell (text_with name message) cell) (first_some (stopper_cell cell) fs)))) (want.Char 0)) same_fields
+    ∙ ap (λ text. unwrap_or (option_or (first_some (text_cell values cell) panel.texts) (option_or (first_some (field_cell values message keep cell) panel.fields)
+    (option_or (row_cell text cell) (first_some (stopper_cell cell) panel.fields)))) (want.Char 0))
+    (ap (λ n. text_with n message) same_name ∙ text_is panel.fields message)

@@ -1,7 +1,8 @@
 //! The panels of a draft in which no fault stands.
-ghost use Rattle.std.specs.Prelude.{◌≡◌, ◌+◌, ◌<◌, Some, None, All, Contains, map, IfOk, IfSome, option_map, slice_get, length};
+ghost use Rattle.std.specs.Prelude.{◌≡◌, ◌+◌, ◌<◌, Some, None, All, Contains, IfOk, IfSome, option_map, slice_get, length};
+ghost use Rattle.panels.specs.Keys.{key_names};
 ghost use Rattle.panels.specs.Passes.{IsFaultless};
-ghost use Rattle.panels.specs.Defines.{fields_before, IsFieldNamed, IsContentOf, IsTextOf, IsFieldOf, IsEachOf, IsCursorBy, IsPanelOf, IsTargetBy, Defines, text_at_key};
+ghost use Rattle.panels.specs.Defines.{fields_before, IsContentOf, IsTextOf, IsEachOf, IsCursorBy, IsPanelOf, IsTargetBy, Defines, text_at_key};
 ghost use Rattle.panels.specs.Building.{IsTextIn, AreTargetsOf};
 
 use crate::characters::Characters;
@@ -21,36 +22,23 @@ impl<'a> Draft<'a> {
         ensures { result ≡ fields_before panel self.now.panels }
     {
         let mut count = 0;
-        for index in 0..panel {
-            let panel = &self.panels[index];
+        for panel in &self.panels[..panel] {
             count += panel.fields.len();
         }
         count
     }
 
-    /// The number, over the whole text, of the field that a text item without a text of its own shows.
-    fn shown_field(&self, text: &ItemDraft) -> usize
-        requires faultless { IsFaultless self.now }
-        requires is_text { IsTextIn self.now.panels text.now }
-        requires no_text { text.now.text ≡ None }
-        ensures { IsFieldNamed self.now.panels text.now.show result }
-    {
-        match self.field_named(text.show) {
-            Some((panel, field)) => self.fields_before(panel) + field,
-            None => 0,
-        }
-    }
-
-    /// What a text item shows.
+    /// What a text item shows: its own text, or the value of the field that it names.
     fn content(&self, alloc: Global, text: &ItemDraft) -> Result<Content, AllocError>
         requires faultless { IsFaultless self.now }
         requires is_text { IsTextIn self.now.panels text.now }
         ensures { IfOk result (IsContentOf self.now.panels text.now) }
     {
-        match text.text {
-            Some(literal) => Ok(Content::Literal(Characters::of_text(alloc, literal)?)),
-            None => Ok(Content::Show(self.shown_field(text))),
+        if let Some(literal) = text.text {
+            return Ok(Content::Literal(Characters::of_text(alloc, literal)?));
         }
+        let (panel, field) = self.field_named(text.show).unwrap_or((0, 0));
+        Ok(Content::Show(self.fields_before(panel) + field))
     }
 
     fn texts(&self, alloc: Global, panel: &PanelDraft) -> Result<Vec<TextItem>, AllocError>
@@ -72,16 +60,11 @@ impl<'a> Draft<'a> {
         Ok(texts)
     }
 
-    /// The fields of the panel at an index.
-    fn fields(
-        &self,
-        alloc: Global,
-        panel: &PanelDraft,
-        index: usize,
-    ) -> Result<Vec<Field>, AllocError>
+    /// The panel at an index.
+    fn panel_at(&self, alloc: Global, panel: &PanelDraft, index: usize) -> Result<Panel, AllocError>
         requires faultless { IsFaultless self.now }
         requires there { slice_get self.now.panels index ≡ Some panel.now }
-        ensures { IfOk result (λ fields. IsEachOf (λ i. IsFieldOf (fields_before index self.now.panels + i)) panel.now.fields fields.items) }
+        ensures { IfOk result (IsPanelOf self.now.panels index panel.now) }
     {
         let first = self.fields_before(index);
         let mut fields = Vec::new(alloc);
@@ -101,25 +84,10 @@ impl<'a> Draft<'a> {
                 fill: Characters::of_text(alloc, field.fill)?,
             })?;
         }
-        Ok(fields)
-    }
-
-    /// The panel at an index.
-    fn panel_item(
-        &self,
-        alloc: Global,
-        panel: &PanelDraft,
-        index: usize,
-    ) -> Result<Panel, AllocError>
-        requires faultless { IsFaultless self.now }
-        requires there { slice_get self.now.panels index ≡ Some panel.now }
-        ensures { IfOk result (IsPanelOf self.now.panels index panel.now) }
-    {
-        let fields = self.fields(alloc, panel, index)?;
         Ok(Panel {
             texts: self.texts(alloc, panel)?,
             cursor: cursor_of(panel.cursor, fields.as_slice()),
-            targets: self.targets(alloc, panel, &KEY_NAMES)?,
+            targets: self.targets(alloc, panel)?,
             fields,
         })
     }
@@ -130,27 +98,18 @@ impl<'a> Draft<'a> {
         requires there { Contains self.now.panels panel.now }
         ensures { IsTargetBy self.now.panels (text_at_key key.now panel.now.keys) result }
     {
-        for named in &panel.keys {
-            if named.0 == key {
-                return self.panel_named(named.1);
-            }
-        }
-        None
+        let named = panel.keys.iter().find(|named| named.0 == key)?;
+        self.panel_named(named.1)
     }
 
-    /// The panel that each of some keys leads to.
-    fn targets(
-        &self,
-        alloc: Global,
-        panel: &PanelDraft,
-        keys: &[&str],
-    ) -> Result<Vec<Option<usize>>, AllocError>
+    /// The panel that each key leads to.
+    fn targets(&self, alloc: Global, panel: &PanelDraft) -> Result<Vec<Option<usize>>, AllocError>
         requires faultless { IsFaultless self.now }
         requires there { Contains self.now.panels panel.now }
-        ensures { IfOk result (λ targets. AreTargetsOf self.now.panels panel.now (map (λ key. key.now) keys.now) targets.items) }
+        ensures { IfOk result (λ targets. AreTargetsOf self.now.panels panel.now key_names targets.items) }
     {
         let mut targets = Vec::new(alloc);
-        for key in keys {
+        for key in &KEY_NAMES {
             targets.push(self.target(panel, *key))?;
         }
         Ok(targets)
@@ -168,7 +127,7 @@ impl<'a> Draft<'a> {
         }
         let mut panels = Vec::new(alloc);
         for index in 0..self.panels.len() {
-            panels.push(self.panel_item(alloc, &self.panels[index], index)?)?;
+            panels.push(self.panel_at(alloc, &self.panels[index], index)?)?;
         }
         Ok(PanelSet { start, lus, panels })
     }
@@ -179,16 +138,9 @@ fn cursor_of(name: Option<&str>, fields: &[Field]) -> Addr
     requires { IfSome name (λ name. ¬ All (λ field. ¬ (field.name ≡ name.now)) fields.now) }
     ensures { IsCursorBy (option_map (λ n. n.now) name.entry) fields.now result }
 {
-    let Some(name) = name else {
-        return match fields {
-            [first, ..] => first.extent.first_cell(),
-            [] => Addr::first(),
-        };
+    let field = match name {
+        Some(name) => fields.iter().find(|field| field.name.as_str() == name),
+        None => fields.first(),
     };
-    for field in fields {
-        if field.name.as_str() == name {
-            return field.extent.first_cell();
-        }
-    }
-    Addr::first()
+    field.map_or(Addr::first(), |field| field.extent.first_cell())
 }

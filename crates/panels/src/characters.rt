@@ -1,5 +1,5 @@
 //! Texts in the host's code.
-ghost use Rattle.std.specs.Prelude.{◌≡◌, IfOk, chars};
+ghost use Rattle.std.specs.Prelude.{◌≡◌, List, ℕ, IfOk, chars};
 ghost use Rattle.panels.specs.Characters.{AreCharacters, codes_of};
 
 use codes3270::from_latin1;
@@ -13,9 +13,6 @@ pub struct Characters {
 }
 
 impl Model for Characters {
-    ghost use Rattle.std.specs.Prelude.{List, ℕ};
-    ghost use Rattle.panels.specs.Characters.{AreCharacters};
-
     ghost Value = { List ℕ };
 
     ghost view = { λ characters. characters.bytes.items };
@@ -24,14 +21,11 @@ impl Model for Characters {
 }
 
 impl Clone for Characters {
-    ghost use Rattle.std.specs.Prelude.{◌≡◌};
-
     ghost is_clone = { λ old new. new ≡ old };
 
     fn clone(&self) -> Result<Characters, AllocError> {
-        Ok(Characters {
-            bytes: self.bytes.clone()?,
-        })
+        let bytes = self.bytes.clone()?;
+        Ok(Characters { bytes })
     }
 }
 
@@ -41,21 +35,19 @@ impl Characters {
         requires { AreCharacters bytes.now }
         ensures { IfOk result (λ characters. characters ≡ bytes.now) }
     {
-        Ok(Characters {
-            bytes: bytes.to_vec(alloc)?,
-        })
+        let bytes = bytes.to_vec(alloc)?;
+        Ok(Characters { bytes })
     }
 
     /// The codes of a text's characters, as far as they have one.
     pub(crate) fn of_text(alloc: Global, text: &str) -> Result<Characters, AllocError>
         ensures { IfOk result (λ characters. characters ≡ codes_of (chars text.now)) }
     {
-        Ok(Characters {
-            bytes: text
-                .chars()
-                .filter_map(|character| from_latin1(character))
-                .collect(alloc)?,
-        })
+        let bytes = text
+            .chars()
+            .filter_map(|character| from_latin1(character))
+            .collect(alloc)?;
+        Ok(Characters { bytes })
     }
 
     pub fn as_slice(&self) -> &[u8]

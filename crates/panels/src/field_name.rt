@@ -1,5 +1,5 @@
 //! Names of fields.
-ghost use Rattle.std.specs.Prelude.{◌≡◌, IfOk};
+ghost use Rattle.std.specs.Prelude.{◌≡◌, List, ℕ, string_bytes, IfOk};
 
 use std::alloc::{AllocError, Global};
 use std::marker::Model;
@@ -11,8 +11,6 @@ pub struct FieldName {
 }
 
 impl Model for FieldName {
-    ghost use Rattle.std.specs.Prelude.{List, ℕ, string_bytes};
-
     ghost Value = { List ℕ };
 
     ghost view = { λ name. string_bytes name.text };
@@ -23,9 +21,8 @@ impl FieldName {
     pub(crate) fn of_text(alloc: Global, text: &str) -> Result<FieldName, AllocError>
         ensures { IfOk result (λ name. name ≡ text.now) }
     {
-        Ok(FieldName {
-            text: String::from_str(alloc, text)?,
-        })
+        let text = String::from_str(alloc, text)?;
+        Ok(FieldName { text })
     }
 
     pub fn as_str(&self) -> &str

@@ -1,4 +1,6 @@
 //! What a panel has.
+ghost use Rattle.std.specs.Prelude.{◌≡◌};
+
 use crate::characters::Characters;
 use crate::extent::Extent;
 use crate::field_name::FieldName;
@@ -58,8 +60,6 @@ impl Model for Panel {
 }
 
 impl Panel {
-    ghost use Rattle.std.specs.Prelude.{◌≡◌};
-
     /// Its fields, in the order of the text.
     pub fn fields(&self) -> &[Field]
         ensures { result.now ≡ self.now.fields }

@@ -1,5 +1,9 @@
 //! The panels of a text.
 ghost use Rattle.std.specs.Prelude.{◌≡◌, ◌<◌, ℕ, map, length, string_bytes, option_copied, slice_get, IfSome, Some};
+ghost use Rattle.codes3270.specs.Size.{cell_count};
+ghost use Rattle.codes3270.specs.declared.attention.Aid.{Aid};
+ghost use Rattle.panels.specs.Keys.{IsKey};
+ghost use Rattle.panels.specs.Panel.{Panels, AreSound, target_of};
 
 use crate::panel::Panel;
 use std::marker::Model;
@@ -13,9 +17,6 @@ pub struct PanelSet {
 }
 
 impl Model for PanelSet {
-    ghost use Rattle.std.specs.Prelude.{map, string_bytes};
-    ghost use Rattle.panels.specs.Panel.{Panels, AreSound};
-
     ghost Value = { Panels };
 
     ghost view = { λ set. record { start = set.start; lus = map string_bytes set.lus.items; panels = set.panels.items } };
@@ -24,11 +25,6 @@ impl Model for PanelSet {
 }
 
 impl PanelSet {
-    ghost use Rattle.codes3270.specs.Size.{cell_count};
-    ghost use Rattle.codes3270.specs.declared.attention.Aid.{Aid};
-    ghost use Rattle.panels.specs.Keys.{IsKey};
-    ghost use Rattle.panels.specs.Panel.{target_of, AreSound};
-
     /// The index of the panel that is shown first.
     pub fn start(&self) -> usize
         ensures start { result ≡ self.now.start }

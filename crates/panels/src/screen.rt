@@ -1,20 +1,22 @@
 //! The screen that a panel asks for.
-ghost use Rattle.std.specs.Prelude.{◌≡◌, ◌==◌, ◌<◌, ℕ, true, false, IfSome, option_map, slice_index_or, option_copied, unwrap_or};
+ghost use Rattle.std.specs.Prelude.{◌≡◌, ◌<◌, ℕ, true, false, IfSome, option_map, slice_index_or, option_copied};
 ghost use Rattle.codes3270.specs.Size.{cell_count};
 ghost use Rattle.codes3270.specs.Storable.{is_storable};
 ghost use Rattle.datastream.specs.Wanted.{IsProper};
 ghost use Rattle.datastream.specs.declared.wanted.Want.{Want as Wish};
 ghost use Rattle.datastream.specs.declared.wanted.Want.TheVariants.{Char};
 ghost use Rattle.panels.specs.Characters.{AreCharacters};
-ghost use Rattle.panels.specs.Screen.{distance_in, item_cell, autoskip_attr, text_cell, first_some, field_attr, is_filled, field_content, field_cell, stopper_cell, coded, message_cell, field_numbered, wanted_cursor};
-ghost use Rattle.panels.specs.Put.{IsPut, cell_with, name_spoken, text_with};
+ghost use Rattle.panels.specs.Screen.{distance_in, autoskip_attr, text_cell, first_some, field_cell, stopper_cell, IsWantedOf, screen_of};
+ghost use Rattle.panels.specs.declared.message.Message.TheVariants.{Fresh};
+ghost use Rattle.panels.specs.Put.{IsPut, cell_with, field_spoken, row_cell, text_with};
 
 use crate::extent::Extent;
 use crate::message::Message;
 use crate::panel::{Content, Field, Panel, TextItem};
 use crate::size::MESSAGE_START;
 use crate::values::Values;
-use codes3270::{Addr, Attr, CELL_COUNT, CELLS, Display, from_latin1};
+use codes3270::Display::{Bright, Hidden, Normal};
+use codes3270::{Attr, CELL_COUNT, from_latin1};
 use datastream::{Want, Wanted};
 
 /// Puts nulls into all cells.
@@ -32,10 +34,8 @@ fn cell_of(attr: Attr, content: Option<&[u8]>, distance: u16) -> Want
     ensures cell { result ≡ cell_with attr (option_map (λ bytes. bytes.now) content.entry) distance }
     ensures proper { IsProper result }
 {
-    if distance == 0 {
-        return Want::Attr(attr);
-    }
     match content {
+        _ if distance == 0 => Want::Attr(attr),
         Some(bytes) => Want::Char(bytes.get(distance as usize - 1).copied().unwrap_or(0)),
         None => Want::Keep,
     }
@@ -48,10 +48,8 @@ fn put_item(wanted: &mut Wanted, extent: Extent, attr: Attr, content: Option<&[u
 {
     let start = extent.first - 1;
     for distance in 0..extent.length + 1 {
-        wanted.put(
-            (start + distance) as usize,
-            cell_of(attr, content, distance),
-        );
+        let cell = start + distance;
+        wanted.put(cell as usize, cell_of(attr, content, distance));
     }
 }
 
@@ -62,11 +60,7 @@ fn skipped_attr(bright: bool) -> Attr
     Attr {
         protected: true,
         numeric: true,
-        display: if bright {
-            Display::Bright
-        } else {
-            Display::Normal
-        },
+        display: if bright { Bright } else { Normal },
         mdt: false,
     }
 }
@@ -77,48 +71,32 @@ fn put_texts(wanted: &mut Wanted, values: &Values, texts: &[TextItem])
 {
     for index in (0..texts.len()).rev() {
         let text = &texts[index];
+        let attr = skipped_attr(text.bright);
         let content = match &text.content {
             Content::Literal(literal) => literal.as_slice(),
             Content::Show(number) => values.get(*number).unwrap_or(&[]),
         };
-        put_item(
-            wanted,
-            text.extent,
-            skipped_attr(text.bright),
-            Some(content),
-        );
+        put_item(wanted, text.extent, attr, Some(content));
     }
 }
 
-/// The attribute of a field.
-fn attr_of_field(values: &Values, message: Message, keep: bool, field: &Field) -> Attr
-    ensures { result ≡ field_attr values.now message keep field.now }
+/// Puts the cells of a field; with `keep` its attribute alone.
+fn put_field(wanted: &mut Wanted, values: &Values, message: Message, keep: bool, field: &Field)
+    ensures { IsPut (λ cell. field_cell values.now message keep cell field.now) wanted.old.cells wanted.new.cells }
 {
-    let is_filled = values
-        .get(field.number)
-        .is_some_and(|value| !value.is_empty());
-    Attr {
+    let value = match message {
+        Message::Fresh => None,
+        Message::Plain | Message::KeyNotActive | Message::Required(_) => values.get(field.number),
+    };
+    let attr = Attr {
         protected: false,
         numeric: field.numeric,
-        display: if field.hidden {
-            Display::Hidden
-        } else {
-            Display::Normal
-        },
-        mdt: field.marked || (!keep && (message != Message::Fresh && is_filled)),
-    }
-}
-
-/// What a field is written with.
-fn content_of_field<'a>(values: &'a Values, message: Message, field: &'a Field) -> &'a [u8]
-    ensures bytes { result.now ≡ field_content values.now message field.now }
-    ensures characters { AreCharacters result.now }
-{
-    let fill = field.fill.as_slice();
-    if message == Message::Fresh {
-        return fill;
-    }
-    values.get(field.number).unwrap_or(fill)
+        display: if field.hidden { Hidden } else { Normal },
+        mdt: field.marked || (!keep && value.is_some_and(|value| !value.is_empty())),
+    };
+    let content = value.unwrap_or(field.fill.as_slice());
+    let written = if keep { None } else { Some(content) };
+    put_item(wanted, field.extent, attr, written);
 }
 
 /// Puts the cells of fields, the first over all others.
@@ -126,14 +104,7 @@ fn put_fields(wanted: &mut Wanted, values: &Values, message: Message, keep: bool
     ensures { IsPut (λ cell. first_some (field_cell values.now message keep cell) fields.now) wanted.old.cells wanted.new.cells }
 {
     for index in (0..fields.len()).rev() {
-        let field = &fields[index];
-        let attr = attr_of_field(values, message, keep, field);
-        let content = if keep {
-            None
-        } else {
-            Some(content_of_field(values, message, field))
-        };
-        put_item(wanted, field.extent, attr, content);
+        put_field(wanted, values, message, keep, &fields[index]);
     }
 }
 
@@ -148,89 +119,43 @@ fn put_stoppers(wanted: &mut Wanted, fields: &[Field])
     }
 }
 
-/// A character of a text of ASCII characters in the host's code, a null behind the end.
-fn coded_byte(text: &[u8], index: usize) -> u8
-    ensures byte { result ≡ slice_index_or (coded text.now) index 0 }
-    ensures storable { is_storable result ≡ true }
-{
-    text.get(index)
-        .and_then(|byte| from_latin1(char::from(*byte)))
-        .unwrap_or(0)
-}
-
-/// The field with a number, over the whole text.
-fn numbered(number: usize, fields: &[Field]) -> Option<&Field>
-    ensures { option_copied result ≡ field_numbered number fields.now }
-{
-    fields.iter().find(|field| field.number == number)
-}
-
-const KEY_NOT_ACTIVE: &[u8; 14] = b"KEY NOT ACTIVE";
-
 const REQUIRED: &[u8; 10] = b"REQUIRED: ";
 
-/// The name of the field that a message speaks of.
-fn name_in(message: Message, fields: &[Field]) -> &[u8]
-    ensures { result.now ≡ name_spoken fields.now message }
-{
-    match message {
-        Message::Fresh | Message::Plain | Message::KeyNotActive => &[],
-        Message::Required(number) => {
-            numbered(number, fields).map_or(&[], |field| field.name.as_str().as_bytes())
-        }
-    }
-}
-
-/// A byte of the text of a message that speaks of a field with a name, a null behind its end.
+/// A byte, in the host's code, of the text of a message that speaks of a field with a name; a null behind its end.
 fn message_byte(message: Message, name: &[u8], index: usize) -> u8
     ensures byte { result ≡ slice_index_or (text_with name.now message) index 0 }
     ensures storable { is_storable result ≡ true }
 {
-    match message {
-        Message::Fresh | Message::Plain => 0,
-        Message::KeyNotActive => coded_byte(KEY_NOT_ACTIVE, index),
-        Message::Required(_) if index < REQUIRED.len() => coded_byte(REQUIRED, index),
-        Message::Required(_) => coded_byte(name, index - REQUIRED.len()),
-    }
+    let byte = match message {
+        Message::Fresh | Message::Plain => None,
+        Message::KeyNotActive => b"KEY NOT ACTIVE".get(index),
+        Message::Required(_) if index < REQUIRED.len() => REQUIRED.get(index),
+        Message::Required(_) => name.get(index - REQUIRED.len()),
+    };
+    byte.and_then(|byte| from_latin1(char::from(*byte)))
+        .unwrap_or(0)
 }
 
-/// A cell of the message's row; `name` is that of the field that the message speaks of.
-fn cell_of_message(message: Message, name: &[u8], distance: u16) -> Want
-    ensures cell { result ≡ item_cell (autoskip_attr true) (text_with name.now message) distance }
-    ensures proper { IsProper result }
+/// Puts the message's row; `name` is that of the field that the message speaks of.
+fn put_message(wanted: &mut Wanted, message: Message, name: &[u8])
+    ensures { IsPut (row_cell (text_with name.now message)) wanted.old.cells wanted.new.cells }
 {
-    if distance == 0 {
-        Want::Attr(skipped_attr(true))
-    } else {
-        Want::Char(message_byte(message, name, distance as usize - 1))
-    }
-}
-
-/// Puts the message's row.
-fn put_message(wanted: &mut Wanted, fields: &[Field], message: Message)
-    ensures { IsPut (message_cell fields.now message) wanted.old.cells wanted.new.cells }
-{
-    let name = name_in(message, fields);
-    for distance in 0..CELLS - MESSAGE_START {
-        let cell = (MESSAGE_START + distance) as usize;
-        wanted.put(cell, cell_of_message(message, name, distance));
+    let start = MESSAGE_START as usize;
+    wanted.put(start, Want::Attr(skipped_attr(true)));
+    for index in 0..CELL_COUNT - start - 1 {
+        let byte = message_byte(message, name, index);
+        wanted.put(start + 1 + index, Want::Char(byte));
     }
 }
 
 impl Panel {
-    ghost use Rattle.panels.specs.Screen.{IsWantedOf, screen_of};
-    ghost use Rattle.panels.specs.declared.message.Message.TheVariants.{Fresh};
-
-    /// Where the cursor is wanted.
-    fn cursor_for(&self, message: Message) -> Addr
-        ensures { result ≡ wanted_cursor self.now message }
+    /// The field that a message speaks of.
+    fn field_of(&self, message: Message) -> Option<&Field>
+        ensures { option_copied result ≡ field_spoken self.now.fields message }
     {
         match message {
-            Message::Required(number) => numbered(number, self.fields.as_slice()).map_or(
-                self.cursor,
-                |field| field.extent.first_cell(),
-            ),
-            Message::Fresh | Message::Plain | Message::KeyNotActive => self.cursor,
+            Message::Fresh | Message::Plain | Message::KeyNotActive => None,
+            Message::Required(number) => self.fields.iter().find(|field| field.number == number),
         }
     }
 
@@ -253,13 +178,16 @@ impl Panel {
         ensures screen { wanted.new ≡ screen_of self.now values.now message keep }
     {
         let fields = self.fields.as_slice();
+        let spoken = self.field_of(message);
+        let name = spoken.map_or("", |field| field.name.as_str());
         put_nulls(wanted);
         put_stoppers(wanted, fields);
-        put_message(wanted, fields, message);
+        put_message(wanted, message, name.as_bytes());
         put_fields(wanted, values, message, keep, fields);
         put_texts(wanted, values, self.texts.as_slice());
         // For its contract: all cells are there.
         let _whole = wanted.cells();
-        wanted.aim(self.cursor_for(message), message == Message::Fresh);
+        let cursor = spoken.map_or(self.cursor, |field| field.extent.first_cell());
+        wanted.aim(cursor, message == Message::Fresh);
     }
 }

@@ -1,5 +1,5 @@
 //! The values of fields.
-ghost use Rattle.std.specs.Prelude.{◌≡◌, ◌≢◌, ℕ, [], Some, option_copied, option_map, OnOk, OnErr, IfSome};
+ghost use Rattle.std.specs.Prelude.{◌≡◌, ◌≢◌, List, ℕ, [], Some, option_copied, option_map, OnOk, OnErr, IfSome};
 ghost use Rattle.std.specs.BTreeMap.{insert_entry};
 ghost use Rattle.std.specs.Ordering.{nat_cmp};
 ghost use Rattle.panels.specs.Characters.{AreCharacters};
@@ -18,8 +18,6 @@ pub struct Values {
 }
 
 impl Model for Values {
-    ghost use Rattle.std.specs.Prelude.{List, ℕ};
-
     ghost Value = { List (ℕ × List ℕ) };
 
     ghost view = { λ values. values.values.entries };
@@ -27,8 +25,6 @@ impl Model for Values {
 
 /// A copy has the same values. Where memory is wanting there is none, and the first has what it had.
 impl Clone for Values {
-    ghost use Rattle.std.specs.Prelude.{◌≡◌};
-
     ghost is_clone = { λ old new. new ≡ old };
 
     fn clone(&self) -> Result<Values, AllocError> {
@@ -44,10 +40,8 @@ impl Values {
     pub fn new(alloc: Global) -> Values
         ensures { result ≡ [] }
     {
-        Values {
-            alloc,
-            values: BTreeMap::new(alloc),
-        }
+        let values = BTreeMap::new(alloc);
+        Values { alloc, values }
     }
 
     /// The value of the field with a number, if it has one: storable bytes without nulls.

@@ -1,16 +1,31 @@
-use Rattle.std.proofs.Common.{◌∙◌, refl, ap, sym, subst}
-use Rattle.std.specs.Prelude.{option_map}
-use Rattle.std.proofs.lemmas.Slice.Eq.{bytes_eq-Decides}
+use Rattle.std.proofs.Common.{◌≡◌, ◌∙◌, ap, sym, subst, rules, tests}
+use Rattle.std.specs.Option.{option_map_or}
+use Rattle.std.specs.Prelude.{All, IfSome, None, Some, find, slice_get, bytes_eq, option_copied, option_map}
+use Rattle.std.proofs.lemmas.Iterator.{YieldsList-from_slice}
+use Rattle.std.proofs.lemmas.Iterator.Search.{find_from_yields_List}
 use Rattle.panels.specs.Defines.{IsCursorBy}
-use Rattle.panels.proofs.Building.{read_at}
+use Rattle.panels.proofs.Linking.{cursor_found, cursor_first}
+use Rattle.panels.proofs.build.cursor_of.Goals.{in-Some, in-None}
 use Rattle.panels.proofs.build.cursor_of.Goals as goal
 
-pub returns-then-eq : goal.returns-then-eq
-returns-then-eq c =
-    subst (λ o. IsCursorBy o c.args.fields.now c.first_cell-then-eq.result) (sym (ap (option_map (λ name. name.now)) c.in-Some.is)) (
-      c.loop-field.field-index,
-      c.field-item.result,
-      read_at c.args.fields.now c.args.fields.now c.loop-field.field-index c.field-item.result refl c.loop-field-test.true c.field-item.is,
-      sym c.as_str.ensures ∙ (bytes_eq-Decides c.as_str.result.now c.in-Some.name.now).0 (sym c.if-eq.ensures),
-      c.first_cell-then-eq.ensures,
-    )
+pub returns : goal.returns
+returns c =
+    let fields = c.args.fields.now in
+    let chosen : c.map_or.result ≡ option_map_or (λ field. field.extent.first) (option_copied c.match-name.field) 0 = search rules in
+    elim c.match-name.branch [
+      | in-Some w ↦
+          let name = w.in-Some.name.now in
+          let found : option_copied w.find-field.result ≡ find (λ field. bytes_eq field.name name) fields =
+          find_from_yields_List (λ field. bytes_eq field.name name) _ _ _ w.find-field.ensures.ran (YieldsList-from_slice fields cc) (λ x b q k. search (rules, tests)) in
+          let at : c.map_or.result ≡ option_map_or (λ field. field.extent.first) (find (λ field. bytes_eq field.name name) fields) 0 =
+          chosen ∙ ap (λ f. option_map_or (λ field. field.extent.first) (option_copied f) 0) w.field-is ∙ ap (λ f. option_map_or (λ field. field.extent.first) f 0) found in
+          let there : ¬ All (λ field. ¬ (field.name ≡ name)) fields =
+          subst (λ o. IfSome o (λ name. ¬ All (λ field. ¬ (field.name ≡ name.now)) fields)) w.in-Some.is c.requires in
+          subst (λ o. IsCursorBy o fields c.map_or.result) (sym (ap (option_map (λ name. name.now)) w.in-Some.is))
+          (subst (IsCursorBy (Some name) fields) (sym at) (cursor_found fields name there))
+      | in-None w ↦
+          let at : c.map_or.result ≡ option_map_or (λ field. field.extent.first) (slice_get fields 0) 0 =
+          chosen ∙ ap (λ f. option_map_or (λ field. field.extent.first) (option_copied f) 0) w.field-is ∙ ap (λ f. option_map_or (λ field. field.extent.first) f 0) w.first-field.ensures.value in
+          subst (λ o. IsCursorBy o fields c.map_or.result) (sym (ap (option_map (λ name. name.now)) w.in-None.is))
+          (subst (IsCursorBy None fields) (sym at) (cursor_first fields))
+    ]

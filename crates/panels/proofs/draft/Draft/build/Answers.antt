@@ -31,8 +31,8 @@ invariant_of-result c =
 pub returns : goal.returns
 returns c = defined c
 
-pub panel_item-requires-clause-there : goal.panel_item-requires-clause-there
-panel_item-requires-clause-there c =
+pub panel_at-requires-clause-there : goal.panel_at-requires-clause-there
+panel_at-requires-clause-there c =
     read_at c.self.inside.panels.items c.args.self.now.panels c.loop-index.index c.index.result.now (ap (λ (draft : DraftText). draft.panels) c.self.view_is) (omega arith) c.index.ensures
 
 pub loop-index-preserved : goal.loop-index-preserved
@@ -40,4 +40,4 @@ loop-index-preserved c =
     let there : slice_get c.args.self.now.panels c.loop-index.index ≡ Some c.index.result.now =
     read_at c.self.inside.panels.items c.args.self.now.panels c.loop-index.index c.index.result.now (ap (λ (draft : DraftText). draft.panels) c.self.view_is) (omega arith) c.index.ensures in
     rw c.in_ok-push-2.ensures.items
-    (built_more (IsPanelOf c.args.self.now.panels) c.args.self.now.panels c.loop-index.index c.loop-index.panels.items c.index.result.now _ there c.in_ok-panel_item.ensures c.loop-index.invariant)
+    (built_more (IsPanelOf c.args.self.now.panels) c.args.self.now.panels c.loop-index.index c.loop-index.panels.items c.index.result.now _ there c.in_ok-panel_at.ensures c.loop-index.invariant)

@@ -1,17 +1,15 @@
-use Rattle.std.proofs.Common.{◌≡◌, ◌+◌, ◌∙◌, ap, sym, Some, length, arith}
-use Rattle.std.specs.Prelude.{slice_get, chars}
+use Rattle.std.proofs.Common.{◌≡◌, ◌+◌, ◌∙◌, ap, sym, subst, Some, length, arith}
+use Rattle.std.specs.Prelude.{All, IfSome, option_map, slice_get, chars}
 use Rattle.std.proofs.lemmas.Bool.{false≢true}
 use Rattle.std.proofs.lemmas.Option.{slice_get_within}
 use Rattle.panels.specs.Characters.{codes_of}
-use Rattle.panels.specs.Defines.{IsFieldOf, fields_before}
+use Rattle.panels.specs.Defines.{IsCursorBy, IsFieldOf, fields_before}
 use Rattle.panels.specs.Draft.{DraftItem, DraftPanel}
-use Rattle.panels.proofs.Building.{AreBuilt, read_at, built_more}
-use Rattle.panels.proofs.Linking.{field_on_screen}
+use Rattle.panels.proofs.Building.{AreBuilt, read_at, built_more, built_all}
+use Rattle.panels.proofs.Leading.{targets_lead}
+use Rattle.panels.proofs.Linking.{contained_at, cursor_given, field_on_screen}
 use Rattle.panels.proofs.Sound.{few_panels, few_fields, before_few}
-use Rattle.panels.proofs.draft.Draft.fields.Goals as goal
-
-pub fields_before-first-requires-clause-there : goal.fields_before-first-requires-clause-there
-fields_before-first-requires-clause-there c = slice_get_within c.args.self.now.panels c.args.index c.args.panel.now c.requires.there
+use Rattle.panels.proofs.draft.Draft.panel_at.Goals as goal
 
 pub loop-place-preserved-in_default : goal.loop-place-preserved-in_default
 loop-place-preserved-in_default c =
@@ -46,3 +44,33 @@ loop-place-preserved c =
       marked = ap (λ (item : DraftItem). item.marked) c.field.view_is;
       fill = c.in_ok-of_text-2.ensures ∙ ap (λ (item : DraftItem). codes_of (chars item.fill)) c.field.view_is;
     }) c.loop-place.invariant)
+
+pub texts-requires-clause-there : goal.texts-requires-clause-there
+texts-requires-clause-there c = contained_at c.args.self.now.panels c.args.index c.args.panel.now c.requires.there
+
+pub cursor_of-requires : goal.cursor_of-requires
+cursor_of-requires c =
+    let size : length c.panel.inside.fields.items ≡ length c.args.panel.now.fields = ap (λ (panel : DraftPanel). length panel.fields) c.panel.view_is in
+    let whole : c.loop-place.place ≡ length c.args.panel.now.fields = omega arith in
+    let built = built_all (λ i. IsFieldOf (fields_before c.args.index c.args.self.now.panels + i)) c.args.panel.now.fields c.loop-place.place c.loop-place.fields.items whole c.loop-place.invariant in
+    subst (λ fields. IfSome c.panel.inside.cursor (λ name. ¬ All (λ field. ¬ (field.name ≡ name.now)) fields)) (sym c.as_slice.ensures.value)
+    (cursor_given c.args.self.now c.args.panel.now c.args.index c.panel.inside.cursor c.loop-place.fields.items c.requires.faultless c.requires.there built
+    (ap (λ (panel : DraftPanel). panel.cursor) c.panel.view_is))
+
+pub targets-requires-clause-there : goal.targets-requires-clause-there
+targets-requires-clause-there c = contained_at c.args.self.now.panels c.args.index c.args.panel.now c.requires.there
+
+pub returns : goal.returns
+returns c =
+    let size : length c.panel.inside.fields.items ≡ length c.args.panel.now.fields = ap (λ (panel : DraftPanel). length panel.fields) c.panel.view_is in
+    let whole : c.loop-place.place ≡ length c.args.panel.now.fields = omega arith in
+    let built = built_all (λ i. IsFieldOf (fields_before c.args.index c.args.self.now.panels + i)) c.args.panel.now.fields c.loop-place.place c.loop-place.fields.items whole c.loop-place.invariant in
+    record {
+      texts = c.in_ok-texts.ensures;
+      fields = built;
+      cursor =
+          subst (λ cursor. IsCursorBy cursor c.loop-place.fields.items c.cursor_of.result) (ap (λ (panel : DraftPanel). panel.cursor) c.panel.view_is)
+          (subst (λ fields. IsCursorBy (option_map (λ name. name.now) c.panel.inside.cursor) fields c.cursor_of.result) c.as_slice.ensures.value c.cursor_of.ensures);
+      places = c.in_ok-targets.ensures.size;
+      targets = targets_lead c.args.self.now.panels c.args.panel.now c.in_ok-targets.field-0.items c.in_ok-targets.ensures;
+    }
