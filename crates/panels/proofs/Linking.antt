@@ -4,7 +4,7 @@ use Rattle.std.specs.Prelude.{slice_get, unwrap_or, MatchOption, Contains, All, 
 use Rattle.std.specs.Option.{option_and_then, option_map_or}
 use Rattle.std.proofs.lemmas.Option.{slice_get_within, get_or_from_slice_get, slice_get-get_or}
 use Rattle.panels.specs.declared.panel.Field.{Field as FieldItem}
-use Rattle.panels.specs.declared.part.Part.TheVariants.{Text, Field}
+use Rattle.panels.specs.declared.fault.Part.TheVariants.{Text, Field}
 use Rattle.panels.specs.Limits.{most_panels, most_fields}
 use Rattle.panels.specs.Draft.{DraftItem, DraftPanel, DraftText}
 use Rattle.panels.specs.Faults.{name_at, NamesPanel}

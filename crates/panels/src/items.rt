@@ -10,7 +10,7 @@ ghost use Rattle.panels.specs.Walk.{nth};
 
 use crate::draft::{Draft, ItemDraft};
 use crate::extent::Extent;
-use crate::part::Part;
+use crate::fault::Part;
 use crate::size::{ITEM_ROWS, MESSAGE_START};
 use codes3270::{COLUMNS, from_latin1};
 
@@ -72,20 +72,15 @@ impl<'a> ItemDraft<'a> {
         self.extent().is_some() && characters_in(self.fill) <= self.length
     }
 
-    /// Whether some character of it has no code.
+    /// Whether some character of its text or its fill has no code.
     pub(crate) fn has_no_codes(&self) -> bool
         ensures { result ≡ lacks_code self.now }
     {
-        has_uncoded(self.text.unwrap_or("")) || has_uncoded(self.fill)
+        let text = self.text.unwrap_or("");
+        text.chars()
+            .chain(self.fill.chars())
+            .any(|character| from_latin1(character).is_none())
     }
-}
-
-/// Whether some character of a text has no code.
-fn has_uncoded(text: &str) -> bool
-    ensures { result ≡ list_any has_no_code (chars text.now) }
-{
-    text.chars()
-        .any(|character| from_latin1(character).is_none())
 }
 
 impl<'a> Draft<'a> {
