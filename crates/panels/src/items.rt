@@ -1,11 +1,10 @@
 //! The items of a panel text, and those that share a cell.
 ghost use Rattle.std.specs.Prelude.{◌≡◌, ◌↔◌, ◌≤ℤ◌, ◌<ℤ◌, ◌<◌, ◌&&◌, ℕ, Some, IsTrue, true, false, MatchOption, pos, chars, length};
-ghost use Rattle.std.specs.List.{list_any};
 ghost use Rattle.codes3270.specs.Size.{columns};
 ghost use Rattle.panels.specs.Size.{item_rows, message_start};
 ghost use Rattle.panels.specs.Draft.{DraftItem};
 ghost use Rattle.panels.specs.Faults.{IsOverlapping, Overlaps, item_at};
-ghost use Rattle.panels.specs.Items.{IsExtentOf, is_on_screen, is_in_place, lacks_code, has_no_code, is_above_message, first_of};
+ghost use Rattle.panels.specs.Items.{IsExtentOf, is_on_screen, is_in_place, lacks_code, is_above_message, first_of};
 ghost use Rattle.panels.specs.Walk.{nth};
 
 use crate::draft::{Draft, ItemDraft};
