@@ -7,8 +7,8 @@ use Rattle.panels.specs.declared.extent.Extent.{Extent}
 use Rattle.panels.specs.declared.fault.TreeFault.TheVariants as fault
 use Rattle.panels.specs.declared.panel.Field.{Field as FieldItem}
 use Rattle.panels.specs.declared.panel.TextItem.{TextItem}
-use Rattle.panels.specs.declared.part.Part.{Part}
-use Rattle.panels.specs.declared.part.Part.TheVariants.{Text, Field}
+use Rattle.panels.specs.declared.fault.Part.{Part}
+use Rattle.panels.specs.declared.fault.Part.TheVariants.{Text, Field}
 use Rattle.panels.specs.Draft.{DraftItem, DraftPanel, DraftText}
 use Rattle.panels.specs.Items.{HasCell, IsExtentOf}
 use Rattle.panels.specs.Faults.{IsItemBefore, item_at}

@@ -13,8 +13,8 @@ use Rattle.panels.specs.declared.panel.Content.{Content}
 use Rattle.panels.specs.declared.panel.Content.TheVariants.{Literal, Show}
 use Rattle.panels.specs.declared.panel.Field.{Field as FieldItem}
 use Rattle.panels.specs.declared.panel.TextItem.{TextItem}
-use Rattle.panels.specs.declared.part.Part.{Part}
-use Rattle.panels.specs.declared.part.Part.TheVariants.{Panel, Field}
+use Rattle.panels.specs.declared.fault.Part.{Part}
+use Rattle.panels.specs.declared.fault.Part.TheVariants.{Panel, Field}
 use Rattle.panels.specs.Characters.{codes_of}
 use Rattle.panels.specs.Defines.{Defines, DefinesOnce, IsContentOf, IsCursorBy, IsEachOf, IsFieldNamed, IsFieldOf, IsPanelNamed, IsPanelOf, IsTargetBy, IsTextOf, fields_before, text_at_key}
 use Rattle.panels.specs.Draft.{DraftItem, DraftPanel, DraftText, draft_of}

@@ -6,8 +6,8 @@ use Rattle.std.proofs.lemmas.Bool.{false≢true}
 use Rattle.std.proofs.lemmas.Option.{none-some, same_Some, slice_get_within}
 use Rattle.panels.specs.declared.fault.TreeFault.{TreeFault}
 use Rattle.panels.specs.declared.fault.TreeFault.TheVariants.{BadName}
-use Rattle.panels.specs.declared.part.Part.{Part}
-use Rattle.panels.specs.declared.part.Part.TheVariants.{Top, Panel, Text, Field, Keys}
+use Rattle.panels.specs.declared.fault.Part.{Part}
+use Rattle.panels.specs.declared.fault.Part.TheVariants.{Top, Panel, Text, Field, Keys}
 use Rattle.panels.specs.Draft.{DraftItem, DraftPanel, DraftText}
 use Rattle.panels.specs.Faults.{HasFault, has_bad_name, IsNamedBefore, IsTwiceNamed, NamesPanel, NamesField, name_at}
 use Rattle.panels.specs.Index.{NameIndex, part_named, IsLater, IsIndexTo}

@@ -6,8 +6,8 @@ use Rattle.std.specs.Option.{option_and_then, option_map_or}
 use Rattle.std.proofs.lemmas.Bool.Decides.{nat_tests}
 use Rattle.std.proofs.lemmas.Option.{same_Some, slice_get_within}
 use Rattle.panels.specs.declared.extent.Extent.{Extent}
-use Rattle.panels.specs.declared.part.Part.{Part}
-use Rattle.panels.specs.declared.part.Part.TheVariants.{Top, Panel, Text, Field, Keys}
+use Rattle.panels.specs.declared.fault.Part.{Part}
+use Rattle.panels.specs.declared.fault.Part.TheVariants.{Top, Panel, Text, Field, Keys}
 use Rattle.panels.specs.Draft.{DraftItem, DraftPanel}
 use Rattle.panels.specs.Items.{IsExtentOf, is_on_screen, HasCell}
 use Rattle.panels.specs.Faults.{IsOverlapping, Overlaps, item_at}

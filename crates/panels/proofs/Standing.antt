@@ -5,7 +5,7 @@ use Rattle.std.proofs.lemmas.List.{get_or_default}
 use Rattle.std.proofs.lemmas.Option.{get_or_from_slice_get}
 use Rattle.panels.specs.Draft.{DraftText}
 use Rattle.panels.specs.declared.fault.TreeFault.{TreeFault}
-use Rattle.panels.specs.declared.part.Part.{Part}
+use Rattle.panels.specs.declared.fault.Part.{Part}
 use Rattle.panels.specs.Faults.{IsFaulty}
 
 abbrev pub NoneBelow : Part → DraftText → List TreeFault → ℕ → Type 0

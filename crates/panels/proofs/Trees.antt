@@ -1,5 +1,5 @@
 -- What a tree is, beside the values and entries that the code goes over.
-use Rattle.std.proofs.Common.{◌≡◌, ◌==◌, IsSome, ℕ, Bool, ◌&&◌, ◌||◌, List, [], ◌∷◌, length, map, Option, Some, None, String, Global, string_bytes, refl, ap, arith}
+use Rattle.std.proofs.Common.{◌≡◌, ◌==◌, IsSome, ℕ, Bool, true, false, cond, not, ◌&&◌, ◌||◌, List, [], ◌∷◌, length, map, Option, Some, None, String, Global, string_bytes, refl, ap, arith}
 use Rattle.std.specs.List.{list_all, list_any}
 use Rattle.std.proofs.lemmas.Bool.{false≢true}
 use Rattle.std.proofs.lemmas.Bool.Decides.{nat_tests}
@@ -46,3 +46,7 @@ fits_tables kind value values of_tables is = rw (of_tables, is) (all_items_view 
 pub some_part : {X Y : Type 0} (f : X → Option Y) (o : Option X) → IsSome (option_and_then f o) → IsSome o
 some_part f None stands = absurd (false≢true stands)
 some_part f (Some x) stands = refl
+
+pub unless_all : {X : Type 0} (b : Bool) (x : X) → cond (not b) (Some x) None ≡ cond b None (Some x)
+unless_all true x = refl
+unless_all false x = refl

@@ -1,6 +1,6 @@
 -- What is built of a draft in which no fault stands (our profile; only for the contracts of private functions).
 use Rattle.std.specs.Prelude.{◌≡◌, ℕ, List, length, Option, Some, option_and_then, slice_get}
-use Rattle.panels.specs.declared.part.Part.TheVariants as part
+use Rattle.panels.specs.declared.fault.Part.TheVariants as part
 use Rattle.panels.specs.Draft.{DraftItem, DraftPanel}
 use Rattle.panels.specs.Faults.{item_at}
 use Rattle.panels.specs.Defines.{IsTargetBy, text_at_key}

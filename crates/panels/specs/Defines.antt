@@ -4,7 +4,7 @@ use Rattle.std.specs.Option.{option_map_or}
 use Rattle.codes3270.specs.declared.attention.Aid.{Aid}
 use Rattle.toml.specs.Data.{Members}
 use Rattle.toml.specs.Parse.{parse_document}
-use Rattle.panels.specs.declared.part.Part.TheVariants as part
+use Rattle.panels.specs.declared.fault.Part.TheVariants as part
 use Rattle.panels.specs.declared.panel.Content.{Content}
 use Rattle.panels.specs.declared.panel.Content.TheVariants.{Literal, Show}
 use Rattle.panels.specs.declared.panel.TextItem.{TextItem}

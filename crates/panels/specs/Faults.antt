@@ -4,8 +4,8 @@ use Rattle.std.specs.List.{list_any}
 use Rattle.std.specs.Option.{option_map_or}
 use Rattle.panels.specs.declared.fault.TreeFault.{TreeFault}
 use Rattle.panels.specs.declared.fault.TreeFault.TheVariants.{UnknownKey, Missing, BadKind, BadName, TwiceNamed, OutOfPlace, Overlap, NoCode, NoTarget, BadKey, TooMany}
-use Rattle.panels.specs.declared.part.Part.{Part}
-use Rattle.panels.specs.declared.part.Part.TheVariants.{Top, Panel, Text, Field, Keys}
+use Rattle.panels.specs.declared.fault.Part.{Part}
+use Rattle.panels.specs.declared.fault.Part.TheVariants.{Top, Panel, Text, Field, Keys}
 use Rattle.panels.specs.declared.fault.At.{At}
 use Rattle.panels.specs.declared.fault.At.TheVariants as place
 use Rattle.panels.specs.Limits.{most_panels, most_texts, most_fields}

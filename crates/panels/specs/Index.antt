@@ -3,8 +3,8 @@ use Rattle.std.specs.Prelude.{◌≡◌, ◌≢◌, ℕ, List, length, Option, S
 use Rattle.std.specs.Option.{option_or}
 use Rattle.std.specs.Global.{Global}
 use Rattle.std.specs.BTreeMap.{BTreeMap, get_by_text}
-use Rattle.panels.specs.declared.part.Part.{Part}
-use Rattle.panels.specs.declared.part.Part.TheVariants.{Panel, Field}
+use Rattle.panels.specs.declared.fault.Part.{Part}
+use Rattle.panels.specs.declared.fault.Part.TheVariants.{Panel, Field}
 use Rattle.panels.specs.Draft.{DraftPanel}
 use Rattle.panels.specs.Faults.{IsNamedBefore, name_at}
 

@@ -6,7 +6,7 @@ use Rattle.toml.specs.Parse.{parse_document}
 use Rattle.panels.specs.declared.fault.TreeFault.{TreeFault}
 use Rattle.panels.specs.declared.fault.PanelFault.{PanelFault}
 use Rattle.panels.specs.declared.fault.PanelFault.TheVariants.{Memory, NotToml, Tree}
-use Rattle.panels.specs.declared.part.Part.{Part}
+use Rattle.panels.specs.declared.fault.Part.{Part}
 use Rattle.panels.specs.declared.fault.At.{At}
 use Rattle.panels.specs.Faults.{Stands, IsFaulty, faults_of, IsCleanIn}
 

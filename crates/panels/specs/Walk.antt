@@ -2,8 +2,8 @@
 use Rattle.std.specs.Prelude.{◌≡◌, ℕ, ◌<◌, Bool, List, [], ◌∷◌, Some, slice_get}
 use Rattle.panels.specs.Draft.{DraftText}
 use Rattle.panels.specs.declared.fault.TreeFault.{TreeFault}
-use Rattle.panels.specs.declared.part.Part.{Part}
-use Rattle.panels.specs.declared.part.Part.TheVariants.{Top, Panel, Text, Field, Keys}
+use Rattle.panels.specs.declared.fault.Part.{Part}
+use Rattle.panels.specs.declared.fault.Part.TheVariants.{Top, Panel, Text, Field, Keys}
 use Rattle.panels.specs.Faults.{IsFaulty}
 use Rattle.panels.specs.Items.{is_panel_letter, is_field_letter}
 use Rattle.panels.specs.Turns.{pass_of, panel_turn, kind_turn, item_turn}

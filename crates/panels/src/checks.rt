@@ -1,6 +1,6 @@
 //! The faults of a draft, part by part.
 ghost use Rattle.std.specs.Prelude.{◌≡◌, ◌↔◌, ◌+◌, ◌<◌, IsTrue, MatchResult, length};
-ghost use Rattle.panels.specs.declared.part.Part.TheVariants as part;
+ghost use Rattle.panels.specs.declared.fault.Part.TheVariants as part;
 ghost use Rattle.panels.specs.Faults.{HasFault, is_part, faults_of};
 ghost use Rattle.panels.specs.Passes.{IsFaultless};
 ghost use Rattle.panels.specs.Turns.{IsClearTo, IsFirstFault};
@@ -8,9 +8,8 @@ ghost use Rattle.panels.specs.Walk.{turn_at, IsCleanAt};
 
 use crate::draft::{Draft, PanelDraft};
 use crate::fault::TreeFault::*;
-use crate::fault::{At, TreeFault};
+use crate::fault::{At, Part, TreeFault};
 use crate::names::{is_later, is_name};
-use crate::part::Part;
 
 /// Err has the first fault, and where it stands.
 pub(crate) type Checked = Result<(), (TreeFault, At)>;

@@ -58,11 +58,8 @@ fn item_drafts<'a>(
 fn wrong_keys(keys: &Table) -> Option<TreeFault>
     ensures { result ≡ wrong_in_keys (table_view keys.now) }
 {
-    if keys.values().all(|value| value.is_str()) {
-        None
-    } else {
-        Some(TreeFault::BadKind)
-    }
+    let are_texts = keys.values().all(|value| value.is_str());
+    (!are_texts).then_some(TreeFault::BadKind)
 }
 
 /// The texts in a panel's table of keys, each with its key.

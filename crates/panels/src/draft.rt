@@ -2,9 +2,8 @@
 ghost use Rattle.std.specs.Prelude.{◌≡◌, option_copied, option_map, slice_get};
 ghost use Rattle.panels.specs.Faults.{item_at, name_at, wrong_at};
 
-use crate::fault::TreeFault;
+use crate::fault::{Part, TreeFault};
 use crate::index::NameIndex;
-use crate::part::Part;
 use std::marker::Model;
 
 /// A text or a field. What is absent is 0, unset, or no text.

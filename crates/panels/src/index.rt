@@ -3,7 +3,7 @@ ghost use Rattle.std.specs.Prelude.{◌≡◌, ℕ, List, IfOk, OnOk};
 ghost use Rattle.panels.specs.Index.{part_named, noted, AreIndexes};
 
 use crate::draft::PanelDraft;
-use crate::part::Part;
+use crate::fault::Part;
 use std::alloc::{AllocError, Global};
 use std::collections::BTreeMap;
 

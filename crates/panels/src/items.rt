@@ -1,16 +1,15 @@
 //! The items of a panel text, and those that share a cell.
 ghost use Rattle.std.specs.Prelude.{◌≡◌, ◌↔◌, ◌≤ℤ◌, ◌<ℤ◌, ◌<◌, ◌&&◌, ℕ, Some, IsTrue, true, false, MatchOption, pos, chars, length};
-ghost use Rattle.std.specs.List.{list_any};
 ghost use Rattle.codes3270.specs.Size.{columns};
 ghost use Rattle.panels.specs.Size.{item_rows, message_start};
 ghost use Rattle.panels.specs.Draft.{DraftItem};
 ghost use Rattle.panels.specs.Faults.{IsOverlapping, Overlaps, item_at};
-ghost use Rattle.panels.specs.Items.{IsExtentOf, is_on_screen, is_in_place, lacks_code, has_no_code, is_above_message, first_of};
+ghost use Rattle.panels.specs.Items.{IsExtentOf, is_on_screen, is_in_place, lacks_code, is_above_message, first_of};
 ghost use Rattle.panels.specs.Walk.{nth};
 
 use crate::draft::{Draft, ItemDraft};
 use crate::extent::Extent;
-use crate::part::Part;
+use crate::fault::Part;
 use crate::size::{ITEM_ROWS, MESSAGE_START};
 use codes3270::{COLUMNS, from_latin1};
 
@@ -72,20 +71,15 @@ impl<'a> ItemDraft<'a> {
         self.extent().is_some() && characters_in(self.fill) <= self.length
     }
 
-    /// Whether some character of it has no code.
+    /// Whether some character of its text or its fill has no code.
     pub(crate) fn has_no_codes(&self) -> bool
         ensures { result ≡ lacks_code self.now }
     {
-        has_uncoded(self.text.unwrap_or("")) || has_uncoded(self.fill)
+        let text = self.text.unwrap_or("");
+        text.chars()
+            .chain(self.fill.chars())
+            .any(|character| from_latin1(character).is_none())
     }
-}
-
-/// Whether some character of a text has no code.
-fn has_uncoded(text: &str) -> bool
-    ensures { result ≡ list_any has_no_code (chars text.now) }
-{
-    text.chars()
-        .any(|character| from_latin1(character).is_none())
 }
 
 impl<'a> Draft<'a> {

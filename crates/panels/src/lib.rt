@@ -43,7 +43,6 @@ mod names;
 mod next;
 mod panel;
 mod panel_set;
-mod part;
 mod read;
 mod rules;
 mod screen;

@@ -3,14 +3,14 @@ ghost use Rattle.std.specs.Prelude.{◌≡◌, ◌↔◌, List, ℕ, Some, IsTru
 ghost use Rattle.std.specs.List.{list_any};
 ghost use Rattle.panels.specs.Items.{is_name as is_name_by};
 ghost use Rattle.panels.specs.Keys.{is_key_name};
-ghost use Rattle.panels.specs.declared.part.Part.TheVariants as part;
+ghost use Rattle.panels.specs.declared.fault.Part.TheVariants as part;
 ghost use Rattle.panels.specs.Faults.{HasFieldNamed, NamesPanel, NamesField, name_at};
 ghost use Rattle.panels.specs.Index.{IsLater};
 ghost use Rattle.panels.specs.Walk.{is_letter_of};
 
 use crate::draft::{Draft, ItemDraft, PanelDraft};
+use crate::fault::Part;
 use crate::index::NameIndex;
-use crate::part::Part;
 
 /// Whether the name of a panel, or of a field, may have a letter.
 fn is_letter(part: Part, letter: u8) -> bool

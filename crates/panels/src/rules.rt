@@ -2,7 +2,7 @@
 ghost use Rattle.std.specs.Prelude.{◌≡◌, map, option_map};
 ghost use Rattle.toml.specs.View.{view, table_view};
 ghost use Rattle.panels.specs.Rules.{rule_of, rules_of_item};
-ghost use Rattle.panels.specs.Shape.{is_of_kind, is_known, breaks_keys, is_lacking, breaks_needs, breaks_kinds, wrong_by as fault_by};
+ghost use Rattle.panels.specs.Shape.{is_of_kind, is_known, is_lacking, breaks_needs, breaks_kinds, wrong_by as fault_by};
 
 use crate::fault::TreeFault;
 use crate::tree::value_at;
@@ -98,12 +98,6 @@ fn knows_key(rules: &[KeyRule], key: &str) -> bool
     rules.iter().any(|rule| rule.key() == key)
 }
 
-fn any_unknown_key(rules: &[KeyRule], table: &Table) -> bool
-    ensures { result ≡ breaks_keys (map rule_of rules.now) (table_view table.now) }
-{
-    table.keys().any(|key| !knows_key(rules, key.as_str()))
-}
-
 /// Whether nothing stands, or no table in an array that has to have some.
 fn is_nothing(kind: Kind, value: Option<&Value>) -> bool
     ensures { result ≡ is_lacking kind (option_map (λ value. view value.now) value.entry) }
@@ -155,7 +149,7 @@ fn any_value_misfits(rules: &[KeyRule], table: &Table) -> bool
 pub(crate) fn wrong_by(rules: &[KeyRule], table: &Table) -> Option<TreeFault>
     ensures { result ≡ fault_by (map rule_of rules.now) (table_view table.now) }
 {
-    if any_unknown_key(rules, table) {
+    if table.keys().any(|key| !knows_key(rules, key.as_str())) {
         Some(TreeFault::UnknownKey)
     } else if any_key_absent(rules, table) {
         Some(TreeFault::Missing)

@@ -1,5 +1,5 @@
 use Rattle.std.proofs.Common.{◌≡◌, subst, arith}
-use Rattle.panels.specs.declared.part.Part.TheVariants.{Top}
+use Rattle.panels.specs.declared.fault.Part.TheVariants.{Top}
 use Rattle.panels.specs.Turns.{IsClearTo}
 use Rattle.panels.specs.Walk.{turn_at}
 use Rattle.panels.proofs.Turning.{first_clear, all_clear}

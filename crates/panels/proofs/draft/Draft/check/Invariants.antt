@@ -1,4 +1,4 @@
-use Rattle.panels.specs.declared.part.Part.TheVariants.{Top}
+use Rattle.panels.specs.declared.fault.Part.TheVariants.{Top}
 use Rattle.panels.specs.Turns.{IsClearTo}
 use Rattle.panels.specs.Walk.{turn_at}
 use Rattle.panels.proofs.draft.Draft.check.Given as goal

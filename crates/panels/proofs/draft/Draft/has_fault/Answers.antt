@@ -1,6 +1,6 @@
 use Rattle.std.proofs.Common.{◌≡◌, length, not, false, sym, ◌∙◌, rules, tests}
 use Rattle.std.specs.Option.{option_map_or}
-use Rattle.panels.specs.declared.part.Part.TheVariants as part
+use Rattle.panels.specs.declared.fault.Part.TheVariants as part
 use Rattle.panels.specs.Faults.{name_at}
 use Rattle.panels.specs.Index.{IsIndexTo}
 use Rattle.panels.specs.Items.{is_name}
