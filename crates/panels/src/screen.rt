@@ -80,7 +80,7 @@ fn put_texts(wanted: &mut Wanted, values: &Values, texts: &[TextItem])
     }
 }
 
-/// Puts the cells of a field; with `keep` its attribute alone.
+/// Puts the cells of a field: its attribute, and behind it its value, or its fill; with `keep` the attribute alone.
 fn put_field(wanted: &mut Wanted, values: &Values, message: Message, keep: bool, field: &Field)
     ensures { IsPut (λ cell. field_cell values.now message keep cell field.now) wanted.old.cells wanted.new.cells }
 {
