@@ -1,0 +1,55 @@
+//! Each call that can answer want of memory, alone. With a call's name, what the call needs is prepared,
+//! the call is made once between two marks on standard error (`begin` and `end`), and what came of it is printed: whether it
+//! was done or answered want of memory, and whether all stands as its contract promises and goes on so. Without a name the
+//! names are printed.
+//!
+//! In an ordinary run no growth is refused. `growths/check` makes the runs in which one is: the first between the marks, the
+//! second, and so on.
+//!
+//! `trial` says what is looked at.
+
+mod appending;
+mod calls;
+mod hosts;
+mod making;
+mod story;
+mod terminals;
+mod trial;
+mod values;
+mod wire;
+mod worlds;
+
+use calls::{CALLS, Call, call_named};
+use std::io::{self, ErrorKind};
+
+fn print_names(rt: &impl Print) -> io::Result<()> {
+    for (name, _) in &CALLS {
+        println!(rt; "{name}")?;
+    }
+    Ok(())
+}
+
+/// Tries a call, and prints what came of it. Says whether that is as promised.
+fn tell(rt: &(impl Print + Eprint + AllocGlobal), call: Call) -> io::Result<bool> {
+    let came = call.attempt(rt)?;
+    let answer = if came.is_refused { "no memory" } else { "done" };
+    let how = if came.is_as_promised {
+        "as promised"
+    } else {
+        "otherwise"
+    };
+    println!(rt; "{answer}, {how}")?;
+    Ok(came.is_as_promised)
+}
+
+/// Tries the call with a name, or prints the names of all. Says whether what came is as promised.
+pub fn try_named(rt: &(impl Print + Eprint + AllocGlobal), name: Option<&str>) -> io::Result<bool> {
+    let Some(name) = name else {
+        print_names(rt)?;
+        return Ok(true);
+    };
+    match call_named(name) {
+        Some(call) => tell(rt, call),
+        None => Err(io::Error::from(ErrorKind::InvalidInput)),
+    }
+}
