@@ -22,6 +22,7 @@ mod dialogue;
 mod fault;
 mod former_bodies;
 mod growths;
+mod keys;
 mod likeness;
 mod readers;
 mod serving;

@@ -11,7 +11,6 @@ mod belief;
 mod case;
 mod command;
 mod deed;
-mod keys;
 mod likeness;
 mod lister;
 mod script;

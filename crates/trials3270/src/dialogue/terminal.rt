@@ -32,7 +32,7 @@ use crate::dialogue::subject::Subject;
 use crate::fault::{Fault, expect_bytes, expect_text};
 use command::{Command, read_command};
 use keyboard::Key;
-use keys::{key_named, press};
+use keys::{key_or_character, press};
 use sights::{Sight, seen};
 use std::alloc::{AllocError, Global};
 use term_core::{TermPhase, Terminal};
@@ -120,7 +120,7 @@ impl Desk {
     /// Presses the key with a name.
     fn press_named(&mut self, words: &str) -> Result<(), Fault> {
         let (name, expected) = words.split_once(' ').unwrap_or((words, "done"));
-        match key_named(name) {
+        match key_or_character(name) {
             Some(key) => self.press(key, expected),
             None => Err(Fault::Needs("a key")),
         }

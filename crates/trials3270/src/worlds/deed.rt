@@ -1,6 +1,6 @@
 //! What happens in a case, as its script says it. An event is made of it each time that it happens.
 use crate::fault::Fault;
-use crate::worlds::keys::key_named;
+use crate::keys::key_named;
 use codes3270::from_latin1;
 use keyboard::Key;
 use tn3270e_msg::Lu;

@@ -1,47 +1,13 @@
 //! Keys by their names, and what comes of pressing one, in words.
-use codes3270::{Aid, PaNo, PfNo, aid_byte};
+use crate::keys::key_named;
+use codes3270::{Aid, aid_byte};
 use keyboard::{Key, Pressed, Refusal};
 use std::alloc::{AllocError, Global};
 use term_core::Terminal;
 
 /// The key with a name; a name of one character is that character's key.
-pub fn key_named(name: &str) -> Option<Key> {
-    match name {
-        "tab" => Some(Key::Tab),
-        "backtab" => Some(Key::BackTab),
-        "newline" => Some(Key::NewLine),
-        "home" => Some(Key::Home),
-        "up" => Some(Key::CursorUp),
-        "down" => Some(Key::CursorDown),
-        "left" => Some(Key::CursorLeft),
-        "right" => Some(Key::CursorRight),
-        "backspace" => Some(Key::Backspace),
-        "insert" => Some(Key::Insert),
-        "delete" => Some(Key::Delete),
-        "eraseeof" => Some(Key::EraseEof),
-        "eraseinput" => Some(Key::EraseInput),
-        "reset" => Some(Key::Reset),
-        "enter" => Some(Key::Enter),
-        "clear" => Some(Key::Clear),
-        _ => numbered_key(name),
-    }
-}
-
-/// `pf1` to `pf24`, `pa1` to `pa3`, or a character.
-fn numbered_key(name: &str) -> Option<Key> {
-    if let Some(digits) = name.strip_prefix("pf") {
-        return match PfNo::new(digits.parse::<u8>().ok()?) {
-            Some(number) => Some(Key::Pf(number)),
-            None => None,
-        };
-    }
-    if let Some(digits) = name.strip_prefix("pa") {
-        return match PaNo::new(digits.parse::<u8>().ok()?) {
-            Some(number) => Some(Key::Pa(number)),
-            None => None,
-        };
-    }
-    character_key(name)
+pub fn key_or_character(name: &str) -> Option<Key> {
+    key_named(name).or_else(|| character_key(name))
 }
 
 fn character_key(name: &str) -> Option<Key> {
