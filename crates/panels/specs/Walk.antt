@@ -3,7 +3,7 @@ use Rattle.std.specs.Prelude.{◌≡◌, ℕ, ◌<◌, Bool, List, [], ◌∷◌
 use Rattle.panels.specs.Draft.{DraftText}
 use Rattle.panels.specs.declared.fault.TreeFault.{TreeFault}
 use Rattle.panels.specs.declared.fault.Part.{Part}
-use Rattle.panels.specs.declared.fault.Part.TheVariants.{Top, Panel, Text, Field, Keys}
+use Rattle.panels.specs.declared.fault.Part.TheVariants.{Panel, Text, Field}
 use Rattle.panels.specs.Faults.{IsFaulty}
 use Rattle.panels.specs.Items.{is_panel_letter, is_field_letter}
 use Rattle.panels.specs.Turns.{pass_of, panel_turn, kind_turn, item_turn}

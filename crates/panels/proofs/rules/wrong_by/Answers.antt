@@ -1,4 +1,4 @@
-use Rattle.std.proofs.Common.{rules, tests, ◌≡◌, ◌∙◌, refl, sym, map, not, false, string_bytes}
+use Rattle.std.proofs.Common.{rules, tests, ◌≡◌, ◌∙◌, refl, sym, map, not, string_bytes}
 use Rattle.std.proofs.lemmas.Iterator.Consumers.{YieldsList-from_rest}
 use Rattle.std.proofs.lemmas.Iterator.Search.{any_from_yields_List}
 use Rattle.toml.specs.View.{table_view}

@@ -1,4 +1,4 @@
-use Rattle.std.proofs.Common.{◌≡◌, length, not, false, sym, ◌∙◌, rules, tests}
+use Rattle.std.proofs.Common.{◌≡◌, length, not, false, rules, tests}
 use Rattle.std.specs.Option.{option_map_or}
 use Rattle.panels.specs.declared.fault.Part.TheVariants as part
 use Rattle.panels.specs.Faults.{name_at}
