@@ -10,6 +10,8 @@ mod commands;
 #[cfg(test)]
 mod inbound;
 #[cfg(test)]
+mod jobs;
+#[cfg(test)]
 mod keys;
 #[cfg(test)]
 mod messages;

@@ -1,58 +1,19 @@
 //! Panels and screens of the 3270 on the command line. `panel3270 script` serves panels to terminals, which do the commands of
 //! a script; `panel3270 show` applies commands of the data stream in hexadecimal to a blank screen and prints what it then shows.
+//! The jobs are jobs3270's: here are the words that ask for them, and the streams.
 #![tactic(auto)]
 
 ghost use Rattle.std.specs.Prelude.{◌≡◌};
-ghost use Rattle.panel3270.specs.Runs.{IsEnd, IsToldIn};
-ghost use Rattle.panel3270.specs.Words.{usage, words_refused};
+ghost use Rattle.jobs3270.specs.Runs.{IsToldIn};
+ghost use Rattle.jobs3270.specs.Words.{usage, words_refused};
 
-mod command_line;
-mod fault;
-mod hex_line;
-mod input;
-mod job;
-mod notice;
-mod operator;
-mod page;
-mod phase_text;
-mod place;
-mod player;
-mod refusals;
-mod screen_text;
-mod script;
-mod script_line;
-#[cfg(test)]
-mod script_line_tests;
-mod seat;
-mod selfrun;
-mod server;
-mod serving;
-mod settling;
-mod show;
-mod sockets;
-mod streams;
-mod task;
-mod term;
-mod term_line;
-#[cfg(test)]
-mod tests;
-
-pub use command_line::words;
-pub use fault::Fault;
-pub use job::{Job, Port, Turns, WordFault};
-pub use page::{Page, page_of};
-pub use script::{a_script_has_one_page, run_script};
-pub use selfrun::run_selfrun;
-pub use serving::{run_host, run_serve};
-use show::end_by;
-pub use show::run_show;
-use std::alloc::Global;
+use jobs3270::{
+    CountedReader, CountedWriter, Fault, Job, Sink, Task, WordFault, end_by, run, run_host,
+    run_selfrun, run_serve, run_term, words,
+};
 use std::env;
 use std::io::{self, ErrorKind};
 use std::process::ExitCode;
-pub use streams::{Answer, CountedReader, CountedWriter, Sink, Source, WriteFailed};
-pub use task::Task;
-pub use term::run_term;
 
 /// The exit status of words that the program doesn't take.
 const WORDS_REFUSED: u8 = 2;
@@ -95,22 +56,6 @@ fn refuse_words<E: Sink>(faults: &mut E) -> u8
 {
     let _ = faults.write_line(USAGE);
     WORDS_REFUSED
-}
-
-/// Does a task, and answers the exit status.
-fn run<I: Source, O: Sink, E: Sink>(
-    alloc: Global,
-    task: Task,
-    input: &mut I,
-    out: &mut O,
-    faults: &mut E,
-) -> u8
-    ensures { IsEnd task (I.seen input.old) (I.seen input.new) (O.seen out.old) (O.seen out.new) (E.seen faults.old) (E.seen faults.new) result }
-{
-    match task {
-        Task::Script => run_script(alloc, input, out, faults),
-        Task::Show => run_show(alloc, input, out, faults),
-    }
 }
 
 fn main(rt: HostRuntime) -> ExitCode {

@@ -1,0 +1,49 @@
+-- How a run ends, from the ends of its parts.
+use Rattle.std.proofs.Common.{◌≡◌, ℕ, ◌+◌, ◌<◌, ◌≤◌, List, ◌++◌, length, take, Result, Ok, Err, IfErr, OnErr, IsUtf8, Option, None, Some, refl, sym, subst, arith, length-append}
+use Rattle.std.specs.Io.KnownBytes.{Consumes}
+use Rattle.std.proofs.KnownBytes.{Consumes-trans, Keeps-refl}
+use Rattle.std.proofs.lemmas.List.{length-take-le}
+use Rattle.jobs3270.specs.Counting.{Input, Output}
+use Rattle.jobs3270.specs.Runs.{ReadWhole, NotRead, too_many_bytes, no_text, most_bytes, RefusesInput, IsInput, EndsPrinting, HasCause}
+use Rattle.jobs3270.specs.declared.fault.Fault.{Fault}
+use Rattle.jobs3270.specs.declared.fault.Fault.TheVariants.{InputNotRead, Panels, Pool, NotHex, NotUnderstood, NoMemory, SocketFailed, TurnsOver, OutputFailed}
+use Rattle.jobs3270.specs.declared.task.Task.{Task}
+
+-- what was read is no text
+pub refused : {T : Type 0} → (text : Result T Fault) (old new : Input) (bytes : List ℕ) → ReadWhole old new bytes → IfErr text (λ fault. fault ≡ InputNotRead)
+    → OnErr text (IsUtf8 bytes → ⊥) → IfErr text (λ fault. RefusesInput fault old new)
+refused (Ok text) old new bytes whole is none = tt
+refused (Err fault) old new bytes whole is none = subst (λ f. RefusesInput f old new) (sym is) (no_text bytes whole none)
+
+-- what was read before, and now, is too much
+pub too_many : (first old new : Input) (bytes buffer : List ℕ) (count : ℕ) → Consumes first.left old.left bytes → Consumes old.left new.left (take count buffer)
+    → count ≤ length buffer → most_bytes < length bytes + count → NotRead first new
+too_many first old new bytes buffer count before now within long =
+    too_many_bytes (bytes ++ take count buffer) (Consumes-trans first.left old.left new.left bytes (take count buffer) before now)
+    (let n = length-take-le count buffer within in let m = length-append bytes (take count buffer) in omega arith)
+
+-- where there is no input nothing is written
+pub without_input : (task : Task) (fault : Fault) (in_old in_new : Input) (out : Output) → RefusesInput fault in_old in_new → HasCause task (Some fault) in_old in_new out out
+without_input task InputNotRead in_old in_new out why = (why, record { kept = Keeps-refl out.got; sound = refl })
+without_input task (Panels fault) in_old in_new out why = absurd why
+without_input task (Pool fault) in_old in_new out why = absurd why
+without_input task (NotHex line) in_old in_new out why = absurd why
+without_input task (NotUnderstood line) in_old in_new out why = absurd why
+without_input task NoMemory in_old in_new out why = record { kept = Keeps-refl out.got; sound = refl }
+without_input task SocketFailed in_old in_new out why = absurd why
+without_input task TurnsOver in_old in_new out why = absurd why
+without_input task OutputFailed in_old in_new out why = absurd why
+
+-- where there is one the run ends as its printing does
+pub with_input : (task : Task) (ending : Option Fault) (in_old in_new : Input) (out_old out_new : Output) (text : List ℕ) → IsInput in_old in_new text
+    → EndsPrinting task ending text out_old out_new → HasCause task ending in_old in_new out_old out_new
+with_input task None in_old in_new out_old out_new text is ends = (text, is, ends)
+with_input task (Some InputNotRead) in_old in_new out_old out_new text is ends = absurd ends
+with_input task (Some (Panels fault)) in_old in_new out_old out_new text is ends = (text, is, ends)
+with_input task (Some (Pool fault)) in_old in_new out_old out_new text is ends = (text, is, ends)
+with_input task (Some (NotHex line)) in_old in_new out_old out_new text is ends = (text, is, ends)
+with_input task (Some (NotUnderstood line)) in_old in_new out_old out_new text is ends = (text, is, ends)
+with_input task (Some NoMemory) in_old in_new out_old out_new text is ends = ends
+with_input task (Some SocketFailed) in_old in_new out_old out_new text is ends = absurd ends
+with_input task (Some TurnsOver) in_old in_new out_old out_new text is ends = absurd ends
+with_input task (Some OutputFailed) in_old in_new out_old out_new text is ends = (text, is, ends)

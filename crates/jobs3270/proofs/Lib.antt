@@ -1,0 +1,16 @@
+pub mod Pieces
+pub mod HexWords
+pub mod Commands
+pub mod OnePage
+pub mod OneScript
+pub mod Known
+pub mod Endings
+pub mod ScriptLines
+pub mod Happenings
+pub mod Rounds
+pub mod Typing
+pub mod Playing
+pub mod LuNames
+pub mod ClapJobs
+pub mod TermLines
+pub mod TextTyped

@@ -1,0 +1,17 @@
+use Rattle.std.proofs.Common.{◌≡◌, ◌∙◌, ap, refl, sym, [], string_bytes}
+use Rattle.std.proofs.lemmas.List.{append-nil}
+use Rattle.std.proofs.lemmas.Result.{IfOk-weaker}
+use Rattle.datastream.specs.Senses.{sense_of}
+use Rattle.jobs3270.specs.Pages.{TakesCommand, refusal_line, sense_text}
+use Rattle.jobs3270.proofs.page.take_command.Goals as goal
+
+pub returns-in-Ok : goal.returns-in-Ok
+returns-in-Ok c =
+    ([], TakesCommand.applied c.in-Ok.command c.in-Ok.ensures.found c.apply.ensures.screen refl, sym (append-nil (string_bytes c.args.text.now)))
+
+pub returns-in-Err : goal.returns-in-Err
+returns-in-Err c =
+    let text : c.sense_text-response.result.now ≡ sense_text (sense_of c.in-Err.fault) = c.sense_text-response.ensures ∙ ap sense_text c.sense.ensures in
+    IfOk-weaker c.write.result _ _
+    (λ _ written. (refusal_line c.in-Err.fault, TakesCommand.refused c.in-Err.fault c.in-Err.ensures.found refl refl, rw (← text) written))
+    c.write.ensures.bytes

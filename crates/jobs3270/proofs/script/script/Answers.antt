@@ -1,0 +1,16 @@
+use Rattle.std.proofs.Common.{sym, subst}
+use Rattle.jobs3270.specs.declared.task.Task.TheVariants.{Script}
+use Rattle.jobs3270.specs.Runs.{IsInput, ending_of}
+use Rattle.jobs3270.proofs.Endings.{with_input, without_input}
+use Rattle.jobs3270.proofs.script.script.Goals as goal
+
+pub returns-in-Ok : goal.returns-in-Ok
+returns-in-Ok g c =
+    let old = g.I.Source.seen c.args.input.now in
+    let new = g.I.Source.seen c.read_whole.new.input in
+    with_input Script (ending_of c.print_script.result) old new (g.O.Sink.seen c.args.out.now) (g.O.Sink.seen c.print_script.new.out) c.as_str.result.now
+    (subst (IsInput old new) (sym c.as_str.ensures.value) c.in-Ok.ensures.whole) c.print_script.ensures
+
+pub returns-in-Err : goal.returns-in-Err
+returns-in-Err g c =
+    without_input Script c.in-Err.fault (g.I.Source.seen c.args.input.now) (g.I.Source.seen c.read_whole.new.input) (g.O.Sink.seen c.args.out.now) c.in-Err.ensures.fault

@@ -1,0 +1,14 @@
+use Rattle.std.proofs.Common.{◌≡◌, ◌∙◌, sym, true, false}
+use Rattle.jobs3270.specs.ScriptLines.{is_digits}
+use Rattle.jobs3270.proofs.ScriptLines.{number_parsed, number_is, no_number}
+use Rattle.jobs3270.proofs.script_line.number_of.Goals as goal
+
+-- src/script_line.rt:74:9
+pub returns-then-not-is_digits : goal.returns-then-not-is_digits
+returns-then-not-is_digits c = no_number c.args.word.now (sym c.is_digits.ensures ∙ c.if-not-is_digits.true)
+
+-- src/script_line.rt:70:1
+pub returns : goal.returns
+returns c =
+    let digits : is_digits c.args.word.now ≡ true = sym c.is_digits.ensures ∙ c.if-not-is_digits.false in
+    number_is c.args.word.now c.unwrap_or.result digits (c.unwrap_or.ensures ∙ number_parsed c.args.word.now c.parse.result c.parse.ensures.value.0 digits)

@@ -1,0 +1,38 @@
+-- What clap's values hold of the command line (specs/JobWords).
+use Rattle.std.specs.Prelude.{◌≡◌, ⊤, ℕ, List, [], ◌∷◌, true, false}
+use Rattle.clap.specs.Walk.{Rule, rule_of}
+use Rattle.clap.specs.Simple.{App, Shape, app_of, subcommand_of, subcommand_rows_of}
+use Rattle.clap.specs.declared.builder.arg.Arg.{Arg}
+use Rattle.clap.specs.declared.builder.command.Command.{Command}
+use Rattle.clap.specs.declared.builder.command.Command.TheViews.{out-Command}
+use Rattle.clap.specs.declared.error.kind.ErrorKind.{ErrorKind}
+use Rattle.clap.specs.declared.error.kind.ErrorKind.TheVariants.{OutOfMemory}
+use Rattle.clap.specs.declared.parser.matches.ArgMatches.{ArgMatches}
+use Rattle.jobs3270.specs.Words.{program, is_taken}
+use Rattle.jobs3270.specs.declared.job.WordFault.{WordFault}
+use Rattle.jobs3270.specs.declared.job.WordFault.TheVariants.{Refused, Memory}
+
+pub record IsOption (rule : Rule) (option : Arg) : Type 0 where
+  pub is : rule_of option ≡ rule
+  pub local : option.global ≡ false
+
+pub record IsCommand (app : App) (command : Command) : Type 0 where
+  pub is : app_of command ≡ app
+  pub local : (out-Command command).has_globals ≡ false
+
+abbrev pub IsJob : Shape → Command → Type 0
+IsJob shape command = IsCommand (record { top = shape; subs = [] }) command
+
+-- the command line takes the words, and these are what it makes of them
+pub record IsMatch (words : List (List ℕ)) (matches : ArgMatches) : Type 0 where
+  pub taken : is_taken words ≡ true
+  pub rows : subcommand_rows_of matches ≡ subcommand_of program words
+
+-- the command line doesn't take the words; want of memory says nothing of them
+abbrev pub HasNoMatch : List (List ℕ) → WordFault → Type 0
+HasNoMatch words Refused = is_taken words ≡ false
+HasNoMatch words Memory = ⊤
+
+abbrev pub fault_by : ErrorKind → WordFault
+fault_by OutOfMemory = Memory
+fault_by _ = Refused

@@ -1,0 +1,80 @@
+-- The streams of a run: their bytes, where a stream knows them, and how often it ended or failed (our profile).
+use Rattle.std.specs.Prelude.{◌≡◌, ◌+◌, ◌-◌, ◌^◌, ◌<◌, ◌≤◌, ◌++◌, ◌∷◌, [], ⊤, ℕ, List, take, min, Option, None, Some, Result, Ok, Err}
+use Rattle.std.specs.Io.KnownBytes.{Consumes, IsAtEnd, Appends, Keeps}
+use Rattle.jobs3270.specs.declared.streams.Answer.{Answer}
+use Rattle.jobs3270.specs.declared.streams.Answer.TheVariants.{Gave, Ended, Interrupted, Failed}
+
+-- so many more; a count stays at its last value
+abbrev pub more : ℕ → ℕ → ℕ
+more count by = min (count + by) (2 ^ 64 - 1)
+
+-- ---- a source
+
+-- the bytes that it has left, where they are known; how often it was read, and how many of these reads found the end, or failed
+pub record Input : Type 0 where
+  pub left : Option (List ℕ)
+  pub reads : ℕ
+  pub ends : ℕ
+  pub failures : ℕ
+
+-- a read gives some bytes, no more than there is room for
+abbrev pub GivesWithin : Answer → ℕ → Type 0
+GivesWithin (Gave count) room = (0 < count) × (count ≤ room)
+GivesWithin Ended room = ⊤
+GivesWithin Interrupted room = ⊤
+GivesWithin Failed room = ⊤
+
+-- what a read takes of the bytes that are left; `buffer` is what it was lent, after the read
+abbrev pub Gives : Answer → Option (List ℕ) → Option (List ℕ) → List ℕ → Type 0
+Gives (Gave count) old new buffer = Consumes old new (take count buffer)
+Gives Ended old new buffer = Keeps old new × IsAtEnd new
+Gives Interrupted old new buffer = Keeps old new
+Gives Failed old new buffer = Keeps old new
+
+abbrev pub ends_after : Answer → ℕ → ℕ
+ends_after Ended ends = more ends 1
+ends_after _ ends = ends
+
+abbrev pub failures_after : Answer → ℕ → ℕ
+failures_after Failed failures = more failures 1
+failures_after _ failures = failures
+
+-- each read counts
+pub record Counts (answer : Answer) (old new : Input) : Type 0 where
+  pub reads : new.reads ≡ more old.reads 1
+  pub ends : new.ends ≡ ends_after answer old.ends
+  pub failures : new.failures ≡ failures_after answer old.failures
+
+-- ---- a sink
+
+-- the bytes that it got, where they are known, and how many writes failed
+pub record Output : Type 0 where
+  pub got : Option (List ℕ)
+  pub failures : ℕ
+
+-- nothing was written
+pub record Untouched (old new : Output) : Type 0 where
+  pub kept : Keeps old.got new.got
+  pub sound : new.failures ≡ old.failures
+
+-- the bytes were written, and nothing else
+pub record Written (old new : Output) (bytes : List ℕ) : Type 0 where
+  pub appended : Appends old.got new.got bytes
+  pub sound : new.failures ≡ old.failures
+
+-- a front of the bytes was written, since the write failed
+pub record CutShort (old new : Output) (bytes : List ℕ) : Type 0 where
+  pub count : ℕ
+  pub appended : Appends old.got new.got (take count bytes)
+  pub failed : new.failures ≡ more old.failures 1
+
+-- a write of all bytes
+abbrev pub Writes : {E : Type 0} → Result Unit E → Output → Output → List ℕ → Type 0
+Writes (Ok done) old new bytes = Written old new bytes
+Writes (Err fault) old new bytes = CutShort old new bytes
+
+-- a write of a text and a newline; of one that fails it isn't known what was written
+abbrev pub WritesLine : {E : Type 0} → Result Unit E → Output → Output → Option (List ℕ) → Type 0
+WritesLine (Ok done) old new None = new.failures ≡ old.failures
+WritesLine (Ok done) old new (Some text) = Written old new (text ++ 10 ∷ [])
+WritesLine (Err fault) old new text = new.failures ≡ more old.failures 1

@@ -1,0 +1,109 @@
+-- A panel text and a script in one input, and what is printed of them (our profile).
+use Rattle.std.specs.Prelude.{◌≡◌, ⊤, ℕ, ◌+◌, ◌==◌, ◌&&◌, ◌||◌, Bool, true, List, [], ◌∷◌, codes, bytes_eq, nat_eq, Option, take, drop, map, if◌then◌else◌}
+use Rattle.std.specs.List.{after_first, starts_with}
+use Rattle.tn3270e_msg.specs.Lu.{lu_of}
+use Rattle.host_core.specs.State.{Host, new_host}
+use Rattle.lu_pool.specs.Reading.{IsReadFrom as IsPoolReadFrom, IsRight, IsFirstFault}
+use Rattle.lu_pool.specs.declared.entry.Entry.{Entry}
+use Rattle.lu_pool.specs.declared.fault.PoolFault.{PoolFault}
+use Rattle.lu_pool.specs.declared.fault.PoolFault.TheVariants as pool_fault
+use Rattle.panels.specs.Defines.{IsReadFrom}
+use Rattle.panels.specs.Panel.{Panels as PanelsRead}
+use Rattle.panels.specs.Passes.{IsReason}
+use Rattle.panels.specs.declared.fault.PanelFault.{PanelFault}
+use Rattle.panels.specs.declared.fault.PanelFault.TheVariants as panel_fault
+use Rattle.term_core.specs.ScreenText.{newline}
+use Rattle.world3270.specs.ByteWorld.{ByteWorld, new_byte_world}
+use Rattle.jobs3270.specs.declared.fault.Fault.{Fault}
+use Rattle.jobs3270.specs.declared.fault.Fault.TheVariants.{Panels, Pool, NoMemory}
+use Rattle.jobs3270.specs.Plays.{IsPlayed, terminal_count}
+
+-- ---- the two parts of an input
+
+-- whether a line `%%` begins here
+abbrev pub is_at_mark : List ℕ → Bool
+is_at_mark text = bytes_eq text (codes "%%") || starts_with nat_eq text (codes "%%\n")
+
+-- The place of the first line `%%`, counted from here; where there is none, that behind the text. `begins`: a line begins here.
+abbrev pub mark_place : Bool → List ℕ → ℕ
+mark_place begins [] = 0
+mark_place begins (char ∷ text) = if begins && is_at_mark (char ∷ text) then 0 else 1 + mark_place (char == newline) text
+
+-- the panel text stands before that line
+abbrev pub panel_text : List ℕ → List ℕ
+panel_text input = take (mark_place true input) input
+
+-- what stands behind the first line
+abbrev pub behind_line : List ℕ → List ℕ
+behind_line text = after_first (λ char. char == newline) text
+
+-- the script stands behind it
+abbrev pub script_text : List ℕ → List ℕ
+script_text input = behind_line (drop (mark_place true input) input)
+
+-- ---- the world that a script begins with
+
+-- what the names of the panels' LUs are read as
+abbrev pub lus_of : PanelsRead → List (Option (List ℕ))
+lus_of panels = map lu_of panels.lus
+
+-- The text's panels, a pool of their LUs, and terminals. Text and names have no fault.
+pub record IsWorldOf (text : List ℕ) (world : ByteWorld) : Type 0 where
+  pub panels : PanelsRead
+  pub panels_read : IsReadFrom text panels
+  pub pool : List Entry
+  pub pool_read : IsPoolReadFrom (lus_of panels) pool
+  pub lus_right : IsRight (lus_of panels)
+  pub world_is : world ≡ new_byte_world panels pool terminal_count
+
+-- The text's panels, and a pool of their LUs. Text and names have no fault.
+pub record IsApplicationOf (text : List ℕ) (panels : PanelsRead) (pool : List Entry) : Type 0 where
+  pub panels_read : IsReadFrom text panels
+  pub pool_read : IsPoolReadFrom (lus_of panels) pool
+  pub lus_right : IsRight (lus_of panels)
+
+-- a host of these
+pub record IsHostOf (text : List ℕ) (host : Host) : Type 0 where
+  pub panels : PanelsRead
+  pub pool : List Entry
+  pub is_application : IsApplicationOf text panels pool
+  pub host_is : host ≡ new_host panels pool
+
+-- why a text defines no panels; want of memory is no fault of the text
+abbrev pub HasPanelFault : List ℕ → PanelFault → Type 0
+HasPanelFault text panel_fault.Memory = ⊥
+HasPanelFault text panel_fault.NotToml = IsReason text panel_fault.NotToml
+HasPanelFault text (panel_fault.Tree fault place) = IsReason text (panel_fault.Tree fault place)
+
+abbrev pub IsLuFault : List (Option (List ℕ)) → PoolFault → Type 0
+IsLuFault lus pool_fault.Memory = ⊥
+IsLuFault lus (pool_fault.BadName place) = IsFirstFault lus (pool_fault.BadName place)
+IsLuFault lus (pool_fault.Twice place) = IsFirstFault lus (pool_fault.Twice place)
+IsLuFault lus pool_fault.BadCount = IsFirstFault lus pool_fault.BadCount
+
+-- it defines panels, and their LUs are no pool
+pub record HasPoolFault (text : List ℕ) (fault : PoolFault) : Type 0 where
+  pub panels : PanelsRead
+  pub panels_read : IsReadFrom text panels
+  pub is_fault : IsLuFault (lus_of panels) fault
+
+-- by which fault a text has no world; want of memory says nothing of the text
+abbrev pub HasNoWorld : List ℕ → Fault → Type 0
+HasNoWorld text (Panels fault) = HasPanelFault text fault
+HasNoWorld text (Pool fault) = HasPoolFault text fault
+HasNoWorld text NoMemory = ⊤
+HasNoWorld text _ = ⊥
+
+-- ---- the page
+
+-- What is printed of an input: all that its script prints, up to the first line that isn't understood, if there is one.
+pub record IsScriptPage (input page : List ℕ) (stopped : Option ℕ) : Type 0 where
+  pub old : ByteWorld
+  pub begins : IsWorldOf (panel_text input) old
+  pub new : ByteWorld
+  pub is_played : IsPlayed (script_text input) old page stopped new
+
+-- An input has one page, and one number of the line that ends it, if one does.
+abbrev pub ScriptsHaveOnePage : Type 0
+ScriptsHaveOnePage = (input page other : List ℕ) (stopped ended : Option ℕ) → IsScriptPage input page stopped → IsScriptPage input other ended
+    → (page ≡ other) × (stopped ≡ ended)

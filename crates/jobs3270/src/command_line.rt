@@ -1,0 +1,197 @@
+//! The words behind the program's name.
+ghost use Rattle.std.specs.Prelude.{◌≡◌, IfOk, IfErr, Some, map, option_map, string_bytes};
+ghost use Rattle.clap.specs.Walk.{first_of, rows_of};
+ghost use Rattle.clap.specs.Simple.{subcommand_rows_of};
+ghost use Rattle.clap.specs.Matches.{found_of};
+ghost use Rattle.clap.specs.Values.{kind_of};
+ghost use Rattle.jobs3270.specs.Words.{HasNoJob, program, job_of, job_by, job_named, given_port, given_turns, given_lu, port_rule, turns_rule, lu_rule, selfrun_shape, host_shape, serve_shape, term_shape};
+ghost use Rattle.jobs3270.specs.ClapCommands.{IsOption, IsJob, IsCommand, IsMatch, HasNoMatch, fault_by};
+
+use crate::job::{Job, Port, Turns, WordFault};
+use clap::error::ErrorKind;
+use clap::{Arg, ArgMatches, Command, Error};
+use std::alloc::{AllocError, Global};
+use tn3270e_msg::Lu;
+
+// ---- the command line
+
+/// `--port P`, which has to be given.
+fn port_option<'a>(alloc: Global) -> Arg<'a>
+    ensures { IsOption port_rule result }
+{
+    Arg::new(alloc, "port").long("port").required(true)
+}
+
+/// `--turns N`.
+fn turns_option<'a>(alloc: Global) -> Arg<'a>
+    ensures { IsOption turns_rule result }
+{
+    Arg::new(alloc, "turns").long("turns")
+}
+
+/// `--lu NAME`.
+fn lu_option<'a>(alloc: Global) -> Arg<'a>
+    ensures { IsOption lu_rule result }
+{
+    Arg::new(alloc, "lu").long("lu")
+}
+
+/// `selfrun [--turns N]`.
+fn selfrun<'a>(alloc: Global) -> Result<Command<'a>, AllocError>
+    ensures { IfOk result (IsJob selfrun_shape) }
+{
+    Command::new(alloc, "selfrun").arg(turns_option(alloc))
+}
+
+/// `host --port P [--turns N]`.
+fn host<'a>(alloc: Global) -> Result<Command<'a>, AllocError>
+    ensures { IfOk result (IsJob host_shape) }
+{
+    let command = Command::new(alloc, "host").arg(port_option(alloc))?;
+    command.arg(turns_option(alloc))
+}
+
+/// `serve --port P`.
+fn serve<'a>(alloc: Global) -> Result<Command<'a>, AllocError>
+    ensures { IfOk result (IsJob serve_shape) }
+{
+    Command::new(alloc, "serve").arg(port_option(alloc))
+}
+
+/// `term --port P [--lu NAME]`.
+fn term<'a>(alloc: Global) -> Result<Command<'a>, AllocError>
+    ensures { IfOk result (IsJob term_shape) }
+{
+    let command = Command::new(alloc, "term").arg(port_option(alloc))?;
+    command.arg(lu_option(alloc))
+}
+
+/// The program, with its jobs as subcommands.
+fn program<'a>(alloc: Global) -> Result<Command<'a>, AllocError>
+    ensures { IfOk result (IsCommand program) }
+{
+    Command::new(alloc, "panel3270")
+        .no_binary_name(true)
+        .subcommand(Command::new(alloc, "script"))?
+        .subcommand(Command::new(alloc, "show"))?
+        .subcommand(selfrun(alloc)?)?
+        .subcommand(host(alloc)?)?
+        .subcommand(serve(alloc)?)?
+        .subcommand(term(alloc)?)
+}
+
+// ---- what was given
+
+/// The value that an option was given.
+fn given<'a>(options: &ArgMatches<'a>, name: &str) -> Option<&'a str>
+    ensures { option_map (λ word. word.now) result ≡ first_of name.now (rows_of (found_of options.now)) }
+{
+    options.get_str(name)
+}
+
+/// The port that has to be given.
+fn port_in(options: &ArgMatches<'_>) -> Option<Port>
+    ensures { result ≡ given_port (rows_of (found_of options.now)) }
+{
+    Port::read(given(options, "port")?)
+}
+
+/// How many turns are to be taken.
+fn turns_in(options: &ArgMatches<'_>) -> Option<Turns>
+    ensures { result ≡ given_turns (rows_of (found_of options.now)) }
+{
+    match given(options, "turns") {
+        Some(word) => Turns::read(word),
+        None => Some(Turns::usual()),
+    }
+}
+
+/// The LU to ask for, if one is named. None where the name is no LU's.
+fn lu_in(options: &ArgMatches<'_>) -> Option<Option<Lu>>
+    ensures { result ≡ given_lu (rows_of (found_of options.now)) }
+{
+    match given(options, "lu") {
+        Some(word) => Some(Some(Lu::read(word.as_bytes())?)),
+        None => Some(None),
+    }
+}
+
+/// The job with a name, by its options.
+fn job_named(name: &str, options: &ArgMatches<'_>) -> Option<Job>
+    ensures { result ≡ job_named name.now (rows_of (found_of options.now)) }
+{
+    match name {
+        "script" => Some(Job::Script),
+        "show" => Some(Job::Show),
+        "selfrun" => Some(Job::Selfrun {
+            turns: turns_in(options)?,
+        }),
+        "host" => {
+            let port = port_in(options)?;
+            let turns = turns_in(options)?;
+            Some(Job::Host { port, turns })
+        }
+        "serve" => Some(Job::Serve {
+            port: port_in(options)?,
+        }),
+        "term" => {
+            let port = port_in(options)?;
+            let lu = lu_in(options)?;
+            Some(Job::Term { port, lu })
+        }
+        _ => None,
+    }
+}
+
+/// The job that was asked for: `script` where there is no word.
+fn job_in(matches: &ArgMatches<'_>) -> Option<Job>
+    ensures { result ≡ job_by (subcommand_rows_of matches.now) }
+{
+    match matches.subcommand() {
+        Some((name, options)) => job_named(name, options),
+        None => Some(Job::Script),
+    }
+}
+
+// ---- words
+
+/// Why words weren't taken.
+fn fault_of(error: Error) -> WordFault
+    ensures { result ≡ fault_by (kind_of error) }
+{
+    match error.kind() {
+        ErrorKind::OutOfMemory => WordFault::Memory,
+        _ => WordFault::Refused,
+    }
+}
+
+/// What the command line makes of words.
+fn matches_of<'a>(alloc: Global, words: &'a [String]) -> Result<ArgMatches<'a>, WordFault>
+    ensures matches { IfOk result (IsMatch (map string_bytes words.now)) }
+    ensures fault { IfErr result (HasNoMatch (map string_bytes words.now)) }
+{
+    let Ok(command) = program(alloc) else {
+        return Err(WordFault::Memory);
+    };
+    match command.try_get_matches_from(words) {
+        Ok(matches) => Ok(matches),
+        Err(error) => Err(fault_of(error)),
+    }
+}
+
+/// The job that the words behind the program's name ask for: `script` where there is none.
+///
+/// Answers Refused where the command line doesn't take them, or a port, a number of turns or an LU's name isn't one; Memory where
+/// a growth was refused.
+pub fn words(alloc: Global, words: &[String]) -> Result<Job, WordFault>
+    ensures job { IfOk result (λ job. job_of (map string_bytes words.now) ≡ Some job) }
+    ensures fault { IfErr result (HasNoJob (map string_bytes words.now)) }
+{
+    match matches_of(alloc, words) {
+        Ok(matches) => match job_in(&matches) {
+            Some(job) => Ok(job),
+            None => Err(WordFault::Refused),
+        },
+        Err(fault) => Err(fault),
+    }
+}

@@ -1,0 +1,81 @@
+//! Why a run ended early, as it is told and as an exit status.
+ghost use Rattle.std.specs.Prelude.{◌≡◌};
+ghost use Rattle.jobs3270.specs.Faults.{status_of};
+
+use lu_pool::PoolFault;
+use panels::PanelFault;
+use std::alloc::AllocError;
+use std::fmt;
+use thiserror::Error;
+
+/// Why a run ended before its end. It prints as the line that standard error gets.
+#[derive(Debug, Drop, PartialEq, Eq, Error)]
+pub enum Fault {
+    /// The input could not be read, is too long, or isn't UTF-8.
+    InputNotRead,
+    /// The panel text defines no panels.
+    Panels(PanelFault),
+    /// The panels' LUs are no pool.
+    Pool(PoolFault),
+    /// The line with this number, from 1 on, isn't pairs of hexadecimal digits.
+    NotHex(usize),
+    /// The script's line with this number, from 1 on, isn't understood.
+    NotUnderstood(usize),
+    /// A growth was refused.
+    NoMemory,
+    /// The system refused a socket.
+    SocketFailed,
+    /// The turns are used up.
+    TurnsOver,
+    /// The output didn't take all that was printed.
+    OutputFailed,
+}
+
+impl Fault {
+    /// The exit status of the program.
+    pub fn status(&self) -> u8
+        ensures { result ≡ status_of self.now }
+    {
+        match self {
+            Fault::InputNotRead | Fault::Panels(_) | Fault::Pool(_) => 1,
+            Fault::NotHex(_) | Fault::NotUnderstood(_) => 1,
+            Fault::NoMemory => 3,
+            Fault::SocketFailed => 4,
+            Fault::TurnsOver => 5,
+            Fault::OutputFailed => 6,
+        }
+    }
+}
+
+// By hand, since a derived `Display` has no contract.
+impl fmt::Display for Fault {
+    ghost use Rattle.std.specs.Prelude.{Some};
+    ghost use Rattle.jobs3270.specs.Faults.{fault_text};
+
+    ghost output = { λ fault. Some (fault_text fault) };
+
+    fn fmt<W: fmt::Write>(&self, f: &mut fmt::Formatter<W>) -> fmt::Result {
+        match self {
+            Fault::InputNotRead => f.write_str("input not read"),
+            Fault::Panels(fault) => write!(f, "{fault}"),
+            Fault::Pool(fault) => write!(f, "{fault}"),
+            Fault::NotHex(line) => write!(f, "line {line}: not hex"),
+            Fault::NotUnderstood(line) => write!(f, "line {line}: not understood"),
+            Fault::NoMemory => f.write_str("no memory"),
+            Fault::SocketFailed => f.write_str("socket failed"),
+            Fault::TurnsOver => f.write_str("turns over"),
+            Fault::OutputFailed => f.write_str("output failed"),
+        }
+    }
+}
+
+impl From<AllocError> for Fault {
+    ghost use Rattle.std.specs.Prelude.{◌≡◌};
+    ghost use Rattle.jobs3270.specs.declared.fault.Fault.TheVariants.{NoMemory};
+
+    ghost from_gives = { λ _ fault. fault ≡ NoMemory };
+
+    fn from(_: AllocError) -> Fault {
+        Fault::NoMemory
+    }
+}

@@ -1,0 +1,56 @@
+//! The input, read whole before anything is done with it.
+ghost use Rattle.std.specs.Prelude.{◌≡◌, IfOk, IfErr, IsUtf8, OnErr, OnOk, string_bytes};
+ghost use Rattle.jobs3270.specs.Runs.{IsInput, RefusesInput};
+ghost use Rattle.jobs3270.specs.declared.fault.Fault.TheVariants.{InputNotRead};
+
+use crate::fault::Fault;
+use crate::streams::{Answer, Source};
+use std::alloc::Global;
+
+/// The most bytes that an input may have.
+pub const MOST_BYTES: usize = 1_048_576;
+
+/// The most reads that an input may take, the one that finds its end among them.
+pub const MOST_READS: u32 = 65_536;
+
+/// How much one read asks for.
+const CHUNK: usize = 4096;
+
+/// The text that bytes are in UTF-8.
+fn text_of(bytes: Vec<u8>) -> Result<String, Fault>
+    ensures text { IfOk result (λ text. string_bytes text ≡ bytes.items) }
+    ensures utf8 { OnOk result (IsUtf8 bytes.items) }
+    ensures fault { IfErr result (λ fault. fault ≡ InputNotRead) }
+    ensures no_text { OnErr result (IsUtf8 bytes.items → ⊥) }
+{
+    match String::from_utf8(bytes) {
+        Ok(text) => Ok(text),
+        Err(_) => Err(Fault::InputNotRead),
+    }
+}
+
+/// The whole input as text. It is refused if a read fails, if it has more than `MOST_BYTES` bytes or takes more than
+/// `MOST_READS` reads, and if it isn't UTF-8.
+pub(crate) fn read_whole<I: Source>(alloc: Global, input: &mut I) -> Result<String, Fault>
+    ensures whole { IfOk result (λ text. IsInput (I.seen input.old) (I.seen input.new) (string_bytes text)) }
+    ensures fault { IfErr result (λ fault. RefusesInput fault (I.seen input.old) (I.seen input.new)) }
+{
+    let mut bytes = Vec::new(alloc);
+    let mut chunk = [0u8; CHUNK];
+    for _ in 0..MOST_READS {
+        match input.read(&mut chunk) {
+            Answer::Ended => return text_of(bytes),
+            Answer::Gave(count) => {
+                if bytes.len().saturating_add(count) > MOST_BYTES {
+                    return Err(Fault::InputNotRead);
+                }
+                if bytes.extend_from_slice(&chunk[..count]).is_err() {
+                    return Err(Fault::NoMemory);
+                }
+            }
+            Answer::Interrupted => {}
+            Answer::Failed => return Err(Fault::InputNotRead),
+        }
+    }
+    Err(Fault::InputNotRead)
+}

@@ -1,0 +1,135 @@
+//! An operator at a terminal: what keys do there, and when the host need not be waited for any longer.
+ghost use Rattle.std.specs.Prelude.{◌≡◌, ◌++◌, IfOk, OnOk, OnErr, [], chars, length, string_bytes};
+ghost use Rattle.term_core.specs.Presses.{after_key, answer_to_key};
+ghost use Rattle.term_core.specs.State.{phase_of};
+ghost use Rattle.jobs3270.specs.Counting.{Writes};
+ghost use Rattle.jobs3270.specs.Operating.{HasWaited, after_text, is_settled, refusal_in, refusal_text, said_of_key, said_of_text};
+
+use crate::streams::{Answer, Sink, Source, WriteFailed};
+use keyboard::{Key, Lock, Pressed, Refusal};
+use std::alloc::AllocError;
+use term_core::{TermPhase, Terminal};
+use tn3270e_msg::Stop;
+
+/// The most reads of one wait.
+const MOST_READS: usize = 1000;
+
+/// How much one read asks for.
+const CHUNK: usize = 4096;
+
+// ---- keys
+
+/// Why a key was refused, if it was.
+fn refusal_in(pressed: &Pressed) -> Option<Refusal>
+    ensures { result ≡ refusal_in pressed.now }
+{
+    match pressed {
+        Pressed::Refused(why) => Some(*why),
+        Pressed::Done | Pressed::Send(_) => None,
+    }
+}
+
+/// A key is pressed. Answers why it was refused, if it was.
+fn press_once(terminal: &mut Terminal, key: Key) -> Result<Option<Refusal>, AllocError>
+    ensures pressed { OnOk result (terminal.new ≡ after_key key terminal.old) }
+    ensures refusal { IfOk result (λ refusal. refusal ≡ refusal_in (answer_to_key key terminal.old)) }
+{
+    match terminal.press(key) {
+        Ok(pressed) => Ok(refusal_in(&pressed)),
+        Err(error) => Err(error),
+    }
+}
+
+/// Adds what is said of a key that was refused.
+fn put_refusal(text: &mut String, why: Refusal) -> Result<(), AllocError>
+    ensures { OnOk result (string_bytes text.new ≡ string_bytes text.old ++ refusal_text why) }
+{
+    let number = why.number();
+    write!(text, "refused {number}\n")
+}
+
+/// A key is pressed, and `refused N` is added where it was.
+pub(crate) fn press(terminal: &mut Terminal, key: Key, text: &mut String) -> Result<(), AllocError>
+    ensures pressed { OnOk result (terminal.new ≡ after_key key terminal.old) }
+    ensures said { OnOk result (string_bytes text.new ≡ string_bytes text.old ++ said_of_key (answer_to_key key terminal.old)) }
+{
+    match press_once(terminal, key)? {
+        Some(why) => put_refusal(text, why),
+        None => Ok(()),
+    }
+}
+
+/// The characters of a text are pressed in turn, up to the first that is refused, of which `refused N` is added.
+pub(crate) fn type_text(
+    terminal: &mut Terminal,
+    typed: &str,
+    text: &mut String,
+) -> Result<(), AllocError>
+    ensures typed { OnOk result (terminal.new ≡ after_text (chars typed.now) terminal.old) }
+    ensures said { OnOk result (string_bytes text.new ≡ string_bytes text.old ++ said_of_text (chars typed.now) terminal.old) }
+{
+    for letter in typed.chars() {
+        if let Some(why) = press_once(terminal, Key::Char(letter))? {
+            return put_refusal(text, why);
+        }
+    }
+    Ok(())
+}
+
+// ---- the host is waited for
+
+/// Whether there is nothing to wait for.
+fn is_settled(terminal: &Terminal) -> bool
+    ensures { result ≡ is_settled (phase_of terminal.now.link) terminal.now.station.keyboard.lock }
+{
+    match terminal.phase() {
+        TermPhase::Bound(_) => terminal.lock() != Lock::Wait,
+        TermPhase::Talking => false,
+        TermPhase::Refused(_) | TermPhase::Closed(_) | TermPhase::Idle => true,
+    }
+}
+
+/// Sends all that a terminal has to send.
+fn send<U: Sink>(terminal: &mut Terminal, up: &mut U) -> Result<(), WriteFailed>
+    ensures written { Writes result (U.seen up.old) (U.seen up.new) terminal.old.out }
+    ensures sent { OnOk result (terminal.new ≡ record terminal.old { out = [] }) }
+    ensures kept { OnErr result (terminal.new ≡ terminal.old) }
+{
+    up.write_all(terminal.out())?;
+    let count = terminal.out().len();
+    terminal.sent(count);
+    Ok(())
+}
+
+/// Sends what a terminal has to send, and gives it what comes, until there is nothing to wait for, or for `MOST_READS` reads. A
+/// terminal whose connection ends, or fails, is detached from it.
+pub(crate) fn wait<D: Source, U: Sink>(
+    terminal: &mut Terminal,
+    down: &mut D,
+    up: &mut U,
+) -> Result<(), AllocError>
+    ensures { OnOk result (HasWaited terminal.new (D.seen down.old) (D.seen down.new)) }
+{
+    let mut chunk = [0; CHUNK];
+    for _ in 0..MOST_READS {
+        if send(terminal, up).is_err() {
+            terminal.lost();
+        }
+        if is_settled(terminal) {
+            return Ok(());
+        }
+        match down.read(&mut chunk) {
+            Answer::Gave(count) => {
+                if terminal.feed(&chunk[..count]).stop == Stop::Memory {
+                    return Err(AllocError);
+                }
+            }
+            Answer::Interrupted => {}
+            Answer::Ended | Answer::Failed => {
+                terminal.lost();
+                return Ok(());
+            }
+        }
+    }
+    Ok(())
+}

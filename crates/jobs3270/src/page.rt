@@ -1,0 +1,81 @@
+//! What is printed of commands that come in lines of hexadecimal.
+ghost use Rattle.std.specs.Prelude.{◌≡◌, ◌++◌, ℕ, List, Option, IfOk, OnOk, string_bytes};
+ghost use Rattle.jobs3270.specs.Pages.{first_screen, sense_text, TakesCommand, IsPage};
+
+use crate::hex_line::bytes_of_line;
+use crate::screen_text::put_screen;
+use datastream::{Sense, read_command};
+use presentation::Screen;
+use std::alloc::{AllocError, Global};
+
+/// What is printed of an input.
+#[derive(Debug, Drop, PartialEq, Eq)]
+pub struct Page {
+    /// A line for each command that was refused; then, where all lines were hexadecimal, the screen and its cursor.
+    pub text: String,
+    /// The number, from 1 on, of the first line that isn't hexadecimal. It ends the run.
+    pub not_hex: Option<usize>,
+}
+
+/// A screen that nothing was written on.
+fn first_screen() -> Screen
+    ensures { result ≡ first_screen }
+{
+    Screen::blank()
+}
+
+/// What a negative response says (RFC 1647, section 10.4).
+fn sense_text(sense: Sense) -> &'static str
+    ensures { result.now ≡ sense_text sense }
+{
+    match sense {
+        Sense::CommandReject => "COMMAND-REJECT",
+        Sense::OperationCheck => "OPERATION-CHECK",
+    }
+}
+
+/// Applies the command that the bytes spell; one with a fault changes nothing, and its refusal is added to the text.
+fn take_command(screen: &mut Screen, bytes: &[u8], text: &mut String) -> Result<(), AllocError>
+    ensures { OnOk result ((said : List ℕ) × TakesCommand bytes.now screen.old screen.new said
+        × (string_bytes text.new ≡ string_bytes text.old ++ said)) }
+{
+    match read_command(bytes) {
+        Ok(command) => {
+            screen.apply(&command);
+            Ok(())
+        }
+        Err(fault) => {
+            let response = sense_text(fault.sense());
+            write!(text, "refused {response}\n")
+        }
+    }
+}
+
+/// Applies the commands of an input, one a line in hexadecimal, in order to one blank screen, and prints the refusals, the
+/// screen and its cursor. At a line that isn't hexadecimal it ends, and no screen is printed.
+///
+/// A line ends with a newline, which the last may lack. It is pairs of hexadecimal digits in either case, with blanks
+/// before, between and behind them; a line with none is a command of no bytes.
+pub fn page_of(alloc: Global, input: &str) -> Result<Page, AllocError>
+    ensures found { IfOk result (λ page. IsPage input.now (string_bytes page.text) page.not_hex) }
+    // There is no other page.
+    ensures only { (printed : List ℕ) (not_hex : Option ℕ) → IsPage input.now printed not_hex
+        → IfOk result (λ page. (string_bytes page.text ≡ printed) × (page.not_hex ≡ not_hex)) }
+{
+    let mut text = String::new(alloc);
+    let mut screen = first_screen();
+    for (index, line) in input.split_terminator('\n').enumerate() {
+        let Some(bytes) = bytes_of_line(alloc, line)? else {
+            return Ok(Page {
+                text,
+                not_hex: Some(index + 1),
+            });
+        };
+        take_command(&mut screen, bytes.as_slice(), &mut text)?;
+    }
+    put_screen(alloc, &mut text, &screen)?;
+    Ok(Page {
+        text,
+        not_hex: None,
+    })
+}

@@ -1,0 +1,215 @@
+//! `script`: panels and a script come in, and the operators' screens come out.
+ghost use Rattle.std.specs.Prelude.{◌≡◌, ℕ, List, true, string_bytes, IfOk, IfErr};
+ghost use Rattle.std.specs.Str.{IsCharBoundary};
+ghost use Rattle.lu_pool.specs.Reading.{IsFirstFault};
+ghost use Rattle.panels.specs.Defines.{IsReadFrom};
+ghost use Rattle.panels.specs.Panel.{Panels};
+ghost use Rattle.panels.specs.Passes.{IsReason};
+ghost use Rattle.jobs3270.specs.Runs.{EndsPrinting, HasCause, IsEnd, ending_of};
+ghost use Rattle.jobs3270.specs.Scripts.{HasNoWorld, IsApplicationOf, IsHostOf, IsScriptPage, IsWorldOf, ScriptsHaveOnePage, behind_line, is_at_mark, lus_of, mark_place, panel_text, script_text};
+ghost use Rattle.jobs3270.specs.declared.task.Task.TheVariants.{Script};
+
+use crate::fault::Fault;
+use crate::input::read_whole;
+use crate::player::{TERMINALS, play};
+use crate::show::end_by;
+use crate::streams::{Sink, Source};
+use host_core::Host;
+use lu_pool::{Pool, PoolFault};
+use panels::{PanelFault, PanelSet};
+use std::alloc::Global;
+use world3270::World;
+
+/// Serves the panels of a text to four terminals, and does the commands of a script, one a line: the terminals connect, and
+/// type; bytes come, and are lost; screens are printed where the script asks for them. The input is the panel text, a line `%%`,
+/// and the script; the page is printed when the script has ended. What ends the run early is told in one line of `faults`.
+///
+/// Answers the exit status: 0 where all went well; 1 where the input can't be read (as with [`run_show`](crate::run_show)),
+/// where its panel text defines no panels, where their LUs are no pool, or where a line isn't understood, behind what the lines
+/// before it print; 3 where a growth was refused; 6 where the output failed.
+pub fn run_script<I: Source, O: Sink, E: Sink>(
+    alloc: Global,
+    input: &mut I,
+    out: &mut O,
+    faults: &mut E,
+) -> u8
+    ensures { IsEnd Script (I.seen input.old) (I.seen input.new) (O.seen out.old) (O.seen out.new) (E.seen faults.old) (E.seen faults.new) result }
+{
+    match script(alloc, input, out) {
+        Ok(()) => 0,
+        Err(fault) => end_by(fault, faults),
+    }
+}
+
+/// Reads the input, and prints its page.
+fn script<I: Source, O: Sink>(alloc: Global, input: &mut I, out: &mut O) -> Result<(), Fault>
+    ensures { HasCause Script (ending_of result) (I.seen input.old) (I.seen input.new) (O.seen out.old) (O.seen out.new) }
+{
+    match read_whole(alloc, input) {
+        Ok(text) => print_script(alloc, text.as_str(), out),
+        Err(fault) => Err(fault),
+    }
+}
+
+/// Prints the page of a text.
+fn print_script<O: Sink>(alloc: Global, text: &str, out: &mut O) -> Result<(), Fault>
+    ensures { EndsPrinting Script (ending_of result) text.now (O.seen out.old) (O.seen out.new) }
+{
+    let page = match page_of_script(alloc, text) {
+        Ok(page) => page,
+        Err(fault) => return Err(fault),
+    };
+    if out.write_all(page.text.as_bytes()).is_err() {
+        return Err(Fault::OutputFailed);
+    }
+    match page.stopped {
+        Some(line) => Err(Fault::NotUnderstood(line)),
+        None => Ok(()),
+    }
+}
+
+/// What is printed of an input.
+#[derive(Drop)]
+struct ScriptPage {
+    text: String,
+    /// The number of the first line that isn't understood, if there is one.
+    stopped: Option<usize>,
+}
+
+/// Plays the script of an input in the world of its panel text.
+fn page_of_script(alloc: Global, input: &str) -> Result<ScriptPage, Fault>
+    ensures page { IfOk result (λ page. IsScriptPage input.now (string_bytes page.text) page.stopped) }
+    ensures fault { IfErr result (HasNoWorld (panel_text input.now)) }
+{
+    let (panel_text, script) = parted(input);
+    let mut world = match world_of(alloc, panel_text) {
+        Ok(world) => world,
+        Err(fault) => return Err(fault),
+    };
+    let mut text = String::new(alloc);
+    match play(alloc, &mut world, script, &mut text) {
+        Ok(stopped) => Ok(ScriptPage { text, stopped }),
+        Err(_) => Err(Fault::NoMemory),
+    }
+}
+
+/// Does nothing: its contract says that an input has one page, and one number of the line that ends it, if one does.
+pub fn a_script_has_one_page()
+    ensures { ScriptsHaveOnePage }
+{
+    panels::a_text_defines_its_panels_once();
+    world3270::one_machine();
+}
+
+// ---- the two parts of an input
+
+/// Whether a line `%%` begins here.
+fn is_at_mark(text: &[u8]) -> bool
+    ensures { result ≡ is_at_mark text.now }
+{
+    text == b"%%".as_slice() || text.starts_with(b"%%\n")
+}
+
+/// The place of the first line `%%`; where there is none, that behind the text.
+fn mark_place(text: &[u8]) -> usize
+    ensures place { result ≡ mark_place true text.now }
+    ensures boundary { IsCharBoundary text.now result }
+{
+    let mut begins = true;
+    for (place, letter) in text.iter().enumerate() {
+        if begins && is_at_mark(&text[place..]) {
+            return place;
+        }
+        begins = *letter == b'\n';
+    }
+    text.len()
+}
+
+/// What stands behind the first line.
+fn behind_line(text: &str) -> &str
+    ensures { result.now ≡ behind_line text.now }
+{
+    match text.split_once('\n') {
+        Some((_, behind)) => behind,
+        None => "",
+    }
+}
+
+/// The panel text and the script.
+pub(crate) fn parted(input: &str) -> (&str, &str)
+    ensures panels { result.0.now ≡ panel_text input.now }
+    ensures script { result.1.now ≡ script_text input.now }
+{
+    let (panels, marked) = input.split_at(mark_place(input.as_bytes()));
+    (panels, behind_line(marked))
+}
+
+// ---- what a panel text defines
+
+/// The fault of a panel text.
+fn of_panels(fault: PanelFault) -> Fault
+    ensures { (text : List ℕ) → IsReason text fault → HasNoWorld text result }
+{
+    match fault {
+        PanelFault::Memory => Fault::NoMemory,
+        PanelFault::NotToml | PanelFault::Tree(_, _) => Fault::Panels(fault),
+    }
+}
+
+/// The fault of the names of LUs.
+fn of_pool(fault: PoolFault) -> Fault
+    ensures { (text : List ℕ) (panels : Panels) → IsReadFrom text panels → IsFirstFault (lus_of panels) fault → HasNoWorld text result }
+{
+    match fault {
+        PoolFault::Memory => Fault::NoMemory,
+        PoolFault::BadName(_) | PoolFault::Twice(_) | PoolFault::BadCount => Fault::Pool(fault),
+    }
+}
+
+/// The panels of a panel text, and a pool of their LUs.
+fn application_of(alloc: Global, text: &str) -> Result<(PanelSet, Pool), Fault>
+    ensures application { IfOk result (λ parts. IsApplicationOf text.now parts.0 parts.1) }
+    ensures fault { IfErr result (HasNoWorld text.now) }
+{
+    let panels = match PanelSet::read(alloc, text) {
+        Ok(panels) => panels,
+        Err(fault) => return Err(of_panels(fault)),
+    };
+    let pool = match Pool::read(alloc, panels.lus()) {
+        Ok(pool) => pool,
+        Err(fault) => return Err(of_pool(fault)),
+    };
+    Ok((panels, pool))
+}
+
+/// The world of a panel text: its panels, a pool of their LUs, and terminals.
+fn world_of(alloc: Global, text: &str) -> Result<World, Fault>
+    ensures world { IfOk result (IsWorldOf text.now) }
+    ensures fault { IfErr result (HasNoWorld text.now) }
+{
+    let (panels, pool) = match application_of(alloc, text) {
+        Ok(parts) => parts,
+        Err(fault) => return Err(fault),
+    };
+    match World::new(alloc, panels, pool, TERMINALS) {
+        Ok(world) => Ok(world),
+        Err(_) => Err(Fault::NoMemory),
+    }
+}
+
+/// The host of a panel text: its panels, and a pool of their LUs.
+///
+/// Answers Panels where the text defines no panels, Pool where their LUs are no pool, and NoMemory where a growth was refused.
+pub fn host_of(alloc: Global, text: &str) -> Result<Host, Fault>
+    ensures host { IfOk result (IsHostOf text.now) }
+    ensures fault { IfErr result (HasNoWorld text.now) }
+{
+    let (panels, pool) = match application_of(alloc, text) {
+        Ok(parts) => parts,
+        Err(fault) => return Err(fault),
+    };
+    match Host::new(alloc, panels, pool) {
+        Ok(host) => Ok(host),
+        Err(_) => Err(Fault::NoMemory),
+    }
+}

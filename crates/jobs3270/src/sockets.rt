@@ -1,0 +1,195 @@
+//! The connections of a host, by their numbers, over sockets.
+ghost use Rattle.std.specs.Prelude.{◌≡◌, ◌<◌, false, IfOk, length, replicate, take};
+ghost use Rattle.host_core.specs.Serves.{GotWithin, TookWithin, bytes_got, taken_by};
+ghost use Rattle.host_core.specs.State.{most_connections};
+ghost use Rattle.jobs3270.specs.Refusals.{next_refusal, unheard};
+ghost use Rattle.jobs3270.specs.Sockets.{began_at, heard_at, left, new_sockets, place_at, settled_at, told_at, unused, with_place, with_waiting};
+
+use crate::place::Place;
+use crate::refusals::{Refusal, Refusals};
+use host_core::{LinkRead, LinkWrite, Links, MOST_CONNECTIONS};
+use mio::net::TcpStream;
+use std::alloc::{AllocError, Global};
+use std::marker::Model;
+use std::net::SocketAddr;
+use telnet_wire::WireFault;
+
+/// The connections of a host over sockets, what is heard of each, and whether a byte crossed since that was asked last.
+///
+/// A read answers NotNow while more bytes wait to be sent on its connection than may. A read or a write that would raise a count
+/// above its last value answers NotNow too.
+#[derive(Drop)]
+pub(crate) struct Sockets {
+    places: Vec<Place>,
+    heard: Vec<Refusals>,
+    moved: bool,
+}
+
+impl Model for Sockets {
+    ghost use Rattle.std.specs.Prelude.{◌≡◌, length};
+    ghost use Rattle.host_core.specs.State.{most_connections};
+    ghost use Rattle.jobs3270.specs.Sockets.{Sockets as Stand};
+
+    ghost Value = { Stand };
+
+    ghost view = { λ sockets. record { places = sockets.places.items; heard = sockets.heard.items; moved = sockets.moved } };
+
+    ghost invariant = { λ sockets. (length sockets.places.items ≡ most_connections) × (length sockets.heard.items ≡ most_connections) };
+}
+
+/// So many numbers without connections.
+fn unused_places(alloc: Global) -> Result<Vec<Place>, AllocError>
+    ensures { IfOk result (λ places. places.items ≡ replicate most_connections unused) }
+{
+    let mut places = Vec::with_capacity(alloc, MOST_CONNECTIONS)?;
+    for _ in 0..MOST_CONNECTIONS {
+        places.push(Place::unused())?;
+    }
+    Ok(places)
+}
+
+/// As much room for what is heard of connections.
+fn unheard_numbers(alloc: Global) -> Result<Vec<Refusals>, WireFault>
+    ensures { IfOk result (λ heard. heard.items ≡ replicate most_connections unheard) }
+{
+    let mut heard = Vec::with_capacity(alloc, MOST_CONNECTIONS)?;
+    for _ in 0..MOST_CONNECTIONS {
+        if heard.push(Refusals::new(alloc)?).is_err() {
+            return Err(WireFault::Memory);
+        }
+    }
+    Ok(heard)
+}
+
+/// What a read gave.
+fn got(answer: LinkRead, buffer: &[u8]) -> &[u8]
+    requires { GotWithin answer (length buffer.now) }
+    ensures { result.now ≡ bytes_got answer buffer.now }
+{
+    match answer {
+        LinkRead::Got(count) => &buffer[..count],
+        LinkRead::NotNow => &[],
+        LinkRead::Ended => &[],
+        LinkRead::Failed => &[],
+    }
+}
+
+/// What a write took.
+fn taken(answer: LinkWrite, bytes: &[u8]) -> &[u8]
+    requires { TookWithin answer (length bytes.now) }
+    ensures { result.now ≡ take (taken_by answer) bytes.now }
+{
+    match answer {
+        LinkWrite::Took(count) => &bytes[..count],
+        LinkWrite::NotNow => &[],
+        LinkWrite::Failed => &[],
+    }
+}
+
+impl Sockets {
+    /// No connection yet. [`WireFault::Memory`] where memory was refused.
+    pub(crate) fn new(alloc: Global) -> Result<Sockets, WireFault>
+        ensures { IfOk result (λ sockets. sockets ≡ new_sockets) }
+    {
+        Ok(Sockets {
+            places: unused_places(alloc)?,
+            heard: unheard_numbers(alloc)?,
+            moved: false,
+        })
+    }
+
+    /// Whether a number has a connection.
+    pub(crate) fn is_connected(&self, conn: usize) -> bool
+        requires { conn < most_connections }
+        ensures { result ≡ (place_at conn self.now).connected }
+    {
+        self.places[conn].is_connected()
+    }
+
+    /// Where the peer of a number is, if it has a connection and that is known.
+    pub(crate) fn peer(&self, conn: usize) -> Option<SocketAddr> {
+        self.places.get(conn)?.socket()?.peer_addr().ok()
+    }
+
+    /// A connection begins on a number.
+    pub(crate) fn begin(&mut self, conn: usize, socket: TcpStream)
+        requires { conn < most_connections }
+        ensures { self.new ≡ began_at conn self.old }
+    {
+        self.places[conn].begin(socket);
+        self.heard[conn].begin();
+    }
+
+    /// The ends of a number's connection agreed: what crosses there isn't listened to any more.
+    pub(crate) fn settle(&mut self, conn: usize)
+        requires { conn < most_connections }
+        ensures { self.new ≡ settled_at conn self.old }
+    {
+        self.heard[conn].settle();
+    }
+
+    /// The first refusal on a number that wasn't told yet, which now is.
+    pub(crate) fn next_refusal(&mut self, conn: usize) -> Option<Refusal>
+        requires { conn < most_connections }
+        ensures next { result ≡ next_refusal (heard_at conn self.old).refused }
+        ensures told { self.new ≡ told_at conn self.old }
+    {
+        self.heard[conn].next()
+    }
+
+    /// The connection of a number is over: its socket is closed.
+    pub(crate) fn leave(&mut self, conn: usize)
+        requires { conn < most_connections }
+        ensures { self.new ≡ with_place conn (left (place_at conn self.old)) self.old }
+    {
+        self.places[conn].leave();
+    }
+
+    /// So many bytes wait to be sent on a number.
+    pub(crate) fn set_waiting(&mut self, conn: usize, waiting: usize)
+        requires { conn < most_connections }
+        ensures { self.new ≡ with_place conn (with_waiting waiting (place_at conn self.old)) self.old }
+    {
+        self.places[conn].set_waiting(waiting);
+    }
+
+    /// Whether a byte crossed since this was asked last.
+    pub(crate) fn take_moved(&mut self) -> bool
+        ensures moved { result ≡ self.old.moved }
+        ensures taken { self.new ≡ record self.old { moved = false } }
+    {
+        std::mem::replace(&mut self.moved, false)
+    }
+}
+
+impl Links for Sockets {
+    ghost use Rattle.jobs3270.specs.Sockets.{GivesAt, TakesAt, ends_at, failures_at};
+
+    ghost ends = { λ sockets conn. ends_at conn sockets };
+
+    ghost failures = { λ sockets conn. failures_at conn sockets };
+
+    ghost gave = { GivesAt };
+
+    ghost took = { TakesAt };
+
+    fn read(&mut self, conn: usize, buffer: &mut [u8]) -> LinkRead {
+        if conn >= MOST_CONNECTIONS {
+            return LinkRead::NotNow;
+        }
+        let answer = self.places[conn].read(buffer);
+        self.heard[conn].hear_terminal(got(answer, buffer));
+        self.moved |= matches!(answer, LinkRead::Got(_));
+        answer
+    }
+
+    fn write(&mut self, conn: usize, bytes: &[u8]) -> LinkWrite {
+        if conn >= MOST_CONNECTIONS {
+            return LinkWrite::NotNow;
+        }
+        let answer = self.places[conn].write(bytes);
+        self.heard[conn].hear_host(taken(answer, bytes));
+        self.moved |= matches!(answer, LinkWrite::Took(_));
+        answer
+    }
+}
