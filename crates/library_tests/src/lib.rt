@@ -10,8 +10,6 @@ mod commands;
 #[cfg(test)]
 mod inbound;
 #[cfg(test)]
-mod jobs;
-#[cfg(test)]
 mod keys;
 #[cfg(test)]
 mod messages;
