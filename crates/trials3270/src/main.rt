@@ -1,39 +1,28 @@
-//! Programs that try the whole system: worked dialogues, whole worlds, storms of bytes, connections that break off, growths of memory that
-//! are refused, and figures of speed. They are one crate, since a program's check and its builds load all that it stands on, each.
+//! Programs that try the whole system, as one: worked dialogues, whole worlds, storms of bytes, connections that break off, growths of memory
+//! that are refused, and figures of speed. What they do stands in trial_ends, trial_worlds and former3270.
 //!
 //! Without a word, standard input is the stored run (`stdin`, and `stdout` what it has to print): parts, each headed by a line `%% PART`.
 //! With a part's name as the first word, standard input is that part's text alone:
 //!
 //! ```text
-//! dialogues        a script of dialogues: `dialogue`
-//! worlds           a script of cases: `worlds`
-//! storm            a storm's script: `storm`
-//! serving [last]   nothing; with `last` the last case of each kind alone: `serving`
-//! growths [CALL]   nothing; the call to try, without one their names: `growths`
-//! former           a script of cases: `former_bodies`
-//! speed [figures]  a panel text with 64 LUs; with `figures` it is measured: `speed`
-//! then             nothing; what former and present bodies take is measured: `former_bodies`
+//! dialogues        a script of dialogues: trial_ends `dialogue`
+//! worlds           a script of cases: trial_worlds `worlds`
+//! storm            a storm's script: trial_ends `storm`
+//! serving [last]   nothing; with `last` the last case of each kind alone: trial_ends `serving`
+//! growths [CALL]   nothing; the call to try, without one their names: trial_worlds `growths`
+//! former           a script of cases: former3270
+//! speed [figures]  a panel text with 64 LUs; with `figures` it is measured: trial_ends `speed`
+//! then             nothing; what former and present bodies take is measured: former3270 `figures`
 //! ```
 //!
 //! The exit status is 1 where something came otherwise than it has to.
 #![tactic(auto)]
 
-mod dialogue;
-mod fault;
-mod former_bodies;
-mod growths;
-mod keys;
-mod likeness;
-mod readers;
-mod serving;
-mod speed;
-mod storm;
-mod worlds;
-
 use anyhow::{Context, Result, bail, ensure};
-use serving::Range;
-use speed::Scale;
+use former3270::{compare, print_figures};
 use std::{env, io};
+use trial_ends::{Range, Scale, hold_script, measure, rage_by, serve};
+use trial_worlds::{tell_script, try_named};
 
 const PARTS: &str = "dialogues, worlds, storm, serving, growths, former, speed and then";
 
@@ -74,22 +63,22 @@ impl Part {
     /// Does a part with its text. Says whether all came as it has to.
     fn perform(self, rt: &HostRuntime, detail: Option<&str>, text: &str) -> Result<bool> {
         match self {
-            Part::Dialogues => dialogue::hold_script(rt, text),
-            Part::Worlds => Ok(worlds::tell_script(rt, text)?),
-            Part::Storm => storm::rage_by(rt, text),
+            Part::Dialogues => hold_script(rt, text),
+            Part::Worlds => Ok(tell_script(rt, text)?),
+            Part::Storm => rage_by(rt, text),
             Part::Serving => {
                 let range = detail.map_or(Range::Each, |_| Range::Last);
-                Ok(serving::serve(rt, range)?)
+                Ok(serve(rt, range)?)
             }
-            Part::Growths => Ok(growths::try_named(rt, detail)?),
-            Part::Former => Ok(former_bodies::compare(rt, text)?),
+            Part::Growths => Ok(try_named(rt, detail)?),
+            Part::Former => Ok(compare(rt, text)?),
             Part::Then => {
-                former_bodies::figures::figures(rt)?;
+                print_figures(rt)?;
                 Ok(true)
             }
             Part::Speed => {
                 let scale = detail.map_or(Scale::Once, |_| Scale::Measured);
-                speed::measure(rt, scale, text)?;
+                measure(rt, scale, text)?;
                 Ok(true)
             }
         }

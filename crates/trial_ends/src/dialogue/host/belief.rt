@@ -1,0 +1,69 @@
+//! What is believed of a screen, in words and in bytes.
+use codes3270::{Addr, CELL_COUNT, Cell, attr_code};
+use shadow::{Fact, Shadow};
+use std::alloc::AllocError;
+
+/// Whether anything is believed of a screen.
+pub(crate) fn belief_word(shadow: &Shadow) -> &'static str {
+    if knows_nothing(shadow) {
+        "nothing"
+    } else if knows_nulls(shadow) {
+        "nulls"
+    } else {
+        "more"
+    }
+}
+
+/// No cell is known, and no field.
+fn knows_nothing(shadow: &Shadow) -> bool {
+    Addr::all().all(|at| shadow.known(at).is_none() && shadow.fact(at).is_none())
+}
+
+/// Each cell is known to be null, and no field is.
+fn knows_nulls(shadow: &Shadow) -> bool {
+    Addr::all().all(|at| matches!(shadow.known(at), Some(Cell::Char(0)))
+        && shadow.fact(at).is_none())
+}
+
+/// What is believed of the field whose attribute is at an address.
+pub(crate) fn fact_word(shadow: &Shadow, at: Addr) -> &'static str {
+    match shadow.fact(at) {
+        Some(Fact::Exact) => "Exact",
+        Some(Fact::ExactOrNulls) => "ExactOrNulls",
+        Some(Fact::Text) => "Text",
+        Some(Fact::TextOrNulls) => "TextOrNulls",
+        Some(Fact::Any) => "Any",
+        None => "none",
+    }
+}
+
+/// Appends the characters that this fact speaks of.
+pub(crate) fn put_text(bytes: &mut Vec<u8>, shadow: &Shadow, at: Addr) -> Result<(), AllocError> {
+    for index in 0..CELL_COUNT {
+        match shadow.value(at, index) {
+            Some(byte) => bytes.push(byte)?,
+            None => return Ok(()),
+        }
+    }
+    Ok(())
+}
+
+/// Appends what is believed of each field: its attribute's address and code, the fact, and the characters.
+pub(crate) fn put_fields(bytes: &mut Vec<u8>, shadow: &Shadow) -> Result<(), AllocError> {
+    for at in Addr::all() {
+        put_field(bytes, shadow, at)?;
+    }
+    Ok(())
+}
+
+fn put_field(bytes: &mut Vec<u8>, shadow: &Shadow, at: Addr) -> Result<(), AllocError> {
+    if shadow.fact(at).is_none() {
+        return Ok(());
+    }
+    bytes.extend_from_slice(&at.get().to_be_bytes())?;
+    if let Some(Cell::Attr(attr)) = shadow.known(at) {
+        bytes.extend_from_slice(&[attr_code(attr)])?;
+    }
+    bytes.extend_from_slice(fact_word(shadow, at).as_bytes())?;
+    put_text(bytes, shadow, at)
+}

@@ -1,0 +1,81 @@
+//! What is to be seen of a connection, in words.
+ghost use Rattle.std.specs.Prelude.{◌<◌};
+ghost use Rattle.host_core.specs.State.{most_connections};
+
+use crate::dialogue::host::belief::belief_word;
+use crate::dialogue::words::{bound_seen, closed_seen};
+use host_core::{Acted, Host, Phase, Turn};
+use std::alloc::{AllocError, Global};
+
+/// What is to be seen.
+#[derive(Clone, Copy)]
+pub(crate) enum Sight {
+    /// How far the host is with the terminal.
+    Phase,
+    /// Whose turn it is.
+    Turn,
+    /// The number of the command that waits for its answer.
+    Pending,
+    /// Whether anything is believed of the screen.
+    Belief,
+}
+
+/// The sight with a name.
+pub(crate) fn sight_named(name: &str) -> Option<Sight> {
+    match name {
+        "phase" => Some(Sight::Phase),
+        "turn" => Some(Sight::Turn),
+        "pending" => Some(Sight::Pending),
+        "belief" => Some(Sight::Belief),
+        _ => None,
+    }
+}
+
+/// What a sight is of a connection.
+pub(crate) fn seen(
+    alloc: Global,
+    host: &Host,
+    conn: usize,
+    sight: Sight,
+) -> Result<String, AllocError>
+    requires { conn < most_connections }
+{
+    match sight {
+        Sight::Phase => phase_seen(alloc, host.phase(conn)),
+        Sight::Turn => String::from_str(alloc, turn_word(host.turn(conn))),
+        Sight::Pending => pending_seen(alloc, host.pending(conn)),
+        Sight::Belief => String::from_str(alloc, belief_word(host.shadow(conn))),
+    }
+}
+
+fn phase_seen(alloc: Global, phase: Phase) -> Result<String, AllocError> {
+    match phase {
+        Phase::Free => String::from_str(alloc, "free"),
+        Phase::Talking => String::from_str(alloc, "talking"),
+        Phase::Bound(lu) => bound_seen(alloc, &lu),
+        Phase::Closed(cause) => closed_seen(alloc, cause),
+    }
+}
+
+fn turn_word(turn: Turn) -> &'static str {
+    match turn {
+        Turn::Host => "host",
+        Turn::Terminal => "terminal",
+    }
+}
+
+fn pending_seen(alloc: Global, pending: Option<u16>) -> Result<String, AllocError> {
+    match pending {
+        Some(number) => number.to_string(alloc),
+        None => String::from_str(alloc, "none"),
+    }
+}
+
+/// What became of an act, or of a note.
+pub(crate) fn acted_word(acted: Acted) -> &'static str {
+    match acted {
+        Acted::Sent => "sent",
+        Acted::Nothing => "nothing",
+        Acted::Memory => "no memory",
+    }
+}

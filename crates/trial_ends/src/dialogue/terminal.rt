@@ -1,0 +1,204 @@
+//! Dialogues with a terminal. A line holds if what it expects came.
+//!
+//! ```text
+//! connect [LU]         a connection begins, on which the terminal asks for this LU, if one
+//! host BYTES           the host sends these; the terminal takes all of them and goes on
+//! cut BYTES            the host sends the front of these; the dialogue is held once for each place to cut them at
+//! rest                 it sends what is behind the cut
+//! offer BYTES          the host sends these; `taken` and `stops` say how far the terminal takes them
+//! taken N              so many of them were taken
+//! stops WHY            going, or closed CAUSE
+//! says BYTES           this is all that the terminal has to send; it is sent
+//! silent               it has nothing to send
+//! key NAME [OUTCOME]   the key is pressed: done (said of none), sends AID, or refused REFUSAL
+//! type TEXT            the key of each character is pressed, and is done
+//! lost [BYTES]         the connection is lost before these were sent
+//! restart              the terminal begins anew
+//! phase PHASE          idle, talking, bound LU, refused REASON, or closed CAUSE
+//! lock LOCK            free, wait or error
+//! took-write YES       whether the last byte completed a write: yes or no
+//! cursor N             where the cursor is
+//! aid XX               the attention identifier
+//! cell N XX            what a cell has: a character's code, or 1D and an attribute's
+//! line N TEXT          what a row shows, the first being 1
+//! screen [|TEXT]..     what the rows show from the first on; further ones are blank
+//! status TEXT          the line below the printed screen
+//! ```
+mod command;
+mod keys;
+mod sights;
+
+use crate::dialogue::subject::Subject;
+use command::{Command, read_command};
+use keyboard::Key;
+use keys::{key_or_character, press};
+use sights::{Sight, seen};
+use std::alloc::{AllocError, Global};
+use term_core::{TermPhase, Terminal};
+use tn3270e_msg::{Fed, Lu, Stop};
+use trial_tools::{Fault, expect_bytes, expect_text};
+
+/// A terminal, and the host before it.
+#[derive(Drop)]
+pub(crate) struct Desk {
+    alloc: Global,
+    terminal: Terminal,
+    /// How far the terminal took what the host sent last.
+    fed: Fed,
+    /// What is behind the cut.
+    behind: Vec<u8>,
+    /// Where this holding of the dialogue cuts bytes in two.
+    cut: usize,
+    /// At how many places the lines so far can be cut: for each the dialogue is held once.
+    cuts: usize,
+}
+
+/// Feeds bytes, and where memory is refused the rest again.
+fn feed(terminal: &mut Terminal, bytes: &[u8]) -> Fed {
+    let fed = terminal.feed(bytes);
+    if fed.stop != Stop::Memory {
+        return fed;
+    }
+    let rest = terminal.feed(&bytes[fed.taken..]);
+    Fed {
+        taken: fed.taken + rest.taken,
+        stop: rest.stop,
+    }
+}
+
+/// Begins a connection.
+fn connect(terminal: &mut Terminal, name: &str) -> Result<(), Fault> {
+    let wanted = Lu::read(name.as_bytes());
+    if wanted.is_none() && !name.is_empty() {
+        return Err(Fault::Needs("an LU's name"));
+    }
+    match terminal.phase() {
+        TermPhase::Idle => {
+            terminal.connected(wanted);
+            Ok(())
+        }
+        _ => Err(Fault::Needs("a terminal that isn't attached")),
+    }
+}
+
+impl Desk {
+    /// Takes bytes of the host.
+    fn hear(&mut self, bytes: &[u8]) {
+        self.fed = feed(&mut self.terminal, bytes);
+    }
+
+    /// Takes bytes of the host, which have to be taken whole.
+    fn hear_whole(&mut self, bytes: &[u8]) -> Result<(), Fault> {
+        self.hear(bytes);
+        self.expect(Sight::Stop, "going")?;
+        let taken = bytes.len();
+        let count = format!(in self.alloc; "{taken}")?;
+        self.expect(Sight::Taken, count.as_str())
+    }
+
+    /// Takes the front of bytes of the host, and keeps the rest.
+    fn hear_front(&mut self, bytes: &[u8]) -> Result<(), Fault> {
+        let (front, behind) = bytes.split_at(self.cut.min(bytes.len()));
+        self.behind.clear();
+        self.behind.extend_from_slice(behind)?;
+        self.cuts = self.cuts.max(bytes.len().saturating_sub(1));
+        self.hear_whole(front)
+    }
+
+    /// Takes that rest.
+    fn hear_rest(&mut self) -> Result<(), Fault> {
+        let behind = std::mem::replace(&mut self.behind, Vec::new(self.alloc));
+        self.hear_whole(behind.as_slice())
+    }
+
+    /// Presses a key, from which this has to come.
+    fn press(&mut self, key: Key, expected: &str) -> Result<(), Fault> {
+        let came = press(self.alloc, &mut self.terminal, key)?;
+        expect_text(self.alloc, expected, came.as_str())
+    }
+
+    /// Presses the key with a name.
+    fn press_named(&mut self, words: &str) -> Result<(), Fault> {
+        let (name, expected) = words.split_once(' ').unwrap_or((words, "done"));
+        match key_or_character(name) {
+            Some(key) => self.press(key, expected),
+            None => Err(Fault::Needs("a key")),
+        }
+    }
+
+    /// Presses the keys of a text.
+    fn type_text(&mut self, text: &str) -> Result<(), Fault> {
+        for letter in text.chars() {
+            self.press(Key::Char(letter), "done")?;
+        }
+        Ok(())
+    }
+
+    /// Sends what the terminal has to send, which has to be this.
+    fn send(&mut self, expected: &[u8]) -> Result<(), Fault> {
+        expect_bytes(self.alloc, expected, self.terminal.out())?;
+        let count = self.terminal.out().len();
+        self.terminal.sent(count);
+        Ok(())
+    }
+
+    /// Loses the connection before this is sent.
+    fn lose(&mut self, expected: &[u8]) -> Result<(), Fault> {
+        let unsent = self.terminal.lost();
+        expect_bytes(self.alloc, expected, unsent.as_slice())
+    }
+
+    /// Expects to see this.
+    fn expect(&self, sight: Sight, expected: &str) -> Result<(), Fault> {
+        let came = seen(self.alloc, &self.terminal, self.fed, sight)?;
+        expect_text(self.alloc, expected, came.as_str())
+    }
+
+    /// Does what a command says.
+    fn obey_command(&mut self, command: &Command<'_>) -> Result<(), Fault> {
+        match command {
+            Command::Connect(name) => connect(&mut self.terminal, name),
+            Command::Host(bytes) => self.hear_whole(bytes.as_slice()),
+            Command::Cut(bytes) => self.hear_front(bytes.as_slice()),
+            Command::Rest => self.hear_rest(),
+            Command::Offer(bytes) => {
+                self.hear(bytes.as_slice());
+                Ok(())
+            }
+            Command::Says(bytes) => self.send(bytes.as_slice()),
+            Command::Key(words) => self.press_named(words),
+            Command::Type(text) => self.type_text(text),
+            Command::Lost(bytes) => self.lose(bytes.as_slice()),
+            Command::Restart => {
+                self.terminal.restart();
+                Ok(())
+            }
+            Command::See(sight, expected) => self.expect(*sight, expected),
+        }
+    }
+}
+
+impl Subject for Desk {
+    fn fresh(alloc: Global, holding: usize) -> Result<Desk, AllocError> {
+        Ok(Desk {
+            alloc,
+            terminal: Terminal::new(alloc)?,
+            fed: Fed {
+                taken: 0,
+                stop: Stop::Going,
+            },
+            behind: Vec::new(alloc),
+            cut: holding,
+            cuts: 0,
+        })
+    }
+
+    fn obey(&mut self, line: &str) -> Result<(), Fault> {
+        let command = read_command(self.alloc, line)?;
+        self.obey_command(&command)
+    }
+
+    fn holdings(&self) -> usize {
+        self.cuts
+    }
+}

@@ -1,0 +1,249 @@
+//! A storm at hosts.
+ghost use Rattle.std.specs.Prelude.{◌<◌};
+ghost use Rattle.host_core.specs.State.{most_connections};
+
+use crate::storm::script::{Script, Speech};
+use crate::storm::seat::Seat;
+use crate::storm::telling::{End, Tale, Telling, tell};
+use codes3270::Addr;
+use host_core::{Acted, Host, Phase};
+use std::alloc::{AllocError, Global};
+use tn3270e_msg::{Fed, Stop};
+use trial_tools::{Fault, expect, hosts_look_same, read_host};
+
+/// `NOTE` in code page 037.
+const NOTE: [u8; 4] = [0xD5, 0xD6, 0xE3, 0xC5];
+
+/// What a host did on a connection, and what came of it.
+#[derive(Clone, Copy)]
+pub(crate) struct Deeds {
+    /// How many commands and notes it sent.
+    pub(crate) sent: u64,
+    /// How many of its commands were refused, and the connection went on.
+    pub(crate) refused: u64,
+}
+
+/// A host on one of its connections.
+#[derive(Drop)]
+struct Seated<'a> {
+    host: &'a mut Host,
+    seat: Seat,
+    deeds: Deeds,
+}
+
+/// Whether a command waits for its answer.
+fn is_waiting(host: &Host, conn: usize) -> bool
+    requires { conn < most_connections }
+{
+    host.pending(conn).is_some()
+}
+
+/// Whether no command waits on a connection that is bound, and nothing is known of its screen: a command was refused.
+fn is_refused(host: &Host, conn: usize) -> bool
+    requires { conn < most_connections }
+{
+    match (host.phase(conn), Addr::new(0)) {
+        (Phase::Bound(_), Some(start)) => {
+            host.pending(conn).is_none() && host.shadow(conn).known(start).is_none()
+        }
+        _ => false,
+    }
+}
+
+impl<'a> Seated<'a> {
+    fn at(host: &'a mut Host, seat: Seat) -> Seated<'a> {
+        Seated {
+            host,
+            seat,
+            deeds: Deeds {
+                sent: 0,
+                refused: 0,
+            },
+        }
+    }
+
+    fn act(&mut self, word: Option<u32>) -> Acted {
+        let conn = self.seat.number();
+        match word.map(|word| word % 16) {
+            Some(0) => self.host.note(conn, &NOTE),
+            Some(1) => Acted::Nothing,
+            _ => self.host.act(conn),
+        }
+    }
+}
+
+impl End for Seated<'_> {
+    fn take(&mut self, bytes: &[u8]) -> Fed {
+        let conn = self.seat.number();
+        let waits = is_waiting(self.host, conn);
+        let fed = self.host.feed(conn, bytes);
+        if waits && is_refused(self.host, conn) {
+            self.deeds.refused = self.deeds.refused.saturating_add(1);
+        }
+        fed
+    }
+
+    /// Acts, in some cases not, or writes a note.
+    fn stir(&mut self, word: Option<u32>) -> Result<(), AllocError> {
+        match self.act(word) {
+            Acted::Sent => {
+                self.deeds.sent = self.deeds.sent.saturating_add(1);
+                Ok(())
+            }
+            Acted::Nothing => Ok(()),
+            Acted::Memory => Err(AllocError),
+        }
+    }
+}
+
+/// Begins a connection.
+fn open(host: &mut Host, seat: Seat) -> Result<(), Fault> {
+    let conn = seat.number();
+    match host.phase(conn) {
+        Phase::Free => {
+            host.open(conn)?;
+            Ok(())
+        }
+        Phase::Talking | Phase::Bound(_) | Phase::Closed(_) => {
+            Err(Fault::Wrong("a number isn't free"))
+        }
+    }
+}
+
+/// Tells a host what a client says, as that client means it.
+fn tell_plainly(host: &mut Host, seat: Seat, bytes: &[u8]) -> Result<(), Fault> {
+    let tale = Tale {
+        bytes,
+        cuts: 0,
+        deeds: None,
+    };
+    open(host, seat)?;
+    tell(&mut Seated::at(host, seat), Telling::Whole, tale)?;
+    Ok(())
+}
+
+fn is_bound(host: &Host, seat: Seat) -> bool {
+    match host.phase(seat.number()) {
+        Phase::Bound(_) => true,
+        Phase::Free | Phase::Talking | Phase::Closed(_) => false,
+    }
+}
+
+/// Whether a connection is bound to the LU with a name.
+fn is_bound_to(host: &Host, seat: Seat, name: &str) -> bool {
+    match host.phase(seat.number()) {
+        Phase::Bound(lu) => lu.as_bytes() == name.as_bytes(),
+        Phase::Free | Phase::Talking | Phase::Closed(_) => false,
+    }
+}
+
+/// Puts a host anew before two clients that are bound, and a connection that begins.
+fn begin(host: &mut Host, script: &Script) -> Result<(), Fault> {
+    host.restart();
+    tell_plainly(host, Seat::First, script.first_client.as_slice())?;
+    tell_plainly(host, Seat::Second, script.second_client.as_slice())?;
+    if !is_bound(host, Seat::First) || !is_bound(host, Seat::Second) {
+        return Err(Fault::Needs("clients that are bound on the connections 1 and 2"));
+    }
+    open(host, Seat::Struck)
+}
+
+/// Expects the two connections beside the one that was struck to be as they are where none was.
+fn expect_unstruck(host: &Host, calm: &Host) -> Result<(), Fault> {
+    let (first, second) = (Seat::First.number(), Seat::Second.number());
+    expect(
+        hosts_look_same(host, calm, first),
+        "connection 1 isn't as before",
+    )?;
+    expect(
+        hosts_look_same(host, calm, second),
+        "connection 2 isn't as before",
+    )
+}
+
+/// Expects the LU of the connection that was struck to be granted again: at once where the host closed it, and else once it
+/// is lost.
+fn expect_inherited(host: &mut Host, heir: &Speech) -> Result<(), Fault> {
+    if !host.phase(Seat::Struck.number()).is_closed() {
+        host.closed(Seat::Struck.number());
+    }
+    tell_plainly(host, Seat::Heir, heir.bytes.as_slice())?;
+    expect(
+        is_bound_to(host, Seat::Heir, heir.name.as_str()),
+        "the LU isn't granted again",
+    )
+}
+
+/// What came of a tale at a host.
+#[derive(Clone, Copy)]
+pub(crate) struct Told {
+    pub(crate) fed: Fed,
+    pub(crate) deeds: Deeds,
+}
+
+/// Tells a host a tale, on a connection that begins beside two that are bound. These stay as they are where none is struck.
+fn strike(
+    host: &mut Host,
+    calm: &Host,
+    script: &Script,
+    telling: Telling,
+    tale: Tale<'_>,
+) -> Result<Told, Fault> {
+    begin(host, script)?;
+    let mut seated = Seated::at(host, Seat::Struck);
+    let fed = tell(&mut seated, telling, tale)?;
+    let deeds = seated.deeds;
+    expect_unstruck(host, calm)?;
+    Ok(Told { fed, deeds })
+}
+
+/// Expects hosts to look the same on the connection that was struck.
+fn expect_same(one: &Host, other: &Host) -> Result<(), Fault> {
+    expect(
+        hosts_look_same(one, other, Seat::Struck.number()),
+        "connection 0 looks otherwise where bytes are cut otherwise",
+    )
+}
+
+/// A host that isn't struck, and three that are told the same, each in pieces of its own.
+#[derive(Drop)]
+pub(crate) struct Hosts {
+    calm: Host,
+    whole: Host,
+    pieces: Host,
+    single: Host,
+}
+
+impl Hosts {
+    /// Hosts that show the panels of a script.
+    pub(crate) fn new(alloc: Global, script: &Script) -> Result<Hosts, Fault> {
+        Ok(Hosts {
+            calm: read_host(alloc, script.panel_text.as_str())?,
+            whole: read_host(alloc, script.panel_text.as_str())?,
+            pieces: read_host(alloc, script.panel_text.as_str())?,
+            single: read_host(alloc, script.panel_text.as_str())?,
+        })
+    }
+
+    /// Puts the one that isn't struck before its clients.
+    pub(crate) fn begin(&mut self, script: &Script) -> Result<(), Fault> {
+        begin(&mut self.calm, script)
+    }
+
+    /// Tells the others a tale, and expects the same to come of it however it is cut, the other connections to stay as they are,
+    /// and the LU to be granted again.
+    pub(crate) fn endure(&mut self, script: &Script, tale: Tale<'_>) -> Result<Told, Fault> {
+        let told = strike(&mut self.whole, &self.calm, script, Telling::Whole, tale)?;
+        let pieces = strike(&mut self.pieces, &self.calm, script, Telling::Pieces, tale)?;
+        let single = strike(&mut self.single, &self.calm, script, Telling::Single, tale)?;
+        expect(
+            told.fed == pieces.fed && told.fed == single.fed,
+            "a host stops otherwise where bytes are cut otherwise",
+        )?;
+        expect_same(&self.whole, &self.pieces)?;
+        expect_same(&self.whole, &self.single)?;
+        expect_inherited(&mut self.whole, &script.heir)?;
+        expect_unstruck(&self.whole, &self.calm)?;
+        Ok(told)
+    }
+}

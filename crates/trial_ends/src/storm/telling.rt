@@ -1,0 +1,136 @@
+//! How bytes are told to an end. However they are cut, the end is stirred at the same places: behind each two bytes that end
+//! a record or a subnegotiation.
+ghost use Rattle.std.specs.Prelude.{◌≤◌, ◌<◌, length};
+
+use crate::storm::chance::Chance;
+use std::alloc::AllocError;
+use tn3270e_msg::{Fed, Stop};
+
+/// A piece is shorter than this.
+const PIECE_LIMIT: usize = 12;
+
+/// An end that takes bytes.
+pub(crate) trait End {
+    /// Takes bytes that came.
+    fn take(&mut self, bytes: &[u8]) -> Fed;
+
+    /// Does something of its own, which a drawn word tells, or what it does as a rule.
+    fn stir(&mut self, word: Option<u32>) -> Result<(), AllocError>;
+}
+
+/// In which pieces bytes are told.
+#[derive(Clone, Copy)]
+pub(crate) enum Telling {
+    /// As much at once as comes before the end is stirred.
+    Whole,
+    /// As they are drawn.
+    Pieces,
+    /// Byte by byte.
+    Single,
+}
+
+/// What an end is told, where it is cut, and what the end does meanwhile.
+#[derive(Clone, Copy)]
+pub(crate) struct Tale<'a> {
+    pub(crate) bytes: &'a [u8],
+    /// The seed of the pieces.
+    pub(crate) cuts: u64,
+    /// The seed of the words that the end is stirred with, if it isn't to do what it does as a rule.
+    pub(crate) deeds: Option<u64>,
+}
+
+impl Telling {
+    /// How many bytes the next piece has, of so many.
+    fn piece_length(self, cuts: &mut Chance, left: usize) -> usize
+        requires { 0 < left }
+        ensures { result ≤ left }
+    {
+        match self {
+            Telling::Whole => left,
+            Telling::Pieces => (cuts.below(PIECE_LIMIT) + 1).min(left),
+            Telling::Single => 1,
+        }
+    }
+}
+
+/// Whether two bytes end a record or a subnegotiation.
+fn is_end(pair: &[u8]) -> bool {
+    matches!(pair, [0xFF, 0xEF | 0xF0])
+}
+
+/// How many bytes come before an end is stirred.
+fn section_length(bytes: &[u8]) -> usize
+    ensures { result ≤ length bytes.now }
+{
+    match bytes.windows(2).position(is_end) {
+        Some(place) => place.saturating_add(2).min(bytes.len()),
+        None => bytes.len(),
+    }
+}
+
+/// Tells an end bytes in pieces, up to one at which it stops.
+fn tell_section<E: End>(
+    end: &mut E,
+    telling: Telling,
+    cuts: &mut Chance,
+    section: &[u8],
+) -> Result<Fed, AllocError> {
+    let mut taken = 0usize;
+    let mut rest = section;
+    for _ in 0..section.len() {
+        if rest.is_empty() {
+            break;
+        }
+        let (piece, behind) = rest.split_at(telling.piece_length(cuts, rest.len()));
+        let fed = end.take(piece);
+        taken = taken.saturating_add(fed.taken);
+        match fed.stop {
+            Stop::Going => {}
+            Stop::Memory => return Err(AllocError),
+            Stop::Closed(_) => {
+                return Ok(Fed {
+                    taken,
+                    stop: fed.stop,
+                });
+            }
+        }
+        rest = behind;
+    }
+    Ok(Fed {
+        taken,
+        stop: Stop::Going,
+    })
+}
+
+/// Tells an end a tale, up to a byte at which it stops.
+pub(crate) fn tell<E: End>(
+    end: &mut E,
+    telling: Telling,
+    tale: Tale<'_>,
+) -> Result<Fed, AllocError> {
+    let mut cuts = Chance::new(tale.cuts, 0);
+    let mut deeds = Chance::new(tale.deeds.unwrap_or(0), 1);
+    let mut taken = 0usize;
+    let mut rest = tale.bytes;
+    for _ in 0..tale.bytes.len() {
+        if rest.is_empty() {
+            break;
+        }
+        let (section, behind) = rest.split_at(section_length(rest));
+        let fed = tell_section(end, telling, &mut cuts, section)?;
+        taken = taken.saturating_add(fed.taken);
+        if fed.stop != Stop::Going {
+            return Ok(Fed {
+                taken,
+                stop: fed.stop,
+            });
+        }
+        let word = deeds.word();
+        end.stir(tale.deeds.map(|_| word))?;
+        rest = behind;
+    }
+    Ok(Fed {
+        taken,
+        stop: Stop::Going,
+    })
+}

@@ -1,0 +1,31 @@
+//! What a panel text stands for: its panels, the pool of the LUs that they name, and a host that shows them.
+use crate::fault::Fault;
+use host_core::Host;
+use lu_pool::{Pool, PoolFault};
+use panels::{PanelFault, PanelSet};
+use std::alloc::{AllocError, Global};
+
+/// The panels of a text.
+pub fn read_panels(alloc: Global, text: &str) -> Result<PanelSet, Fault> {
+    match PanelSet::read(alloc, text) {
+        Ok(panels) => Ok(panels),
+        Err(PanelFault::Memory) => Err(Fault::NoMemory(AllocError)),
+        Err(_) => Err(Fault::Needs("a text of panels")),
+    }
+}
+
+/// The pool of LUs with these names.
+pub fn read_pool(alloc: Global, names: &[String]) -> Result<Pool, Fault> {
+    match Pool::read(alloc, names) {
+        Ok(pool) => Ok(pool),
+        Err(PoolFault::Memory) => Err(Fault::NoMemory(AllocError)),
+        Err(_) => Err(Fault::Needs("names of LUs")),
+    }
+}
+
+/// A host that shows the panels of a text.
+pub fn read_host(alloc: Global, panel_text: &str) -> Result<Host, Fault> {
+    let panels = read_panels(alloc, panel_text)?;
+    let pool = read_pool(alloc, panels.lus())?;
+    Ok(Host::new(alloc, panels, pool)?)
+}

@@ -1,0 +1,121 @@
+//! Calls that append to a vector: refused memory, they leave it as it was.
+
+use crate::growths::story::{FIELDS, MIXED, NOTE};
+use crate::growths::trial::{Answer, Came, Trial, try_call};
+use codes3270::{Addr, Attr, Wcc};
+use datastream::{CommandCode, CommandWriter, Want, Wanted, read_command};
+use presentation::Screen;
+use shadow::Shadow;
+use std::alloc::{AllocError, Global};
+use std::io;
+use telnet_wire::{Verb, put_option, put_record, put_sub, put_sub_parts};
+use tn3270e_msg::{Sending, put_sub_message};
+
+/// A call that appends.
+#[derive(Clone, Copy)]
+pub(crate) enum Appends {
+    Record,
+    Option,
+    Sub,
+    SubParts,
+    SubMessage,
+    Begin,
+    SetAddress,
+    StartField,
+    Chars,
+    Repeat,
+    InsertCursor,
+    ReadBuffer,
+    ReadModified,
+    Paint,
+}
+
+/// A vector without room, behind the bytes in it.
+#[derive(Drop)]
+struct Appending {
+    appends: Appends,
+    out: Vec<u8>,
+    screen: Screen,
+}
+
+/// A screen with modified fields.
+fn screen_of_fields() -> Screen {
+    let mut screen = Screen::blank();
+    if let Ok(command) = read_command(FIELDS) {
+        screen.apply(&command);
+    }
+    screen
+}
+
+impl Appending {
+    fn new(alloc: Global, appends: Appends) -> Result<Appending, AllocError> {
+        let mut out = Vec::with_capacity(alloc, NOTE.len())?;
+        out.extend_from_slice(&NOTE)?;
+        Ok(Appending {
+            appends,
+            out,
+            screen: screen_of_fields(),
+        })
+    }
+}
+
+/// Appends what it takes to have an `A` in each cell of a screen of which nothing is known.
+fn put_paint(out: &mut Vec<u8>, cursor: Addr) -> Result<(), AllocError> {
+    let shadow = Shadow::blank();
+    let mut wanted = Wanted::filled(Want::Char(0xC1));
+    wanted.aim(cursor, false);
+    if shadow.fits(&wanted) {
+        shadow.paint(out, &wanted)
+    } else {
+        Ok(())
+    }
+}
+
+/// Appends by a call on a command's writer.
+fn put_part(mut writer: CommandWriter<'_>, appends: Appends, at: Addr) -> Result<(), AllocError> {
+    match appends {
+        Appends::Begin => writer.begin(CommandCode::EraseWrite, Wcc::from_byte(0xC3)),
+        Appends::SetAddress => writer.sba(at),
+        Appends::StartField => writer.sf(Attr::from_code(0x40)),
+        Appends::Chars => writer.chars(&NOTE),
+        Appends::Repeat => writer.ra(at, 0x40),
+        _ => writer.ic(),
+    }
+}
+
+impl Trial for Appending {
+    fn call(&mut self) -> Answer {
+        let out = &mut self.out;
+        let appended = match self.appends {
+            Appends::Record => put_record(out, MIXED),
+            Appends::Option => put_option(out, Verb::Do, 40),
+            Appends::Sub => put_sub(out, MIXED),
+            Appends::SubParts => put_sub_parts(out, &[MIXED, MIXED]),
+            Appends::SubMessage => put_sub_message(out, &Sending::FunRequest.message()),
+            Appends::ReadBuffer => self.screen.put_read_buffer(out),
+            Appends::ReadModified => self.screen.put_read_modified(out, false),
+            Appends::Paint => put_paint(out, self.screen.cursor()),
+            _ => put_part(CommandWriter::new(out), self.appends, self.screen.cursor()),
+        };
+        match appended {
+            Ok(()) => Answer::Done,
+            Err(_) => Answer::Memory,
+        }
+    }
+
+    /// It is handed all at once.
+    fn take(&mut self, _count: usize) {}
+
+    fn go_on(&mut self) {}
+
+    fn looks_same(&self, twin: &Appending) -> bool {
+        self.out.as_slice() == twin.out.as_slice()
+    }
+}
+
+/// Tries a call that appends.
+pub(crate) fn try_append(rt: &(impl Eprint + AllocGlobal), appends: Appends) -> io::Result<Came> {
+    let mut value = Appending::new(rt.alloc(), appends)?;
+    let mut twin = Appending::new(rt.alloc(), appends)?;
+    try_call(rt, &mut value, &mut twin)
+}

@@ -1,0 +1,79 @@
+//! Trials: a call is made once between two marks, on a value that has a twin. What it answers says how the value has to
+//! stand then, as the twin does; and from there both go on alike.
+use std::io;
+
+/// What a call answered.
+#[derive(Clone, Copy, PartialEq, Eq)]
+pub(crate) enum Answer {
+    /// It did what it is for.
+    Done,
+    /// Memory was refused, and nothing has changed.
+    Memory,
+    /// Memory was refused behind so many of the bytes, or of the events, that it was handed: the value stands as after these.
+    Part(usize),
+    /// Something else came, or the call couldn't be made.
+    Otherwise,
+}
+
+/// A value, and the call on it that is tried.
+pub(crate) trait Trial {
+    /// Makes the call, on what is left to hand to it.
+    fn call(&mut self) -> Answer;
+
+    /// Hands it so many of the bytes or events.
+    fn take(&mut self, count: usize);
+
+    /// Does further things, which show what can't be looked at.
+    fn go_on(&mut self);
+
+    /// Whether the value looks as the twin does.
+    fn looks_same(&self, twin: &Self) -> bool;
+}
+
+/// What came of a trial.
+#[derive(Clone, Copy)]
+pub(crate) struct Came {
+    /// Whether want of memory was answered.
+    pub(crate) is_refused: bool,
+    /// Whether value and twin stood as the answer promises, and went on alike.
+    pub(crate) is_as_promised: bool,
+}
+
+/// Whether the value stands as its call's answer promises: as the twin does, once that is handed what was taken.
+fn stands<T: Trial>(answer: Answer, value: &T, twin: &mut T) -> bool {
+    match answer {
+        Answer::Done => true,
+        Answer::Memory => value.looks_same(twin),
+        Answer::Part(count) => {
+            twin.take(count);
+            value.looks_same(twin)
+        }
+        Answer::Otherwise => false,
+    }
+}
+
+/// Whether the call is done on both, on the value again where it was refused memory, and both go on alike.
+fn goes_on<T: Trial>(answer: Answer, value: &mut T, twin: &mut T) -> bool {
+    let is_done = answer == Answer::Done || value.call() == Answer::Done;
+    let is_done_alike = is_done && twin.call() == Answer::Done && value.looks_same(twin);
+    value.go_on();
+    twin.go_on();
+    is_done_alike && value.looks_same(twin)
+}
+
+/// Makes the call between two marks on standard error, and looks at what came. Growths are to be refused between the marks alone.
+pub(crate) fn try_call<T: Trial>(
+    rt: &impl Eprint,
+    value: &mut T,
+    twin: &mut T,
+) -> io::Result<Came> {
+    let was_same = value.looks_same(twin);
+    eprintln!(rt; "begin")?;
+    let answer = value.call();
+    eprintln!(rt; "end")?;
+    let is_as_promised = was_same && stands(answer, value, twin) && goes_on(answer, value, twin);
+    Ok(Came {
+        is_refused: matches!(answer, Answer::Memory | Answer::Part(_)),
+        is_as_promised,
+    })
+}

@@ -1,0 +1,36 @@
+//! Whether two worlds look the same.
+use crate::worlds::town::{TERMINALS, Town};
+use host_core::MOST_CONNECTIONS;
+use term_core::Terminal;
+use trial_tools::screens_look_same;
+
+/// Whether two terminals have the same screen and lock, and are as far with their hosts.
+fn terminals_look_same(one: &Terminal, other: &Terminal) -> bool {
+    one.phase() == other.phase()
+        && one.lock() == other.lock()
+        && screens_look_same(one.screen(), other.screen())
+}
+
+/// Whether the terminals with a number look the same.
+fn look_same_at(one: &Town, other: &Town, number: usize) -> bool {
+    match (one.terminal(number), other.terminal(number)) {
+        (Some(one), Some(other)) => terminals_look_same(one, other),
+        _ => false,
+    }
+}
+
+/// Whether a connection looks the same: how far the host is with it, and what is under way.
+fn look_same_on(one: &Town, other: &Town, conn: usize) -> bool {
+    conn < MOST_CONNECTIONS
+        && one.host().phase(conn) == other.host().phase(conn)
+        && one.host().turn(conn) == other.host().turn(conn)
+        && one.host().pending(conn) == other.host().pending(conn)
+        && one.queued_up(conn) == other.queued_up(conn)
+        && one.queued_down(conn) == other.queued_down(conn)
+}
+
+/// Whether all terminals and all connections look the same.
+pub(crate) fn look_same(one: &Town, other: &Town) -> bool {
+    (0..TERMINALS).all(|number| look_same_at(one, other, number))
+        && (0..MOST_CONNECTIONS).all(|conn| look_same_on(one, other, conn))
+}
