@@ -1,7 +1,7 @@
-//! Panel texts with a fault, and texts that are nearly faulty.
+//! Panel texts with a fault, and texts that are nearly faulty, each with the fault that it prints. A long table is dearer to check than several short ones.
 
-/// Panel texts, and the fault that each prints.
-pub(super) static FAULTS: [(&str, &str); 66] = [
+/// Texts that aren't TOML, and keys that no table has.
+pub(super) static KEYS: [(&str, &str); 8] = [
     ("", "top: Missing"),
     ("x 1", "not TOML"),
     (
@@ -28,6 +28,10 @@ pub(super) static FAULTS: [(&str, &str); 66] = [
         "start = \"A\"\nlus = []\npanel = [{name = \"A\", field = [{name = \"f\", row = 1, col = 2, length = 3, x = 1}]}]",
         "panel 0 field 0: UnknownKey",
     ),
+];
+
+/// Keys that a table has to have.
+pub(super) static ABSENT: [(&str, &str); 7] = [
     ("lus = []\npanel = [{name = \"A\"}]", "top: Missing"),
     ("start = \"A\"\nlus = []", "top: Missing"),
     ("start = \"A\"\nlus = []\npanel = []", "top: Missing"),
@@ -47,6 +51,10 @@ pub(super) static FAULTS: [(&str, &str); 66] = [
         "start = \"A\"\nlus = []\npanel = [{name = \"A\", field = [{name = \"f\", row = 1, col = 2}]}]",
         "panel 0 field 0: Missing",
     ),
+];
+
+/// Values of another kind, and what is looked for sooner or later.
+pub(super) static KINDS: [(&str, &str); 12] = [
     (
         "start = 1\nlus = []\npanel = [{name = \"A\"}]",
         "top: BadKind",
@@ -89,6 +97,10 @@ pub(super) static FAULTS: [(&str, &str); 66] = [
         "start = \"A\"\nlus = []\npanel = [{name = \"A\", keys = {enter = 9223372036854775808}}]",
         "not TOML",
     ),
+];
+
+/// Names of panels, fields and keys, and names twice.
+pub(super) static NAMES: [(&str, &str); 9] = [
     (
         "start = \"A\"\nlus = []\npanel = [{name = \"a\"}]",
         "panel 0: BadName",
@@ -125,6 +137,10 @@ pub(super) static FAULTS: [(&str, &str); 66] = [
         "start = \"A\"\nlus = []\npanel = [{name = \"0\"}, {name = \"A\", field = [{name = \"0\", row = 1, col = 2, length = 3}]}]",
         "none",
     ),
+];
+
+/// Items that leave the rows for them, and some that don't.
+pub(super) static PLACES: [(&str, &str); 14] = [
     (
         "start = \"A\"\nlus = []\npanel = [{name = \"A\", text = [{row = 0, col = 2, text = \"X\"}]}]",
         "panel 0 text 0: OutOfPlace",
@@ -181,6 +197,10 @@ pub(super) static FAULTS: [(&str, &str); 66] = [
         "start = \"A\"\nlus = []\npanel = [{name = \"A\", text = [{row = 23, col = 80, text = \"X\"}]}]",
         "none",
     ),
+];
+
+/// Characters without a code, and items that share a cell.
+pub(super) static CHARACTERS_AND_OVERLAPS: [(&str, &str); 7] = [
     (
         "start = \"A\"\nlus = []\npanel = [{name = \"A\", text = [{row = 1, col = 2, text = \"€\"}]}]",
         "panel 0 text 0: NoCode",
@@ -209,6 +229,10 @@ pub(super) static FAULTS: [(&str, &str); 66] = [
         "start = \"A\"\nlus = []\npanel = [{name = \"A\", field = [{name = \"f\", row = 1, col = 2, length = 3}, {name = \"g\", row = 1, col = 6, length = 1}]}]",
         "none",
     ),
+];
+
+/// What `start`, `cursor`, `show` and keys name.
+pub(super) static TARGETS: [(&str, &str); 6] = [
     (
         "start = \"B\"\nlus = []\npanel = [{name = \"A\"}]",
         "top: NoTarget",
@@ -233,6 +257,10 @@ pub(super) static FAULTS: [(&str, &str); 66] = [
         "start = \"A\"\nlus = []\npanel = [{name = \"A\", keys = {pa3 = \"B\"}, text = [{row = 1, col = 2, show = \"g\", length = 1}]}]",
         "panel 0 text 0: NoTarget",
     ),
+];
+
+/// The first of several.
+pub(super) static SEVERAL: [(&str, &str); 3] = [
     (
         "start = \"B\"\nlus = []\nx = 1\npanel = [{name = \"a\"}]",
         "top: UnknownKey",

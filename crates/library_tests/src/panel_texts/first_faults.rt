@@ -1,8 +1,7 @@
-//! Panel texts with several faults, and the one that is answered.
+//! Panel texts with several faults, and the one that is answered: that of the first pass, and in a pass of the first table.
 
-/// Panel texts, and the fault that each prints: that of the first pass, and in a pass of the first table.
-pub(super) static FIRST_FAULTS: [(&str, &str); 53] = [
-    // Keys and types: in one table unknown keys come first, then absent ones.
+/// Keys and types: in one table unknown keys come first, then absent ones.
+pub(super) static IN_ONE_TABLE: [(&str, &str); 17] = [
     ("lus = 1\nx = 1", "top: UnknownKey"),
     ("lus = 1\npanel = []", "top: Missing"),
     ("start = \"A\"\nlus = 1\npanel = []", "top: Missing"),
@@ -59,7 +58,10 @@ pub(super) static FIRST_FAULTS: [(&str, &str); 53] = [
         "start = \"A\"\nlus = []\npanel = [{name = \"A\", keys = {enter = 1}}, {}]",
         "panel 0: BadKind",
     ),
-    // Names: a panel comes before its fields, and these before its keys.
+];
+
+/// Names: a panel comes before its fields, and these before its keys.
+pub(super) static OF_NAMES: [(&str, &str); 6] = [
     (
         "start = \"A\"\nlus = []\npanel = [{name = \"a\", field = [{name = \"F\", row = 1, col = 2, length = 3}]}]",
         "panel 0: BadName",
@@ -84,7 +86,10 @@ pub(super) static FIRST_FAULTS: [(&str, &str); 53] = [
         "start = \"A\"\nlus = []\npanel = [{name = \"A\", keys = {pf0 = \"A\"}}, {name = \"B\", field = [{name = \"F\", row = 1, col = 2, length = 3}]}]",
         "panel 0: BadKey",
     ),
-    // Places and characters: texts come before fields, and in one table the place before the characters.
+];
+
+/// Places and characters: texts come before fields, and in one table the place before the characters.
+pub(super) static OF_PLACES: [(&str, &str); 6] = [
     (
         "start = \"A\"\nlus = []\npanel = [{name = \"A\", text = [{row = 0, col = 2, text = \"€\"}]}]",
         "panel 0 text 0: OutOfPlace",
@@ -109,7 +114,10 @@ pub(super) static FIRST_FAULTS: [(&str, &str); 53] = [
         "start = \"A\"\nlus = []\npanel = [{name = \"A\", field = [{name = \"f\", row = 1, col = 2, length = 3, fill = \"€\"}]}, {name = \"B\", text = [{row = 0, col = 2, text = \"X\"}]}]",
         "panel 0 field 0: NoCode",
     ),
-    // Overlaps: texts count before fields, wherever their arrays stand.
+];
+
+/// Overlaps: texts count before fields, wherever their arrays stand.
+pub(super) static OF_OVERLAPS: [(&str, &str); 4] = [
     (
         "start = \"A\"\nlus = []\npanel = [{name = \"A\", field = [{name = \"f\", row = 1, col = 2, length = 1}], text = [{row = 1, col = 2, text = \"X\"}]}]",
         "panel 0 field 0: Overlap",
@@ -126,7 +134,10 @@ pub(super) static FIRST_FAULTS: [(&str, &str); 53] = [
         "start = \"A\"\nlus = []\npanel = [{name = \"A\", text = [{row = 1, col = 2, text = \"X\"}]}, {name = \"B\", text = [{row = 1, col = 2, text = \"X\"}]}]",
         "none",
     ),
-    // Targets: `start`, then each panel's `cursor`, its texts and its keys.
+];
+
+/// Targets: `start`, then each panel's `cursor`, its texts and its keys.
+pub(super) static OF_TARGETS: [(&str, &str); 4] = [
     (
         "start = \"B\"\nlus = []\npanel = [{name = \"A\", cursor = \"f\"}]",
         "top: NoTarget",
@@ -143,7 +154,10 @@ pub(super) static FIRST_FAULTS: [(&str, &str); 53] = [
         "start = \"A\"\nlus = []\npanel = [{name = \"A\", keys = {clear = \"B\"}}, {name = \"C\", text = [{row = 1, col = 2, show = \"g\", length = 1}]}]",
         "panel 0: NoTarget",
     ),
-    // Each pass comes before the next.
+];
+
+/// Each pass comes before the next.
+pub(super) static OF_PASSES: [(&str, &str); 5] = [
     (
         "start = \"A\"\nlus = []\npanel = [{name = \"a\", field = [{}]}]",
         "panel 0 field 0: Missing",
@@ -164,7 +178,10 @@ pub(super) static FIRST_FAULTS: [(&str, &str); 53] = [
         "start = \"A\"\nlus = []\npanel = [{name = \"A\", text = [{row = 1, col = 2, text = \"€\"}, {row = 1, col = 3, text = \"Y\"}], keys = {enter = \"B\"}}]",
         "panel 0 text 0: NoCode",
     ),
-    // Names of keys are those of the terminal alone, and in small letters.
+];
+
+/// Names of keys are those of the terminal alone, and in small letters.
+pub(super) static OF_KEYS: [(&str, &str); 8] = [
     (
         "start = \"A\"\nlus = []\npanel = [{name = \"A\", keys = {pf0 = \"A\"}}]",
         "panel 0: BadKey",
@@ -197,7 +214,10 @@ pub(super) static FIRST_FAULTS: [(&str, &str); 53] = [
         "start = \"A\"\nlus = []\npanel = [{name = \"A\", keys = {\"\" = \"A\"}}]",
         "panel 0: BadKey",
     ),
-    // Characters without a code: controls, and all above ÿ.
+];
+
+/// Characters without a code: controls, and all above ÿ.
+pub(super) static OF_CHARACTERS: [(&str, &str); 3] = [
     (
         "start = \"A\"\nlus = []\npanel = [{name = \"A\", text = [{row = 1, col = 2, text = \"\\t\"}]}]",
         "panel 0 text 0: NoCode",
