@@ -32,7 +32,7 @@
 //! [`serve_turn`] does a turn of this on connections of any kind, by the trait [`Links`]: a read, an act, and a write.
 //! `specs/State` says what a host is, `Feeds`, `Bytes`, `Items` and `Takes` what bytes make of it, `Does` and `Acts` what it does in its
 //! turn, `Notes` what a note is, and `Serves` what a turn of serving is. [`one_machine`] and the other laws have what follows from
-//! these as their contracts. Whole dialogues, byte for byte, are the `stdin` of the repository's `dialogue3270`.
+//! these as their contracts. Whole dialogues, byte for byte, stand in the `stdin` of the repository's `trials3270`.
 #![tactic(auto)]
 
 mod acted;

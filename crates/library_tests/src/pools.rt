@@ -1,4 +1,4 @@
-//! Pools of few LUs: what is printed, who holds one, and refused memory. The talk of a host that asks its pool is told by dialogue3270's
+//! Pools of few LUs: what is printed, who holds one, and refused memory. The talk of a host that asks its pool is told by trials3270's
 //! dialogues.
 use lu_pool::{Pool, PoolFault};
 use std::alloc::{AllocError, Global};

@@ -1,4 +1,4 @@
-//! Growths refused in turn. What a terminal shows and sends stands in the dialogues of `dialogue3270`, byte for byte.
+//! Growths refused in turn. What a terminal shows and sends stands in the dialogues of `trials3270`, byte for byte.
 //!
 //! In an ordinary run no growth is refused. `rt try --test --fail-alloc N` refuses the Nth one: the helpers then ask again,
 //! and the tests pass at every N, whichever growth it meets.

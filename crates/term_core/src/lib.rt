@@ -22,7 +22,7 @@
 //! println!(rt; "{}", terminal.screen_text(alloc)?)?;
 //! ```
 //!
-//! The repository's `dialogue3270` holds whole dialogues with a terminal, byte for byte, which stand in its `stdin`.
+//! The repository's `trials3270` holds whole dialogues with a terminal, byte for byte, which stand in its `stdin`.
 //! `specs/Feeds` says what feeding is, `Bytes`, `Items` and `Records` what bytes make of a terminal, `Presses` what keys do,
 //! `Says` what is sent, and `ScreenText` what is printed. [`one_machine`] has the laws of these as its contract.
 #![tactic(auto)]
