@@ -223,7 +223,26 @@ impl Household {
     }
 }
 
-/// Runs the script of an input, and writes what it prints, also where it ends early, but for want of memory.
+/// Plays a script, and writes what it prints, also where it ends early, but for want of memory.
+fn play_and_write<O: Sink>(
+    net: &impl Net,
+    alloc: Global,
+    household: &mut Household,
+    script: &str,
+    out: &mut O,
+) -> Result<(), Fault> {
+    let mut text = String::new(alloc);
+    let ending = household.play(net, alloc, script, &mut text);
+    if let Err(Fault::NoMemory) = ending {
+        return ending;
+    }
+    if out.write_all(text.as_bytes()).is_err() {
+        return Err(Fault::OutputFailed);
+    }
+    ending
+}
+
+/// Runs the script of an input.
 fn selfrun<N: Net, I: Source, O: Sink>(
     net: &N,
     alloc: Global,
@@ -234,15 +253,7 @@ fn selfrun<N: Net, I: Source, O: Sink>(
     let input = read_whole(alloc, input)?;
     let (panels, script) = parted(input.as_str());
     let mut household = Household::new(net, alloc, panels, turns.get())?;
-    let mut text = String::new(alloc);
-    let ending = household.play(net, alloc, script, &mut text);
-    if let Err(Fault::NoMemory) = ending {
-        return ending;
-    }
-    if out.write_all(text.as_bytes()).is_err() {
-        return Err(Fault::OutputFailed);
-    }
-    ending
+    play_and_write(net, alloc, &mut household, script, out)
 }
 
 /// Does the commands of a script as [`run_script`](crate::run_script) does, but at terminals that are joined to the host by sockets of this

@@ -65,6 +65,25 @@ fn do_line<D: Source, U: Sink>(
     }
 }
 
+/// Does the commands of a script, one a line, and prints what each says as soon as it is done. `text` is room for that.
+fn do_lines<D: Source, U: Sink, O: Sink>(
+    alloc: Global,
+    terminal: &mut Terminal,
+    wire: &mut Wire<D, U>,
+    script: &str,
+    text: &mut String,
+    out: &mut O,
+) -> Result<(), Fault> {
+    for (index, line) in script.split_terminator('\n').enumerate() {
+        let asks = term_asks_of(line).ok_or(Fault::NotUnderstood(index + 1))?;
+        do_line(alloc, terminal, wire, asks, line, text).map_err(|_| Fault::NoMemory)?;
+        out.write_all(text.as_bytes())
+            .map_err(|_| Fault::OutputFailed)?;
+        text.clear();
+    }
+    Ok(())
+}
+
 /// Does the commands of a script, one a line, at a terminal on a wire, which asks the host for an LU, if one is named. What each says is
 /// printed as soon as it is done.
 ///
@@ -80,14 +99,7 @@ pub fn operate<D: Source, U: Sink, O: Sink>(
     let mut terminal = Terminal::new(alloc).map_err(|_| Fault::NoMemory)?;
     terminal.connected(lu);
     let mut text = String::new(alloc);
-    for (index, line) in script.split_terminator('\n').enumerate() {
-        let asks = term_asks_of(line).ok_or(Fault::NotUnderstood(index + 1))?;
-        do_line(alloc, &mut terminal, wire, asks, line, &mut text).map_err(|_| Fault::NoMemory)?;
-        out.write_all(text.as_bytes())
-            .map_err(|_| Fault::OutputFailed)?;
-        text.clear();
-    }
-    Ok(())
+    do_lines(alloc, &mut terminal, wire, script, &mut text, out)
 }
 
 /// Reads the script, connects to the host, and does the commands.

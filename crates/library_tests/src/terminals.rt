@@ -170,12 +170,15 @@ fn stay_alike(terminal: &mut Terminal, twin: &mut Terminal) -> Result<bool, Memo
     Ok(alike)
 }
 
+fn twins_stay_alike(alloc: Global) -> Result<bool, Memory> {
+    let mut terminal = new_terminal(alloc)?;
+    let mut twin = new_terminal(alloc)?;
+    stay_alike(&mut terminal, &mut twin)
+}
+
 #[test]
 fn a_refused_growth_changes_nothing(rt: HostRuntime) -> Result<(), Fail> {
-    let mut terminal = new_terminal(rt.alloc())?;
-    let mut twin = new_terminal(rt.alloc())?;
-    let alike = stay_alike(&mut terminal, &mut twin)?;
-    assert!(rt; alike);
+    assert!(rt; twins_stay_alike(rt.alloc())?);
     Ok(())
 }
 
@@ -209,10 +212,13 @@ fn shows_hi(alloc: Global, terminal: &Terminal) -> Result<bool, Memory> {
     }
 }
 
+fn shows_each_time_and_then_hi(alloc: Global) -> Result<bool, Memory> {
+    let mut terminal = new_terminal(alloc)?;
+    Ok(shows_each_time(&mut terminal) && shows_hi(alloc, &terminal)?)
+}
+
 #[test]
 fn bytes_are_fed_again_after_a_refused_growth(rt: HostRuntime) -> Result<(), Fail> {
-    let mut terminal = new_terminal(rt.alloc())?;
-    let done = shows_each_time(&mut terminal) && shows_hi(rt.alloc(), &terminal)?;
-    assert!(rt; done);
+    assert!(rt; shows_each_time_and_then_hi(rt.alloc())?);
     Ok(())
 }

@@ -34,21 +34,14 @@ impl Scale {
     }
 }
 
-/// An Erase/Write of a whole screen, in which an attribute stands at every so many cells.
-fn full_screen(alloc: Global, field_every: u16) -> Result<Vec<u8>, Memory> {
-    let mut bytes = Vec::new(alloc);
-    let mut writer = CommandWriter::new(&mut bytes);
-    let wcc = Wcc {
-        alarm: false,
-        restore: true,
-        reset: true,
-    };
-    let attr = Attr {
-        protected: false,
-        numeric: false,
-        display: Display::Normal,
-        mdt: false,
-    };
+/// Puts an Erase/Write of a whole screen: the attribute at every so many cells, and `A` in all others.
+fn put_full_screen(
+    bytes: &mut Vec<u8>,
+    wcc: Wcc,
+    attr: Attr,
+    field_every: u16,
+) -> Result<(), Memory> {
+    let mut writer = CommandWriter::new(bytes);
     writer.begin(CommandCode::EraseWrite, wcc)?;
     writer.sba(Addr::first())?;
     let mut until_field = 0u16;
@@ -61,6 +54,24 @@ fn full_screen(alloc: Global, field_every: u16) -> Result<Vec<u8>, Memory> {
         }
         until_field = until_field.saturating_sub(1);
     }
+    Ok(())
+}
+
+/// An Erase/Write of a whole screen, in which an attribute stands at every so many cells.
+fn full_screen(alloc: Global, field_every: u16) -> Result<Vec<u8>, Memory> {
+    let wcc = Wcc {
+        alarm: false,
+        restore: true,
+        reset: true,
+    };
+    let attr = Attr {
+        protected: false,
+        numeric: false,
+        display: Display::Normal,
+        mdt: false,
+    };
+    let mut bytes = Vec::new(alloc);
+    put_full_screen(&mut bytes, wcc, attr, field_every)?;
     Ok(bytes)
 }
 
@@ -75,15 +86,14 @@ fn apply(screen: &mut Screen, bytes: &[u8]) -> bool {
     }
 }
 
-/// Full-screen Erase/Writes through `read_command` and `apply`.
-fn screens(rt: &HostRuntime, scale: Scale, field_every: u16) -> io::Result<()> {
-    let bytes = full_screen(rt.alloc(), field_every)?;
+/// Reads and applies a command often.
+fn apply_often(rt: &HostRuntime, scale: Scale, bytes: &[u8]) -> io::Result<()> {
     let mut screen = Screen::blank();
     let rounds = scale.rounds(20_000);
     let mut applied = 0u32;
     let start = Instant::now(rt)?;
     for _ in 0..rounds {
-        if apply(&mut screen, bytes.as_slice()) {
+        if apply(&mut screen, bytes) {
             applied = applied.saturating_add(1);
         }
     }
@@ -103,6 +113,12 @@ fn screens(rt: &HostRuntime, scale: Scale, field_every: u16) -> io::Result<()> {
     )
 }
 
+/// Full-screen Erase/Writes through `read_command` and `apply`.
+fn screens(rt: &HostRuntime, scale: Scale, field_every: u16) -> io::Result<()> {
+    let bytes = full_screen(rt.alloc(), field_every)?;
+    apply_often(rt, scale, bytes.as_slice())
+}
+
 /// Takes a stream into a decoder; answers how many items it gave.
 fn take(decoder: &mut Decoder, stream: &[u8]) -> u32 {
     let mut items = 0u32;
@@ -114,22 +130,35 @@ fn take(decoder: &mut Decoder, stream: &[u8]) -> u32 {
     items
 }
 
-/// A stream of whole records through the decoder.
-fn wire(rt: &HostRuntime, scale: Scale) -> io::Result<()> {
-    let mut data = Vec::new(rt.alloc());
+/// Puts the data of a record that is as long as one may be.
+fn put_longest(data: &mut Vec<u8>) -> Result<(), Memory> {
     for at in 0..RECORD_LIMIT {
         data.push((at % 251) as u8)?;
     }
-    let mut stream = Vec::new(rt.alloc());
+    Ok(())
+}
+
+/// A stream of the longest record.
+fn longest_record(alloc: Global) -> Result<Vec<u8>, Memory> {
+    let mut data = Vec::new(alloc);
+    put_longest(&mut data)?;
+    let mut stream = Vec::new(alloc);
     put_record(&mut stream, data.as_slice())?;
-    let Ok(mut decoder) = Decoder::new(rt.alloc(), RECORD_LIMIT) else {
-        return Err(io::Error::from(io::ErrorKind::OutOfMemory));
-    };
+    Ok(stream)
+}
+
+/// Takes a stream into a decoder often.
+fn decode_often(
+    rt: &HostRuntime,
+    scale: Scale,
+    decoder: &mut Decoder,
+    stream: &[u8],
+) -> io::Result<()> {
     let rounds = scale.rounds(4_096);
     let mut items = 0u32;
     let start = Instant::now(rt)?;
     for _ in 0..rounds {
-        items = items.saturating_add(take(&mut decoder, stream.as_slice()));
+        items = items.saturating_add(take(decoder, stream));
     }
     let took = start.elapsed(rt)?;
     report(
@@ -141,6 +170,15 @@ fn wire(rt: &HostRuntime, scale: Scale) -> io::Result<()> {
         stream.len(),
         took,
     )
+}
+
+/// A stream of whole records through the decoder.
+fn wire(rt: &HostRuntime, scale: Scale) -> io::Result<()> {
+    let stream = longest_record(rt.alloc())?;
+    let Ok(mut decoder) = Decoder::new(rt.alloc(), RECORD_LIMIT) else {
+        return Err(io::Error::from(io::ErrorKind::OutOfMemory));
+    };
+    decode_often(rt, scale, &mut decoder, stream.as_slice())
 }
 
 /// What a host says of an LU, in order: DO TN3270E, SEND DEVICE-TYPE, DEVICE-TYPE IS, FUNCTIONS IS.
@@ -169,22 +207,40 @@ fn bound_terminal(alloc: Global) -> Result<Terminal, Memory> {
     Ok(terminal)
 }
 
-/// A stream of the record of a command, as often as said, with ALWAYS-RESPONSE.
-fn records(alloc: Global, command: &[u8], count: usize) -> Result<Vec<u8>, Memory> {
+/// Puts the data of a command's record, with ALWAYS-RESPONSE.
+fn put_data(data: &mut Vec<u8>, command: &[u8]) -> Result<(), Memory> {
     let header = Header {
         kind: DataType::Data3270,
         request: 0,
         flag: ALWAYS_RESPONSE,
         seq: 0,
     };
-    let mut data = Vec::new(alloc);
     data.extend_from_slice(&header_bytes(&header))?;
     data.extend_from_slice(command)?;
-    let mut stream = Vec::new(alloc);
+    Ok(())
+}
+
+/// Puts a record as often as said.
+fn put_records(stream: &mut Vec<u8>, data: &[u8], count: usize) -> Result<(), Memory> {
     for _ in 0..count {
-        put_record(&mut stream, data.as_slice())?;
+        put_record(stream, data)?;
     }
+    Ok(())
+}
+
+/// A stream of the record of a command, as often as said.
+fn records(alloc: Global, command: &[u8], count: usize) -> Result<Vec<u8>, Memory> {
+    let mut data = Vec::new(alloc);
+    put_data(&mut data, command)?;
+    let mut stream = Vec::new(alloc);
+    put_records(&mut stream, data.as_slice(), count)?;
     Ok(stream)
+}
+
+/// A stream of the record of a screen of 96 fields, as often as said.
+fn screen_records(alloc: Global, count: usize) -> Result<Vec<u8>, Memory> {
+    let command = full_screen(alloc, 20)?;
+    records(alloc, command.as_slice(), count)
 }
 
 /// Feeds a stream in pieces and drains what is sent; answers how many bytes that was.
@@ -205,18 +261,21 @@ fn feed(terminal: &mut Terminal, stream: &[u8], piece: usize) -> usize
     drained
 }
 
-/// Full-screen Erase/Writes with ALWAYS-RESPONSE through a terminal, in pieces of so many bytes.
-fn terminal(rt: &HostRuntime, scale: Scale, piece: u16) -> io::Result<()>
+/// Feeds a stream of records often, in pieces of so many bytes.
+fn feed_often(
+    rt: &HostRuntime,
+    scale: Scale,
+    terminal: &mut Terminal,
+    stream: &[u8],
+    piece: u16,
+) -> io::Result<()>
     requires { 0 < piece }
 {
-    let command = full_screen(rt.alloc(), 20)?;
-    let stream = records(rt.alloc(), command.as_slice(), RECORDS)?;
-    let mut terminal = bound_terminal(rt.alloc())?;
     let rounds = scale.rounds(200);
     let mut drained = 0usize;
     let start = Instant::now(rt)?;
     for _ in 0..rounds {
-        let bytes = feed(&mut terminal, stream.as_slice(), usize::from(piece));
+        let bytes = feed(terminal, stream, usize::from(piece));
         drained = drained.saturating_add(bytes);
     }
     let took = start.elapsed(rt)?;
@@ -231,12 +290,17 @@ fn terminal(rt: &HostRuntime, scale: Scale, piece: u16) -> io::Result<()>
     )
 }
 
-/// A screen of 96 fields that a terminal prints.
-fn printed(rt: &HostRuntime, scale: Scale) -> io::Result<()> {
-    let command = full_screen(rt.alloc(), 20)?;
-    let stream = records(rt.alloc(), command.as_slice(), 1)?;
+/// Full-screen Erase/Writes with ALWAYS-RESPONSE through a terminal, in pieces of so many bytes.
+fn terminal(rt: &HostRuntime, scale: Scale, piece: u16) -> io::Result<()>
+    requires { 0 < piece }
+{
+    let stream = screen_records(rt.alloc(), RECORDS)?;
     let mut terminal = bound_terminal(rt.alloc())?;
-    let _drained = feed(&mut terminal, stream.as_slice(), 16_384);
+    feed_often(rt, scale, &mut terminal, stream.as_slice(), piece)
+}
+
+/// Prints what a terminal shows often.
+fn print_often(rt: &HostRuntime, scale: Scale, terminal: &Terminal) -> io::Result<()> {
     let rounds = scale.rounds(20_000);
     let mut bytes = 0usize;
     let start = Instant::now(rt)?;
@@ -253,6 +317,14 @@ fn printed(rt: &HostRuntime, scale: Scale) -> io::Result<()> {
         bytes,
         took,
     )
+}
+
+/// A screen of 96 fields that a terminal prints.
+fn printed(rt: &HostRuntime, scale: Scale) -> io::Result<()> {
+    let stream = screen_records(rt.alloc(), 1)?;
+    let mut terminal = bound_terminal(rt.alloc())?;
+    let _drained = feed(&mut terminal, stream.as_slice(), 16_384);
+    print_often(rt, scale, &terminal)
 }
 
 /// Prints what was done, if it was done for figures: the case and its size, how many a second, and megabytes a second.

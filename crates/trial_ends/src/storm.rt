@@ -66,13 +66,27 @@ fn tell_end(rt: &impl Print, script: &Script, storm: &Storm) -> Result<()> {
     Ok(())
 }
 
-/// Takes the rounds of a script, and prints what they came to. Says whether nothing came otherwise.
-pub fn rage_by(rt: &(impl Print + AllocGlobal), text: &str) -> Result<bool> {
-    let script = read_script(rt.alloc(), text)?;
-    let mut storm = Storm::new(rt.alloc(), &script)?;
-    let is_over = rage(rt, &script, &mut storm)?;
+/// Takes the rounds of a script in a storm, and prints what they came to. Says whether nothing came otherwise.
+fn rage_and_tell(
+    rt: &(impl Print + AllocGlobal),
+    script: &Script,
+    storm: &mut Storm,
+) -> Result<bool> {
+    let is_over = rage(rt, script, storm)?;
     if is_over {
-        tell_end(rt, &script, &storm)?;
+        tell_end(rt, script, storm)?;
     }
     Ok(is_over)
+}
+
+/// Takes the rounds of a script in a storm that begins.
+fn rage_from_calm(rt: &(impl Print + AllocGlobal), script: &Script) -> Result<bool> {
+    let mut storm = Storm::new(rt.alloc(), script)?;
+    rage_and_tell(rt, script, &mut storm)
+}
+
+/// Reads a script, and takes its rounds. Says whether nothing came otherwise.
+pub fn rage_by(rt: &(impl Print + AllocGlobal), text: &str) -> Result<bool> {
+    let script = read_script(rt.alloc(), text)?;
+    rage_from_calm(rt, &script)
 }

@@ -75,8 +75,25 @@ fn goes_on(hall: &mut Hall, pace: Pace, struck: Seat) -> io::Result<bool> {
     Ok(hall.begin_again(struck, pace)? && tell_both(hall))
 }
 
-/// A story that is broken off by trouble. Says whether its connection is lost and no other, its LU is granted again, and
-/// the other connection is unchanged and goes on to the end of its story.
+/// Whether trouble loses a connection and no other, its LU is granted again, and the other connection is unchanged and goes on to
+/// the end of its story.
+fn is_broken_off(
+    hall: &mut Hall,
+    twin: &mut Hall,
+    pace: Pace,
+    struck: Seat,
+    trouble: Trouble,
+) -> io::Result<bool> {
+    hall.clients
+        .replace(struck, Client::new(struck.story(), pace, trouble));
+    Ok(
+        lose_one(hall, twin, struck)
+            && is_alone_struck(hall, twin, struck)
+            && goes_on(hall, pace, struck)?,
+    )
+}
+
+/// A story that is broken off by trouble, beside one that isn't. Says whether what comes of it is as expected.
 pub(crate) fn break_off(
     alloc: Global,
     pace: Pace,
@@ -85,11 +102,5 @@ pub(crate) fn break_off(
 ) -> io::Result<bool> {
     let mut hall = Hall::new(alloc, pace)?;
     let mut twin = Hall::new(alloc, pace)?;
-    let client = Client::new(struck.story(), pace, trouble);
-    hall.clients.replace(struck, client);
-    Ok(
-        lose_one(&mut hall, &mut twin, struck)
-            && is_alone_struck(&hall, &twin, struck)
-            && goes_on(&mut hall, pace, struck)?,
-    )
+    is_broken_off(&mut hall, &mut twin, pace, struck, trouble)
 }

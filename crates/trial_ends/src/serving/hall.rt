@@ -28,6 +28,14 @@ pub(crate) fn open(host: &mut Host, conn: usize) -> io::Result<bool>
     Ok(true)
 }
 
+/// Begins a connection for each client.
+fn open_both(host: &mut Host) -> io::Result<()> {
+    for seat in [Seat::First, Seat::Second] {
+        open(host, seat.number())?;
+    }
+    Ok(())
+}
+
 /// A host, and the clients before it.
 #[derive(Drop)]
 pub(crate) struct Hall {
@@ -38,14 +46,12 @@ pub(crate) struct Hall {
 impl Hall {
     /// A host, and two clients that begin.
     pub(crate) fn new(alloc: Global, pace: Pace) -> io::Result<Hall> {
-        let mut hall = Hall {
-            host: read_host(alloc, PANELS)?,
+        let mut host = read_host(alloc, PANELS)?;
+        open_both(&mut host)?;
+        Ok(Hall {
+            host,
             clients: Clients::new(alloc, pace)?,
-        };
-        for seat in [Seat::First, Seat::Second] {
-            open(&mut hall.host, seat.number())?;
-        }
-        Ok(hall)
+        })
     }
 
     /// Serves a connection a turn; and once more, where memory is refused.

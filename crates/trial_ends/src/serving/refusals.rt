@@ -129,19 +129,23 @@ fn refuse_twins(alloc: Global, host: &mut Host, twin: &mut Host, conn: usize) ->
     )
 }
 
-/// Says whether twins look the same through a story, a note and many options.
+/// Says whether twins that begin a connection look the same through a story, a note and many options.
+fn are_alike(alloc: Global, host: &mut Host, twin: &mut Host, seat: Seat) -> io::Result<bool> {
+    let is_told = open(host, seat.number())?
+        && open(twin, seat.number())?
+        && hosts_look_same(host, twin, seat.number())
+        && tell_twins(host, twin, seat)
+        && says(alloc, host, seat)?;
+    Ok(
+        is_told
+            && note_twins(host, twin, seat.number())
+            && refuse_twins(alloc, host, twin, seat.number())?,
+    )
+}
+
+/// Says whether twins stay alike.
 pub(crate) fn stay_alike(alloc: Global) -> io::Result<bool> {
     let mut host = read_host(alloc, PANELS)?;
     let mut twin = read_host(alloc, PANELS)?;
-    let seat = Seat::First;
-    let is_told = open(&mut host, seat.number())?
-        && open(&mut twin, seat.number())?
-        && hosts_look_same(&host, &twin, seat.number())
-        && tell_twins(&mut host, &mut twin, seat)
-        && says(alloc, &host, seat)?;
-    Ok(
-        is_told
-            && note_twins(&mut host, &mut twin, seat.number())
-            && refuse_twins(alloc, &mut host, &mut twin, seat.number())?,
-    )
+    are_alike(alloc, &mut host, &mut twin, Seat::First)
 }

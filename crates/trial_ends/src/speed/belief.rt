@@ -1,11 +1,9 @@
 //! What it costs a host to hear a terminal, and to paint its screen.
 ghost use Rattle.datastream.specs.Wanted.{IsProper};
 
-use crate::speed::{Scale, apply};
-use codes3270::{Addr, Attr, CELLS, Display, Wcc};
-use datastream::{
-    CommandCode, CommandWriter, Form, Memory, Want, Wanted, read_command, read_inbound,
-};
+use crate::speed::{Scale, apply, put_full_screen};
+use codes3270::{Attr, CELLS, Display, Wcc};
+use datastream::{Form, Memory, Want, Wanted, read_command, read_inbound};
 use presentation::Screen;
 use shadow::{Shadow, plain};
 use std::alloc::Global;
@@ -49,25 +47,13 @@ fn attribute(display: Display) -> Attr {
 
 /// An Erase/Write of a layout.
 fn command_of(alloc: Global, layout: Layout) -> Result<Vec<u8>, Memory> {
-    let mut bytes = Vec::new(alloc);
-    let mut writer = CommandWriter::new(&mut bytes);
     let wcc = Wcc {
         alarm: false,
         restore: true,
         reset: false,
     };
-    writer.begin(CommandCode::EraseWrite, wcc)?;
-    writer.sba(Addr::first())?;
-    let mut until_field = 0u16;
-    for _ in 0..CELLS {
-        if until_field == 0 {
-            writer.sf(attribute(Display::Normal))?;
-            until_field = layout.every;
-        } else {
-            writer.chars(&[0xC1])?;
-        }
-        until_field = until_field.saturating_sub(1);
-    }
+    let mut bytes = Vec::new(alloc);
+    put_full_screen(&mut bytes, wcc, attribute(Display::Normal), layout.every)?;
     Ok(bytes)
 }
 
@@ -117,8 +103,19 @@ fn changed(layout: Layout, changed_cells: u16) -> Wanted {
 /// Paints a layout of which some cells are to be others.
 fn paints(rt: &HostRuntime, scale: Scale, layout: Layout, changed_cells: u16) -> io::Result<()> {
     let shadow = believed(command_of(rt.alloc(), layout)?.as_slice());
-    let wanted = changed(layout, changed_cells);
     let mut out = Vec::new(rt.alloc());
+    paint_often(rt, scale, layout, changed_cells, &shadow, &mut out)
+}
+
+fn paint_often(
+    rt: &HostRuntime,
+    scale: Scale,
+    layout: Layout,
+    changed_cells: u16,
+    shadow: &Shadow,
+    out: &mut Vec<u8>,
+) -> io::Result<()> {
+    let wanted = changed(layout, changed_cells);
     if !shadow.fits(&wanted) {
         return Ok(());
     }
@@ -126,7 +123,7 @@ fn paints(rt: &HostRuntime, scale: Scale, layout: Layout, changed_cells: u16) ->
     let start = Instant::now(rt)?;
     for _ in 0..rounds {
         out.clear();
-        shadow.paint(&mut out, &wanted)?;
+        shadow.paint(out, &wanted)?;
     }
     let each_second = rate(rounds, start.elapsed(rt)?);
     if let Scale::Once = scale {
@@ -139,19 +136,42 @@ fn paints(rt: &HostRuntime, scale: Scale, layout: Layout, changed_cells: u16) ->
     )
 }
 
+/// Puts what a terminal sends of a screen.
+fn put_read(sent: &mut Vec<u8>, screen: &Screen, form: Form) -> io::Result<()> {
+    match form {
+        Form::Buffer => screen.put_read_buffer(sent)?,
+        Form::All => screen.put_read_modified(sent, true)?,
+        Form::Modified => screen.put_read_modified(sent, false)?,
+    }
+    Ok(())
+}
+
+/// What a terminal sends of a screen that a command wrote.
+fn read_behind(alloc: Global, command: &[u8], form: Form) -> io::Result<Vec<u8>> {
+    let mut screen = Screen::blank();
+    apply(&mut screen, command);
+    let mut sent = Vec::new(alloc);
+    put_read(&mut sent, &screen, form)?;
+    Ok(sent)
+}
+
 /// Hears what a terminal sends of a layout in which each field is modified.
 fn hears(rt: &HostRuntime, scale: Scale, layout: Layout, form: Form) -> io::Result<()> {
-    let bytes = command_of(rt.alloc(), layout)?;
-    let mut shadow = believed(bytes.as_slice());
-    let mut screen = Screen::blank();
-    apply(&mut screen, bytes.as_slice());
-    let mut sent = Vec::new(rt.alloc());
-    match form {
-        Form::Buffer => screen.put_read_buffer(&mut sent)?,
-        Form::All => screen.put_read_modified(&mut sent, true)?,
-        Form::Modified => screen.put_read_modified(&mut sent, false)?,
-    }
-    let Ok(inbound) = read_inbound(sent.as_slice(), form) else {
+    let command = command_of(rt.alloc(), layout)?;
+    let mut shadow = believed(command.as_slice());
+    let sent = read_behind(rt.alloc(), command.as_slice(), form)?;
+    hear_often(rt, scale, layout, form, &mut shadow, sent.as_slice())
+}
+
+fn hear_often(
+    rt: &HostRuntime,
+    scale: Scale,
+    layout: Layout,
+    form: Form,
+    shadow: &mut Shadow,
+    sent: &[u8],
+) -> io::Result<()> {
+    let Ok(inbound) = read_inbound(sent, form) else {
         return Ok(());
     };
     let rounds = scale.rounds(ROUNDS);

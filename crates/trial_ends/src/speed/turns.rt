@@ -160,15 +160,26 @@ fn tell(rt: &HostRuntime, scale: Scale, case: Case, done: Done, took: Duration) 
     )
 }
 
+/// Goes the rounds of a case, and prints what was done.
+fn go_often(
+    rt: &HostRuntime,
+    scale: Scale,
+    host: &mut Host,
+    terminals: &mut [Terminal],
+    case: Case,
+) -> io::Result<()> {
+    let rounds = scale.rounds(case.rounds);
+    let start = Instant::now(rt)?;
+    let done = go_rounds(host, terminals, rounds)?;
+    let took = start.elapsed(rt)?;
+    tell(rt, scale, case, done, took)
+}
+
 /// Turns of the terminals of a case with one host.
 fn join(rt: &HostRuntime, scale: Scale, text: &str, case: Case) -> io::Result<()> {
     let mut host = read_host(rt.alloc(), text)?;
     let mut terminals = seat_each(rt.alloc(), &mut host, case.terminals)?;
-    let rounds = scale.rounds(case.rounds);
-    let start = Instant::now(rt)?;
-    let done = go_rounds(&mut host, terminals.as_mut_slice(), rounds)?;
-    let took = start.elapsed(rt)?;
-    tell(rt, scale, case, done, took)
+    go_often(rt, scale, &mut host, terminals.as_mut_slice(), case)
 }
 
 /// Turns of one terminal, and of as many as a host takes. The panels are handed in: as a literal their text would be dear to prove.

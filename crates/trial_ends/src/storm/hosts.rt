@@ -205,13 +205,43 @@ fn expect_same(one: &Host, other: &Host) -> Result<(), Fault> {
     )
 }
 
-/// A host that isn't struck, and three that are told the same, each in pieces of its own.
+/// Three hosts that are told the same, each in pieces of its own.
 #[derive(Drop)]
-pub(crate) struct Hosts {
-    calm: Host,
+struct Struck {
     whole: Host,
     pieces: Host,
     single: Host,
+}
+
+impl Struck {
+    fn new(alloc: Global, panel_text: &str) -> Result<Struck, Fault> {
+        Ok(Struck {
+            whole: read_host(alloc, panel_text)?,
+            pieces: read_host(alloc, panel_text)?,
+            single: read_host(alloc, panel_text)?,
+        })
+    }
+
+    /// Tells all a tale, and expects the same to come of it however it is cut.
+    fn endure(&mut self, calm: &Host, script: &Script, tale: Tale<'_>) -> Result<Told, Fault> {
+        let told = strike(&mut self.whole, calm, script, Telling::Whole, tale)?;
+        let pieces = strike(&mut self.pieces, calm, script, Telling::Pieces, tale)?;
+        let single = strike(&mut self.single, calm, script, Telling::Single, tale)?;
+        expect(
+            told.fed == pieces.fed && told.fed == single.fed,
+            "a host stops otherwise where bytes are cut otherwise",
+        )?;
+        expect_same(&self.whole, &self.pieces)?;
+        expect_same(&self.whole, &self.single)?;
+        Ok(told)
+    }
+}
+
+/// A host that isn't struck, and those that are.
+#[derive(Drop)]
+pub(crate) struct Hosts {
+    calm: Host,
+    struck: Struck,
 }
 
 impl Hosts {
@@ -219,9 +249,7 @@ impl Hosts {
     pub(crate) fn new(alloc: Global, script: &Script) -> Result<Hosts, Fault> {
         Ok(Hosts {
             calm: read_host(alloc, script.panel_text.as_str())?,
-            whole: read_host(alloc, script.panel_text.as_str())?,
-            pieces: read_host(alloc, script.panel_text.as_str())?,
-            single: read_host(alloc, script.panel_text.as_str())?,
+            struck: Struck::new(alloc, script.panel_text.as_str())?,
         })
     }
 
@@ -230,20 +258,11 @@ impl Hosts {
         begin(&mut self.calm, script)
     }
 
-    /// Tells the others a tale, and expects the same to come of it however it is cut, the other connections to stay as they are,
-    /// and the LU to be granted again.
+    /// Tells the others a tale, and expects the other connections to stay as they are, and the LU to be granted again.
     pub(crate) fn endure(&mut self, script: &Script, tale: Tale<'_>) -> Result<Told, Fault> {
-        let told = strike(&mut self.whole, &self.calm, script, Telling::Whole, tale)?;
-        let pieces = strike(&mut self.pieces, &self.calm, script, Telling::Pieces, tale)?;
-        let single = strike(&mut self.single, &self.calm, script, Telling::Single, tale)?;
-        expect(
-            told.fed == pieces.fed && told.fed == single.fed,
-            "a host stops otherwise where bytes are cut otherwise",
-        )?;
-        expect_same(&self.whole, &self.pieces)?;
-        expect_same(&self.whole, &self.single)?;
-        expect_inherited(&mut self.whole, &script.heir)?;
-        expect_unstruck(&self.whole, &self.calm)?;
+        let told = self.struck.endure(&self.calm, script, tale)?;
+        expect_inherited(&mut self.struck.whole, &script.heir)?;
+        expect_unstruck(&self.struck.whole, &self.calm)?;
         Ok(told)
     }
 }
