@@ -89,33 +89,53 @@ fn is_other(alloc: Global, code: CommandCode, first: u8, second: u8) -> Result<b
     )
 }
 
+static WRITES: [(u8, u8, CommandCode); 3] = [
+    (0x01, 0xF1, CommandCode::Write),
+    (0x05, 0xF5, CommandCode::EraseWrite),
+    (0x0D, 0x7E, CommandCode::EraseWriteAlternate),
+];
+
+/// The first of these that is no write by its codes.
+fn first_no_write(alloc: Global) -> Result<Option<CommandCode>, Memory> {
+    for (first, second, code) in &WRITES {
+        if !is_write(alloc, *code, *first, *second)? {
+            return Ok(Some(*code));
+        }
+    }
+    Ok(None)
+}
+
 #[test]
 fn each_write_has_two_codes_and_a_write_control_character(rt: HostRuntime) -> Result<(), Fail> {
-    let table = [
-        (0x01, 0xF1, CommandCode::Write),
-        (0x05, 0xF5, CommandCode::EraseWrite),
-        (0x0D, 0x7E, CommandCode::EraseWriteAlternate),
-    ];
-    for (first, second, code) in table {
-        assert!(rt; is_write(rt.alloc(), code, first, second)?, "code {second}");
-    }
+    assert_eq!(rt; first_no_write(rt.alloc())?, None);
     Ok(())
+}
+
+static OTHERS: [(u8, u8, CommandCode); 4] = [
+    (0x02, 0xF2, CommandCode::ReadBuffer),
+    (0x06, 0xF6, CommandCode::ReadModified),
+    (0x0E, 0x6E, CommandCode::ReadModifiedAll),
+    (0x0F, 0x6F, CommandCode::EraseAllUnprotected),
+];
+
+/// Whether what follows a command's code is ignored.
+fn ignores_the_rest(code: CommandCode, byte: u8) -> bool {
+    reads(&[byte, 0x11, 0x5E, 0x40, 0x02, 0xC1], code, None, &[])
+}
+
+/// The first of these that is no other command by its codes.
+fn first_no_other(alloc: Global) -> Result<Option<CommandCode>, Memory> {
+    for (first, second, code) in &OTHERS {
+        if !is_other(alloc, *code, *first, *second)? || !ignores_the_rest(*code, *second) {
+            return Ok(Some(*code));
+        }
+    }
+    Ok(None)
 }
 
 #[test]
 fn each_other_command_has_two_codes_alone(rt: HostRuntime) -> Result<(), Fail> {
-    let table = [
-        (0x02, 0xF2, CommandCode::ReadBuffer),
-        (0x06, 0xF6, CommandCode::ReadModified),
-        (0x0E, 0x6E, CommandCode::ReadModifiedAll),
-        (0x0F, 0x6F, CommandCode::EraseAllUnprotected),
-    ];
-    for (first, second, code) in table {
-        assert!(rt; is_other(rt.alloc(), code, first, second)?, "code {second}");
-        // What follows is ignored.
-        let bytes = [second, 0x11, 0x5E, 0x40, 0x02, 0xC1];
-        assert!(rt; reads(&bytes, code, None, &[]), "code {second}");
-    }
+    assert_eq!(rt; first_no_other(rt.alloc())?, None);
     Ok(())
 }
 
@@ -124,62 +144,82 @@ fn fault_of(bytes: &[u8]) -> Option<CommandFault> {
     read_command(bytes).err()
 }
 
+static FAULTS: [(&[u8], CommandFault); 24] = [
+    (&[], CommandFault::Truncated),
+    // No write control character.
+    (&[0xF5], CommandFault::Truncated),
+    (&[0x01], CommandFault::Truncated),
+    (&[0x7E], CommandFault::Truncated),
+    // Write Structured Field, and codes that are none.
+    (&[0xF3, 0x00], CommandFault::BadCommand),
+    (&[0x11], CommandFault::BadCommand),
+    (&[0x00], CommandFault::BadCommand),
+    (&[0xC1, 0xC3, 0x02], CommandFault::BadCommand),
+    // Orders cut short.
+    (&[0xF5, 0xC3, 0x11, 0x40], CommandFault::Truncated),
+    (&[0xF1, 0xC3, 0x11], CommandFault::Truncated),
+    (&[0xF1, 0xC3, 0x1D], CommandFault::Truncated),
+    (&[0xF1, 0xC3, 0x12, 0x40], CommandFault::Truncated),
+    (&[0xF1, 0xC3, 0x3C, 0x40], CommandFault::Truncated),
+    (&[0xF1, 0xC3, 0x3C, 0x40, 0x40], CommandFault::Truncated),
+    // Neither orders nor storable.
+    (&[0xF1, 0xC3, 0x02], CommandFault::BadOrder),
+    (
+        &[0xF1, 0xC3, 0x3C, 0x40, 0x40, 0x08],
+        CommandFault::BadOrder,
+    ),
+    // The first address beyond the screen, in both forms.
+    (
+        &[0xF1, 0xC3, 0xC1, 0x11, 0x5E, 0x40],
+        CommandFault::BadAddress,
+    ),
+    (&[0xF1, 0xC3, 0x12, 0x07, 0x80], CommandFault::BadAddress),
+    // An address is judged before what follows it.
+    (
+        &[0xF1, 0xC3, 0x3C, 0x5E, 0x40, 0x08],
+        CommandFault::BadAddress,
+    ),
+    (&[0xF1, 0xC3, 0x3C, 0x5E, 0x40], CommandFault::BadAddress),
+    // Of several faults the first.
+    (
+        &[0xF1, 0xC3, 0x02, 0x11, 0x5E, 0x40],
+        CommandFault::BadOrder,
+    ),
+    (
+        &[0xF1, 0xC3, 0x11, 0x5E, 0x40, 0x02],
+        CommandFault::BadAddress,
+    ),
+    (&[0xF1, 0xC3, 0x02, 0x1D], CommandFault::BadOrder),
+    (
+        &[0xF1, 0xC3, 0xC1, 0x13, 0x00, 0x08, 0x11],
+        CommandFault::BadOrder,
+    ),
+];
+
+/// The first of these bytes that has another fault, or none.
+fn first_without_its_fault() -> Option<&'static [u8]> {
+    for (bytes, fault) in &FAULTS {
+        if fault_of(bytes) != Some(*fault) {
+            return Some(bytes);
+        }
+    }
+    None
+}
+
 #[test]
 fn the_first_fault_is_answered(rt: HostRuntime) {
-    let table: [(&[u8], CommandFault); 24] = [
-        (&[], CommandFault::Truncated),
-        // No write control character.
-        (&[0xF5], CommandFault::Truncated),
-        (&[0x01], CommandFault::Truncated),
-        (&[0x7E], CommandFault::Truncated),
-        // Write Structured Field, and codes that are none.
-        (&[0xF3, 0x00], CommandFault::BadCommand),
-        (&[0x11], CommandFault::BadCommand),
-        (&[0x00], CommandFault::BadCommand),
-        (&[0xC1, 0xC3, 0x02], CommandFault::BadCommand),
-        // Orders cut short.
-        (&[0xF5, 0xC3, 0x11, 0x40], CommandFault::Truncated),
-        (&[0xF1, 0xC3, 0x11], CommandFault::Truncated),
-        (&[0xF1, 0xC3, 0x1D], CommandFault::Truncated),
-        (&[0xF1, 0xC3, 0x12, 0x40], CommandFault::Truncated),
-        (&[0xF1, 0xC3, 0x3C, 0x40], CommandFault::Truncated),
-        (&[0xF1, 0xC3, 0x3C, 0x40, 0x40], CommandFault::Truncated),
-        // Neither orders nor storable.
-        (&[0xF1, 0xC3, 0x02], CommandFault::BadOrder),
-        (
-            &[0xF1, 0xC3, 0x3C, 0x40, 0x40, 0x08],
-            CommandFault::BadOrder,
-        ),
-        // The first address beyond the screen, in both forms.
-        (
-            &[0xF1, 0xC3, 0xC1, 0x11, 0x5E, 0x40],
-            CommandFault::BadAddress,
-        ),
-        (&[0xF1, 0xC3, 0x12, 0x07, 0x80], CommandFault::BadAddress),
-        // An address is judged before what follows it.
-        (
-            &[0xF1, 0xC3, 0x3C, 0x5E, 0x40, 0x08],
-            CommandFault::BadAddress,
-        ),
-        (&[0xF1, 0xC3, 0x3C, 0x5E, 0x40], CommandFault::BadAddress),
-        // Of several faults the first.
-        (
-            &[0xF1, 0xC3, 0x02, 0x11, 0x5E, 0x40],
-            CommandFault::BadOrder,
-        ),
-        (
-            &[0xF1, 0xC3, 0x11, 0x5E, 0x40, 0x02],
-            CommandFault::BadAddress,
-        ),
-        (&[0xF1, 0xC3, 0x02, 0x1D], CommandFault::BadOrder),
-        (
-            &[0xF1, 0xC3, 0xC1, 0x13, 0x00, 0x08, 0x11],
-            CommandFault::BadOrder,
-        ),
-    ];
-    for (bytes, fault) in table {
-        assert!(rt; fault_of(bytes) == Some(fault), "reading {bytes:?}");
+    assert_eq!(rt; first_without_its_fault(), None);
+}
+
+/// The first of these commands that is read otherwise.
+fn first_read_otherwise(table: &[(&[u8], CommandCode, &[Order])]) -> Option<usize> {
+    for row in 0..table.len() {
+        let (bytes, code, orders) = table[row];
+        if !reads(bytes, code, Some(CLEARED_WCC), orders) {
+            return Some(row);
+        }
     }
+    None
 }
 
 #[test]
@@ -252,12 +292,7 @@ fn orders_are_read_one_by_one(rt: HostRuntime) {
             ],
         ),
     ];
-    for (bytes, code, orders) in table {
-        assert!(rt;
-            reads(bytes, code, Some(CLEARED_WCC), orders),
-            "reading {bytes:?}"
-        );
-    }
+    assert_eq!(rt; first_read_otherwise(&table), None);
 }
 
 // ---- commands written
@@ -347,22 +382,30 @@ fn appends_to_roomy(alloc: Global, call: Call, bytes: &[u8]) -> bool {
     }
 }
 
+static CALLS: [(Call, &[u8]); 7] = [
+    (Call::Begin(CommandCode::Write), &[0xF1, 0xC3]),
+    (Call::Begin(CommandCode::ReadBuffer), &[0xF2]),
+    (Call::Sba, &[0x11, 0x40, 0x40]),
+    (Call::Sf(0x60), &[0x1D, 0x60]),
+    (Call::Chars, &[0xC8, 0xC9]),
+    (Call::Ra, &[0x3C, 0x40, 0x40, 0x5C]),
+    (Call::Ic, &[0x13]),
+];
+
+/// The bytes of the first of these calls that appends others.
+fn first_appended_otherwise(alloc: Global) -> Option<&'static [u8]> {
+    for (call, bytes) in &CALLS {
+        if !appends_to_full(alloc, *call, bytes) || !appends_to_roomy(alloc, *call, bytes) {
+            return Some(bytes);
+        }
+    }
+    None
+}
+
 // Run it with each allocation failing in turn: a call is then refused at some time, and the vector stays as it was.
 #[test]
 fn a_call_appends_its_bytes_or_changes_nothing(rt: HostRuntime) {
-    let table: [(Call, &[u8]); 7] = [
-        (Call::Begin(CommandCode::Write), &[0xF1, 0xC3]),
-        (Call::Begin(CommandCode::ReadBuffer), &[0xF2]),
-        (Call::Sba, &[0x11, 0x40, 0x40]),
-        (Call::Sf(0x60), &[0x1D, 0x60]),
-        (Call::Chars, &[0xC8, 0xC9]),
-        (Call::Ra, &[0x3C, 0x40, 0x40, 0x5C]),
-        (Call::Ic, &[0x13]),
-    ];
-    for (call, bytes) in table {
-        assert!(rt; appends_to_full(rt.alloc(), call, bytes), "{bytes:?}");
-        assert!(rt; appends_to_roomy(rt.alloc(), call, bytes), "{bytes:?}");
-    }
+    assert_eq!(rt; first_appended_otherwise(rt.alloc()), None);
 }
 
 // ---- wanted screens
@@ -401,17 +444,26 @@ fn has_text(alloc: Global, fault: CommandFault, text: &str) -> Result<bool, fmt:
     Ok(printed.as_str() == text)
 }
 
+static TEXTS: [(CommandFault, &str); 4] = [
+    (CommandFault::BadCommand, "unknown command"),
+    (CommandFault::BadOrder, "neither an order nor a character"),
+    (CommandFault::BadAddress, "address beyond the screen"),
+    (CommandFault::Truncated, "command cut short"),
+];
+
+/// The first fault that has another text.
+fn first_with_another_text(alloc: Global) -> Result<Option<CommandFault>, fmt::Error> {
+    for (fault, text) in &TEXTS {
+        if !has_text(alloc, *fault, text)? {
+            return Ok(Some(*fault));
+        }
+    }
+    Ok(None)
+}
+
 #[test]
 fn faults_have_texts(rt: HostRuntime) -> Result<(), Fail> {
-    let table = [
-        (CommandFault::BadCommand, "unknown command"),
-        (CommandFault::BadOrder, "neither an order nor a character"),
-        (CommandFault::BadAddress, "address beyond the screen"),
-        (CommandFault::Truncated, "command cut short"),
-    ];
-    for (fault, text) in table {
-        assert!(rt; has_text(rt.alloc(), fault, text)?, "{text}");
-    }
+    assert_eq!(rt; first_with_another_text(rt.alloc())?, None);
     Ok(())
 }
 

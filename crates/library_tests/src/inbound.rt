@@ -46,54 +46,63 @@ fn sends_fields(bytes: &[u8], cursor: u16, fields: &[(u16, &[u8])]) -> bool {
     }
 }
 
+static ENTERED: [(&str, &[u8], u16, &[(u16, &[u8])]); 7] = [
+    (
+        "one field",
+        &[0x7D, 0x40, 0xC5, 0x11, 0x40, 0xC4, 0xC1],
+        5,
+        &[(4, &[0xC1])],
+    ),
+    (
+        "an emptied field",
+        &[0x7D, 0x40, 0xC4, 0x11, 0x40, 0xC4],
+        4,
+        &[(4, &[])],
+    ),
+    ("nothing modified", &[0x7D, 0x40, 0xC1], 1, &[]),
+    (
+        "the cursor elsewhere",
+        &[0x7D, 0x40, 0x40, 0x11, 0x40, 0xC4, 0xC4],
+        0,
+        &[(4, &[0xC4])],
+    ),
+    (
+        "two characters",
+        &[0x7D, 0x40, 0xC4, 0x11, 0x40, 0xC1, 0xC1, 0xC2],
+        4,
+        &[(1, &[0xC1, 0xC2])],
+    ),
+    (
+        "two fields",
+        &[
+            0x7D, 0x40, 0xC7, 0x11, 0x40, 0xC1, 0xC1, 0x11, 0x40, 0xC5, 0xC2,
+        ],
+        7,
+        &[(1, &[0xC1]), (5, &[0xC2])],
+    ),
+    (
+        "a character deleted",
+        &[
+            0x7D, 0xC1, 0x4D, 0x11, 0xC1, 0x4C, 0xC1, 0xC3, 0xC4, 0xC5, 0xC6,
+        ],
+        77,
+        &[(76, &[0xC1, 0xC3, 0xC4, 0xC5, 0xC6])],
+    ),
+];
+
+/// The name of the first of these that isn't read so.
+fn first_entered_otherwise() -> Option<&'static str> {
+    for (name, bytes, cursor, fields) in &ENTERED {
+        if !sends_fields(bytes, *cursor, fields) {
+            return Some(name);
+        }
+    }
+    None
+}
+
 #[test]
 fn enter_sends_the_modified_fields(rt: HostRuntime) {
-    let table: [(&str, &[u8], u16, &[(u16, &[u8])]); 7] = [
-        (
-            "one field",
-            &[0x7D, 0x40, 0xC5, 0x11, 0x40, 0xC4, 0xC1],
-            5,
-            &[(4, &[0xC1])],
-        ),
-        (
-            "an emptied field",
-            &[0x7D, 0x40, 0xC4, 0x11, 0x40, 0xC4],
-            4,
-            &[(4, &[])],
-        ),
-        ("nothing modified", &[0x7D, 0x40, 0xC1], 1, &[]),
-        (
-            "the cursor elsewhere",
-            &[0x7D, 0x40, 0x40, 0x11, 0x40, 0xC4, 0xC4],
-            0,
-            &[(4, &[0xC4])],
-        ),
-        (
-            "two characters",
-            &[0x7D, 0x40, 0xC4, 0x11, 0x40, 0xC1, 0xC1, 0xC2],
-            4,
-            &[(1, &[0xC1, 0xC2])],
-        ),
-        (
-            "two fields",
-            &[
-                0x7D, 0x40, 0xC7, 0x11, 0x40, 0xC1, 0xC1, 0x11, 0x40, 0xC5, 0xC2,
-            ],
-            7,
-            &[(1, &[0xC1]), (5, &[0xC2])],
-        ),
-        (
-            "a character deleted",
-            &[
-                0x7D, 0xC1, 0x4D, 0x11, 0xC1, 0x4C, 0xC1, 0xC3, 0xC4, 0xC5, 0xC6,
-            ],
-            77,
-            &[(76, &[0xC1, 0xC3, 0xC4, 0xC5, 0xC6])],
-        ),
-    ];
-    for (name, bytes, cursor, fields) in table {
-        assert!(rt; sends_fields(bytes, cursor, fields), "{name}");
-    }
+    assert_eq!(rt; first_entered_otherwise(), None);
 }
 
 #[test]
@@ -158,33 +167,39 @@ fn fault_of(bytes: &[u8], form: Form) -> Option<InboundFault> {
     read_inbound(bytes, form).err()
 }
 
+static FAULTS: [(&[u8], InboundFault); 11] = [
+    (&[], InboundFault::Short),
+    (&[0x7D], InboundFault::Short),
+    (&[0x7D, 0x40], InboundFault::Short),
+    (&[0x01, 0x40, 0x40], InboundFault::BadAid),
+    (&[0x7D, 0x5E, 0x40], InboundFault::BadAddress),
+    (
+        &[0x7D, 0x40, 0x40, 0x11, 0x5E, 0x40, 0x00],
+        InboundFault::BadAddress,
+    ),
+    (
+        &[0x7D, 0x40, 0x40, 0x11, 0x40, 0xC1, 0xC1, 0x00],
+        InboundFault::BadForm,
+    ),
+    (&[0x7D, 0x40, 0x40, 0x00], InboundFault::BadForm),
+    (&[0x6C, 0x40, 0x40], InboundFault::BadForm),
+    (&[0x7D, 0x40, 0x40, 0x11, 0x40], InboundFault::BadForm),
+    (&[0x7D, 0x40, 0x40, 0x1D, 0x40], InboundFault::BadForm),
+];
+
+/// The first of these bytes that has another fault as Read Modified's data, or none.
+fn first_without_its_fault() -> Option<&'static [u8]> {
+    for (bytes, fault) in &FAULTS {
+        if fault_of(bytes, Form::Modified) != Some(*fault) {
+            return Some(bytes);
+        }
+    }
+    None
+}
+
 #[test]
 fn the_first_fault_is_answered(rt: HostRuntime) {
-    let table: [(&[u8], InboundFault); 11] = [
-        (&[], InboundFault::Short),
-        (&[0x7D], InboundFault::Short),
-        (&[0x7D, 0x40], InboundFault::Short),
-        (&[0x01, 0x40, 0x40], InboundFault::BadAid),
-        (&[0x7D, 0x5E, 0x40], InboundFault::BadAddress),
-        (
-            &[0x7D, 0x40, 0x40, 0x11, 0x5E, 0x40, 0x00],
-            InboundFault::BadAddress,
-        ),
-        (
-            &[0x7D, 0x40, 0x40, 0x11, 0x40, 0xC1, 0xC1, 0x00],
-            InboundFault::BadForm,
-        ),
-        (&[0x7D, 0x40, 0x40, 0x00], InboundFault::BadForm),
-        (&[0x6C, 0x40, 0x40], InboundFault::BadForm),
-        (&[0x7D, 0x40, 0x40, 0x11, 0x40], InboundFault::BadForm),
-        (&[0x7D, 0x40, 0x40, 0x1D, 0x40], InboundFault::BadForm),
-    ];
-    for (bytes, fault) in table {
-        assert!(rt;
-            fault_of(bytes, Form::Modified) == Some(fault),
-            "reading {bytes:?}"
-        );
-    }
+    assert_eq!(rt; first_without_its_fault(), None);
     assert!(rt; fault_of(&[0x6C], Form::All) == Some(InboundFault::Short));
 }
 
@@ -262,23 +277,32 @@ fn has_fault(
     Ok(fault_of(&bytes, Form::Buffer) == Some(fault))
 }
 
+static BUFFERS: [(&str, u16, &[u8], InboundFault); 5] = [
+    ("too many", CELLS, &[], InboundFault::BadForm),
+    ("too few", CELLS - 2, &[], InboundFault::Short),
+    ("an attribute cut", CELLS - 2, &[0x1D], InboundFault::Short),
+    (
+        "one cut behind the last",
+        CELLS - 1,
+        &[0x1D],
+        InboundFault::BadForm,
+    ),
+    ("unstorable", CELLS - 2, &[0x11], InboundFault::BadForm),
+];
+
+/// The name of the first of these buffers that has another fault, or none.
+fn first_buffer_without_its_fault(alloc: Global) -> Result<Option<&'static str>, AllocError> {
+    for (name, count, more, fault) in &BUFFERS {
+        if !has_fault(alloc, *count, more, *fault)? {
+            return Ok(Some(name));
+        }
+    }
+    Ok(None)
+}
+
 #[test]
 fn a_buffer_has_no_other_number_of_cells(rt: HostRuntime) -> Result<(), Fail> {
-    let table: [(&str, u16, &[u8], InboundFault); 5] = [
-        ("too many", CELLS, &[], InboundFault::BadForm),
-        ("too few", CELLS - 2, &[], InboundFault::Short),
-        ("an attribute cut", CELLS - 2, &[0x1D], InboundFault::Short),
-        (
-            "one cut behind the last",
-            CELLS - 1,
-            &[0x1D],
-            InboundFault::BadForm,
-        ),
-        ("unstorable", CELLS - 2, &[0x11], InboundFault::BadForm),
-    ];
-    for (name, count, more, fault) in table {
-        assert!(rt; has_fault(rt.alloc(), count, more, fault)?, "{name}");
-    }
+    assert_eq!(rt; first_buffer_without_its_fault(rt.alloc())?, None);
     Ok(())
 }
 
@@ -302,22 +326,31 @@ fn has_text(alloc: Global, fault: InboundFault, text: &str) -> Result<bool, fmt:
     Ok(printed.as_str() == text)
 }
 
+static TEXTS: [(InboundFault, &str); 4] = [
+    (InboundFault::Short, "the inbound data ends too early"),
+    (InboundFault::BadAid, "the inbound data begins with no AID"),
+    (
+        InboundFault::BadAddress,
+        "the inbound data has an address beyond the screen",
+    ),
+    (
+        InboundFault::BadForm,
+        "the inbound data has something out of place",
+    ),
+];
+
+/// The first fault that has another text.
+fn first_with_another_text(alloc: Global) -> Result<Option<InboundFault>, fmt::Error> {
+    for (fault, text) in &TEXTS {
+        if !has_text(alloc, *fault, text)? {
+            return Ok(Some(*fault));
+        }
+    }
+    Ok(None)
+}
+
 #[test]
 fn faults_are_printed(rt: HostRuntime) -> Result<(), Fail> {
-    let texts = [
-        (InboundFault::Short, "the inbound data ends too early"),
-        (InboundFault::BadAid, "the inbound data begins with no AID"),
-        (
-            InboundFault::BadAddress,
-            "the inbound data has an address beyond the screen",
-        ),
-        (
-            InboundFault::BadForm,
-            "the inbound data has something out of place",
-        ),
-    ];
-    for (fault, text) in texts {
-        assert!(rt; has_text(rt.alloc(), fault, text)?, "{text}");
-    }
+    assert_eq!(rt; first_with_another_text(rt.alloc())?, None);
     Ok(())
 }
