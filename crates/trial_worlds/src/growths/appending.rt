@@ -1,7 +1,7 @@
 //! Calls that append to a vector: refused memory, they leave it as it was.
 
 use crate::growths::story::{FIELDS, MIXED, NOTE};
-use crate::growths::trial::{Answer, Came, Trial, try_call};
+use crate::growths::trial::{Answer, Trial};
 use codes3270::{Addr, Attr, Wcc};
 use datastream::{CommandCode, CommandWriter, Want, Wanted, read_command};
 use presentation::Screen;
@@ -32,7 +32,7 @@ pub(crate) enum Appends {
 
 /// A vector without room, behind the bytes in it.
 #[derive(Drop)]
-struct Appending {
+pub(crate) struct Appending {
     appends: Appends,
     out: Vec<u8>,
     screen: Screen,
@@ -45,18 +45,6 @@ fn screen_of_fields() -> Screen {
         screen.apply(&command);
     }
     screen
-}
-
-impl Appending {
-    fn new(alloc: Global, appends: Appends) -> Result<Appending, AllocError> {
-        let mut out = Vec::with_capacity(alloc, NOTE.len())?;
-        out.extend_from_slice(&NOTE)?;
-        Ok(Appending {
-            appends,
-            out,
-            screen: screen_of_fields(),
-        })
-    }
 }
 
 /// Appends what it takes to have an `A` in each cell of a screen of which nothing is known.
@@ -84,6 +72,18 @@ fn put_part(mut writer: CommandWriter<'_>, appends: Appends, at: Addr) -> Result
 }
 
 impl Trial for Appending {
+    type Call = Appends;
+
+    fn before(alloc: Global, appends: Appends) -> io::Result<Appending> {
+        let mut out = Vec::with_capacity(alloc, NOTE.len())?;
+        out.extend_from_slice(&NOTE)?;
+        Ok(Appending {
+            appends,
+            out,
+            screen: screen_of_fields(),
+        })
+    }
+
     fn call(&mut self) -> Answer {
         let out = &mut self.out;
         let appended = match self.appends {
@@ -111,11 +111,4 @@ impl Trial for Appending {
     fn looks_same(&self, twin: &Appending) -> bool {
         self.out.as_slice() == twin.out.as_slice()
     }
-}
-
-/// Tries a call that appends.
-pub(crate) fn try_append(rt: &(impl Eprint + AllocGlobal), appends: Appends) -> io::Result<Came> {
-    let mut value = Appending::new(rt.alloc(), appends)?;
-    let mut twin = Appending::new(rt.alloc(), appends)?;
-    try_call(rt, &mut value, &mut twin)
 }

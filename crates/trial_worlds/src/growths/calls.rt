@@ -1,11 +1,11 @@
 //! The calls that can answer want of memory, by name.
-use crate::growths::appending::{Appends, try_append};
-use crate::growths::hosts::{Asks, try_host};
-use crate::growths::making::{Founds, Makes, try_found, try_make};
-use crate::growths::terminals::{Does, try_terminal};
-use crate::growths::trial::Came;
-use crate::growths::values::{Sets, try_set};
-use crate::growths::worlds::{Happens, Lets, try_world};
+use crate::growths::appending::{Appending, Appends};
+use crate::growths::hosts::{Asks, Hosting};
+use crate::growths::making::{Founder, Founds, Maker, Makes};
+use crate::growths::terminals::{Attached, Does};
+use crate::growths::trial::{Came, try_on};
+use crate::growths::values::{Filled, Sets};
+use crate::growths::worlds::{Happens, Lets, Small};
 use std::io;
 
 /// A call, by what it is made on.
@@ -136,15 +136,15 @@ pub(crate) fn call_named(name: &str) -> Option<Call> {
 
 impl Call {
     /// Tries it.
-    pub(crate) fn attempt(self, rt: &(impl Eprint + AllocGlobal)) -> io::Result<Came> {
+    pub(crate) fn attempt<R: Eprint + AllocGlobal>(self, rt: &R) -> io::Result<Came> {
         match self {
-            Call::Append(appends) => try_append(rt, appends),
-            Call::Make(makes) => try_make(rt, makes),
-            Call::Found(founds) => try_found(rt, founds),
-            Call::Set(sets) => try_set(rt, sets),
-            Call::Host(asks) => try_host(rt, asks),
-            Call::Terminal(does) => try_terminal(rt, does),
-            Call::World(lets) => try_world(rt, lets),
+            Call::Append(appends) => try_on::<Appending, _>(rt, appends),
+            Call::Make(makes) => try_on::<Maker, _>(rt, makes),
+            Call::Found(founds) => try_on::<Founder, _>(rt, founds),
+            Call::Set(sets) => try_on::<Filled, _>(rt, sets),
+            Call::Host(asks) => try_on::<Hosting, _>(rt, asks),
+            Call::Terminal(does) => try_on::<Attached, _>(rt, does),
+            Call::World(lets) => try_on::<Small, _>(rt, lets),
         }
     }
 }

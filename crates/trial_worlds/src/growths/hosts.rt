@@ -5,7 +5,7 @@ ghost use Rattle.host_core.specs.State.{most_connections};
 use crate::growths::story::{
     CLEAR, DO_OTHER, DONE_0, ENTER, NOTE, PA1, PANELS, WANTS_LU, WANTS_RESPONSES, WILL_TN3270E,
 };
-use crate::growths::trial::{Answer, Came, Trial, try_call};
+use crate::growths::trial::{Answer, Trial};
 use crate::growths::wire::Wire;
 use host_core::{Acted, Host, Phase, Served, serve_turn};
 use std::alloc::{AllocError, Global};
@@ -100,7 +100,7 @@ impl Asks {
 
 /// A host before the call, and the bytes that it is to be fed.
 #[derive(Drop)]
-struct Hosting {
+pub(crate) struct Hosting {
     asks: Asks,
     host: Host,
     wire: Wire,
@@ -183,18 +183,6 @@ fn answer_of(acted: Acted) -> Answer {
 }
 
 impl Hosting {
-    fn new(alloc: Global, asks: Asks) -> io::Result<Hosting> {
-        let mut host = read_host(alloc, PANELS)?;
-        prepare(&mut host, asks);
-        Ok(Hosting {
-            asks,
-            host,
-            wire: Wire::new(ENTER),
-            bytes: options(alloc)?,
-            taken: 0,
-        })
-    }
-
     fn feed(&mut self) -> Answer {
         let fed = feed_part(&mut self.host, &self.bytes, self.taken, usize::MAX);
         self.taken = self.taken.saturating_add(fed.taken);
@@ -216,6 +204,21 @@ impl Hosting {
 }
 
 impl Trial for Hosting {
+    type Call = Asks;
+
+    fn before(alloc: Global, asks: Asks) -> io::Result<Hosting> {
+        let bytes = options(alloc)?;
+        let mut host = read_host(alloc, PANELS)?;
+        prepare(&mut host, asks);
+        Ok(Hosting {
+            asks,
+            host,
+            wire: Wire::new(ENTER),
+            bytes,
+            taken: 0,
+        })
+    }
+
     fn call(&mut self) -> Answer {
         match self.asks {
             Asks::Open => open(&mut self.host, CONN),
@@ -246,11 +249,4 @@ impl Trial for Hosting {
         hosts_look_same(&self.host, &twin.host, CONN)
             && hosts_look_same(&self.host, &twin.host, OTHER)
     }
-}
-
-/// Tries a call on a host.
-pub(crate) fn try_host(rt: &(impl Eprint + AllocGlobal), asks: Asks) -> io::Result<Came> {
-    let mut value = Hosting::new(rt.alloc(), asks)?;
-    let mut twin = Hosting::new(rt.alloc(), asks)?;
-    try_call(rt, &mut value, &mut twin)
 }

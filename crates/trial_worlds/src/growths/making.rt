@@ -1,6 +1,6 @@
 //! Calls that make something: refused memory, they make nothing, and leave what they read as it was.
 use crate::growths::story::{NOTE, PANELS};
-use crate::growths::trial::{Answer, Came, Trial, try_call};
+use crate::growths::trial::{Answer, Trial};
 use host_core::Host;
 use lu_pool::{Pool, PoolFault};
 use panels::{Characters, Message, Panel, PanelFault, PanelSet, Values};
@@ -28,28 +28,39 @@ pub(crate) enum Makes {
 
 /// What the calls read.
 #[derive(Drop)]
-struct Maker {
+pub(crate) struct Maker {
     alloc: Global,
     makes: Makes,
     panels: PanelSet,
-    characters: Characters,
-    values: Values,
+    texts: Texts,
     terminal: Terminal,
 }
 
-impl Maker {
-    fn new(alloc: Global, makes: Makes) -> io::Result<Maker> {
-        let mut values = Values::new(alloc);
-        values.set(0, &NOTE)?;
-        Ok(Maker {
-            alloc,
-            makes,
-            panels: read_panels(alloc, PANELS)?,
-            characters: Characters::copy(alloc, &NOTE)?,
-            values,
-            terminal: Terminal::new(alloc)?,
-        })
-    }
+/// The text of a note, and as the value of a field.
+#[derive(Drop)]
+struct Texts {
+    characters: Characters,
+    values: Values,
+}
+
+fn noted_values(alloc: Global) -> Result<Values, AllocError> {
+    let mut values = Values::new(alloc);
+    values.set(0, &NOTE)?;
+    Ok(values)
+}
+
+fn noted(alloc: Global) -> Result<Texts, AllocError> {
+    let characters = Characters::copy(alloc, &NOTE)?;
+    Ok(Texts {
+        characters,
+        values: noted_values(alloc)?,
+    })
+}
+
+/// What is read beside the panels.
+fn read_beside(alloc: Global) -> Result<(Texts, Terminal), AllocError> {
+    let texts = noted(alloc)?;
+    Ok((texts, Terminal::new(alloc)?))
 }
 
 /// Done where something is made.
@@ -76,9 +87,12 @@ fn are_same_at(one: &PanelSet, other: &PanelSet, values: &Values, number: usize)
 }
 
 fn are_same(one: &PanelSet, other: &PanelSet, values: &Values) -> bool {
-    one.start() == other.start()
-        && one.len() == other.len()
-        && (0..one.len()).all(|number| are_same_at(one, other, values, number))
+    for number in 0..one.len() {
+        if !are_same_at(one, other, values, number) {
+            return false;
+        }
+    }
+    one.start() == other.start() && one.len() == other.len()
 }
 
 /// Done where the panels are those that are known: a growth that was refused may be got over.
@@ -112,15 +126,29 @@ fn made_decoder(alloc: Global) -> Answer {
 }
 
 impl Trial for Maker {
+    type Call = Makes;
+
+    fn before(alloc: Global, makes: Makes) -> io::Result<Maker> {
+        let panels = read_panels(alloc, PANELS)?;
+        let (texts, terminal) = read_beside(alloc)?;
+        Ok(Maker {
+            alloc,
+            makes,
+            panels,
+            texts,
+            terminal,
+        })
+    }
+
     fn call(&mut self) -> Answer {
         let alloc = self.alloc;
         match self.makes {
             Makes::Decoder => made_decoder(alloc),
-            Makes::Panels => made_panels(alloc, &self.panels, &self.values),
+            Makes::Panels => made_panels(alloc, &self.panels, &self.texts.values),
             Makes::Pool => made_pool(alloc, self.panels.lus()),
             Makes::Characters => made(Characters::copy(alloc, &NOTE)),
-            Makes::CharactersAgain => made(self.characters.clone()),
-            Makes::ValuesAgain => made(self.values.clone()),
+            Makes::CharactersAgain => made(self.texts.characters.clone()),
+            Makes::ValuesAgain => made(self.texts.values.clone()),
             Makes::Terminal => made(Terminal::new(alloc)),
             Makes::ScreenLines => made(screen_lines(alloc, self.terminal.screen())),
             Makes::ScreenText => made(self.terminal.screen_text(alloc)),
@@ -133,16 +161,9 @@ impl Trial for Maker {
     fn go_on(&mut self) {}
 
     fn looks_same(&self, twin: &Maker) -> bool {
-        self.characters.as_slice() == twin.characters.as_slice()
-            && self.values.get(0) == twin.values.get(0)
+        self.texts.characters.as_slice() == twin.texts.characters.as_slice()
+            && self.texts.values.get(0) == twin.texts.values.get(0)
     }
-}
-
-/// Tries a call that makes something.
-pub(crate) fn try_make(rt: &(impl Eprint + AllocGlobal), makes: Makes) -> io::Result<Came> {
-    let mut value = Maker::new(rt.alloc(), makes)?;
-    let mut twin = Maker::new(rt.alloc(), makes)?;
-    try_call(rt, &mut value, &mut twin)
 }
 
 /// A call that makes a host or a world of panels and a pool, which it takes.
@@ -154,7 +175,7 @@ pub(crate) enum Founds {
 
 /// What it takes.
 #[derive(Drop)]
-struct Founder {
+pub(crate) struct Founder {
     founds: Founds,
     alloc: Global,
     parts: Option<(PanelSet, Pool)>,
@@ -166,17 +187,17 @@ fn read_parts(alloc: Global) -> io::Result<(PanelSet, Pool)> {
     Ok((panels, pool))
 }
 
-impl Founder {
-    fn new(alloc: Global, founds: Founds) -> io::Result<Founder> {
+impl Trial for Founder {
+    type Call = Founds;
+
+    fn before(alloc: Global, founds: Founds) -> io::Result<Founder> {
         Ok(Founder {
             founds,
             alloc,
             parts: Some(read_parts(alloc)?),
         })
     }
-}
 
-impl Trial for Founder {
     fn call(&mut self) -> Answer {
         let parts = match self.parts.take() {
             Some(parts) => Ok(parts),
@@ -200,11 +221,4 @@ impl Trial for Founder {
     fn looks_same(&self, _twin: &Founder) -> bool {
         true
     }
-}
-
-/// Tries a call that makes a host or a world.
-pub(crate) fn try_found(rt: &(impl Eprint + AllocGlobal), founds: Founds) -> io::Result<Came> {
-    let mut value = Founder::new(rt.alloc(), founds)?;
-    let mut twin = Founder::new(rt.alloc(), founds)?;
-    try_call(rt, &mut value, &mut twin)
 }

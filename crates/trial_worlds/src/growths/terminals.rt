@@ -2,7 +2,7 @@
 use crate::growths::story::{
     DO_OTHER, DO_TN3270E, IS_LU, IS_RESPONSES, PAINT, READ_BUFFER, SEND_TYPE,
 };
-use crate::growths::trial::{Answer, Came, Trial, try_call};
+use crate::growths::trial::{Answer, Trial};
 use keyboard::{Key, Pressed};
 use std::alloc::{AllocError, Global};
 use std::io;
@@ -31,7 +31,7 @@ const MANY: usize = 14_000;
 
 /// A terminal before the call, and the bytes that it is to be fed.
 #[derive(Drop)]
-struct Attached {
+pub(crate) struct Attached {
     does: Does,
     terminal: Terminal,
     bytes: Vec<u8>,
@@ -80,17 +80,6 @@ fn prepare(terminal: &mut Terminal, does: Does) {
 }
 
 impl Attached {
-    fn new(alloc: Global, does: Does) -> io::Result<Attached> {
-        let mut terminal = Terminal::new(alloc)?;
-        prepare(&mut terminal, does);
-        Ok(Attached {
-            does,
-            terminal,
-            bytes: all_bytes(alloc)?,
-            taken: 0,
-        })
-    }
-
     fn feed(&mut self) -> Answer {
         let rest = self.bytes.get(self.taken..).unwrap_or(&[]);
         let fed = self.terminal.feed(rest);
@@ -112,6 +101,20 @@ fn press(terminal: &mut Terminal, key: Key) -> Answer {
 }
 
 impl Trial for Attached {
+    type Call = Does;
+
+    fn before(alloc: Global, does: Does) -> io::Result<Attached> {
+        let bytes = all_bytes(alloc)?;
+        let mut terminal = Terminal::new(alloc)?;
+        prepare(&mut terminal, does);
+        Ok(Attached {
+            does,
+            terminal,
+            bytes,
+            taken: 0,
+        })
+    }
+
     fn call(&mut self) -> Answer {
         match self.does {
             Does::Feed => self.feed(),
@@ -135,11 +138,4 @@ impl Trial for Attached {
     fn looks_same(&self, twin: &Attached) -> bool {
         terminals_look_same(&self.terminal, &twin.terminal)
     }
-}
-
-/// Tries a call on a terminal.
-pub(crate) fn try_terminal(rt: &(impl Eprint + AllocGlobal), does: Does) -> io::Result<Came> {
-    let mut value = Attached::new(rt.alloc(), does)?;
-    let mut twin = Attached::new(rt.alloc(), does)?;
-    try_call(rt, &mut value, &mut twin)
 }

@@ -1,5 +1,6 @@
 //! Trials: a call is made once between two marks, on a value that has a twin. What it answers says how the value has to
 //! stand then, as the twin does; and from there both go on alike.
+use std::alloc::Global;
 use std::io;
 
 /// What a call answered.
@@ -17,6 +18,14 @@ pub(crate) enum Answer {
 
 /// A value, and the call on it that is tried.
 pub(crate) trait Trial {
+    /// Which call that is.
+    type Call: Copy;
+
+    /// The value before the call.
+    fn before(alloc: Global, call: Self::Call) -> io::Result<Self>
+    where
+        Self: Sized;
+
     /// Makes the call, on what is left to hand to it.
     fn call(&mut self) -> Answer;
 
@@ -62,11 +71,7 @@ fn goes_on<T: Trial>(answer: Answer, value: &mut T, twin: &mut T) -> bool {
 }
 
 /// Makes the call between two marks on standard error, and looks at what came. Growths are to be refused between the marks alone.
-pub(crate) fn try_call<T: Trial>(
-    rt: &impl Eprint,
-    value: &mut T,
-    twin: &mut T,
-) -> io::Result<Came> {
+fn try_with_twin<T: Trial>(rt: &impl Eprint, value: &mut T, twin: &mut T) -> io::Result<Came> {
     let was_same = value.looks_same(twin);
     eprintln!(rt; "begin")?;
     let answer = value.call();
@@ -76,4 +81,14 @@ pub(crate) fn try_call<T: Trial>(
         is_refused: matches!(answer, Answer::Memory | Answer::Part(_)),
         is_as_promised,
     })
+}
+
+/// Tries a call on a value of a kind.
+pub(crate) fn try_on<T: Trial + Drop, R: Eprint + AllocGlobal>(
+    rt: &R,
+    call: T::Call,
+) -> io::Result<Came> {
+    let mut value = T::before(rt.alloc(), call)?;
+    let mut twin = T::before(rt.alloc(), call)?;
+    try_with_twin(rt, &mut value, &mut twin)
 }

@@ -1,6 +1,6 @@
 //! The values of a panel's fields: refused memory, they are as they were.
 use crate::growths::story::NOTE;
-use crate::growths::trial::{Answer, Came, Trial, try_call};
+use crate::growths::trial::{Answer, Trial};
 use panels::Values;
 use std::alloc::{AllocError, Global};
 use std::io;
@@ -20,7 +20,7 @@ pub(crate) enum Sets {
 const FIELDS: usize = 12;
 
 #[derive(Drop)]
-struct Filled {
+pub(crate) struct Filled {
     sets: Sets,
     values: Values,
 }
@@ -33,15 +33,15 @@ fn fill(values: &mut Values) -> Result<(), AllocError> {
     Ok(())
 }
 
-impl Filled {
-    fn new(alloc: Global, sets: Sets) -> Result<Filled, AllocError> {
+impl Trial for Filled {
+    type Call = Sets;
+
+    fn before(alloc: Global, sets: Sets) -> io::Result<Filled> {
         let mut values = Values::new(alloc);
         fill(&mut values)?;
         Ok(Filled { sets, values })
     }
-}
 
-impl Trial for Filled {
     fn call(&mut self) -> Answer {
         let set = match self.sets {
             Sets::New => self.values.set(FIELDS, &NOTE),
@@ -60,13 +60,11 @@ impl Trial for Filled {
     fn go_on(&mut self) {}
 
     fn looks_same(&self, twin: &Filled) -> bool {
-        (0..2 * FIELDS).all(|field| self.values.get(field) == twin.values.get(field))
+        for field in 0..2 * FIELDS {
+            if self.values.get(field) != twin.values.get(field) {
+                return false;
+            }
+        }
+        true
     }
-}
-
-/// Tries a call that sets a value.
-pub(crate) fn try_set(rt: &(impl Eprint + AllocGlobal), sets: Sets) -> io::Result<Came> {
-    let mut value = Filled::new(rt.alloc(), sets)?;
-    let mut twin = Filled::new(rt.alloc(), sets)?;
-    try_call(rt, &mut value, &mut twin)
 }

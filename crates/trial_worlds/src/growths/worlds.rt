@@ -1,6 +1,6 @@
 //! A world of one terminal: refused memory it stands as before, or as after the events that happened.
 use crate::growths::story::{NOTE, PANELS};
-use crate::growths::trial::{Answer, Came, Trial, try_call};
+use crate::growths::trial::{Answer, Trial};
 use keyboard::Key;
 use std::alloc::{AllocError, Global};
 use std::io;
@@ -79,7 +79,7 @@ pub(crate) enum Lets {
 
 /// A world before the call, and the story's events.
 #[derive(Drop)]
-struct Small {
+pub(crate) struct Small {
     lets: Lets,
     world: Box<World>,
     events: Vec<Event>,
@@ -124,17 +124,6 @@ fn answer_of(stepped: Stepped) -> Answer {
 }
 
 impl Small {
-    fn new(alloc: Global, lets: Lets) -> io::Result<Small> {
-        let mut world = new_world(alloc)?;
-        prepare(&mut world, lets);
-        Ok(Small {
-            lets,
-            world,
-            events: story(alloc)?,
-            taken: 0,
-        })
-    }
-
     /// Runs what is left of the story. No delivery of it is refused in its midst.
     fn run(&mut self) -> Answer {
         let rest = self.events.get(self.taken..).unwrap_or(&[]);
@@ -151,6 +140,20 @@ impl Small {
 }
 
 impl Trial for Small {
+    type Call = Lets;
+
+    fn before(alloc: Global, lets: Lets) -> io::Result<Small> {
+        let events = story(alloc)?;
+        let mut world = new_world(alloc)?;
+        prepare(&mut world, lets);
+        Ok(Small {
+            lets,
+            world,
+            events,
+            taken: 0,
+        })
+    }
+
     fn call(&mut self) -> Answer {
         match self.lets {
             Lets::Step(_, happens) => answer_of(self.world.step(happens.event())),
@@ -176,11 +179,4 @@ impl Trial for Small {
             && self.world.queued_up(CONN) == twin.world.queued_up(CONN)
             && self.world.queued_down(CONN) == twin.world.queued_down(CONN)
     }
-}
-
-/// Tries a call on a world.
-pub(crate) fn try_world(rt: &(impl Eprint + AllocGlobal), lets: Lets) -> io::Result<Came> {
-    let mut value = Small::new(rt.alloc(), lets)?;
-    let mut twin = Small::new(rt.alloc(), lets)?;
-    try_call(rt, &mut value, &mut twin)
 }

@@ -7,15 +7,38 @@ use shadow::{Fact, Shadow};
 /// fields, and what is known of each cell.
 pub(crate) fn is_believed(shadow: &Shadow, screen: &Screen) -> bool {
     if has_fields(shadow) {
-        Addr::all().all(|at| is_field_there(shadow, screen, at))
+        are_fields_there(shadow, screen)
     } else {
-        Addr::all().all(|at| is_there(shadow, screen, at) && screen.cell(at).is_character())
+        are_characters_there(shadow, screen)
     }
 }
 
 /// Whether the host believes in a field.
 fn has_fields(shadow: &Shadow) -> bool {
-    Addr::all().any(|at| shadow.fact(at).is_some())
+    for at in Addr::all() {
+        if shadow.fact(at).is_some() {
+            return true;
+        }
+    }
+    false
+}
+
+fn are_fields_there(shadow: &Shadow, screen: &Screen) -> bool {
+    for at in Addr::all() {
+        if !is_field_there(shadow, screen, at) {
+            return false;
+        }
+    }
+    true
+}
+
+fn are_characters_there(shadow: &Shadow, screen: &Screen) -> bool {
+    for at in Addr::all() {
+        if !(is_there(shadow, screen, at) && screen.cell(at).is_character()) {
+            return false;
+        }
+    }
+    true
 }
 
 /// Whether what is known of a cell, if something is, is there. MDT may differ.

@@ -170,18 +170,30 @@ fn put_difference(
     if page == wanted {
         return Ok(true);
     }
+    match first_difference(wanted, page) {
+        Some((number, line, came)) => {
+            write!(text, "{what} in line {number}: \"{line}\", \"{came}\"\n")?;
+        }
+        None => {
+            let number = wanted.lines().count();
+            write!(text, "{what} behind line {number}\n")?;
+        }
+    }
+    Ok(false)
+}
+
+/// The number of the first line in which a page differs from the one that is wanted, the line, and what came.
+fn first_difference<'a>(wanted: &'a str, page: &'a str) -> Option<(usize, &'a str, &'a str)> {
     let mut lines = page.lines();
     let mut number = 0usize;
     for line in wanted.lines() {
         number = number.saturating_add(1);
         let came = lines.next().unwrap_or("nothing");
         if came != line {
-            write!(text, "{what} in line {number}: \"{line}\", \"{came}\"\n")?;
-            return Ok(false);
+            return Some((number, line, came));
         }
     }
-    write!(text, "{what} behind line {number}\n")?;
-    Ok(false)
+    None
 }
 
 /// Adds whether the page is the one that the case has to print. Says whether it is.

@@ -31,6 +31,15 @@ fn look_same_on(one: &Town, other: &Town, conn: usize) -> bool {
 
 /// Whether all terminals and all connections look the same.
 pub(crate) fn look_same(one: &Town, other: &Town) -> bool {
-    (0..TERMINALS).all(|number| look_same_at(one, other, number))
-        && (0..MOST_CONNECTIONS).all(|conn| look_same_on(one, other, conn))
+    for number in 0..TERMINALS {
+        if !look_same_at(one, other, number) {
+            return false;
+        }
+    }
+    for conn in 0..MOST_CONNECTIONS {
+        if !look_same_on(one, other, conn) {
+            return false;
+        }
+    }
+    true
 }

@@ -13,6 +13,14 @@ struct Place {
     is_up: bool,
 }
 
+/// At a connection that begins, if one does.
+fn begun(conn: Option<usize>) -> Option<Place> {
+    match conn {
+        Some(conn) => Some(Place { conn, is_up: true }),
+        None => None,
+    }
+}
+
 /// Where each terminal is, if it is at a connection.
 #[derive(Drop)]
 pub(crate) struct Watch {
@@ -33,14 +41,22 @@ impl Watch {
 
     /// Whether a terminal is at a connection.
     fn is_at(&self, conn: usize) -> bool {
-        self.places
-            .iter()
-            .any(|place| matches!(place, Some(place) if place.conn == conn))
+        for place in &self.places {
+            if matches!(place, Some(place) if place.conn == conn) {
+                return true;
+            }
+        }
+        false
     }
 
     /// The least number that neither end of a connection holds.
     fn free_number(&self, town: &Town) -> Option<usize> {
-        (0..MOST_CONNECTIONS).find(|conn| !town.is_host_at(*conn) && !self.is_at(*conn))
+        for conn in 0..MOST_CONNECTIONS {
+            if !town.is_host_at(conn) && !self.is_at(conn) {
+                return Some(conn);
+            }
+        }
+        None
     }
 
     /// The number of the connection that this begins, if it may begin one.
@@ -79,9 +95,7 @@ impl Watch {
     /// Something happened; where it began a connection, one with this number.
     pub(crate) fn follow(&mut self, deed: &Deed<'_>, begins: Option<usize>, town: &Town) {
         match deed {
-            Deed::Connect(terminal, _) => {
-                self.put(*terminal, begins.map(|conn| Place { conn, is_up: true }));
-            }
+            Deed::Connect(terminal, _) => self.put(*terminal, begun(begins)),
             Deed::Lose(conn) => self.cut(*conn),
             _ => {}
         }
@@ -91,8 +105,12 @@ impl Watch {
     /// Whether the headline holds: the screen is as the host believes it, where the host holds the turn with its last command
     /// answered; and no LU is that of two sessions.
     pub(crate) fn holds(&self, town: &Town) -> bool {
-        (0..TERMINALS).all(|terminal| self.is_seen_right(town, terminal)
-            && self.is_alone(town, terminal))
+        for terminal in 0..TERMINALS {
+            if !(self.is_seen_right(town, terminal) && self.is_alone(town, terminal)) {
+                return false;
+            }
+        }
+        true
     }
 
     fn is_seen_right(&self, town: &Town, terminal: usize) -> bool {
@@ -104,9 +122,19 @@ impl Watch {
 
     /// The LU of a terminal's session has no other of a greater number.
     fn is_alone(&self, town: &Town, terminal: usize) -> bool {
-        !self.is_session(town, terminal)
-            || (terminal.saturating_add(1)..TERMINALS).all(|other| !self.is_session(town, other)
-                || town.terminal_phase(other) != town.terminal_phase(terminal))
+        !self.is_session(town, terminal) || !self.is_shared(town, terminal)
+    }
+
+    /// Whether the session of a terminal of a greater number is as far.
+    fn is_shared(&self, town: &Town, terminal: usize) -> bool {
+        for other in terminal.saturating_add(1)..TERMINALS {
+            if self.is_session(town, other)
+                && town.terminal_phase(other) == town.terminal_phase(terminal)
+            {
+                return true;
+            }
+        }
+        false
     }
 
     /// Whether a terminal is bound, on a connection that isn't lost, at whose other end the host is.
