@@ -1,7 +1,7 @@
-//! The jobs of the program. Here whole runs of `show`: what comes in, what goes out, and the exit status. Each test asks a helper, which owns one run and
-//! answers whether it ended so. Those of `script` are in `script`, those of `term` in `terminals`, those over sockets in `sockets`.
+//! The jobs of the program where the program itself can't show them: input that breaks off or is long, output that fails, wires in memory, and
+//! what words and lines ask for. Whole runs of the program stand in runs/, as pages. Each test asks a helper, which owns one run and answers
+//! whether it ended so.
 mod command_words;
-mod script;
 mod script_lines;
 mod sockets;
 mod terminals;
@@ -101,277 +101,25 @@ fn run_with(alloc: Global, input: Pieces<'_>, room: usize) -> Outcome {
     run_by(alloc, Task::Show, input, room)
 }
 
-/// Whether a run ends with a status, and prints this and tells these faults.
-fn ends(alloc: Global, input: Pieces<'_>, status: u8, out: &[u8], faults: &[u8]) -> bool {
-    let outcome = run_with(alloc, input, usize::MAX);
-    outcome.status == status && outcome.out.as_slice() == out && outcome.faults.as_slice() == faults
-}
-
-/// Whether it ends well and prints this.
-fn ends_well(alloc: Global, input: &str, out: &str) -> bool {
-    let pieces = Pieces::whole(input.as_bytes());
-    ends(alloc, pieces, 0, out.as_bytes(), b"")
-}
-
-fn push_line(text: &mut String, line: &str) -> Result<(), AllocError> {
-    text.push_str(line)?;
-    text.push('\n')
-}
-
-/// What a list has for a line of the screen, nothing where it has none.
-fn line_at<'a>(lines: &[(usize, &'a str)], number: usize) -> &'a str {
-    for (at, line) in lines {
-        if *at == number {
-            return *line;
-        }
-    }
-    ""
-}
-
-fn push_page(
-    text: &mut String,
-    before: &[&str],
-    lines: &[(usize, &str)],
-    last: &str,
-) -> Result<(), AllocError> {
-    for line in before {
-        push_line(text, *line)?;
-    }
-    for number in 1..=24 {
-        push_line(text, line_at(lines, number))?;
-    }
-    push_line(text, last)
-}
-
-/// What is printed: lines before the screen, the lines of the screen that aren't empty by their numbers, and the last line.
-fn printed(
-    alloc: Global,
-    before: &[&str],
-    lines: &[(usize, &str)],
-    last: &str,
-) -> Result<String, AllocError> {
-    let mut text = String::new(alloc);
-    push_page(&mut text, before, lines, last)?;
-    Ok(text)
-}
-
-/// Whether the run of an input ends well and prints that.
-fn shows(
-    alloc: Global,
-    input: &str,
-    before: &[&str],
-    lines: &[(usize, &str)],
-    last: &str,
-) -> Result<bool, AllocError> {
-    let wanted = printed(alloc, before, lines, last)?;
-    Ok(ends_well(alloc, input, wanted.as_str()))
-}
-
-fn push_repeated(text: &mut String, unit: &str, count: usize) -> Result<(), AllocError> {
+fn push_blanks(text: &mut String, count: usize) -> Result<(), AllocError> {
     for _ in 0..count {
-        text.push_str(unit)?;
+        text.push(' ')?;
     }
     Ok(())
 }
 
-/// A text so many times, behind another.
-fn repeated(alloc: Global, front: &str, unit: &str, count: usize) -> Result<String, AllocError> {
-    let mut text = String::from_str(alloc, front)?;
-    push_repeated(&mut text, unit, count)?;
+fn blanks_of(alloc: Global, count: usize) -> Result<String, AllocError> {
+    let mut text = String::new(alloc);
+    push_blanks(&mut text, count)?;
     Ok(text)
-}
-
-/// The same, and one more behind them.
-fn repeated_before(
-    alloc: Global,
-    unit: &str,
-    count: usize,
-    back: &str,
-) -> Result<String, AllocError> {
-    let mut text = repeated(alloc, "", unit, count)?;
-    text.push_str(back)?;
-    Ok(text)
-}
-
-const CHECK: &str = "refused OPERATION-CHECK";
-
-fn one_command_shows(alloc: Global) -> Result<bool, AllocError> {
-    let hidden = "F5 C3 11 40 40 1D 4C C1 C2 1D 60 C3 13";
-    let tabbed = "F5 C3 11 40 40 1D 40 1D 60 11 40 40 05 C1 13\n";
-    Ok(
-        shows(alloc, "", &[], &[], "cursor 0")?
-            && shows(
-                alloc,
-                "F5 C3 11 40 40 1D 60 C8 C9 1D 40 13\n",
-                &[],
-                &[(1, " HI")],
-                "cursor 4",
-            )?
-            && shows(alloc, hidden, &[], &[(1, "    C")], "cursor 5")?
-            && shows(alloc, "F5 C3 11 40\n", &[CHECK], &[], "cursor 0")?
-            && shows(alloc, tabbed, &[], &[(1, " A")], "cursor 2")?,
-    )
-}
-
-fn an_address_beyond_the_screen_is_refused(alloc: Global) -> Result<bool, AllocError> {
-    shows(
-        alloc,
-        "F5 C3 C1\nF1 C3 C1 11 5E 40\n",
-        &[CHECK],
-        &[(1, "A")],
-        "cursor 0",
-    )
-}
-
-/// An empty line, and one of blanks, is a command of no bytes; blanks may stand anywhere between pairs.
-fn blanks_part_pairs(alloc: Global) -> Result<bool, AllocError> {
-    let blanks = "  f5C3  1140 401D60 C8C91D4013 ";
-    Ok(
-        shows(alloc, "\n   \n", &[CHECK, CHECK], &[], "cursor 0")?
-            && shows(alloc, blanks, &[], &[(1, " HI")], "cursor 4")?,
-    )
-}
-
-#[test]
-fn prints_the_screen(rt: HostRuntime) -> Result<(), Fail> {
-    assert!(rt; one_command_shows(rt.alloc())?);
-    assert!(rt; an_address_beyond_the_screen_is_refused(rt.alloc())?);
-    assert!(rt; blanks_part_pairs(rt.alloc())?);
-    Ok(())
-}
-
-#[test]
-fn keeps_no_break_spaces(rt: HostRuntime) -> Result<(), Fail> {
-    let input = "F5 C3 11 40 40 C1 41 40 13";
-    assert!(rt; shows(rt.alloc(), input, &[], &[(1, "A\u{a0}")], "cursor 3")?);
-    Ok(())
-}
-
-fn erasing_goes_on(alloc: Global) -> Result<bool, AllocError> {
-    let erased = "F5 C3 11 40 40 1D 40 C1 C2 1D 60 C3 1D C1 C4 13\nF1 C3 11 40 C2 12 40 C6\n";
-    let all_erased =
-        "F5 C3 11 40 40 1D 40 C1 C2 1D 60 C3 1D C1 C4 13\nF1 C3 11 40 C2 12 40 C6\n6F\n";
-    Ok(
-        shows(alloc, erased, &[], &[(1, " A  C D")], "cursor 7")?
-            && shows(alloc, all_erased, &[], &[(1, "    C")], "cursor 1")?,
-    )
-}
-
-fn refusals_go_on(alloc: Global) -> Result<bool, AllocError> {
-    let refused = "F5\nF1 C3 3C 40 40\nF1 C3 02\nF1 C3 3C 40 40 08\nF3 00\n";
-    let answers = [CHECK, CHECK, CHECK, CHECK, "refused COMMAND-REJECT"];
-    shows(alloc, refused, &answers, &[], "cursor 0")
-}
-
-#[test]
-fn goes_on_after_each_command(rt: HostRuntime) -> Result<(), Fail> {
-    assert!(rt; erasing_goes_on(rt.alloc())?);
-    assert!(rt; refusals_go_on(rt.alloc())?);
-    Ok(())
-}
-
-/// A page whose rows are all full: the first, the last, and between them the same again and again.
-fn push_full_page(
-    text: &mut String,
-    first: &str,
-    between: &str,
-    last: &str,
-    cursor: &str,
-) -> Result<(), AllocError> {
-    push_line(text, first)?;
-    for _ in 2..24 {
-        push_line(text, between)?;
-    }
-    push_line(text, last)?;
-    push_line(text, cursor)
-}
-
-/// Whether the run of an input ends well and prints that.
-fn shows_full_page(
-    alloc: Global,
-    input: &str,
-    first: &str,
-    between: &str,
-    last: &str,
-    cursor: &str,
-) -> Result<bool, AllocError> {
-    let mut wanted = String::new(alloc);
-    push_full_page(&mut wanted, first, between, last, cursor)?;
-    Ok(ends_well(alloc, input, wanted.as_str()))
-}
-
-fn stars_show(alloc: Global, stars: &str) -> Result<bool, AllocError> {
-    let over_all = "F5 C3 11 40 40 1D 60 C8 C9 1D 40 13\nF1 C3 11 40 40 3C 40 40 5C\n";
-    shows_full_page(alloc, over_all, stars, stars, stars, "cursor 4")
-}
-
-fn tabs_show(alloc: Global, stars: &str, first: &str, last: &str) -> Result<bool, AllocError> {
-    let tabs = "F5 C3 3C 40 40 5C 11 40 C3 1D 60 11 5D 7A 1D 40 C1 05 05 C2 13\n";
-    shows_full_page(alloc, tabs, first, stars, last, "cursor 1916")
-}
-
-fn full_rows_show(alloc: Global, stars: &str) -> Result<bool, AllocError> {
-    let first = repeated(alloc, "    ", "*", 76)?;
-    let last = repeated_before(alloc, "*", 74, " B")?;
-    Ok(stars_show(alloc, stars)? && tabs_show(alloc, stars, first.as_str(), last.as_str())?)
-}
-
-/// At the end of a row the next cell is the next row's, or the first of all; and addresses are in twelve and in fourteen bits.
-fn ends_of_rows_show(alloc: Global, row_end: &str) -> Result<bool, AllocError> {
-    let wrapped = [(1, "B"), (24, row_end)];
-    let addressed = [(1, row_end), (2, "B")];
-    let addresses = "F5 C3 11 C1 4F C1 11 C1 50 C2 11 07 7F 13";
-    Ok(
-        shows(alloc, "f5c3115d7fc1c213\n", &[], &wrapped, "cursor 1")?
-            && shows(alloc, addresses, &[], &addressed, "cursor 1919")?,
-    )
-}
-
-#[test]
-fn prints_full_rows(rt: HostRuntime) -> Result<(), Fail> {
-    let stars = repeated(rt.alloc(), "", "*", 80)?;
-    let are_shown = full_rows_show(rt.alloc(), stars.as_str())?;
-    assert!(rt; are_shown);
-    Ok(())
-}
-
-#[test]
-fn prints_the_ends_of_rows(rt: HostRuntime) -> Result<(), Fail> {
-    let row_end = repeated_before(rt.alloc(), " ", 79, "A")?;
-    let are_shown = ends_of_rows_show(rt.alloc(), row_end.as_str())?;
-    assert!(rt; are_shown);
-    Ok(())
-}
-
-fn is_not_hexadecimal(alloc: Global, input: &str, out: &str, fault: &str) -> bool {
-    let pieces = Pieces::whole(input.as_bytes());
-    ends(alloc, pieces, 1, out.as_bytes(), fault.as_bytes())
-}
-
-#[test]
-fn refuses_what_is_not_hexadecimal(rt: HostRuntime) {
-    let rows: [(&str, &str, &str); 5] = [
-        ("F5 C3 C\n", "", "line 1: not hex\n"),
-        ("F5 C\n", "", "line 1: not hex\n"),
-        ("F 5\n", "", "line 1: not hex\n"),
-        (
-            "F5\nF5 C3\nXY\nF5\n",
-            "refused OPERATION-CHECK\n",
-            "line 3: not hex\n",
-        ),
-        ("F5 C3\r\n", "", "line 1: not hex\n"),
-    ];
-    for (input, out, fault) in rows {
-        assert!(rt;
-            is_not_hexadecimal(rt.alloc(), input, out, fault),
-            "{input}"
-        );
-    }
 }
 
 /// Whether an input isn't read: nothing is printed, and one fault is told.
 fn is_not_read(alloc: Global, input: Pieces<'_>) -> bool {
-    ends(alloc, input, 1, b"", b"input not read\n")
+    let outcome = run_with(alloc, input, usize::MAX);
+    outcome.status == 1
+        && outcome.out.is_empty()
+        && outcome.faults.as_slice() == b"input not read\n".as_slice()
 }
 
 #[test]
@@ -383,7 +131,6 @@ fn refuses_input_that_cannot_be_read(rt: HostRuntime) {
         fails_at: 3,
     };
     assert!(rt; is_not_read(rt.alloc(), broken));
-    assert!(rt; is_not_read(rt.alloc(), Pieces::whole(b"F5 C3 \xff\n")));
 }
 
 fn front(bytes: &[u8], count: usize) -> &[u8] {
@@ -406,7 +153,7 @@ fn limits_hold(alloc: Global, blanks: &[u8]) -> bool {
 
 #[test]
 fn reads_no_more_than_its_limits(rt: HostRuntime) -> Result<(), Fail> {
-    let blanks = repeated(rt.alloc(), "", " ", MOST_BYTES + 1)?;
+    let blanks = blanks_of(rt.alloc(), MOST_BYTES + 1)?;
     let are_held = limits_hold(rt.alloc(), blanks.as_bytes());
     assert!(rt; are_held);
     Ok(())
@@ -437,4 +184,21 @@ fn a_writer_that_fails_ends_the_run(rt: HostRuntime) {
         assert!(rt; fails_with_room(rt.alloc(), room), "{room}");
     }
     assert_eq!(rt; status_with_room(rt.alloc(), whole), 0);
+}
+
+/// Two lines of a script, of which the first prints `idle`, and the second isn't understood.
+const TELLS_AND_STOPS: &[u8] =
+    b"panel = [{name = 'P'}]\nstart = 'P'\nlus = ['A']\n%%\nstatus 0\nshow\n";
+
+/// Whether it ends so where its writer has room for so much.
+fn script_ends(alloc: Global, room: usize, status: u8, faults: &[u8]) -> bool {
+    let outcome = run_by(alloc, Task::Script, Pieces::whole(TELLS_AND_STOPS), room);
+    outcome.status == status && outcome.faults.as_slice() == faults
+}
+
+/// What can't be written is told, in the place of a line that isn't understood.
+#[test]
+fn a_writer_of_a_script_that_fails_is_told(rt: HostRuntime) {
+    assert!(rt; script_ends(rt.alloc(), 4, 6, b"output failed\n"));
+    assert!(rt; script_ends(rt.alloc(), 5, 1, b"line 2: not understood\n"));
 }

@@ -1,7 +1,5 @@
-//! Tests of what no clause says: texts and screens from outside, printed faults, sizes. Each test asks one helper, which
-//! borrows what the test owns and answers by its conditions.
-mod faults;
-mod first_faults;
+//! Tests of what no clause says: screens from outside, sizes, and refused memory. Each test asks one helper, which borrows what the test owns and
+//! answers by its conditions. How faults of texts print is shown by runs of the program (runs/panel-texts.md).
 mod many;
 mod screens;
 mod texts;
@@ -9,80 +7,7 @@ mod texts;
 use panels::{At, PanelFault, PanelSet, TreeFault, Values};
 use std::alloc::{AllocError, Global};
 use std::test::Fail;
-use texts::{ONE_BELOW, ONE_OVER, SIGN_ON, TWO_BELOW};
-
-/// The fault of a text as it prints, `none` where there is none.
-fn printed(alloc: Global, text: &str) -> Result<String, AllocError> {
-    match PanelSet::read(alloc, text) {
-        Ok(_) => String::from_str(alloc, "none"),
-        Err(fault) => format!(in alloc; "{fault}"),
-    }
-}
-
-/// Whether that is what is wanted.
-fn prints(alloc: Global, text: &str, fault: &str) -> Result<bool, AllocError> {
-    let print = printed(alloc, text)?;
-    Ok(print.as_str() == fault)
-}
-
-/// The first text that prints another fault.
-fn misprint(
-    alloc: Global,
-    rows: &[(&'static str, &str)],
-) -> Result<Option<&'static str>, AllocError> {
-    for (text, fault) in rows {
-        if !prints(alloc, *text, *fault)? {
-            return Ok(Some(*text));
-        }
-    }
-    Ok(None)
-}
-
-fn misprint_of_faults(alloc: Global) -> Result<Option<&'static str>, AllocError> {
-    Ok(
-        misprint(alloc, &faults::KEYS)?
-            .or(misprint(alloc, &faults::ABSENT)?)
-            .or(misprint(alloc, &faults::KINDS)?)
-            .or(misprint(alloc, &faults::NAMES)?)
-            .or(misprint(alloc, &faults::PLACES)?)
-            .or(misprint(alloc, &faults::CHARACTERS_AND_OVERLAPS)?)
-            .or(misprint(alloc, &faults::TARGETS)?)
-            .or(misprint(alloc, &faults::SEVERAL)?),
-    )
-}
-
-fn misprint_of_several(alloc: Global) -> Result<Option<&'static str>, AllocError> {
-    Ok(
-        misprint(alloc, &first_faults::IN_ONE_TABLE)?
-            .or(misprint(alloc, &first_faults::OF_NAMES)?)
-            .or(misprint(alloc, &first_faults::OF_PLACES)?)
-            .or(misprint(alloc, &first_faults::OF_OVERLAPS)?)
-            .or(misprint(alloc, &first_faults::OF_TARGETS)?)
-            .or(misprint(alloc, &first_faults::OF_PASSES)?)
-            .or(misprint(alloc, &first_faults::OF_KEYS)?)
-            .or(misprint(alloc, &first_faults::OF_CHARACTERS)?),
-    )
-}
-
-#[test]
-fn faults_print_with_their_places(rt: HostRuntime) -> Result<(), Fail> {
-    assert_eq!(rt; misprint_of_faults(rt.alloc())?, None);
-    Ok(())
-}
-
-#[test]
-fn the_first_of_several_faults_is_answered(rt: HostRuntime) -> Result<(), Fail> {
-    assert_eq!(rt; misprint_of_several(rt.alloc())?, None);
-    Ok(())
-}
-
-fn whole_panels_print(alloc: Global) -> Result<bool, AllocError> {
-    Ok(
-        prints(alloc, ONE_BELOW, "panel 0 field 2: OutOfPlace")?
-            && prints(alloc, ONE_OVER, "panel 0 field 2: Overlap")?
-            && prints(alloc, TWO_BELOW, "panel 0 field 2: OutOfPlace")?,
-    )
-}
+use texts::SIGN_ON;
 
 fn has_fault(alloc: Global, text: &str, wanted: PanelFault) -> bool {
     match PanelSet::read(alloc, text) {
@@ -91,17 +16,21 @@ fn has_fault(alloc: Global, text: &str, wanted: PanelFault) -> bool {
     }
 }
 
+const OVERLAP: &str =
+    "start = \"A\"\nlus = []\npanel = [{name = \"A\", field = [{name = \"f\", row = 1, col = 2, length = 3}, {name = \"g\", row = 1, col = 5, length = 1}]}]";
+
 #[test]
-fn faults_of_whole_panels_print(rt: HostRuntime) -> Result<(), Fail> {
-    assert!(rt; whole_panels_print(rt.alloc())?);
-    let overlap = PanelFault::Tree(TreeFault::Overlap, At::Field(0, 2));
-    assert!(rt; has_fault(rt.alloc(), ONE_OVER, overlap));
-    Ok(())
+fn a_fault_has_its_place(rt: HostRuntime) {
+    let overlap = PanelFault::Tree(TreeFault::Overlap, At::Field(0, 1));
+    assert!(rt; has_fault(rt.alloc(), OVERLAP, overlap));
 }
 
 /// How long the value of a field is.
 fn length_at(values: &Values, field: usize) -> Option<usize> {
-    values.get(field).map(|value| value.len())
+    match values.get(field) {
+        Some(value) => Some(value.len()),
+        None => None,
+    }
 }
 
 fn keeps_what_is_set(values: &mut Values) -> Result<bool, AllocError> {

@@ -1,4 +1,4 @@
-//! Pools of few LUs: what is printed, who holds one, and refused memory. The talk of a host that asks its pool is told by trials3270's
+//! Pools of few LUs: who holds one, and refused memory. The talk of a host that asks its pool is told by trials3270's
 //! dialogues.
 use lu_pool::{Pool, PoolFault};
 use std::alloc::{AllocError, Global};
@@ -28,72 +28,17 @@ fn pool_of(alloc: Global, names: &[&str]) -> Result<Pool, PoolFault> {
     read_with(alloc, &mut texts, names)
 }
 
-fn prints(alloc: Global, fault: PoolFault, printed: &str) -> bool {
-    match format!(in alloc; "{fault}") {
-        Ok(text) => text.as_str() == printed,
+// Whether refused memory is printed so. The faults of lists are shown by runs of the program (runs/panel-texts.md).
+fn refused_memory_prints(alloc: Global) -> bool {
+    match format!(in alloc; "{}", PoolFault::Memory) {
+        Ok(text) => text.as_str() == "no memory",
         Err(_) => false,
     }
 }
 
-// Whether these names are no pool, for the reason that is printed so.
-fn is_refused(alloc: Global, names: &[&str], printed: &str) -> bool {
-    match pool_of(alloc, names) {
-        Ok(_) => false,
-        Err(fault) => prints(alloc, fault, printed),
-    }
-}
-
-static LISTS: [(&[&str], &str); 7] = [
-    (&[], "lu: BadCount"),
-    (&["A", "a"], "lu 1: Twice"),
-    (&["A", "B", "C", "B", "B"], "lu 3: Twice"),
-    (&["A", ""], "lu 1: BadName"),
-    (&["9A", "A", "A"], "lu 0: BadName"),
-    (&["A", "A", "9A"], "lu 1: Twice"),
-    (&["ABCDEFGHI"], "lu 0: BadName"),
-];
-
-// Whether each of these lists is refused, and how, and refused memory is printed too.
-fn each_fault_is_printed(alloc: Global) -> bool {
-    for (names, printed) in &LISTS {
-        if !is_refused(alloc, names, printed) {
-            return false;
-        }
-    }
-    prints(alloc, PoolFault::Memory, "no memory")
-}
-
 #[test]
-fn faults_are_printed(rt: HostRuntime) {
-    assert!(rt; each_fault_is_printed(rt.alloc()));
-}
-
-static MOST: [&str; 64] = [
-    "LU0", "LU1", "LU2", "LU3", "LU4", "LU5", "LU6", "LU7", "LU8", "LU9", "LU10", "LU11", "LU12",
-    "LU13", "LU14", "LU15", "LU16", "LU17", "LU18", "LU19", "LU20", "LU21", "LU22", "LU23", "LU24",
-    "LU25", "LU26", "LU27", "LU28", "LU29", "LU30", "LU31", "LU32", "LU33", "LU34", "LU35", "LU36",
-    "LU37", "LU38", "LU39", "LU40", "LU41", "LU42", "LU43", "LU44", "LU45", "LU46", "LU47", "LU48",
-    "LU49", "LU50", "LU51", "LU52", "LU53", "LU54", "LU55", "LU56", "LU57", "LU58", "LU59", "LU60",
-    "LU61", "LU62", "LU63",
-];
-
-// Why these texts are no pool, if they aren't.
-fn fault_of(alloc: Global, texts: &[String]) -> Option<PoolFault> {
-    Pool::read(alloc, texts).err()
-}
-
-// Whether 64 names are a pool, and one more is too many, before any name is looked at.
-fn count_is_limited(alloc: Global, texts: &mut Vec<String>) -> bool {
-    add_texts(alloc, texts, &MOST).is_ok()
-        && fault_of(alloc, texts).is_none()
-        && add_texts(alloc, texts, &["9"]).is_ok()
-        && fault_of(alloc, texts) == Some(PoolFault::BadCount)
-}
-
-#[test]
-fn a_pool_has_64_lus_at_most(rt: HostRuntime) {
-    let mut texts = Vec::new(rt.alloc());
-    assert!(rt; count_is_limited(rt.alloc(), &mut texts));
+fn refused_memory_is_printed(rt: HostRuntime) {
+    assert!(rt; refused_memory_prints(rt.alloc()));
 }
 
 // What the pool answers a connection, which must hold none.

@@ -97,15 +97,21 @@ static REFUSED: [&str; 34] = [
 ];
 
 fn all_taken(alloc: Global) -> bool {
-    TAKEN
-        .iter()
-        .all(|(line, wanted)| seen_of(alloc, line) == *wanted)
+    for (line, wanted) in &TAKEN {
+        if seen_of(alloc, *line) != *wanted {
+            return false;
+        }
+    }
+    true
 }
 
 fn all_refused(alloc: Global) -> bool {
-    REFUSED
-        .iter()
-        .all(|line| seen_of(alloc, line) == ("refused", 0, 0))
+    for line in &REFUSED {
+        if seen_of(alloc, *line) != ("refused", 0, 0) {
+            return false;
+        }
+    }
+    true
 }
 
 #[test]

@@ -1,123 +1,9 @@
-//! Texts with as much as there may be, and with more.
-use super::prints;
+//! A text with as much as there may be, and the examples.
 use super::texts::{AIRLINE, BANK};
 use codes3270::{Aid, PfNo};
 use panels::{Next, PanelFault, PanelSet};
 use std::alloc::{AllocError, Global};
 use std::test::Fail;
-
-/// Appends a text so many times.
-fn push_times(text: &mut String, item: &str, count: usize) -> Result<(), AllocError> {
-    for _ in 0..count {
-        text.push_str(item)?;
-    }
-    Ok(())
-}
-
-/// A text in which one thing stands so many times, and the fault that it prints.
-struct Many {
-    count: usize,
-    head: &'static str,
-    item: &'static str,
-    tail: &'static str,
-    fault: &'static str,
-}
-
-static MANY: [Many; 6] = [
-    Many {
-        count: 64,
-        head: "panel = [",
-        item: "{name = \"A\"},",
-        tail: "]",
-        fault: "panel 1: TwiceNamed",
-    },
-    Many {
-        count: 65,
-        head: "panel = [",
-        item: "{name = \"A\"},",
-        tail: "]",
-        fault: "top: TooMany",
-    },
-    Many {
-        count: 256,
-        head: "panel = [{name = \"A\", text = [",
-        item: "{row = 1, col = 2, text = \"X\"},",
-        tail: "]}]",
-        fault: "panel 0 text 1: Overlap",
-    },
-    Many {
-        count: 257,
-        head: "panel = [{name = \"A\", text = [",
-        item: "{row = 1, col = 2, text = \"X\"},",
-        tail: "]}]",
-        fault: "panel 0: TooMany",
-    },
-    Many {
-        count: 128,
-        head: "panel = [{name = \"A\", field = [",
-        item: "{name = \"f\", row = 1, col = 2, length = 1},",
-        tail: "]}]",
-        fault: "panel 0 field 1: TwiceNamed",
-    },
-    Many {
-        count: 129,
-        head: "panel = [{name = \"A\", field = [",
-        item: "{name = \"f\", row = 1, col = 2, length = 1},",
-        tail: "]}]",
-        fault: "panel 0: TooMany",
-    },
-];
-
-fn push_many(text: &mut String, many: &Many) -> Result<(), AllocError> {
-    text.push_str("start = \"A\"\nlus = []\n")?;
-    text.push_str(many.head)?;
-    push_times(text, many.item, many.count)?;
-    text.push_str(many.tail)
-}
-
-fn many_print(alloc: Global, many: &Many) -> Result<bool, AllocError> {
-    let mut text = String::new(alloc);
-    push_many(&mut text, many)?;
-    prints(alloc, text.as_str(), many.fault)
-}
-
-/// The count of the first of these that isn't refused so.
-fn first_printed_otherwise(alloc: Global) -> Result<Option<usize>, AllocError> {
-    for many in &MANY {
-        if !many_print(alloc, many)? {
-            return Ok(Some(many.count));
-        }
-    }
-    Ok(None)
-}
-
-#[test]
-fn too_many_is_a_fault(rt: HostRuntime) -> Result<(), Fail> {
-    assert_eq!(rt; first_printed_otherwise(rt.alloc())?, None);
-    Ok(())
-}
-
-/// A panel with too many fields, and so many others.
-fn push_panels(text: &mut String, more: usize) -> Result<(), AllocError> {
-    text.push_str("start = \"A\"\nlus = []\npanel = [{name = \"A\", field = [")?;
-    push_times(text, "{name = \"f\", row = 1, col = 2, length = 1},", 129)?;
-    text.push_str("]}")?;
-    push_times(text, ", {name = \"A\"}", more)?;
-    text.push_str("]")
-}
-
-fn panels_print(alloc: Global, more: usize, fault: &str) -> Result<bool, AllocError> {
-    let mut text = String::new(alloc);
-    push_panels(&mut text, more)?;
-    prints(alloc, text.as_str(), fault)
-}
-
-#[test]
-fn too_many_panels_come_before_too_many_items(rt: HostRuntime) -> Result<(), Fail> {
-    assert!(rt; panels_print(rt.alloc(), 63, "panel 0: TooMany")?);
-    assert!(rt; panels_print(rt.alloc(), 64, "top: TooMany")?);
-    Ok(())
-}
 
 fn push_field(text: &mut String, panel: usize, field: usize) -> Result<(), AllocError> {
     let row = 1 + field / 20;
@@ -169,10 +55,15 @@ fn large_text(alloc: Global) -> Result<String, AllocError> {
 
 /// Whether all fields of a panel have at least a number.
 fn numbers_begin_at(set: &PanelSet, index: usize, first: usize) -> bool {
-    match set.panel(index) {
-        Some(panel) => panel.fields().iter().all(|field| first <= field.number),
-        None => false,
+    let Some(panel) = set.panel(index) else {
+        return false;
+    };
+    for field in panel.fields() {
+        if field.number < first {
+            return false;
+        }
     }
+    true
 }
 
 fn last_numbers_begin_at(alloc: Global, text: &str, first: usize) -> Result<bool, PanelFault> {

@@ -1,7 +1,7 @@
 //! What is looked up by the index of attributes, beside what a search from cell to cell finds.
 use super::{
-    ERASE, ERASE_WRITES, FIELDS, NULLED_ROUND_THE_END, REPEATED_AND_ERASED, SIGN_ON, Shown, TABS,
-    THREE_FIELDS, at, obey, obeys, type_at,
+    Commands, ERASE, ERASE_WRITES, FIELDS, NULLED_ROUND_THE_END, REPEATED_AND_ERASED, SIGN_ON,
+    TABS, THREE_FIELDS, at, obey, obeys, type_at,
 };
 use codes3270::{Addr, Attr, CELLS};
 use presentation::{Field, Screen};
@@ -94,9 +94,9 @@ fn becomes_as_searched(screen: &mut Screen, commands: &[&[u8]]) -> bool {
 }
 
 /// Which case is the first whose screens aren't as searched.
-fn first_other_shown(cases: &[Shown]) -> Option<usize> {
+fn first_other_shown(cases: &[Commands]) -> Option<usize> {
     for case in 0..cases.len() {
-        let (commands, _rows, _cursor) = cases[case];
+        let commands = cases[case];
         if !becomes_as_searched(&mut Screen::blank(), commands) {
             return Some(case);
         }
