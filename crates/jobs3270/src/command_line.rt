@@ -1,10 +1,10 @@
 //! The words behind the program's name.
-ghost use Rattle.std.specs.Prelude.{◌≡◌, IfOk, IfErr, Some, map, option_map, string_bytes};
+ghost use Rattle.std.specs.Prelude.{◌≡◌, ◌∷◌, [], IfOk, IfErr, Some, map, option_map, string_bytes};
 ghost use Rattle.clap.specs.Walk.{first_of, rows_of};
-ghost use Rattle.clap.specs.Simple.{subcommand_rows_of};
+ghost use Rattle.clap.specs.Simple.{App, Shape, subcommand_rows_of, with_subcommand};
 ghost use Rattle.clap.specs.Matches.{found_of};
 ghost use Rattle.clap.specs.Values.{kind_of};
-ghost use Rattle.jobs3270.specs.Words.{HasNoJob, program, job_of, job_by, job_named, given_port, given_turns, given_lu, port_rule, turns_rule, lu_rule, selfrun_shape, host_shape, serve_shape, term_shape};
+ghost use Rattle.jobs3270.specs.Words.{HasNoJob, program, job_of, job_by, job_named, given_port, given_turns, given_lu, port_rule, turns_rule, lu_rule, script_shape, show_shape, selfrun_shape, host_shape, serve_shape, term_shape};
 ghost use Rattle.jobs3270.specs.ClapCommands.{IsOption, IsJob, IsCommand, IsMatch, HasNoMatch, fault_by};
 
 use crate::job::{Job, Port, Turns, WordFault};
@@ -66,18 +66,38 @@ fn term<'a>(alloc: Global) -> Result<Command<'a>, AllocError>
     command.arg(lu_option(alloc))
 }
 
-/// The program, with its jobs as subcommands.
-fn program<'a>(alloc: Global) -> Result<Command<'a>, AllocError>
-    ensures { IfOk result (IsCommand program) }
+/// A command with one job more, if that could be made.
+fn with_job<'a>(
+    command: Command<'a>,
+    job: Result<Command<'a>, AllocError>,
+) -> Result<Command<'a>, AllocError>
+    ensures { (app : App) (shape : Shape) → IsCommand app command.entry → IfOk job.entry (IsJob shape) → IfOk result (IsCommand (with_subcommand app shape)) }
+{
+    match job {
+        Ok(job) => command.subcommand(job),
+        Err(error) => Err(error),
+    }
+}
+
+/// The program, with the two jobs that have no options.
+fn plain_program<'a>(alloc: Global) -> Result<Command<'a>, AllocError>
+    ensures { IfOk result (IsCommand (record program { subs = script_shape ∷ show_shape ∷ [] })) }
 {
     Command::new(alloc, "panel3270")
         .no_binary_name(true)
         .subcommand(Command::new(alloc, "script"))?
-        .subcommand(Command::new(alloc, "show"))?
-        .subcommand(selfrun(alloc)?)?
-        .subcommand(host(alloc)?)?
-        .subcommand(serve(alloc)?)?
-        .subcommand(term(alloc)?)
+        .subcommand(Command::new(alloc, "show"))
+}
+
+/// The program, with its jobs as subcommands.
+fn program<'a>(alloc: Global) -> Result<Command<'a>, AllocError>
+    ensures { IfOk result (IsCommand program) }
+{
+    let two = plain_program(alloc)?;
+    let three = with_job(two, selfrun(alloc))?;
+    let four = with_job(three, host(alloc))?;
+    let five = with_job(four, serve(alloc))?;
+    with_job(five, term(alloc))
 }
 
 // ---- what was given

@@ -243,10 +243,12 @@ impl Refusals {
     pub(crate) fn new(alloc: Global) -> Result<Refusals, WireFault>
         ensures { IfOk result (λ heard. heard ≡ unheard) }
     {
+        let terminal = Decoder::new(alloc, 0)?;
+        let host = Decoder::new(alloc, 0)?;
         Ok(Refusals {
             listens: false,
-            terminal: Decoder::new(alloc, 0)?,
-            host: Decoder::new(alloc, 0)?,
+            terminal,
+            host,
             asked: ArrayVec::new(),
             refused: ArrayVec::new(),
         })

@@ -91,9 +91,11 @@ impl Sockets {
     pub(crate) fn new(alloc: Global) -> Result<Sockets, WireFault>
         ensures { IfOk result (λ sockets. sockets ≡ new_sockets) }
     {
+        let places = unused_places(alloc)?;
+        let heard = unheard_numbers(alloc)?;
         Ok(Sockets {
-            places: unused_places(alloc)?,
-            heard: unheard_numbers(alloc)?,
+            places,
+            heard,
             moved: false,
         })
     }
