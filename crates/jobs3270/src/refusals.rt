@@ -243,12 +243,10 @@ impl Refusals {
     pub(crate) fn new(alloc: Global) -> Result<Refusals, WireFault>
         ensures { IfOk result (λ heard. heard ≡ unheard) }
     {
-        let terminal = Decoder::new(alloc, 0)?;
-        let host = Decoder::new(alloc, 0)?;
         Ok(Refusals {
             listens: false,
-            terminal,
-            host,
+            terminal: Decoder::new(alloc, 0)?,
+            host: Decoder::new(alloc, 0)?,
             asked: ArrayVec::new(),
             refused: ArrayVec::new(),
         })

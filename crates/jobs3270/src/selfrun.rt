@@ -13,7 +13,7 @@ use crate::seat::Seat;
 use crate::server::{Server, Unwatched, patience};
 use crate::show::end_by;
 use crate::streams::{Sink, Source};
-use host_core::{Host, MOST_CONNECTIONS};
+use host_core::MOST_CONNECTIONS;
 use keyboard::Key;
 use mio::net::TcpStream;
 use std::alloc::{AllocError, Global};
@@ -39,12 +39,6 @@ fn is_taken(asks: &Asks) -> bool
     }
 }
 
-/// What a line asks for: None where it isn't understood, or a script that runs over sockets may not ask for it.
-fn taken(line: &str) -> Option<Asks> {
-    let asks = asked(line)?;
-    if is_taken(&asks) { Some(asks) } else { None }
-}
-
 /// A host, the terminals of a script, and how many turns they may still take.
 #[derive(Drop)]
 struct Household {
@@ -54,28 +48,13 @@ struct Household {
     turns: u32,
 }
 
-/// Adds terminals without connections.
-fn add_seats(alloc: Global, seats: &mut Vec<Seat>) -> Result<(), AllocError> {
-    for _ in 0..TERMINALS {
-        seats.push(Seat::new(Terminal::new(alloc)?))?;
-    }
-    Ok(())
-}
-
 /// Terminals without connections.
 fn seats_of(alloc: Global) -> Result<Vec<Seat>, AllocError> {
     let mut seats = Vec::with_capacity(alloc, TERMINALS)?;
-    add_seats(alloc, &mut seats)?;
-    Ok(seats)
-}
-
-/// A host that is served at any port that is free, and where it listens.
-fn served(net: &impl Net, alloc: Global, host: Host) -> Result<(Server, SocketAddr), Fault> {
-    let server = Server::new(net, alloc, host, 0)?;
-    match server.address() {
-        Ok(address) => Ok((server, address)),
-        Err(_) => Err(Fault::SocketFailed),
+    for _ in 0..TERMINALS {
+        seats.push(Seat::new(Terminal::new(alloc)?))?;
     }
+    Ok(seats)
 }
 
 impl Household {
@@ -83,7 +62,10 @@ impl Household {
     fn new(net: &impl Net, alloc: Global, panels: &str, turns: u32) -> Result<Household, Fault> {
         let host = host_of(alloc, panels)?;
         let seats = seats_of(alloc)?;
-        let (server, address) = served(net, alloc, host)?;
+        let server = Server::new(net, alloc, host, 0)?;
+        let Ok(address) = server.address() else {
+            return Err(Fault::SocketFailed);
+        };
         Ok(Household {
             server,
             address,
@@ -171,13 +153,6 @@ impl Household {
         }
     }
 
-    /// An event happens, or is skipped, and what is said of that is added.
-    fn answer(&mut self, net: &impl Net, event: Event, text: &mut String) -> Result<(), Fault> {
-        let answer = self.happen(net, event)?;
-        put_answer(text, answer)?;
-        Ok(())
-    }
-
     /// A terminal is typed the characters of a text, up to the first that is refused.
     fn type_text(&mut self, terminal: usize, typed: &str, text: &mut String) -> Result<(), Fault> {
         for letter in typed.chars() {
@@ -217,13 +192,17 @@ impl Household {
         text: &mut String,
     ) -> Result<(), Fault> {
         match asks {
-            Asks::Nothing => Ok(()),
-            Asks::Happens(event) => self.answer(net, event, text),
-            Asks::Types(terminal) => self.type_text(terminal, typed_text(line), text),
-            Asks::Settles => self.settle(),
-            Asks::Shows(terminal) => self.show(alloc, terminal, text),
-            Asks::Tells(terminal) => self.tell(terminal, text),
+            Asks::Nothing => {}
+            Asks::Happens(event) => {
+                let answer = self.happen(net, event)?;
+                put_answer(text, answer)?;
+            }
+            Asks::Types(terminal) => self.type_text(terminal, typed_text(line), text)?,
+            Asks::Settles => self.settle()?,
+            Asks::Shows(terminal) => self.show(alloc, terminal, text)?,
+            Asks::Tells(terminal) => self.tell(terminal, text)?,
         }
+        Ok(())
     }
 
     /// Does the commands of a script, one a line, and adds what they print.
@@ -235,24 +214,13 @@ impl Household {
         text: &mut String,
     ) -> Result<(), Fault> {
         for (index, line) in script.split_terminator('\n').enumerate() {
-            let Some(asks) = taken(line) else {
-                return Err(Fault::NotUnderstood(index + 1));
-            };
-            self.play_line(net, alloc, asks, line, text)?;
+            match asked(line) {
+                Some(asks) if is_taken(&asks) => self.play_line(net, alloc, asks, line, text)?,
+                _ => return Err(Fault::NotUnderstood(index + 1)),
+            }
         }
         Ok(())
     }
-}
-
-/// Writes what a script printed, unless it ended for want of memory, and answers how it ended.
-fn write_page<O: Sink>(ending: Result<(), Fault>, text: &str, out: &mut O) -> Result<(), Fault> {
-    if let Err(Fault::NoMemory) = ending {
-        return ending;
-    }
-    if out.write_all(text.as_bytes()).is_err() {
-        return Err(Fault::OutputFailed);
-    }
-    ending
 }
 
 /// Plays a script, and writes what it prints, also where it ends early, but for want of memory.
@@ -265,20 +233,13 @@ fn play_and_write<O: Sink>(
 ) -> Result<(), Fault> {
     let mut text = String::new(alloc);
     let ending = household.play(net, alloc, script, &mut text);
-    write_page(ending, text.as_str(), out)
-}
-
-/// Runs the script of a text.
-fn run_text<O: Sink>(
-    net: &impl Net,
-    alloc: Global,
-    turns: Turns,
-    text: &str,
-    out: &mut O,
-) -> Result<(), Fault> {
-    let (panels, script) = parted(text);
-    let mut household = Household::new(net, alloc, panels, turns.get())?;
-    play_and_write(net, alloc, &mut household, script, out)
+    if let Err(Fault::NoMemory) = ending {
+        return ending;
+    }
+    if out.write_all(text.as_bytes()).is_err() {
+        return Err(Fault::OutputFailed);
+    }
+    ending
 }
 
 /// Runs the script of an input.
@@ -289,8 +250,10 @@ fn selfrun<N: Net, I: Source, O: Sink>(
     input: &mut I,
     out: &mut O,
 ) -> Result<(), Fault> {
-    let text = read_whole(alloc, input)?;
-    run_text(net, alloc, turns, text.as_str(), out)
+    let input = read_whole(alloc, input)?;
+    let (panels, script) = parted(input.as_str());
+    let mut household = Household::new(net, alloc, panels, turns.get())?;
+    play_and_write(net, alloc, &mut household, script, out)
 }
 
 /// Does the commands of a script as [`run_script`](crate::run_script) does, but at terminals that are joined to the host by sockets of this

@@ -43,20 +43,14 @@ impl Watcher for Unwatched {
     }
 }
 
-/// The socket at which connections come, and what waits for it and for them.
-#[derive(Drop)]
-struct Gate {
-    listener: TcpListener,
-    poll: Poll,
-    events: Events,
-}
-
-/// A host, the connections that it serves, and the gate through which more come.
+/// A host, the connections that it serves, and the socket at which more come.
 #[derive(Drop)]
 pub struct Server {
     host: Host,
     sockets: Sockets,
-    gate: Gate,
+    listener: TcpListener,
+    poll: Poll,
+    events: Events,
 }
 
 /// How long a turn may wait, at most 10 milliseconds: not at all where something was done in the turn before, since there may be more to do
@@ -66,59 +60,14 @@ pub fn patience(moved: bool) -> Duration {
     Duration::from_millis(millis)
 }
 
-/// A listener at a port of this machine, for which a poll waits.
-fn listener_at(net: &impl Net, port: u16, poll: &Poll) -> io::Result<TcpListener> {
+/// A listener at a port of this machine, and what waits for it.
+fn listen(net: &impl Net, port: u16) -> io::Result<(TcpListener, Poll)> {
+    let poll = Poll::new(net)?;
     let address = SocketAddr::from((Ipv4Addr::LOCALHOST, port));
     let mut listener = TcpListener::bind(net, address)?;
     poll.registry()
         .register(&mut listener, LISTENER, Interest::READABLE)?;
-    Ok(listener)
-}
-
-/// A listener at a port of this machine, and what waits for it.
-fn listen(net: &impl Net, port: u16) -> io::Result<(TcpListener, Poll)> {
-    let poll = Poll::new(net)?;
-    let listener = listener_at(net, port, &poll)?;
     Ok((listener, poll))
-}
-
-impl Gate {
-    /// A gate at a port of this machine.
-    fn new(net: &impl Net, alloc: Global, port: u16) -> Result<Gate, Fault> {
-        let Ok(events) = Events::with_capacity(alloc, MOST_EVENTS) else {
-            return Err(Fault::NoMemory);
-        };
-        match listen(net, port) {
-            Ok((listener, poll)) => Ok(Gate {
-                listener,
-                poll,
-                events,
-            }),
-            Err(_) => Err(Fault::SocketFailed),
-        }
-    }
-
-    /// Waits until there is something to do, at most so long.
-    fn wait(&mut self, patience: Duration) -> io::Result<()> {
-        self.poll.poll(&mut self.events, Some(patience))
-    }
-
-    /// The next connection that waits; None where none does, or the system refuses to hand it over.
-    fn next(&self) -> Option<TcpStream> {
-        match self.listener.accept() {
-            Ok((socket, _)) => Some(socket),
-            Err(_) => None,
-        }
-    }
-}
-
-/// Room for connections, and the gate through which they come.
-fn ways(net: &impl Net, alloc: Global, port: u16) -> Result<(Sockets, Gate), Fault> {
-    let Ok(sockets) = Sockets::new(alloc) else {
-        return Err(Fault::NoMemory);
-    };
-    let gate = Gate::new(net, alloc, port)?;
-    Ok((sockets, gate))
 }
 
 /// The least number that is free, if one is.
@@ -138,17 +87,27 @@ impl Server {
     /// Serves a host at a port of this machine (127.0.0.1), at any that is free where the port is 0. NoMemory where memory was
     /// refused, and SocketFailed where the system refused a socket, as where the port is taken.
     pub fn new(net: &impl Net, alloc: Global, host: Host, port: u16) -> Result<Server, Fault> {
-        let (sockets, gate) = ways(net, alloc, port)?;
+        let Ok(sockets) = Sockets::new(alloc) else {
+            return Err(Fault::NoMemory);
+        };
+        let Ok(events) = Events::with_capacity(alloc, MOST_EVENTS) else {
+            return Err(Fault::NoMemory);
+        };
+        let Ok((listener, poll)) = listen(net, port) else {
+            return Err(Fault::SocketFailed);
+        };
         Ok(Server {
             host,
             sockets,
-            gate,
+            listener,
+            poll,
+            events,
         })
     }
 
     /// Where it listens; an error where the system doesn't say.
     pub fn address(&self) -> io::Result<SocketAddr> {
-        self.gate.listener.local_addr()
+        self.listener.local_addr()
     }
 
     /// Where the peer of a number is, if it has a connection and that is known.
@@ -159,8 +118,7 @@ impl Server {
     /// Has a wait end when more can be read of a socket, or written to it.
     pub(crate) fn register(&self, socket: &mut TcpStream, token: usize) -> io::Result<()> {
         let interest = Interest::READABLE | Interest::WRITABLE;
-        self.gate
-            .poll
+        self.poll
             .registry()
             .register(socket, Token(token), interest)
     }
@@ -169,7 +127,7 @@ impl Server {
     /// once. Says whether a byte crossed or the host acted. NoMemory where a growth was refused, SocketFailed where the system refused to wait,
     /// and a fault of the watcher's.
     pub fn turn<W: Watcher>(&mut self, patience: Duration, watcher: &mut W) -> Result<bool, Fault> {
-        if self.gate.wait(patience).is_err() {
+        if self.poll.poll(&mut self.events, Some(patience)).is_err() {
             return Err(Fault::SocketFailed);
         }
         self.accept_all(watcher)?;
@@ -185,30 +143,19 @@ impl Server {
     /// Takes all connections that wait. One that the system refuses to hand over waits on.
     pub(crate) fn accept_all<W: Watcher>(&mut self, watcher: &mut W) -> Result<(), Fault> {
         for _ in 0..MOST_ACCEPTED {
-            let Some(socket) = self.gate.next() else {
-                return Ok(());
-            };
-            self.admit(socket, watcher)?;
+            match self.listener.accept() {
+                Ok((socket, _)) => self.admit(socket, watcher)?,
+                Err(_) => return Ok(()),
+            }
         }
         Ok(())
     }
 
     /// Begins a connection on the least number that is free. Where none is, it is dropped.
-    fn admit<W: Watcher>(&mut self, socket: TcpStream, watcher: &mut W) -> Result<(), Fault> {
-        match free_number(&self.host) {
-            Some(conn) => {
-                self.begin(conn, socket)?;
-                watcher.notice(Notice::Connected(conn))
-            }
-            None => watcher.notice(Notice::TurnedAway),
-        }
-    }
-
-    /// Begins a connection on a number that is free. NoMemory where a growth was refused.
-    fn begin(&mut self, conn: usize, mut socket: TcpStream) -> Result<(), Fault>
-        requires in_range { conn < most_connections }
-        requires free { phase_of (service_at conn self.old.host) ≡ phase.Free }
-    {
+    fn admit<W: Watcher>(&mut self, mut socket: TcpStream, watcher: &mut W) -> Result<(), Fault> {
+        let Some(conn) = free_number(&self.host) else {
+            return watcher.notice(Notice::TurnedAway);
+        };
         // Records are short, and wait for answers. A socket that goes without either of these is served all the same.
         let _ = socket.set_nodelay(true);
         let _ = self.register(&mut socket, conn);
@@ -216,7 +163,7 @@ impl Server {
             return Err(Fault::NoMemory);
         }
         self.sockets.begin(conn, socket);
-        Ok(())
+        watcher.notice(Notice::Connected(conn))
     }
 
     /// Tells of each refusal on a connection that wasn't told yet.

@@ -13,12 +13,6 @@ use std::alloc::Global;
 use std::net::Net;
 use std::sync::Wait;
 
-/// Begins to serve the panels of a text at a port.
-fn begin_text(net: &impl Net, alloc: Global, port: Port, text: &str) -> Result<Server, Fault> {
-    let host = host_of(alloc, text)?;
-    Server::new(net, alloc, host, port.get())
-}
-
 /// Reads panels, and begins to serve them at a port.
 fn begin<N: Net, I: Source>(
     net: &N,
@@ -27,7 +21,8 @@ fn begin<N: Net, I: Source>(
     input: &mut I,
 ) -> Result<Server, Fault> {
     let text = read_whole(alloc, input)?;
-    begin_text(net, alloc, port, text.as_str())
+    let host = host_of(alloc, text.as_str())?;
+    Server::new(net, alloc, host, port.get())
 }
 
 /// Serves so many turns.
@@ -40,14 +35,6 @@ fn serve_turns(server: &mut Server, turns: Turns) -> Result<(), Fault> {
 }
 
 /// Serves so many turns, and answers what ended them.
-fn end_of_turns(server: &mut Server, turns: Turns) -> Fault {
-    match serve_turns(server, turns) {
-        Ok(()) => Fault::TurnsOver,
-        Err(fault) => fault,
-    }
-}
-
-/// Reads panels, serves them for so many turns, and answers what ended that.
 fn host<N: Net, I: Source>(
     net: &N,
     alloc: Global,
@@ -55,8 +42,12 @@ fn host<N: Net, I: Source>(
     turns: Turns,
     input: &mut I,
 ) -> Fault {
-    match begin(net, alloc, port, input) {
-        Ok(mut server) => end_of_turns(&mut server, turns),
+    let mut server = match begin(net, alloc, port, input) {
+        Ok(server) => server,
+        Err(fault) => return fault,
+    };
+    match serve_turns(&mut server, turns) {
+        Ok(()) => Fault::TurnsOver,
         Err(fault) => fault,
     }
 }
@@ -112,21 +103,7 @@ fn serve_on<R: Wait, W: Watcher>(
     unreachable!()
 }
 
-/// Serves turn after turn, and tells of each connection in lines of `faults`.
-fn serve_and_log<R: Wait, E: Sink>(
-    rt: &R,
-    alloc: Global,
-    server: &mut Server,
-    faults: &mut E,
-) -> Result<(), Fault> {
-    let mut log = Log {
-        alloc,
-        lines: faults,
-    };
-    serve_on(rt, server, &mut log)
-}
-
-/// Reads panels, serves them without end, and tells of each connection in lines of `faults`.
+/// Serves without end, and tells of each connection in lines of `faults`.
 fn serve<R: Net + Wait, I: Source, E: Sink>(
     rt: &R,
     alloc: Global,
@@ -135,7 +112,11 @@ fn serve<R: Net + Wait, I: Source, E: Sink>(
     faults: &mut E,
 ) -> Result<(), Fault> {
     let mut server = begin(rt, alloc, port, input)?;
-    serve_and_log(rt, alloc, &mut server, faults)
+    let mut log = Log {
+        alloc,
+        lines: faults,
+    };
+    serve_on(rt, &mut server, &mut log)
 }
 
 /// Serves as [`run_host`] does, but without end, and tells in a line of `faults` of each connection that comes, is refused an LU, is bound

@@ -91,11 +91,9 @@ impl Sockets {
     pub(crate) fn new(alloc: Global) -> Result<Sockets, WireFault>
         ensures { IfOk result (λ sockets. sockets ≡ new_sockets) }
     {
-        let places = unused_places(alloc)?;
-        let heard = unheard_numbers(alloc)?;
         Ok(Sockets {
-            places,
-            heard,
+            places: unused_places(alloc)?,
+            heard: unheard_numbers(alloc)?,
             moved: false,
         })
     }

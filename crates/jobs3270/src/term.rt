@@ -75,13 +75,10 @@ fn do_lines<D: Source, U: Sink, O: Sink>(
     out: &mut O,
 ) -> Result<(), Fault> {
     for (index, line) in script.split_terminator('\n').enumerate() {
-        let Some(asks) = term_asks_of(line) else {
-            return Err(Fault::NotUnderstood(index + 1));
-        };
-        do_line(alloc, terminal, wire, asks, line, text)?;
-        if out.write_all(text.as_bytes()).is_err() {
-            return Err(Fault::OutputFailed);
-        }
+        let asks = term_asks_of(line).ok_or(Fault::NotUnderstood(index + 1))?;
+        do_line(alloc, terminal, wire, asks, line, text).map_err(|_| Fault::NoMemory)?;
+        out.write_all(text.as_bytes())
+            .map_err(|_| Fault::OutputFailed)?;
         text.clear();
     }
     Ok(())
@@ -99,30 +96,10 @@ pub fn operate<D: Source, U: Sink, O: Sink>(
     wire: &mut Wire<D, U>,
     out: &mut O,
 ) -> Result<(), Fault> {
-    let Ok(mut terminal) = Terminal::new(alloc) else {
-        return Err(Fault::NoMemory);
-    };
+    let mut terminal = Terminal::new(alloc).map_err(|_| Fault::NoMemory)?;
     terminal.connected(lu);
     let mut text = String::new(alloc);
     do_lines(alloc, &mut terminal, wire, script, &mut text, out)
-}
-
-/// Connects to the host, and does the commands of a script.
-fn operate_at<O: Sink>(
-    rt: &HostRuntime,
-    port: Port,
-    lu: Option<Lu>,
-    script: &str,
-    out: &mut O,
-) -> Result<(), Fault> {
-    let Ok(stream) = TcpStream::connect(rt, (Ipv4Addr::LOCALHOST, port.get())) else {
-        return Err(Fault::SocketFailed);
-    };
-    let mut wire = Wire {
-        down: CountedReader::new(&stream),
-        up: CountedWriter::new(&stream),
-    };
-    operate(rt.alloc(), lu, script, &mut wire, out)
 }
 
 /// Reads the script, connects to the host, and does the commands.
@@ -134,7 +111,14 @@ fn term<I: Source, O: Sink>(
     out: &mut O,
 ) -> Result<(), Fault> {
     let script = read_whole(rt.alloc(), input)?;
-    operate_at(rt, port, lu, script.as_str(), out)
+    let Ok(stream) = TcpStream::connect(rt, (Ipv4Addr::LOCALHOST, port.get())) else {
+        return Err(Fault::SocketFailed);
+    };
+    let mut wire = Wire {
+        down: CountedReader::new(&stream),
+        up: CountedWriter::new(&stream),
+    };
+    operate(rt.alloc(), lu, script.as_str(), &mut wire, out)
 }
 
 /// Is a terminal of the host that listens on a port of this machine, and does the commands of a script there, one a line: keys
