@@ -1,10 +1,10 @@
 //! Worked dialogues: what is believed after commands were taken and data was heard. What is owned lives in helpers that answer
-//! whether all is as it should be, so that a test has few ways out.
+//! whether all is as it should be, so that a check has few ways out.
+use crate::Check;
 use codes3270::{Addr, CELLS, Cell};
 use datastream::{Form, InboundFault, read_command, read_inbound};
 use shadow::{Fact, HeardFault, Shadow, plain};
 use std::alloc::{AllocError, Global};
-use std::test::Fail;
 
 // ---- what is asked of a belief
 
@@ -140,9 +140,8 @@ fn an_unreturned_text_may_be_null(shadow: &mut Shadow) -> bool {
         && fact_at(shadow, 3) == Some(Fact::Exact)
 }
 
-#[test]
-fn an_unreturned_field_is_as_it_was_or_null(rt: HostRuntime) {
-    assert!(rt; an_unreturned_text_may_be_null(&mut Shadow::blank()));
+fn an_unreturned_field_is_as_it_was_or_null() -> bool {
+    an_unreturned_text_may_be_null(&mut Shadow::blank())
 }
 
 /// A field with the text AB, one with D and MDT on, and a protected one.
@@ -164,10 +163,8 @@ fn one_field_came_back(shadow: &mut Shadow) -> bool {
         && believes(shadow, 3, Fact::Text, &[0xC4])
 }
 
-#[test]
-fn erased_input_is_heard_as_nulls(rt: HostRuntime) {
-    assert!(rt; nothing_came_back(&mut Shadow::blank()));
-    assert!(rt; one_field_came_back(&mut Shadow::blank()));
+fn erased_input_is_heard_as_nulls() -> bool {
+    nothing_came_back(&mut Shadow::blank()) && one_field_came_back(&mut Shadow::blank())
 }
 
 fn a_text_may_stand_anywhere(shadow: &mut Shadow) -> bool {
@@ -180,9 +177,8 @@ fn a_text_may_stand_anywhere(shadow: &mut Shadow) -> bool {
         && is_unknown(shadow, 1)
 }
 
-#[test]
-fn a_returned_text_leaves_its_places_open(rt: HostRuntime) {
-    assert!(rt; a_text_may_stand_anywhere(&mut Shadow::blank()));
+fn a_returned_text_leaves_its_places_open() -> bool {
+    a_text_may_stand_anywhere(&mut Shadow::blank())
 }
 
 fn enter_tells_texts(shadow: &mut Shadow) -> bool {
@@ -200,10 +196,8 @@ fn an_attention_tells_nothing_and_clear_all(shadow: &mut Shadow) -> bool {
         && knows(shadow, 166, Cell::Char(0))
 }
 
-#[test]
-fn a_panel_answers(rt: HostRuntime) {
-    assert!(rt; enter_tells_texts(&mut sign_on()));
-    assert!(rt; an_attention_tells_nothing_and_clear_all(&mut sign_on()));
+fn a_panel_answers() -> bool {
+    enter_tells_texts(&mut sign_on()) && an_attention_tells_nothing_and_clear_all(&mut sign_on())
 }
 
 /// A cursor beyond the screen: no inbound data at all.
@@ -241,15 +235,12 @@ fn nothing_was_changed(shadow: &mut Shadow) -> bool {
     believes(shadow, 166, Fact::Exact, &[0; 8]) && hears(shadow, &[0x60, 0x40, 0x40])
 }
 
-#[test]
-fn what_cannot_be_is_refused(rt: HostRuntime) {
+fn what_cannot_be_is_refused() -> bool {
     let mut shadow = sign_on();
-    assert!(rt;
-        a_cursor_beyond_is_no_data(&mut shadow)
-            && what_no_field_sends_is_refused(&mut shadow)
-            && texts_that_cannot_be_are_refused(&mut shadow)
-            && nothing_was_changed(&mut shadow)
-    );
+    a_cursor_beyond_is_no_data(&mut shadow)
+        && what_no_field_sends_is_refused(&mut shadow)
+        && texts_that_cannot_be_are_refused(&mut shadow)
+        && nothing_was_changed(&mut shadow)
 }
 
 fn a_text_comes_from_address_0(shadow: &mut Shadow) -> bool {
@@ -266,13 +257,10 @@ fn its_cells_are_read(alloc: Global, shadow: &mut Shadow) -> Result<bool, AllocE
     Ok(hears_buffer(shadow, buffer.as_slice()) && fact_at(shadow, 1919) == Some(Fact::Exact))
 }
 
-#[test]
-fn a_field_goes_on_behind_the_last_cell(rt: HostRuntime) -> Result<(), Fail> {
+fn a_field_goes_on_behind_the_last_cell(alloc: Global) -> bool {
     let mut shadow = Shadow::blank();
-    assert!(rt;
-        a_text_comes_from_address_0(&mut shadow) && its_cells_are_read(rt.alloc(), &mut shadow)?
-    );
-    Ok(())
+    a_text_comes_from_address_0(&mut shadow)
+        && matches!(its_cells_are_read(alloc, &mut shadow), Ok(true))
 }
 
 /// The sign-on panel, once its second field was returned.
@@ -296,9 +284,8 @@ fn a_reset_text_may_be_null(shadow: &mut Shadow) -> bool {
         && believes(shadow, 246, Fact::TextOrNulls, &[0xC4, 0xF7])
 }
 
-#[test]
-fn a_text_that_was_reset_may_be_null(rt: HostRuntime) {
-    assert!(rt; a_reset_text_may_be_null(&mut answered_in_part()));
+fn a_text_that_was_reset_may_be_null() -> bool {
+    a_reset_text_may_be_null(&mut answered_in_part())
 }
 
 fn what_comes_tells_nothing(shadow: &mut Shadow) -> bool {
@@ -317,10 +304,9 @@ fn a_write_tells_nothing(shadow: &mut Shadow) -> bool {
         && has_no_field(shadow, 0)
 }
 
-#[test]
-fn a_host_that_knows_nothing_learns_nothing_of_fields(rt: HostRuntime) {
+fn a_host_that_knows_nothing_learns_nothing_of_fields() -> bool {
     let mut shadow = Shadow::blank();
-    assert!(rt; what_comes_tells_nothing(&mut shadow) && a_write_tells_nothing(&mut shadow));
+    what_comes_tells_nothing(&mut shadow) && a_write_tells_nothing(&mut shadow)
 }
 
 fn clear_leaves_no_field(shadow: &mut Shadow) -> bool {
@@ -338,15 +324,11 @@ fn as_many_as_cells_can_be(alloc: Global, shadow: &mut Shadow) -> Result<bool, A
     Ok(hears(shadow, bytes.as_slice()) && is_unknown(shadow, 1919))
 }
 
-#[test]
-fn a_cleared_screen_is_null_until_it_is_typed_on(rt: HostRuntime) -> Result<(), Fail> {
+fn a_cleared_screen_is_null_until_it_is_typed_on(alloc: Global) -> bool {
     let mut shadow = sign_on();
-    assert!(rt;
-        clear_leaves_no_field(&mut shadow)
-            && too_many_cannot_be(rt.alloc(), &mut shadow)?
-            && as_many_as_cells_can_be(rt.alloc(), &mut shadow)?
-    );
-    Ok(())
+    clear_leaves_no_field(&mut shadow)
+        && matches!(too_many_cannot_be(alloc, &mut shadow), Ok(true))
+        && matches!(as_many_as_cells_can_be(alloc, &mut shadow), Ok(true))
 }
 
 /// A protected field of three cells with MDT on, and one of one cell that may be typed into.
@@ -381,14 +363,11 @@ fn its_text_is_the_one_that_is_known(shadow: &mut Shadow) -> bool {
         && believes(shadow, 4, Fact::ExactOrNulls, &[0xC4])
 }
 
-#[test]
-fn a_protected_field_that_is_on_comes_with_its_text(rt: HostRuntime) {
+fn a_protected_field_that_is_on_comes_with_its_text() -> bool {
     let mut shadow = with_a_protected_field();
-    assert!(rt;
-        it_has_to_come(&mut shadow)
-            && it_comes_alone(&mut shadow)
-            && its_text_is_the_one_that_is_known(&mut shadow)
-    );
+    it_has_to_come(&mut shadow)
+        && it_comes_alone(&mut shadow)
+        && its_text_is_the_one_that_is_known(&mut shadow)
 }
 
 fn a_character_is_stored(shadow: &mut Shadow) -> bool {
@@ -410,8 +389,51 @@ fn a_field_is_stored(shadow: &mut Shadow) -> bool {
         && is_unknown(shadow, 0)
 }
 
-#[test]
-fn a_write_makes_known_what_it_stores(rt: HostRuntime) {
+fn a_write_makes_known_what_it_stores() -> bool {
     let mut shadow = sign_on();
-    assert!(rt; a_character_is_stored(&mut shadow) && a_field_is_stored(&mut shadow));
+    a_character_is_stored(&mut shadow) && a_field_is_stored(&mut shadow)
+}
+
+/// What is tried here, and whether it is so.
+pub(crate) fn checks(alloc: Global) -> [Check; 11] {
+    [
+        (
+            "an unreturned field is as it was or null",
+            an_unreturned_field_is_as_it_was_or_null(),
+        ),
+        (
+            "erased input is heard as nulls",
+            erased_input_is_heard_as_nulls(),
+        ),
+        (
+            "a returned text leaves its places open",
+            a_returned_text_leaves_its_places_open(),
+        ),
+        ("a panel answers", a_panel_answers()),
+        ("what cannot be is refused", what_cannot_be_is_refused()),
+        (
+            "a field goes on behind the last cell",
+            a_field_goes_on_behind_the_last_cell(alloc),
+        ),
+        (
+            "a text that was reset may be null",
+            a_text_that_was_reset_may_be_null(),
+        ),
+        (
+            "a host that knows nothing learns nothing of fields",
+            a_host_that_knows_nothing_learns_nothing_of_fields(),
+        ),
+        (
+            "a cleared screen is null until it is typed on",
+            a_cleared_screen_is_null_until_it_is_typed_on(alloc),
+        ),
+        (
+            "a protected field that is on comes with its text",
+            a_protected_field_that_is_on_comes_with_its_text(),
+        ),
+        (
+            "a write makes known what it stores",
+            a_write_makes_known_what_it_stores(),
+        ),
+    ]
 }

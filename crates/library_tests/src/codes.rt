@@ -1,6 +1,7 @@
 //! The published tables of codes, byte by byte, and each call once on its happy path.
 //!
-//! A helper says of a table whether all of it is right, and the test asserts once: each assertion costs a proof.
+//! A helper says of a table whether all of it is right.
+use crate::Check;
 use codes3270::{
     Addr, AddrFault, Aid, Attr, CELL_COUNT, CELLS, COLUMNS, Cell, Display, PaNo, PfNo, ROWS, Wcc,
     addr_from_bytes, addr_to_bytes, aid_byte, aid_from_byte, attr_code, code_laws, from_latin1,
@@ -8,7 +9,6 @@ use codes3270::{
 };
 use std::alloc::{AllocError, Global};
 use std::ops::RangeInclusive;
-use std::test::Fail;
 
 /// The runs of six-bit codes, in the order of their values: the first and the last code of each.
 static SIX_BIT_RUNS: [(u8, u8); 11] = [
@@ -91,9 +91,8 @@ fn runs_agree() -> bool {
     values.next().is_none()
 }
 
-#[test]
-fn each_six_bit_value_has_its_code(rt: HostRuntime) {
-    assert!(rt; runs_agree());
+fn each_six_bit_value_has_its_code() -> bool {
+    runs_agree()
 }
 
 static ADDRESSES: [(u16, [u8; 2]); 4] = [
@@ -147,12 +146,11 @@ fn fault_is_printed(alloc: Global) -> Result<bool, AllocError> {
     Ok(printed.as_str() == "address beyond the screen")
 }
 
-#[test]
-fn addresses_are_written_and_read(rt: HostRuntime) {
-    assert!(rt; addresses_agree(), "written and read");
-    assert!(rt; other_addresses_are_read(), "read");
-    assert!(rt; no_addresses_are_refused(), "refused");
-    assert_eq!(rt; fault_is_printed(rt.alloc()), Ok(true));
+fn addresses_are_written_and_read(alloc: Global) -> bool {
+    addresses_agree()
+        && other_addresses_are_read()
+        && no_addresses_are_refused()
+        && fault_is_printed(alloc) == Ok(true)
 }
 
 fn goes_forward(last: Addr) -> bool {
@@ -181,15 +179,19 @@ fn all_are_in_order() -> bool {
     place == CELLS
 }
 
-#[test]
-fn addresses_go_round_the_screen(rt: HostRuntime) -> Result<(), Fail> {
+fn addresses_go_round_the_screen() -> bool {
     size_laws();
     code_laws();
-    let last = Addr::new(1919).ok_or("not an address")?;
-    assert!(rt; ROWS == 24 && COLUMNS == 80 && CELLS == 1920);
-    assert!(rt; goes_forward(last) && goes_backward(last));
-    assert!(rt; CELL_COUNT == 1920 && all_are_in_order());
-    Ok(())
+    let Some(last) = Addr::new(1919) else {
+        return false;
+    };
+    ROWS == 24
+        && COLUMNS == 80
+        && CELLS == 1920
+        && goes_forward(last)
+        && goes_backward(last)
+        && CELL_COUNT == 1920
+        && all_are_in_order()
 }
 
 /// Attributes by their codes: protected, numeric, display, modified data tag.
@@ -240,9 +242,8 @@ fn tags_are_changed() -> bool {
         && attr_code(Attr::from_code(0xC1).with_mdt(false)) == 0x40
 }
 
-#[test]
-fn attributes_have_their_codes(rt: HostRuntime) {
-    assert!(rt; attributes_agree() && tags_are_changed());
+fn attributes_have_their_codes() -> bool {
+    attributes_agree() && tags_are_changed()
 }
 
 /// Bytes that are read as an attribute, and the code that it is written as.
@@ -265,9 +266,8 @@ fn other_bits_are_dropped() -> bool {
     true
 }
 
-#[test]
-fn other_bits_of_an_attribute_are_dropped(rt: HostRuntime) {
-    assert!(rt; other_bits_are_dropped());
+fn other_bits_of_an_attribute_are_dropped() -> bool {
+    other_bits_are_dropped()
 }
 
 /// Write control characters by their bytes: alarm, restore, reset.
@@ -308,9 +308,8 @@ fn other_bits_of_a_write_control_are_dropped() -> bool {
         && Wcc::from_byte(0xFF).byte() == 0xC7
 }
 
-#[test]
-fn write_control_characters_have_their_codes(rt: HostRuntime) {
-    assert!(rt; write_controls_agree() && other_bits_of_a_write_control_are_dropped());
+fn write_control_characters_have_their_codes() -> bool {
+    write_controls_agree() && other_bits_of_a_write_control_are_dropped()
 }
 
 fn is_read_as_aid(byte: u8, aid: &Aid) -> bool {
@@ -387,18 +386,14 @@ fn keys_without_number_agree() -> bool {
         && aid_agrees(0x6D, &Aid::Clear, true)
 }
 
-#[test]
-fn attention_identifiers_have_their_bytes(rt: HostRuntime) {
-    assert!(rt; keys_without_number_agree(), "no key, Enter, Clear");
-    assert!(rt; pf_runs_agree(), "PF1 to PF24");
-    assert!(rt;
-        pa_agrees(1, 0x6C) && pa_agrees(2, 0x6E) && pa_agrees(3, 0x6B),
-        "PA1 to PA3"
-    );
-    assert!(rt;
-        identifiers_number(30) && other_numbers_have_no_key(),
-        "no others"
-    );
+fn attention_identifiers_have_their_bytes() -> bool {
+    keys_without_number_agree()
+        && pf_runs_agree()
+        && pa_agrees(1, 0x6C)
+        && pa_agrees(2, 0x6E)
+        && pa_agrees(3, 0x6B)
+        && identifiers_number(30)
+        && other_numbers_have_no_key()
 }
 
 /// Says whether a cell holds the listed bytes, as many as this.
@@ -413,9 +408,8 @@ fn listed_bytes_are_held(count: u8) -> bool {
     numbers.next().is_none()
 }
 
-#[test]
-fn cells_hold_the_listed_bytes(rt: HostRuntime) {
-    assert!(rt; listed_bytes_are_held(200));
+fn cells_hold_the_listed_bytes() -> bool {
+    listed_bytes_are_held(200)
 }
 
 fn character_agrees(code: u8, character: char) -> bool {
@@ -461,13 +455,8 @@ fn other_characters_have_no_code() -> bool {
     true
 }
 
-#[test]
-fn the_code_page_is_the_published_one(rt: HostRuntime) {
-    assert!(rt; rows_agree(), "the rows");
-    assert!(rt;
-        controls_have_no_character() && other_characters_have_no_code(),
-        "no others"
-    );
+fn the_code_page_is_the_published_one() -> bool {
+    rows_agree() && controls_have_no_character() && other_characters_have_no_code()
 }
 
 fn a_character_is_one(cell: Cell) -> bool {
@@ -480,10 +469,49 @@ fn an_attribute_is_one(attr: Attr, is_open: bool) -> bool {
     !cell.is_character() && cell.is_open() == is_open && cell.attribute() == Some(attr)
 }
 
-#[test]
-fn cells_hold_characters_or_attributes(rt: HostRuntime) {
+fn cells_hold_characters_or_attributes() -> bool {
     let is_so = a_character_is_one(Cell::Char(0x00))
         && an_attribute_is_one(Attr::from_code(0x40), true)
         && an_attribute_is_one(Attr::from_code(0xF0), false);
-    assert!(rt; is_so);
+    is_so
+}
+
+/// What is tried here, and whether it is so.
+pub(crate) fn checks(alloc: Global) -> [Check; 10] {
+    [
+        (
+            "each six bit value has its code",
+            each_six_bit_value_has_its_code(),
+        ),
+        (
+            "addresses are written and read",
+            addresses_are_written_and_read(alloc),
+        ),
+        (
+            "addresses go round the screen",
+            addresses_go_round_the_screen(),
+        ),
+        ("attributes have their codes", attributes_have_their_codes()),
+        (
+            "other bits of an attribute are dropped",
+            other_bits_of_an_attribute_are_dropped(),
+        ),
+        (
+            "write control characters have their codes",
+            write_control_characters_have_their_codes(),
+        ),
+        (
+            "attention identifiers have their bytes",
+            attention_identifiers_have_their_bytes(),
+        ),
+        ("cells hold the listed bytes", cells_hold_the_listed_bytes()),
+        (
+            "the code page is the published one",
+            the_code_page_is_the_published_one(),
+        ),
+        (
+            "cells hold characters or attributes",
+            cells_hold_characters_or_attributes(),
+        ),
+    ]
 }

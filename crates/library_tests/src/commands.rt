@@ -1,6 +1,7 @@
 //! Commands read and written, byte for byte, and wanted screens. What is owned lives in helpers that answer whether all is as
-//! it should be, so that a test has few ways out.
+//! it should be, so that a check has few ways out.
 
+use crate::Check;
 use codes3270::{Addr, Attr, CELL_COUNT, CELLS, COLUMNS, Wcc};
 use datastream::{
     Command, CommandCode, CommandFault, CommandWriter, Memory, Order, Want, Wanted,
@@ -9,7 +10,6 @@ use datastream::{
 };
 use std::alloc::Global;
 use std::fmt;
-use std::test::Fail;
 
 const CHARS: [u8; 2] = [0xC8, 0xC9];
 
@@ -19,7 +19,7 @@ const CLEARED_WCC: Wcc = Wcc {
     reset: true,
 };
 
-/// The address of a place on the screen. The tests ask for no place beyond.
+/// The address of a place on the screen. The checks ask for no place beyond.
 fn at(place: u16) -> Addr {
     match Addr::new(place) {
         Some(addr) => addr,
@@ -105,10 +105,8 @@ fn first_no_write(alloc: Global) -> Result<Option<CommandCode>, Memory> {
     Ok(None)
 }
 
-#[test]
-fn each_write_has_two_codes_and_a_write_control_character(rt: HostRuntime) -> Result<(), Fail> {
-    assert_eq!(rt; first_no_write(rt.alloc())?, None);
-    Ok(())
+fn each_write_has_two_codes_and_a_write_control_character(alloc: Global) -> bool {
+    matches!(first_no_write(alloc), Ok(None))
 }
 
 static OTHERS: [(u8, u8, CommandCode); 4] = [
@@ -133,10 +131,8 @@ fn first_no_other(alloc: Global) -> Result<Option<CommandCode>, Memory> {
     Ok(None)
 }
 
-#[test]
-fn each_other_command_has_two_codes_alone(rt: HostRuntime) -> Result<(), Fail> {
-    assert_eq!(rt; first_no_other(rt.alloc())?, None);
-    Ok(())
+fn each_other_command_has_two_codes_alone(alloc: Global) -> bool {
+    matches!(first_no_other(alloc), Ok(None))
 }
 
 /// The fault of bytes that spell no command.
@@ -206,9 +202,8 @@ fn first_without_its_fault() -> Option<&'static [u8]> {
     None
 }
 
-#[test]
-fn the_first_fault_is_answered(rt: HostRuntime) {
-    assert_eq!(rt; first_without_its_fault(), None);
+fn the_first_fault_is_answered() -> bool {
+    first_without_its_fault().is_none()
 }
 
 /// The first of these commands that is read otherwise.
@@ -222,8 +217,7 @@ fn first_read_otherwise(table: &[(&[u8], CommandCode, &[Order])]) -> Option<usiz
     None
 }
 
-#[test]
-fn orders_are_read_one_by_one(rt: HostRuntime) {
+fn orders_are_read_one_by_one() -> bool {
     let table: [(&[u8], CommandCode, &[Order]); 6] = [
         (
             &TWO_FIELDS,
@@ -292,7 +286,7 @@ fn orders_are_read_one_by_one(rt: HostRuntime) {
             ],
         ),
     ];
-    assert_eq!(rt; first_read_otherwise(&table), None);
+    first_read_otherwise(&table).is_none()
 }
 
 // ---- commands written
@@ -345,12 +339,10 @@ fn writes_both(out: &mut Vec<u8>) -> Result<bool, Memory> {
     Ok(is_first && out.strip_prefix(TWO_FIELDS.as_slice()) == Some(FILLED.as_slice()))
 }
 
-#[test]
-fn commands_are_written(rt: HostRuntime) -> Result<(), Fail> {
-    let mut out = Vec::new(rt.alloc());
-    let are_written = writes_both(&mut out)?;
-    assert!(rt; are_written);
-    Ok(())
+fn commands_are_written(alloc: Global) -> bool {
+    let mut out = Vec::new(alloc);
+    let are_written = matches!(writes_both(&mut out), Ok(true));
+    are_written
 }
 
 /// Whether a call appends these bytes to an empty vector, or is refused and appends nothing.
@@ -403,9 +395,8 @@ fn first_appended_otherwise(alloc: Global) -> Option<&'static [u8]> {
 }
 
 // Run it with each allocation failing in turn: a call is then refused at some time, and the vector stays as it was.
-#[test]
-fn a_call_appends_its_bytes_or_changes_nothing(rt: HostRuntime) {
-    assert_eq!(rt; first_appended_otherwise(rt.alloc()), None);
+fn a_call_appends_its_bytes_or_changes_nothing(alloc: Global) -> bool {
+    first_appended_otherwise(alloc).is_none()
 }
 
 // ---- wanted screens
@@ -431,11 +422,9 @@ fn names_each_cell(wanted: &Wanted) -> bool {
         && wanted.reset()
 }
 
-#[test]
-fn a_wanted_screen_names_each_cell(rt: HostRuntime) {
+fn a_wanted_screen_names_each_cell() -> bool {
     let wanted = example(true);
-    assert!(rt; names_each_cell(&wanted));
-    assert!(rt; !example(false).reset());
+    names_each_cell(&wanted) && !example(false).reset()
 }
 
 /// Whether a fault has this text.
@@ -461,14 +450,11 @@ fn first_with_another_text(alloc: Global) -> Result<Option<CommandFault>, fmt::E
     Ok(None)
 }
 
-#[test]
-fn faults_have_texts(rt: HostRuntime) -> Result<(), Fail> {
-    assert_eq!(rt; first_with_another_text(rt.alloc())?, None);
-    Ok(())
+fn faults_have_texts(alloc: Global) -> bool {
+    matches!(first_with_another_text(alloc), Ok(None))
 }
 
-#[test]
-fn laws_do_nothing(_rt: HostRuntime) {
+fn laws_do_nothing() -> bool {
     written_is_read();
     one_reading();
     tabs_by_place();
@@ -476,4 +462,32 @@ fn laws_do_nothing(_rt: HostRuntime) {
     fields_both_ways();
     kept_since_the_write();
     what_a_note_keeps();
+    true
+}
+
+/// What is tried here, and whether it is so.
+pub(crate) fn checks(alloc: Global) -> [Check; 9] {
+    [
+        (
+            "each write has two codes and a write control character",
+            each_write_has_two_codes_and_a_write_control_character(alloc),
+        ),
+        (
+            "each other command has two codes alone",
+            each_other_command_has_two_codes_alone(alloc),
+        ),
+        ("the first fault is answered", the_first_fault_is_answered()),
+        ("orders are read one by one", orders_are_read_one_by_one()),
+        ("commands are written", commands_are_written(alloc)),
+        (
+            "a call appends its bytes or changes nothing",
+            a_call_appends_its_bytes_or_changes_nothing(alloc),
+        ),
+        (
+            "a wanted screen names each cell",
+            a_wanted_screen_names_each_cell(),
+        ),
+        ("faults have texts", faults_have_texts(alloc)),
+        ("laws do nothing", laws_do_nothing()),
+    ]
 }

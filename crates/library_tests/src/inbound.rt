@@ -1,9 +1,9 @@
 //! Inbound data as bytes: what a 3278 sends in worked dialogues, whole buffers, and what isn't inbound data.
+use crate::Check;
 use codes3270::{Addr, Aid, Attr, CELLS, Cell, PaNo};
 use datastream::{Form, Inbound, InboundFault, Part, parts_are_fields, read_inbound, sent_is_read};
 use std::alloc::{AllocError, Global};
 use std::fmt;
-use std::test::Fail;
 
 /// Whether these are the fields that came, each by its first address and its text.
 fn has_fields(inbound: &Inbound<'_>, wanted: &[(u16, &[u8])]) -> bool {
@@ -100,13 +100,11 @@ fn first_entered_otherwise() -> Option<&'static str> {
     None
 }
 
-#[test]
-fn enter_sends_the_modified_fields(rt: HostRuntime) {
-    assert_eq!(rt; first_entered_otherwise(), None);
+fn enter_sends_the_modified_fields() -> bool {
+    first_entered_otherwise().is_none()
 }
 
-#[test]
-fn a_field_that_wraps_comes_last(rt: HostRuntime) {
+fn a_field_that_wraps_comes_last() -> bool {
     let bytes = [
         0x7D, 0x40, 0xC8, 0x11, 0x40, 0xC7, 0xE9, 0x11, 0x5D, 0xF6, 0xC1, 0xC2, 0xC3, 0xC4, 0xC5,
         0xC6, 0xC7, 0xC8, 0xC9, 0xD1, 0xD2,
@@ -114,12 +112,13 @@ fn a_field_that_wraps_comes_last(rt: HostRuntime) {
     let wrapped = [
         0xC1, 0xC2, 0xC3, 0xC4, 0xC5, 0xC6, 0xC7, 0xC8, 0xC9, 0xD1, 0xD2,
     ];
-    assert!(rt; sends_fields(&bytes, 8, &[(7, &[0xE9]), (1910, &wrapped)]));
+    sends_fields(&bytes, 8, &[(7, &[0xE9]), (1910, &wrapped)])
 }
 
-#[test]
-fn parts_are_in_the_order_of_the_bytes(rt: HostRuntime) -> Result<(), Fail> {
-    let first = Addr::new(1).ok_or("not an address")?;
+fn parts_are_in_the_order_of_the_bytes() -> bool {
+    let Some(first) = Addr::new(1) else {
+        return false;
+    };
     let bytes = [0x7D, 0x40, 0xC4, 0xC9, 0x11, 0x40, 0xC1, 0xC1, 0xC2];
     let parts = [
         Part::Char(0xC9),
@@ -127,13 +126,12 @@ fn parts_are_in_the_order_of_the_bytes(rt: HostRuntime) -> Result<(), Fail> {
         Part::Char(0xC1),
         Part::Char(0xC2),
     ];
-    let inbound = read_inbound(&bytes, Form::Modified)?;
-    assert!(rt;
-        has_parts(&inbound, &parts)
-            && inbound.lead() == [0xC9].as_slice()
-            && has_fields(&inbound, &[(1, &[0xC1, 0xC2])])
-    );
-    Ok(())
+    let Ok(inbound) = read_inbound(&bytes, Form::Modified) else {
+        return false;
+    };
+    has_parts(&inbound, &parts)
+        && inbound.lead() == [0xC9].as_slice()
+        && has_fields(&inbound, &[(1, &[0xC1, 0xC2])])
 }
 
 /// Whether bytes are inbound data of a form with this AID and cursor.
@@ -154,12 +152,13 @@ fn is_alone(bytes: &[u8], aid: Aid) -> bool {
     }
 }
 
-#[test]
-fn a_short_aid_stands_alone_only_for_read_modified(rt: HostRuntime) -> Result<(), Fail> {
-    let first = PaNo::new(1).ok_or("not a key")?;
-    assert!(rt; is_alone(&[0x6C], Aid::Pa(first)) && is_alone(&[0x6D], Aid::Clear));
-    assert!(rt; has_lead(&[0x6C, 0x40, 0x40], Form::All, Aid::Pa(first), Addr::new(0)));
-    Ok(())
+fn a_short_aid_stands_alone_only_for_read_modified() -> bool {
+    let Some(first) = PaNo::new(1) else {
+        return false;
+    };
+    is_alone(&[0x6C], Aid::Pa(first))
+        && is_alone(&[0x6D], Aid::Clear)
+        && has_lead(&[0x6C, 0x40, 0x40], Form::All, Aid::Pa(first), Addr::new(0))
 }
 
 /// The fault of bytes that are no inbound data of a form.
@@ -197,10 +196,8 @@ fn first_without_its_fault() -> Option<&'static [u8]> {
     None
 }
 
-#[test]
-fn the_first_fault_is_answered(rt: HostRuntime) {
-    assert_eq!(rt; first_without_its_fault(), None);
-    assert!(rt; fault_of(&[0x6C], Form::All) == Some(InboundFault::Short));
+fn the_first_fault_is_answered() -> bool {
+    first_without_its_fault().is_none() && fault_of(&[0x6C], Form::All) == Some(InboundFault::Short)
 }
 
 /// Read Buffer's data after PA1 with the cursor at 169: an attribute, `count` cells of `A`, and more bytes.
@@ -258,12 +255,12 @@ fn is_whole_buffer(bytes: &[u8]) -> bool {
     }
 }
 
-#[test]
-fn a_buffer_has_every_cell(rt: HostRuntime) -> Result<(), Fail> {
+fn a_buffer_has_every_cell(alloc: Global) -> bool {
     // The last cell is null.
-    let bytes = buffer(rt.alloc(), CELLS - 2, &[0x00])?;
-    assert!(rt; is_whole_buffer(&bytes));
-    Ok(())
+    let Ok(bytes) = buffer(alloc, CELLS - 2, &[0x00]) else {
+        return false;
+    };
+    is_whole_buffer(&bytes)
 }
 
 /// Whether an attribute, `count` cells and more bytes have this fault.
@@ -300,24 +297,21 @@ fn first_buffer_without_its_fault(alloc: Global) -> Result<Option<&'static str>,
     Ok(None)
 }
 
-#[test]
-fn a_buffer_has_no_other_number_of_cells(rt: HostRuntime) -> Result<(), Fail> {
-    assert_eq!(rt; first_buffer_without_its_fault(rt.alloc())?, None);
-    Ok(())
+fn a_buffer_has_no_other_number_of_cells(alloc: Global) -> bool {
+    matches!(first_buffer_without_its_fault(alloc), Ok(None))
 }
 
-#[test]
-fn an_address_is_no_cell(rt: HostRuntime) {
+fn an_address_is_no_cell() -> bool {
     let attr = Attr::from_code(0xF0);
-    assert!(rt; Part::Attr(attr).cell() == Some(Cell::Attr(attr)));
-    assert!(rt; Part::Char(0xC1).cell() == Some(Cell::Char(0xC1)));
-    assert!(rt; Part::At(Addr::first()).cell().is_none());
+    Part::Attr(attr).cell() == Some(Cell::Attr(attr))
+        && Part::Char(0xC1).cell() == Some(Cell::Char(0xC1))
+        && Part::At(Addr::first()).cell().is_none()
 }
 
-#[test]
-fn laws_do_nothing(_rt: HostRuntime) {
+fn laws_do_nothing() -> bool {
     parts_are_fields();
     sent_is_read();
+    true
 }
 
 /// Whether a fault has this text.
@@ -349,8 +343,37 @@ fn first_with_another_text(alloc: Global) -> Result<Option<InboundFault>, fmt::E
     Ok(None)
 }
 
-#[test]
-fn faults_are_printed(rt: HostRuntime) -> Result<(), Fail> {
-    assert_eq!(rt; first_with_another_text(rt.alloc())?, None);
-    Ok(())
+fn faults_are_printed(alloc: Global) -> bool {
+    matches!(first_with_another_text(alloc), Ok(None))
+}
+
+/// What is tried here, and whether it is so.
+pub(crate) fn checks(alloc: Global) -> [Check; 10] {
+    [
+        (
+            "enter sends the modified fields",
+            enter_sends_the_modified_fields(),
+        ),
+        (
+            "a field that wraps comes last",
+            a_field_that_wraps_comes_last(),
+        ),
+        (
+            "parts are in the order of the bytes",
+            parts_are_in_the_order_of_the_bytes(),
+        ),
+        (
+            "a short aid stands alone only for read modified",
+            a_short_aid_stands_alone_only_for_read_modified(),
+        ),
+        ("the first fault is answered", the_first_fault_is_answered()),
+        ("a buffer has every cell", a_buffer_has_every_cell(alloc)),
+        (
+            "a buffer has no other number of cells",
+            a_buffer_has_no_other_number_of_cells(alloc),
+        ),
+        ("an address is no cell", an_address_is_no_cell()),
+        ("laws do nothing", laws_do_nothing()),
+        ("faults are printed", faults_are_printed(alloc)),
+    ]
 }

@@ -2,6 +2,7 @@
 //! stand in trials3270's dialogues.
 mod by_search;
 
+use crate::Check;
 use datastream::read_command;
 use keyboard::{
     Key, Keyboard, Pressed, Refusal, edits_rewrite_the_text, keys_are_real, keys_go_to_the_nearest,
@@ -44,13 +45,11 @@ fn refusals_have_these_numbers() -> bool {
         && Refusal::NoCode.number() == 5
 }
 
-#[test]
-fn refusals_have_numbers(rt: HostRuntime) {
-    assert!(rt; refusals_have_these_numbers());
+fn refusals_have_numbers() -> bool {
+    refusals_have_these_numbers()
 }
 
-#[test]
-fn laws_do_nothing(_rt: HostRuntime) {
+fn laws_do_nothing() -> bool {
     keys_keep_what_was_left();
     what_keys_leave_can_be_sent();
     keys_are_real(&Key::Enter);
@@ -58,4 +57,17 @@ fn laws_do_nothing(_rt: HostRuntime) {
     sent_keys_wait();
     keys_go_to_the_nearest();
     edits_rewrite_the_text();
+    true
+}
+
+/// What is tried here, and whether it is so.
+pub(crate) fn checks() -> [Check; 3] {
+    [
+        ("refusals have numbers", refusals_have_numbers()),
+        ("laws do nothing", laws_do_nothing()),
+        (
+            "new line goes as searched",
+            by_search::new_line_goes_as_searched(),
+        ),
+    ]
 }

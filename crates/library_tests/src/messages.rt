@@ -1,4 +1,5 @@
 //! Headers, names and messages as bytes, which no contract gives as such, and refused memory.
+use crate::Check;
 use std::alloc::{AllocError, Global};
 use std::fmt::Display;
 use telnet_wire::put_record;
@@ -47,11 +48,9 @@ fn response_is_spelt(out: &mut Vec<u8>) -> Result<bool, AllocError> {
     is_spelt(out, &record, b"\x02\x00\x00\x00\xff\xff\x00\xff\xef")
 }
 
-#[test]
-fn a_header_of_number_255(rt: HostRuntime) {
-    assert!(rt; write_is_written_and_read());
-    let mut out = Vec::new(rt.alloc());
-    assert_eq!(rt; response_is_spelt(&mut out), Ok(true));
+fn a_header_of_number_255(alloc: Global) -> bool {
+    let mut out = Vec::new(alloc);
+    write_is_written_and_read() && response_is_spelt(&mut out) == Ok(true)
 }
 
 static NO_HEADERS: [(&[u8], HeadFault); 5] = [
@@ -76,9 +75,8 @@ fn any_flag_is_read() -> bool {
     read_header(b"\x05\x00\xff\x00\x00").is_ok() && read_header(b"\x08\x00\xff\x00\x00").is_ok()
 }
 
-#[test]
-fn headers_that_are_none(rt: HostRuntime) {
-    assert!(rt; no_headers_are_refused() && any_flag_is_read());
+fn headers_that_are_none() -> bool {
+    no_headers_are_refused() && any_flag_is_read()
 }
 
 static TYPES: [(u8, DataType); 10] = [
@@ -118,10 +116,9 @@ fn flags_agree() -> bool {
     [NO_RESPONSE, ERROR_RESPONSE, ALWAYS_RESPONSE] == [0, 1, 2] && [POSITIVE, NEGATIVE] == [0, 1]
 }
 
-#[test]
-fn each_type_has_its_code(rt: HostRuntime) {
+fn each_type_has_its_code() -> bool {
     flag_laws();
-    assert!(rt; types_agree() && flags_agree());
+    types_agree() && flags_agree()
 }
 
 // Whether a fault is printed so.
@@ -143,9 +140,8 @@ fn faults_agree(alloc: Global) -> Result<bool, AllocError> {
     )
 }
 
-#[test]
-fn faults_are_printed(rt: HostRuntime) {
-    assert_eq!(rt; faults_agree(rt.alloc()), Ok(true));
+fn faults_are_printed(alloc: Global) -> bool {
+    faults_agree(alloc) == Ok(true)
 }
 
 static NEXT_NUMBERS: [(u16, u16); 5] = [(0, 1), (254, 255), (32766, 32767), (32767, 0), (65535, 0)];
@@ -159,9 +155,8 @@ fn next_numbers_agree() -> bool {
     true
 }
 
-#[test]
-fn numbers_go_round(rt: HostRuntime) {
-    assert!(rt; next_numbers_agree());
+fn numbers_go_round() -> bool {
+    next_numbers_agree()
 }
 
 static NAMES: [(&[u8], &[u8]); 5] = [
@@ -199,9 +194,8 @@ fn no_names_are_refused() -> bool {
     true
 }
 
-#[test]
-fn names_of_logical_units(rt: HostRuntime) {
-    assert!(rt; names_agree() && no_names_are_refused());
+fn names_of_logical_units() -> bool {
+    names_agree() && no_names_are_refused()
 }
 
 static DEVICES: [(&[u8], Option<Device>); 10] = [
@@ -226,9 +220,8 @@ fn devices_agree() -> bool {
     true
 }
 
-#[test]
-fn types_of_device(rt: HostRuntime) {
-    assert!(rt; devices_agree() && Device::Model5E.text() == b"IBM-3278-5-E".as_slice());
+fn types_of_device() -> bool {
+    devices_agree() && Device::Model5E.text() == b"IBM-3278-5-E".as_slice()
 }
 
 static NO_MESSAGES: [(&[u8], SubFault); 13] = [
@@ -256,10 +249,9 @@ fn no_messages_are_refused() -> bool {
     true
 }
 
-#[test]
-fn payloads_that_are_no_message(rt: HostRuntime) {
+fn payloads_that_are_no_message() -> bool {
     one_reading();
-    assert!(rt; no_messages_are_refused());
+    no_messages_are_refused()
 }
 
 /// Payloads of messages, and how subnegotiations spell them: 255 is doubled.
@@ -312,10 +304,9 @@ fn messages_are_written(out: &mut Vec<u8>) -> Result<bool, AllocError> {
     Ok(true)
 }
 
-#[test]
-fn what_is_read_is_written_as_it_was(rt: HostRuntime) {
-    let mut out = Vec::new(rt.alloc());
-    assert_eq!(rt; messages_are_written(&mut out), Ok(true));
+fn what_is_read_is_written_as_it_was(alloc: Global) -> bool {
+    let mut out = Vec::new(alloc);
+    messages_are_written(&mut out) == Ok(true)
 }
 
 /// Fills the room that a vector has with sevens.
@@ -328,7 +319,12 @@ fn fill(out: &mut Vec<u8>) -> Result<(), AllocError> {
 
 // Whether a vector of sevens that couldn't grow is as it was.
 fn is_unchanged(out: &[u8], length: usize) -> bool {
-    out.len() == length && out.iter().all(|byte| *byte == 7)
+    for byte in out {
+        if *byte != 7 {
+            return false;
+        }
+    }
+    out.len() == length
 }
 
 // Whether a message that no memory was there for is put at the next call, and nothing before.
@@ -369,11 +365,10 @@ fn messages_are_put(alloc: Global) -> Result<bool, AllocError> {
     Ok(true)
 }
 
-// In an ordinary run no growth is refused. `rt try --test --fail-alloc N` refuses the Nth one: this
-// test and the next pass at every N, whichever growth it meets.
-#[test]
-fn a_refused_growth_changes_nothing(rt: HostRuntime) {
-    assert_eq!(rt; messages_are_put(rt.alloc()), Ok(true));
+// In an ordinary run no growth is refused. `rt try --fail-alloc N -- libraries` in crates/trials3270
+// refuses the Nth one: this and the next are so at every N, whichever growth it meets.
+fn a_refused_growth_changes_nothing(alloc: Global) -> bool {
+    messages_are_put(alloc) == Ok(true)
 }
 
 // Whether a message is put in a vector's room.
@@ -403,7 +398,35 @@ fn messages_stay_in_their_room(alloc: Global) -> Result<bool, AllocError> {
     Ok(true)
 }
 
-#[test]
-fn where_there_is_room_no_memory_is_taken(rt: HostRuntime) {
-    assert_eq!(rt; messages_stay_in_their_room(rt.alloc()), Ok(true));
+fn where_there_is_room_no_memory_is_taken(alloc: Global) -> bool {
+    messages_stay_in_their_room(alloc) == Ok(true)
+}
+
+/// What is tried here, and whether it is so.
+pub(crate) fn checks(alloc: Global) -> [Check; 11] {
+    [
+        ("a header of number 255", a_header_of_number_255(alloc)),
+        ("headers that are none", headers_that_are_none()),
+        ("each type has its code", each_type_has_its_code()),
+        ("faults are printed", faults_are_printed(alloc)),
+        ("numbers go round", numbers_go_round()),
+        ("names of logical units", names_of_logical_units()),
+        ("types of device", types_of_device()),
+        (
+            "payloads that are no message",
+            payloads_that_are_no_message(),
+        ),
+        (
+            "what is read is written as it was",
+            what_is_read_is_written_as_it_was(alloc),
+        ),
+        (
+            "a refused growth changes nothing",
+            a_refused_growth_changes_nothing(alloc),
+        ),
+        (
+            "where there is room no memory is taken",
+            where_there_is_room_no_memory_is_taken(alloc),
+        ),
+    ]
 }

@@ -1,6 +1,7 @@
 //! Worked dialogues that end in a paint: the bytes that make of a screen that is believed the one that is wanted.
 ghost use Rattle.datastream.specs.Wanted.{IsProper};
 
+use crate::Check;
 use crate::beliefs::{
     SIGN_ON, answered_in_part, believes, contradicts, fact_at, followed_by, has_no_field, hears,
     hears_buffer, is_unknown, known_at, knows, sign_on, take,
@@ -9,11 +10,10 @@ use codes3270::{Addr, Attr, CELLS, Cell, storable};
 use datastream::{Form, Memory, Want, Wanted};
 use shadow::{Fact, Shadow};
 use std::alloc::{AllocError, Global};
-use std::test::Fail;
 
 // ---- what is wanted
 
-/// The address of a place on the screen. The tests ask for no place beyond.
+/// The address of a place on the screen. The checks ask for no place beyond.
 fn at(place: u16) -> Addr {
     match Addr::new(place) {
         Some(addr) => addr,
@@ -143,20 +143,19 @@ fn each_is_a_field(shadow: &Shadow) -> bool {
     fact_at(shadow, 0) == Some(Fact::Exact) && believes(shadow, 1919, Fact::Exact, &[])
 }
 
-#[test]
-fn a_screen_of_attributes_is_read(rt: HostRuntime) -> Result<(), Fail> {
+fn a_screen_of_attributes_is_read(alloc: Global) -> bool {
     let mut shadow = Shadow::blank();
-    assert!(rt;
-        attributes_are_read(rt.alloc(), &mut shadow)?
-            && each_is_a_field(&shadow)
-            && paints(
-                rt.alloc(),
+    matches!(attributes_are_read(alloc, &mut shadow), Ok(true))
+        && each_is_a_field(&shadow)
+        && matches!(
+            paints(
+                alloc,
                 &shadow,
                 &again(&shadow),
                 &[0xF1, 0xC2, 0x11, 0x40, 0x40, 0x13]
-            )?
-    );
-    Ok(())
+            ),
+            Ok(true)
+        )
 }
 
 /// Whether a screen of characters alone is heard.
@@ -170,21 +169,28 @@ fn characters_are_read(alloc: Global, shadow: &mut Shadow) -> Result<bool, Alloc
     )
 }
 
-/// Without fields it is erased, and painted anew.
-fn characters_are_painted_anew(alloc: Global, shadow: &Shadow) -> Result<bool, Fail> {
+/// The bytes by which a screen of one character is erased, and painted anew.
+fn erased_and_repeated(alloc: Global) -> Result<Vec<u8>, AllocError> {
     let mut expected = followed_by(alloc, &[0xF5, 0xC2, 0x11, 0x40, 0x40], 0x5C, CELLS)?;
     expected.extend_from_slice(&[0x11, 0x40, 0x40, 0x13])?;
-    Ok(paints(alloc, shadow, &again(shadow), expected.as_slice())?)
+    Ok(expected)
 }
 
-#[test]
-fn a_screen_of_characters_is_read(rt: HostRuntime) -> Result<(), Fail> {
+/// Without fields it is erased, and painted anew.
+fn characters_are_painted_anew(alloc: Global, shadow: &Shadow) -> bool {
+    match erased_and_repeated(alloc) {
+        Ok(expected) => matches!(
+            paints(alloc, shadow, &again(shadow), expected.as_slice()),
+            Ok(true)
+        ),
+        Err(_) => false,
+    }
+}
+
+fn a_screen_of_characters_is_read(alloc: Global) -> bool {
     let mut shadow = Shadow::blank();
-    assert!(rt;
-        characters_are_read(rt.alloc(), &mut shadow)?
-            && characters_are_painted_anew(rt.alloc(), &shadow)?
-    );
-    Ok(())
+    matches!(characters_are_read(alloc, &mut shadow), Ok(true))
+        && characters_are_painted_anew(alloc, &shadow)
 }
 
 fn is_told_a_text(shadow: &mut Shadow) -> bool {
@@ -202,11 +208,9 @@ fn the_whole_field_is_painted(alloc: Global, shadow: &Shadow) -> Result<bool, Me
     paints(alloc, shadow, &wanted, &bytes)
 }
 
-#[test]
-fn a_text_with_a_gap_is_painted_anew(rt: HostRuntime) -> Result<(), Fail> {
+fn a_text_with_a_gap_is_painted_anew(alloc: Global) -> bool {
     let mut shadow = Shadow::blank();
-    assert!(rt; is_told_a_text(&mut shadow) && the_whole_field_is_painted(rt.alloc(), &shadow)?);
-    Ok(())
+    is_told_a_text(&mut shadow) && matches!(the_whole_field_is_painted(alloc, &shadow), Ok(true))
 }
 
 /// Whether the cursor alone is painted.
@@ -224,19 +228,15 @@ fn what_is_kept_is_left(alloc: Global, shadow: &mut Shadow) -> Result<bool, Memo
     )
 }
 
-#[test]
-fn what_is_right_is_not_painted(rt: HostRuntime) -> Result<(), Fail> {
-    assert!(rt; what_is_kept_is_left(rt.alloc(), &mut sign_on())?);
-    Ok(())
+fn what_is_right_is_not_painted(alloc: Global) -> bool {
+    matches!(what_is_kept_is_left(alloc, &mut sign_on()), Ok(true))
 }
 
-#[test]
-fn a_blank_shadow_is_painted_over(rt: HostRuntime) -> Result<(), Fail> {
+fn a_blank_shadow_is_painted_over(alloc: Global) -> bool {
     let shadow = Shadow::blank();
     let wanted = with_text(&shadow, 1919, &[0xC1], 0, false);
     let bytes = [0xF5, 0xC2, 0x11, 0x5D, 0x7F, 0xC1, 0x11, 0x40, 0x40, 0x13];
-    assert!(rt; paints(rt.alloc(), &shadow, &wanted, &bytes)?);
-    Ok(())
+    matches!(paints(alloc, &shadow, &wanted, &bytes), Ok(true))
 }
 
 // ---- what was read before
@@ -299,16 +299,12 @@ fn another_text_cannot_be(alloc: Global, shadow: &mut Shadow) -> Result<bool, Al
     )
 }
 
-#[test]
-fn a_screen_that_was_read_is_known(rt: HostRuntime) -> Result<(), Fail> {
+fn a_screen_that_was_read_is_known(alloc: Global) -> bool {
     let mut shadow = sign_on();
-    assert!(rt;
-        forgets_its_fields(&mut shadow)
-            && sign_on_is_read(rt.alloc(), &mut shadow)?
-            && the_message_is_painted(rt.alloc(), &shadow)?
-            && another_text_cannot_be(rt.alloc(), &mut shadow)?
-    );
-    Ok(())
+    forgets_its_fields(&mut shadow)
+        && matches!(sign_on_is_read(alloc, &mut shadow), Ok(true))
+        && matches!(the_message_is_painted(alloc, &shadow), Ok(true))
+        && matches!(another_text_cannot_be(alloc, &mut shadow), Ok(true))
 }
 
 /// The paint that asks again for a field that is required.
@@ -324,11 +320,12 @@ fn asked_again() -> Shadow {
     shadow
 }
 
-#[test]
-fn a_message_is_painted_alone(rt: HostRuntime) -> Result<(), Fail> {
+fn a_message_is_painted_alone(alloc: Global) -> bool {
     let wanted = sign_on_again(&REQUIRED[5..19]);
-    assert!(rt; paints(rt.alloc(), &answered_in_part(), &wanted, &REQUIRED)?);
-    Ok(())
+    matches!(
+        paints(alloc, &answered_in_part(), &wanted, &REQUIRED),
+        Ok(true)
+    )
 }
 
 fn input_is_erased(shadow: &mut Shadow) -> bool {
@@ -338,14 +335,13 @@ fn input_is_erased(shadow: &mut Shadow) -> bool {
         && believes(shadow, 246, Fact::Exact, &[0; 4])
 }
 
-#[test]
-fn erased_input_leaves_nothing_to_paint(rt: HostRuntime) -> Result<(), Fail> {
+fn erased_input_leaves_nothing_to_paint(alloc: Global) -> bool {
     let mut shadow = asked_again();
-    assert!(rt;
-        input_is_erased(&mut shadow)
-            && is_left(rt.alloc(), &shadow, &sign_on_again(&REQUIRED[5..19]))?
-    );
-    Ok(())
+    input_is_erased(&mut shadow)
+        && matches!(
+            is_left(alloc, &shadow, &sign_on_again(&REQUIRED[5..19])),
+            Ok(true)
+        )
 }
 
 /// A panel that greets Ann, on a screen of nulls.
@@ -374,14 +370,12 @@ fn the_greeting_is_painted(alloc: Global, shadow: &Shadow) -> Result<bool, Memor
     paints(alloc, shadow, &greeting(), GREETING)
 }
 
-#[test]
-fn another_panel_is_painted_over(rt: HostRuntime) -> Result<(), Fail> {
+fn another_panel_is_painted_over(alloc: Global) -> bool {
     let mut shadow = asked_again();
     let answer = [
         0x7D, 0xC2, 0x6A, 0x11, 0xC2, 0xE7, 0xC1, 0xD5, 0xD5, 0x11, 0xC3, 0xF7, 0xC4, 0xF7,
     ];
-    assert!(rt; hears(&mut shadow, &answer) && the_greeting_is_painted(rt.alloc(), &shadow)?);
-    Ok(())
+    hears(&mut shadow, &answer) && matches!(the_greeting_is_painted(alloc, &shadow), Ok(true))
 }
 
 // ---- a field that may be null
@@ -430,18 +424,17 @@ fn a_message_is_painted_beside_it(
     paints(alloc, shadow, wanted, &bytes)
 }
 
-#[test]
-fn a_field_that_may_be_null_is_read_first(rt: HostRuntime) -> Result<(), Fail> {
+fn a_field_that_may_be_null_is_read_first(alloc: Global) -> bool {
     let mut shadow = Shadow::blank();
     let is_taken = take(&mut shadow, &TYPED);
     let wanted = typed_again(&shadow);
-    assert!(rt;
-        is_taken
-            && it_may_be_null(&mut shadow)
-            && it_is_read(rt.alloc(), &mut shadow)?
-            && a_message_is_painted_beside_it(rt.alloc(), &shadow, &wanted)?
-    );
-    Ok(())
+    is_taken
+        && it_may_be_null(&mut shadow)
+        && matches!(it_is_read(alloc, &mut shadow), Ok(true))
+        && matches!(
+            a_message_is_painted_beside_it(alloc, &shadow, &wanted),
+            Ok(true)
+        )
 }
 
 // ---- memory
@@ -482,11 +475,9 @@ fn a_roomy_vector_takes_it(alloc: Global, wanted: &Wanted) -> bool {
 
 // Run it with each allocation failing in turn: a growth is then refused in the midst of the paint, and the vector stays as
 // it was.
-#[test]
-fn a_paint_appends_its_bytes_or_changes_nothing(rt: HostRuntime) {
+fn a_paint_appends_its_bytes_or_changes_nothing(alloc: Global) -> bool {
     let wanted = with_text(&sign_on(), 0, &[], 167, true);
-    assert!(rt; a_full_vector_grows_or_stays(rt.alloc(), &wanted));
-    assert!(rt; a_roomy_vector_takes_it(rt.alloc(), &wanted));
+    a_full_vector_grows_or_stays(alloc, &wanted) && a_roomy_vector_takes_it(alloc, &wanted)
 }
 
 fn its_mdt_is_on(shadow: &mut Shadow) -> bool {
@@ -510,12 +501,63 @@ fn its_attribute_is_painted(alloc: Global, shadow: &Shadow) -> bool {
             .starts_with(&[0xF1, 0xC2, 0x11, 0x40, 0x40, 0x1D, 0x40, 0x00])
 }
 
-#[test]
-fn after_an_attention_mdt_is_open(rt: HostRuntime) {
+fn after_an_attention_mdt_is_open(alloc: Global) -> bool {
     let mut shadow = Shadow::blank();
-    assert!(rt;
-        its_mdt_is_on(&mut shadow)
-            && its_mdt_may_be_off(&mut shadow)
-            && its_attribute_is_painted(rt.alloc(), &shadow)
-    );
+    its_mdt_is_on(&mut shadow)
+        && its_mdt_may_be_off(&mut shadow)
+        && its_attribute_is_painted(alloc, &shadow)
+}
+
+/// What is tried here, and whether it is so.
+pub(crate) fn checks(alloc: Global) -> [Check; 12] {
+    [
+        (
+            "a screen of attributes is read",
+            a_screen_of_attributes_is_read(alloc),
+        ),
+        (
+            "a screen of characters is read",
+            a_screen_of_characters_is_read(alloc),
+        ),
+        (
+            "a text with a gap is painted anew",
+            a_text_with_a_gap_is_painted_anew(alloc),
+        ),
+        (
+            "what is right is not painted",
+            what_is_right_is_not_painted(alloc),
+        ),
+        (
+            "a blank shadow is painted over",
+            a_blank_shadow_is_painted_over(alloc),
+        ),
+        (
+            "a screen that was read is known",
+            a_screen_that_was_read_is_known(alloc),
+        ),
+        (
+            "a message is painted alone",
+            a_message_is_painted_alone(alloc),
+        ),
+        (
+            "erased input leaves nothing to paint",
+            erased_input_leaves_nothing_to_paint(alloc),
+        ),
+        (
+            "another panel is painted over",
+            another_panel_is_painted_over(alloc),
+        ),
+        (
+            "a field that may be null is read first",
+            a_field_that_may_be_null_is_read_first(alloc),
+        ),
+        (
+            "a paint appends its bytes or changes nothing",
+            a_paint_appends_its_bytes_or_changes_nothing(alloc),
+        ),
+        (
+            "after an attention mdt is open",
+            after_an_attention_mdt_is_open(alloc),
+        ),
+    ]
 }

@@ -1,12 +1,12 @@
-//! Tests of what no clause says: screens from outside, sizes, and refused memory. Each test asks one helper, which borrows what the test owns and
+//! What no clause says: screens from outside, sizes, and refused memory. Each check asks one helper, which borrows what the test owns and
 //! answers by its conditions. How faults of texts print is shown by runs of the program (runs/panel-texts.md).
 mod many;
 mod screens;
 mod texts;
 
+use crate::Check;
 use panels::{At, PanelFault, PanelSet, TreeFault, Values};
 use std::alloc::{AllocError, Global};
-use std::test::Fail;
 use texts::SIGN_ON;
 
 fn has_fault(alloc: Global, text: &str, wanted: PanelFault) -> bool {
@@ -19,10 +19,9 @@ fn has_fault(alloc: Global, text: &str, wanted: PanelFault) -> bool {
 const OVERLAP: &str =
     "start = \"A\"\nlus = []\npanel = [{name = \"A\", field = [{name = \"f\", row = 1, col = 2, length = 3}, {name = \"g\", row = 1, col = 5, length = 1}]}]";
 
-#[test]
-fn a_fault_has_its_place(rt: HostRuntime) {
+fn a_fault_has_its_place(alloc: Global) -> bool {
     let overlap = PanelFault::Tree(TreeFault::Overlap, At::Field(0, 1));
-    assert!(rt; has_fault(rt.alloc(), OVERLAP, overlap));
+    has_fault(alloc, OVERLAP, overlap)
 }
 
 /// How long the value of a field is.
@@ -46,11 +45,9 @@ fn keeps_what_is_set(values: &mut Values) -> Result<bool, AllocError> {
     )
 }
 
-#[test]
-fn values_are_kept(rt: HostRuntime) -> Result<(), Fail> {
-    let are_kept = keeps_what_is_set(&mut Values::new(rt.alloc()))?;
-    assert!(rt; are_kept);
-    Ok(())
+fn values_are_kept(alloc: Global) -> bool {
+    let are_kept = matches!(keeps_what_is_set(&mut Values::new(alloc)), Ok(true));
+    are_kept
 }
 
 fn learns(values: &mut Values) -> Result<bool, AllocError> {
@@ -65,14 +62,12 @@ fn learns_into_a_copy(values: &mut Values) -> Result<bool, AllocError> {
     Ok(learns(&mut copy)? && values.get(2).is_none())
 }
 
-#[test]
-fn a_copy_learns_alone(rt: HostRuntime) -> Result<(), Fail> {
-    let is_alone = learns_into_a_copy(&mut Values::new(rt.alloc()))?;
-    assert!(rt; is_alone);
-    Ok(())
+fn a_copy_learns_alone(alloc: Global) -> bool {
+    let is_alone = matches!(learns_into_a_copy(&mut Values::new(alloc)), Ok(true));
+    is_alone
 }
 
-// `rt try --test --fail-alloc N` refuses the Nth growth of each test: the next two show what is left then.
+// `rt try --fail-alloc N -- libraries` in crates/trials3270 refuses the Nth growth: the next two show what is left then.
 
 fn reads_or_wants_memory(alloc: Global) -> bool {
     match PanelSet::read(alloc, SIGN_ON) {
@@ -81,9 +76,8 @@ fn reads_or_wants_memory(alloc: Global) -> bool {
     }
 }
 
-#[test]
-fn a_refused_growth_is_told(rt: HostRuntime) {
-    assert!(rt; reads_or_wants_memory(rt.alloc()));
+fn a_refused_growth_is_told(alloc: Global) -> bool {
+    reads_or_wants_memory(alloc)
 }
 
 fn changes_nothing_without_room(values: &mut Values) -> bool {
@@ -99,8 +93,48 @@ fn changes_nothing_without_room(values: &mut Values) -> bool {
         && values.get(1).is_some() == second
 }
 
-#[test]
-fn a_value_without_room_changes_nothing(rt: HostRuntime) {
-    let is_unchanged = changes_nothing_without_room(&mut Values::new(rt.alloc()));
-    assert!(rt; is_unchanged);
+fn a_value_without_room_changes_nothing(alloc: Global) -> bool {
+    let is_unchanged = changes_nothing_without_room(&mut Values::new(alloc));
+    is_unchanged
+}
+
+/// What is tried here, and whether it is so.
+pub(crate) fn checks(alloc: Global) -> [Check; 14] {
+    [
+        ("a fault has its place", a_fault_has_its_place(alloc)),
+        ("values are kept", values_are_kept(alloc)),
+        ("a copy learns alone", a_copy_learns_alone(alloc)),
+        ("a refused growth is told", a_refused_growth_is_told(alloc)),
+        (
+            "a value without room changes nothing",
+            a_value_without_room_changes_nothing(alloc),
+        ),
+        ("a large text is read", many::a_large_text_is_read(alloc)),
+        ("the examples are read", many::the_examples_are_read(alloc)),
+        ("a sign on is shown", screens::a_sign_on_is_shown(alloc)),
+        (
+            "a panel is shown again",
+            screens::a_panel_is_shown_again(alloc),
+        ),
+        (
+            "keys lead where the table says",
+            screens::keys_lead_where_the_table_says(alloc),
+        ),
+        (
+            "each kind of key leads",
+            screens::each_kind_of_key_leads(alloc),
+        ),
+        (
+            "fields have their attributes and fills",
+            screens::fields_have_their_attributes_and_fills(alloc),
+        ),
+        (
+            "a field may end before the message",
+            screens::a_field_may_end_before_the_message(alloc),
+        ),
+        (
+            "fields are written from their values",
+            screens::fields_are_written_from_their_values(alloc),
+        ),
+    ]
 }

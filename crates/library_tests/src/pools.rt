@@ -1,5 +1,6 @@
 //! Pools of few LUs: who holds one, and refused memory. The talk of a host that asks its pool is told by trials3270's
 //! dialogues.
+use crate::Check;
 use lu_pool::{Pool, PoolFault};
 use std::alloc::{AllocError, Global};
 use tn3270e_msg::{Lu, Reason};
@@ -36,9 +37,8 @@ fn refused_memory_prints(alloc: Global) -> bool {
     }
 }
 
-#[test]
-fn refused_memory_is_printed(rt: HostRuntime) {
-    assert!(rt; refused_memory_prints(rt.alloc()));
+fn refused_memory_is_printed(alloc: Global) -> bool {
+    refused_memory_prints(alloc)
 }
 
 // What the pool answers a connection, which must hold none.
@@ -103,9 +103,8 @@ fn two_are_held_once(alloc: Global) -> bool {
     }
 }
 
-#[test]
-fn an_lu_has_one_holder(rt: HostRuntime) {
-    assert!(rt; two_are_held_once(rt.alloc()));
+fn an_lu_has_one_holder(alloc: Global) -> bool {
+    two_are_held_once(alloc)
 }
 
 // Whether the pool of these texts grants an LU.
@@ -125,10 +124,24 @@ fn is_made_at_last(alloc: Global, texts: &mut Vec<String>) -> bool {
     }
 }
 
-// In an ordinary run no growth is refused. `rt try --test --fail-alloc N` refuses the Nth one, and
-// this test passes at every N, whichever growth it meets.
-#[test]
-fn a_refused_growth_makes_no_pool(rt: HostRuntime) {
-    let mut texts = Vec::new(rt.alloc());
-    assert!(rt; is_made_at_last(rt.alloc(), &mut texts));
+// In an ordinary run no growth is refused. `rt try --fail-alloc N -- libraries` in crates/trials3270
+// refuses the Nth one, and this is so at every N, whichever growth it meets.
+fn a_refused_growth_makes_no_pool(alloc: Global) -> bool {
+    let mut texts = Vec::new(alloc);
+    is_made_at_last(alloc, &mut texts)
+}
+
+/// What is tried here, and whether it is so.
+pub(crate) fn checks(alloc: Global) -> [Check; 3] {
+    [
+        (
+            "refused memory is printed",
+            refused_memory_is_printed(alloc),
+        ),
+        ("an lu has one holder", an_lu_has_one_holder(alloc)),
+        (
+            "a refused growth makes no pool",
+            a_refused_growth_makes_no_pool(alloc),
+        ),
+    ]
 }

@@ -4,9 +4,11 @@
 
 mod by_search;
 
+use crate::Check;
 use codes3270::{Addr, CELLS};
 use datastream::read_command;
 use presentation::{Applied, Field, Screen};
+use std::alloc::Global;
 
 // ---- helpers
 
@@ -141,9 +143,8 @@ fn ask_what_they_say(screen: &mut Screen) -> bool {
         && ask(screen, &READS, NOTHING)
 }
 
-#[test]
-fn commands_ask_for_the_alarm_or_to_restore(rt: HostRuntime) {
-    assert!(rt; ask_what_they_say(&mut Screen::blank()));
+fn commands_ask_for_the_alarm_or_to_restore() -> bool {
+    ask_what_they_say(&mut Screen::blank())
 }
 
 // ---- fields
@@ -201,16 +202,14 @@ fn is_copied(screen: &Screen) -> bool {
     }
 }
 
-#[test]
-fn a_copy_is_the_same(rt: HostRuntime) {
+fn a_copy_is_the_same() -> bool {
     let mut screen = Screen::blank();
-    assert!(rt; obeys(&mut screen, &[FIELDS]) && is_copied(&screen));
+    obeys(&mut screen, &[FIELDS]) && is_copied(&screen)
 }
 
-#[test]
-fn lists_and_finds_fields(rt: HostRuntime) {
+fn lists_and_finds_fields() -> bool {
     let is_so = has_three_fields(&mut Screen::blank()) && loses_its_fields(&mut Screen::blank());
-    assert!(rt; is_so);
+    is_so
 }
 
 // ---- memory
@@ -250,9 +249,29 @@ fn appends(screen: &mut Screen, out: &mut Vec<u8>) -> bool {
 }
 
 // With room for all of it an answer is appended; where memory is refused nothing is. Each growth is refused in turn by
-// running this test with one allocation after the other failing.
-#[test]
-fn appends_all_or_nothing(rt: HostRuntime) {
-    let is_appended = appends(&mut Screen::blank(), &mut Vec::new(rt.alloc()));
-    assert!(rt; is_appended);
+// running `rt try --fail-alloc N -- libraries` in crates/trials3270 with one N after another.
+fn appends_all_or_nothing(alloc: Global) -> bool {
+    let is_appended = appends(&mut Screen::blank(), &mut Vec::new(alloc));
+    is_appended
+}
+
+/// What is tried here, and whether it is so.
+pub(crate) fn checks(alloc: Global) -> [Check; 6] {
+    [
+        (
+            "commands ask for the alarm or to restore",
+            commands_ask_for_the_alarm_or_to_restore(),
+        ),
+        ("a copy is the same", a_copy_is_the_same()),
+        ("lists and finds fields", lists_and_finds_fields()),
+        ("appends all or nothing", appends_all_or_nothing(alloc)),
+        (
+            "what is shown is as searched",
+            by_search::what_is_shown_is_as_searched(),
+        ),
+        (
+            "any screen is as searched",
+            by_search::any_screen_is_as_searched(),
+        ),
+    ]
 }

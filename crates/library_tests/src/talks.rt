@@ -1,5 +1,6 @@
 //! What no end shows of its talk: that the talks' law may be called, a host's device, the LU at either end, and that a closed talk answers
 //! its cause again. What is sent, the phase after it and why an end closes stand in trials3270's dialogues, byte for byte.
+use crate::Check;
 use telnet_wire::{Item, Verb};
 use tn3270e_msg::{Cause, Device, HostTalk, Lu, Reply, TermTalk, talks_agree};
 
@@ -38,11 +39,10 @@ fn up_to_its_closing(host: &mut HostTalk) -> bool {
     }
 }
 
-#[test]
-fn a_host_has_device_and_lu_up_to_its_closing(rt: HostRuntime) {
+fn a_host_has_device_and_lu_up_to_its_closing() -> bool {
     talks_agree();
     let is_so = up_to_its_closing(&mut HostTalk::new());
-    assert!(rt; is_so);
+    is_so
 }
 
 // The LU that a terminal has, once this answers its request.
@@ -64,8 +64,21 @@ fn has_its_lu(granted: &mut TermTalk, refused: &mut TermTalk) -> bool {
         && lu_by(refused, b"\x28\x02\x06\x05\x01").is_none()
 }
 
-#[test]
-fn a_terminal_has_the_lu_that_it_is_granted(rt: HostRuntime) {
+fn a_terminal_has_the_lu_that_it_is_granted() -> bool {
     let is_so = has_its_lu(&mut TermTalk::new(None), &mut TermTalk::new(None));
-    assert!(rt; is_so);
+    is_so
+}
+
+/// What is tried here, and whether it is so.
+pub(crate) fn checks() -> [Check; 2] {
+    [
+        (
+            "a host has device and lu up to its closing",
+            a_host_has_device_and_lu_up_to_its_closing(),
+        ),
+        (
+            "a terminal has the lu that it is granted",
+            a_terminal_has_the_lu_that_it_is_granted(),
+        ),
+    ]
 }

@@ -1,12 +1,12 @@
 //! Growths refused in turn. What a terminal shows and sends stands in the dialogues of `trials3270`, byte for byte.
 //!
-//! In an ordinary run no growth is refused. `rt try --test --fail-alloc N` refuses the Nth one: the helpers then ask again,
-//! and the tests pass at every N, whichever growth it meets.
+//! In an ordinary run no growth is refused. `rt try --fail-alloc N -- libraries` in crates/trials3270 refuses the Nth one: the helpers then ask again,
+//! and all is so at every N, whichever growth it meets.
 
+use crate::Check;
 use codes3270::Aid;
 use keyboard::{Key, Pressed};
 use std::alloc::Global;
-use std::test::Fail;
 use telnet_wire::Memory;
 use term_core::{TermPhase, Terminal};
 use tn3270e_msg::{Fed, Lu, Stop};
@@ -176,10 +176,8 @@ fn twins_stay_alike(alloc: Global) -> Result<bool, Memory> {
     stay_alike(&mut terminal, &mut twin)
 }
 
-#[test]
-fn a_refused_growth_changes_nothing(rt: HostRuntime) -> Result<(), Fail> {
-    assert!(rt; twins_stay_alike(rt.alloc())?);
-    Ok(())
+fn a_refused_growth_changes_nothing(alloc: Global) -> bool {
+    matches!(twins_stay_alike(alloc), Ok(true))
 }
 
 /// Says whether a write behind a read is taken whole and done. The buffer's data stays to be sent, so that room runs out
@@ -217,8 +215,20 @@ fn shows_each_time_and_then_hi(alloc: Global) -> Result<bool, Memory> {
     Ok(shows_each_time(&mut terminal) && shows_hi(alloc, &terminal)?)
 }
 
-#[test]
-fn bytes_are_fed_again_after_a_refused_growth(rt: HostRuntime) -> Result<(), Fail> {
-    assert!(rt; shows_each_time_and_then_hi(rt.alloc())?);
-    Ok(())
+fn bytes_are_fed_again_after_a_refused_growth(alloc: Global) -> bool {
+    matches!(shows_each_time_and_then_hi(alloc), Ok(true))
+}
+
+/// What is tried here, and whether it is so.
+pub(crate) fn checks(alloc: Global) -> [Check; 2] {
+    [
+        (
+            "a refused growth changes nothing",
+            a_refused_growth_changes_nothing(alloc),
+        ),
+        (
+            "bytes are fed again after a refused growth",
+            bytes_are_fed_again_after_a_refused_growth(alloc),
+        ),
+    ]
 }

@@ -1,9 +1,9 @@
 //! Streams of the wire, byte by byte.
 //!
-//! A test makes what is owned, and a helper that borrows it says whether all is right: each way out of a function costs a
+//! A check makes what is owned, and a helper that borrows it says whether all is right: each way out of a function costs a
 //! proof for what the function owns.
+use crate::Check;
 use std::alloc::Global;
-use std::test::Fail;
 use telnet_wire::{
     Decoder, Item, Memory, Step, Verb, WireFault, one_reading, put_option, put_record, put_sub,
     put_sub_parts,
@@ -250,12 +250,12 @@ fn items_agree_in(alloc: Global, decoder: &mut Decoder) -> bool {
     items_agree(decoder, &mut out)
 }
 
-#[test]
-fn items_are_read_and_written(rt: HostRuntime) -> Result<(), Fail> {
+fn items_are_read_and_written(alloc: Global) -> bool {
     one_reading();
-    let mut decoder = Decoder::new(rt.alloc(), RECORD_LIMIT)?;
-    assert!(rt; items_agree_in(rt.alloc(), &mut decoder));
-    Ok(())
+    let Ok(mut decoder) = Decoder::new(alloc, RECORD_LIMIT) else {
+        return false;
+    };
+    items_agree_in(alloc, &mut decoder)
 }
 
 /// Items that come between the bytes of a record, and then the record.
@@ -396,11 +396,11 @@ fn stream_agrees(decoder: &mut Decoder) -> bool {
         && forgets_each(decoder, &BEGINNINGS)
 }
 
-#[test]
-fn a_stream_is_read_refused_and_reset(rt: HostRuntime) -> Result<(), Fail> {
-    let mut decoder = Decoder::new(rt.alloc(), RECORD_LIMIT)?;
-    assert!(rt; stream_agrees(&mut decoder));
-    Ok(())
+fn a_stream_is_read_refused_and_reset(alloc: Global) -> bool {
+    let Ok(mut decoder) = Decoder::new(alloc, RECORD_LIMIT) else {
+        return false;
+    };
+    stream_agrees(&mut decoder)
 }
 
 /// The calls that add bytes, each with bytes of 255 as long as it takes to grow several times.
@@ -486,11 +486,10 @@ fn each_is_all_or_nothing(alloc: Global) -> bool {
     is_made_or_refused(alloc, RECORD_LIMIT) && is_made_or_refused(alloc, usize::MAX)
 }
 
-// In an ordinary run no growth is refused, and each call succeeds. `rt try --test --fail-alloc N` refuses the Nth one:
-// this test and the next pass at every N, whichever growth it meets.
-#[test]
-fn a_refused_growth_changes_nothing(rt: HostRuntime) {
-    assert!(rt; each_is_all_or_nothing(rt.alloc()));
+// In an ordinary run no growth is refused, and each call succeeds. `rt try --fail-alloc N -- libraries` in
+// crates/trials3270 refuses the Nth one: this and the next are so at every N, whichever growth it meets.
+fn a_refused_growth_changes_nothing(alloc: Global) -> bool {
+    each_is_all_or_nothing(alloc)
 }
 
 /// Says whether the call takes no more room.
@@ -516,7 +515,28 @@ fn each_stays_in_its_room(alloc: Global) -> bool {
     true
 }
 
-#[test]
-fn where_there_is_room_no_memory_is_taken(rt: HostRuntime) {
-    assert!(rt; each_stays_in_its_room(rt.alloc()));
+fn where_there_is_room_no_memory_is_taken(alloc: Global) -> bool {
+    each_stays_in_its_room(alloc)
+}
+
+/// What is tried here, and whether it is so.
+pub(crate) fn checks(alloc: Global) -> [Check; 4] {
+    [
+        (
+            "items are read and written",
+            items_are_read_and_written(alloc),
+        ),
+        (
+            "a stream is read refused and reset",
+            a_stream_is_read_refused_and_reset(alloc),
+        ),
+        (
+            "a refused growth changes nothing",
+            a_refused_growth_changes_nothing(alloc),
+        ),
+        (
+            "where there is room no memory is taken",
+            where_there_is_room_no_memory_is_taken(alloc),
+        ),
+    ]
 }

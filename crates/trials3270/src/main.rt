@@ -1,14 +1,17 @@
 //! Programs that try the whole system, as one: worked dialogues, whole worlds, storms of bytes, connections that break off, growths of memory
-//! that are refused, and figures of speed. What they do stands in trial_ends, trial_worlds and former3270.
+//! that are refused, and figures of speed. What they do stands in library_tests, trial_ends, trial_worlds, trial_jobs and former3270.
 //!
 //! Without a word, standard input is the stored run (`stdin`, and `stdout` what it has to print): parts, each headed by a line `%% PART`.
 //! With a part's name as the first word, standard input is that part's text alone:
 //!
 //! ```text
 //! dialogues        a script of dialogues: trial_ends `dialogue`
+//! libraries        nothing; the libraries' public calls, check by check: library_tests
 //! worlds           a script of cases: trial_worlds `worlds`
 //! storm            a storm's script: trial_ends `storm`
 //! serving [last]   nothing; with `last` the last case of each kind alone: trial_ends `serving`
+//! asks             a script of words and lines: trial_jobs `asks`
+//! jobs             nothing; the jobs where the program can't show them: trial_jobs `checks`
 //! growths [CALL]   nothing; the call to try, without one their names: trial_worlds `growths`
 //! former           a script of cases: former3270
 //! speed [figures]  a panel text with 64 LUs; with `figures` it is measured: trial_ends `speed`
@@ -20,18 +23,24 @@
 
 use anyhow::{Context, Result, bail, ensure};
 use former3270::{compare, print_figures};
+use library_tests::try_libraries;
 use std::{env, io};
 use trial_ends::{Range, Scale, hold_script, measure, rage_by, serve};
+use trial_jobs::{tell_asks, try_jobs};
 use trial_worlds::{tell_script, try_named};
 
-const PARTS: &str = "dialogues, worlds, storm, serving, growths, former, speed and then";
+const PARTS: &str =
+    "dialogues, libraries, worlds, storm, serving, asks, jobs, growths, former, speed and then";
 
 #[derive(Clone, Copy)]
 enum Part {
     Dialogues,
+    Libraries,
     Worlds,
     Storm,
     Serving,
+    Asks,
+    Jobs,
     Growths,
     Former,
     Speed,
@@ -42,9 +51,12 @@ impl Part {
     fn named(name: &str) -> Result<Part> {
         Ok(match name {
             "dialogues" => Part::Dialogues,
+            "libraries" => Part::Libraries,
             "worlds" => Part::Worlds,
             "storm" => Part::Storm,
             "serving" => Part::Serving,
+            "asks" => Part::Asks,
+            "jobs" => Part::Jobs,
             "growths" => Part::Growths,
             "former" => Part::Former,
             "speed" => Part::Speed,
@@ -55,8 +67,13 @@ impl Part {
 
     fn reads_a_text(self) -> bool {
         match self {
-            Part::Dialogues | Part::Worlds | Part::Storm | Part::Former | Part::Speed => true,
-            Part::Serving | Part::Growths | Part::Then => false,
+            Part::Dialogues
+            | Part::Worlds
+            | Part::Storm
+            | Part::Asks
+            | Part::Former
+            | Part::Speed => true,
+            Part::Libraries | Part::Serving | Part::Jobs | Part::Growths | Part::Then => false,
         }
     }
 
@@ -70,6 +87,9 @@ impl Part {
                 let range = detail.map_or(Range::Each, |_| Range::Last);
                 Ok(serve(rt, range)?)
             }
+            Part::Libraries => Ok(try_libraries(rt)?),
+            Part::Asks => Ok(tell_asks(rt, text)?),
+            Part::Jobs => Ok(try_jobs(rt)?),
             Part::Growths => Ok(try_named(rt, detail)?),
             Part::Former => Ok(compare(rt, text)?),
             Part::Then => {

@@ -1,4 +1,4 @@
-//! Panel texts that the tests read.
+//! Panel texts that the checks read.
 
 /// A sign-on panel, and the panel that greets.
 pub(super) const SIGN_ON: &str =

@@ -1,5 +1,5 @@
 //! What a host tells of refusals, over sockets of this machine.
-use super::Paper;
+use crate::memory::{Paper, paper_with};
 use jobs3270::{CountedWriter, Fault, Log, Server, host_of, patience};
 use std::alloc::Global;
 use std::io::Write;
@@ -21,13 +21,6 @@ text = [{row = 1, col = 2, text = 'HELLO'},
 {row = 1, col = 9, show = 'user', length = 8}]
 keys = {pf3 = 'SIGNON'}
 ";
-
-fn paper(alloc: Global) -> CountedWriter<Paper> {
-    CountedWriter::new(Paper {
-        text: Vec::new(alloc),
-        room: usize::MAX,
-    })
-}
 
 /// A terminal agrees to TN3270E, and asks for an LU that isn't there, and by a name that is none; for a printer; for the printer that
 /// goes with PNL01; and for PNL01, which it is granted with RESPONSES.
@@ -57,52 +50,49 @@ fn says<S: Write>(
     server: &mut Server,
     log: &mut Lines<'_>,
     bytes: &[u8],
-) -> Result<bool, Fault> {
-    if terminal.write_all(bytes).is_err() {
-        return Ok(false);
-    }
+) -> bool {
+    terminal.write_all(bytes).is_ok() && takes_turns(server, log)
+}
+
+fn takes_turns(server: &mut Server, log: &mut Lines<'_>) -> bool {
     for _ in 0..20 {
-        server.turn(patience(false), log)?;
+        if server.turn(patience(false), log).is_err() {
+            return false;
+        }
     }
-    Ok(true)
+    true
 }
 
 /// Two terminals say this at a host.
-fn ask_for_lus<N: Net>(net: &N, server: &mut Server, log: &mut Lines<'_>) -> Result<bool, Fault> {
+fn ask_for_lus<N: Net>(net: &N, server: &mut Server, log: &mut Lines<'_>) -> bool {
     let Ok(address) = server.address() else {
-        return Ok(false);
+        return false;
     };
     let Ok(mut first) = TcpStream::connect(net, address) else {
-        return Ok(false);
+        return false;
     };
     let Ok(mut second) = TcpStream::connect(net, address) else {
-        return Ok(false);
+        return false;
     };
-    Ok(
-        says(&mut first, server, log, ASKS_ROUND)?
-            && says(&mut second, server, log, ASKS_TOO)?
-            && says(&mut second, server, log, ASKED_TOO)?,
-    )
+    says(&mut first, server, log, ASKS_ROUND)
+        && says(&mut second, server, log, ASKS_TOO)
+        && says(&mut second, server, log, ASKED_TOO)
+}
+
+fn server_of<N: Net>(net: &N, alloc: Global) -> Result<Server, Fault> {
+    Server::new(net, alloc, host_of(alloc, PANELS)?, 0)
 }
 
 /// The host of these panels tells of them.
-fn tell_of_them<N: Net>(
-    net: &N,
-    alloc: Global,
-    lines: &mut CountedWriter<Paper>,
-) -> Result<bool, Fault> {
-    let mut server = Server::new(net, alloc, host_of(alloc, PANELS)?, 0)?;
-    ask_for_lus(net, &mut server, &mut Log { alloc, lines })
+fn tell_of_them<N: Net>(net: &N, alloc: Global, lines: &mut CountedWriter<Paper>) -> bool {
+    match server_of(net, alloc) {
+        Ok(mut server) => ask_for_lus(net, &mut server, &mut Log { alloc, lines }),
+        Err(_) => false,
+    }
 }
 
 /// Each refusal is told when it is sent, with the LU that was asked for, in the order of the requests.
-fn tells_refusals<N: Net>(net: &N, alloc: Global) -> bool {
-    let mut lines = paper(alloc);
-    tell_of_them(net, alloc, &mut lines) == Ok(true)
-        && lines.into_inner().text.as_slice() == TOLD.as_bytes()
-}
-
-#[test]
-fn refusals_are_told(rt: HostRuntime) {
-    assert!(rt; tells_refusals(&rt, rt.alloc()));
+pub(crate) fn refusals_are_told<N: Net>(net: &N, alloc: Global) -> bool {
+    let mut lines = paper_with(alloc, usize::MAX);
+    tell_of_them(net, alloc, &mut lines) && lines.into_inner().text.as_slice() == TOLD.as_bytes()
 }

@@ -1,67 +1,8 @@
 //! A terminal on a wire in memory, which gives a byte at a time: what is printed, and what is sent.
-use super::{Paper, Pieces};
-use jobs3270::{CountedReader, CountedWriter, Fault, TermAsks, Wire, operate, term_asks_of};
-use keyboard::Key;
+use crate::memory::{Pieces, paper_with};
+use jobs3270::{CountedReader, Fault, Wire, operate};
 use std::alloc::{AllocError, Global};
-use std::test::Fail;
 use tn3270e_msg::Lu;
-
-// ---- lines
-
-/// A word for what a line asks for.
-fn seen(line: &str) -> &'static str {
-    match term_asks_of(line) {
-        None => "not understood",
-        Some(TermAsks::Nothing) => "nothing",
-        Some(TermAsks::Types) => "types",
-        Some(TermAsks::Presses(Key::Enter)) => "enter",
-        Some(TermAsks::Presses(_)) => "another key",
-        Some(TermAsks::Waits) => "waits",
-        Some(TermAsks::Shows) => "shows",
-        Some(TermAsks::Tells) => "tells",
-    }
-}
-
-static LINES: [(&str, &str); 24] = [
-    ("", "nothing"),
-    ("type A", "types"),
-    ("type two  blanks ", "types"),
-    ("type ", "types"),
-    ("type", "types"),
-    ("key enter", "enter"),
-    ("key pf24", "another key"),
-    ("key pa3", "another key"),
-    ("wait", "waits"),
-    ("show", "shows"),
-    ("status", "tells"),
-    ("key", "not understood"),
-    ("key ", "not understood"),
-    ("key pf25", "not understood"),
-    ("key enter ", "not understood"),
-    ("key 0 enter", "not understood"),
-    ("wait ", "not understood"),
-    ("show 0", "not understood"),
-    ("status 0", "not understood"),
-    ("WAIT", "not understood"),
-    (" wait", "not understood"),
-    ("connect", "not understood"),
-    ("settle", "not understood"),
-    ("wait\r", "not understood"),
-];
-
-fn all_understood_so() -> bool {
-    for (line, wanted) in &LINES {
-        if seen(*line) != *wanted {
-            return false;
-        }
-    }
-    true
-}
-
-#[test]
-fn lines_ask_for_this(rt: HostRuntime) {
-    assert!(rt; all_understood_so());
-}
 
 // ---- a wire in memory
 
@@ -71,13 +12,6 @@ struct Outcome {
     ending: Result<(), Fault>,
     out: Vec<u8>,
     sent: Vec<u8>,
-}
-
-fn paper(alloc: Global, room: usize) -> CountedWriter<Paper> {
-    CountedWriter::new(Paper {
-        text: Vec::new(alloc),
-        room,
-    })
 }
 
 /// How many bytes there is room for: of those that are sent, and of those that are printed.
@@ -94,9 +28,9 @@ fn operated(alloc: Global, script: &str, came: Pieces<'_>, room: Room) -> Outcom
     let (sent_room, out_room) = room;
     let mut wire = Wire {
         down: CountedReader::new(came),
-        up: paper(alloc, sent_room),
+        up: paper_with(alloc, sent_room),
     };
-    let mut out = paper(alloc, out_room);
+    let mut out = paper_with(alloc, out_room);
     let ending = operate(alloc, Lu::read(b"PNL01"), script, &mut wire, &mut out);
     let Wire { up, .. } = wire;
     Outcome {
@@ -182,9 +116,8 @@ fn sessions_go_so(alloc: Global) -> Result<bool, AllocError> {
     )
 }
 
-#[test]
-fn an_operator_signs_on(rt: HostRuntime) {
-    assert!(rt; sessions_go_so(rt.alloc()) == Ok(true));
+pub(crate) fn an_operator_signs_on(alloc: Global) -> bool {
+    sessions_go_so(alloc) == Ok(true)
 }
 
 // ---- ends of waits
@@ -217,23 +150,14 @@ fn hosts_end_waits(alloc: Global) -> bool {
 
 /// A read or a write that fails is the end of the connection.
 fn failures_end_waits(alloc: Global) -> bool {
-    let breaks = Pieces {
-        bytes: GRANTS,
-        size: 1,
-        reads: 0,
-        fails_at: 5,
-    };
+    let breaks = Pieces::breaking(GRANTS, 1, 5);
     let unread = operated(alloc, WAIT, breaks, ROOM);
     let unsent = operated(alloc, WAIT, Pieces::of_size(GRANTS, 1), NO_WIRE);
     unread.out.as_slice() == b"idle\n".as_slice() && unsent.out.as_slice() == b"idle\n".as_slice()
 }
 
-#[test]
-fn waits_end(rt: HostRuntime) -> Result<(), Fail> {
-    assert!(rt; gives_up(rt.alloc())?);
-    assert!(rt; hosts_end_waits(rt.alloc()));
-    assert!(rt; failures_end_waits(rt.alloc()));
-    Ok(())
+pub(crate) fn waits_end(alloc: Global) -> bool {
+    gives_up(alloc) == Ok(true) && hosts_end_waits(alloc) && failures_end_waits(alloc)
 }
 
 // ---- ends of runs
@@ -251,8 +175,6 @@ fn ends_where_nothing_is_printed(alloc: Global) -> bool {
     outcome.ending == Err(Fault::OutputFailed)
 }
 
-#[test]
-fn runs_end_early(rt: HostRuntime) {
-    assert!(rt; stops_at_the_line(rt.alloc()));
-    assert!(rt; ends_where_nothing_is_printed(rt.alloc()));
+pub(crate) fn runs_end_early(alloc: Global) -> bool {
+    stops_at_the_line(alloc) && ends_where_nothing_is_printed(alloc)
 }

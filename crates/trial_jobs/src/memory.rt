@@ -1,0 +1,82 @@
+//! Readers and writers in memory that end or fail where they are to.
+use jobs3270::CountedWriter;
+use std::alloc::Global;
+use std::io::{self, ErrorKind, Read, Write};
+
+/// Lends its bytes in pieces, and fails at a read if it is to.
+#[derive(Drop)]
+pub(crate) struct Pieces<'a> {
+    pub(crate) bytes: &'a [u8],
+    pub(crate) size: usize,
+    pub(crate) reads: u32,
+    pub(crate) fails_at: u32,
+}
+
+impl<'a> Pieces<'a> {
+    pub(crate) fn whole(bytes: &'a [u8]) -> Pieces<'a> {
+        Pieces::of_size(bytes, usize::MAX)
+    }
+
+    pub(crate) fn of_size(bytes: &'a [u8], size: usize) -> Pieces<'a> {
+        Pieces {
+            bytes,
+            size,
+            reads: 0,
+            fails_at: u32::MAX,
+        }
+    }
+
+    /// Fails at a read, behind so many.
+    pub(crate) fn breaking(bytes: &'a [u8], size: usize, fails_at: u32) -> Pieces<'a> {
+        Pieces {
+            bytes,
+            size,
+            reads: 0,
+            fails_at,
+        }
+    }
+}
+
+impl Read for Pieces<'_> {
+    fn read(&mut self, buffer: &mut [u8]) -> io::Result<usize> {
+        if self.reads == self.fails_at {
+            return Err(io::Error::from(ErrorKind::BrokenPipe));
+        }
+        self.reads = self.reads.saturating_add(1);
+        let count = self.bytes.len().min(buffer.len()).min(self.size);
+        let (front, back) = self.bytes.split_at(count);
+        buffer[..count].copy_from_slice(front);
+        self.bytes = back;
+        Ok(count)
+    }
+}
+
+/// Takes bytes as long as it has room for whole writes.
+#[derive(Drop)]
+pub(crate) struct Paper {
+    pub(crate) text: Vec<u8>,
+    room: usize,
+}
+
+impl Write for Paper {
+    fn write(&mut self, bytes: &[u8]) -> io::Result<usize> {
+        if self.room < bytes.len() {
+            return Err(io::Error::from(ErrorKind::StorageFull));
+        }
+        self.text.extend_from_slice(bytes)?;
+        self.room -= bytes.len();
+        Ok(bytes.len())
+    }
+
+    fn flush(&mut self) -> io::Result<()> {
+        Ok(())
+    }
+}
+
+/// A writer with room for so many bytes.
+pub(crate) fn paper_with(alloc: Global, room: usize) -> CountedWriter<Paper> {
+    CountedWriter::new(Paper {
+        text: Vec::new(alloc),
+        room,
+    })
+}
