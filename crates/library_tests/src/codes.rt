@@ -470,10 +470,9 @@ fn an_attribute_is_one(attr: Attr, is_open: bool) -> bool {
 }
 
 fn cells_hold_characters_or_attributes() -> bool {
-    let is_so = a_character_is_one(Cell::Char(0x00))
+    a_character_is_one(Cell::Char(0x00))
         && an_attribute_is_one(Attr::from_code(0x40), true)
-        && an_attribute_is_one(Attr::from_code(0xF0), false);
-    is_so
+        && an_attribute_is_one(Attr::from_code(0xF0), false)
 }
 
 /// What is tried here, and whether it is so.

@@ -341,8 +341,7 @@ fn writes_both(out: &mut Vec<u8>) -> Result<bool, Memory> {
 
 fn commands_are_written(alloc: Global) -> bool {
     let mut out = Vec::new(alloc);
-    let are_written = matches!(writes_both(&mut out), Ok(true));
-    are_written
+    matches!(writes_both(&mut out), Ok(true))
 }
 
 /// Whether a call appends these bytes to an empty vector, or is refused and appends nothing.

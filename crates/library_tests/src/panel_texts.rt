@@ -46,8 +46,7 @@ fn keeps_what_is_set(values: &mut Values) -> Result<bool, AllocError> {
 }
 
 fn values_are_kept(alloc: Global) -> bool {
-    let are_kept = matches!(keeps_what_is_set(&mut Values::new(alloc)), Ok(true));
-    are_kept
+    matches!(keeps_what_is_set(&mut Values::new(alloc)), Ok(true))
 }
 
 fn learns(values: &mut Values) -> Result<bool, AllocError> {
@@ -63,8 +62,7 @@ fn learns_into_a_copy(values: &mut Values) -> Result<bool, AllocError> {
 }
 
 fn a_copy_learns_alone(alloc: Global) -> bool {
-    let is_alone = matches!(learns_into_a_copy(&mut Values::new(alloc)), Ok(true));
-    is_alone
+    matches!(learns_into_a_copy(&mut Values::new(alloc)), Ok(true))
 }
 
 // `rt try --fail-alloc N -- libraries` in crates/trials3270 refuses the Nth growth: the next two show what is left then.
@@ -94,8 +92,7 @@ fn changes_nothing_without_room(values: &mut Values) -> bool {
 }
 
 fn a_value_without_room_changes_nothing(alloc: Global) -> bool {
-    let is_unchanged = changes_nothing_without_room(&mut Values::new(alloc));
-    is_unchanged
+    changes_nothing_without_room(&mut Values::new(alloc))
 }
 
 /// What is tried here, and whether it is so.

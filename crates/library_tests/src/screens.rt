@@ -208,8 +208,7 @@ fn a_copy_is_the_same() -> bool {
 }
 
 fn lists_and_finds_fields() -> bool {
-    let is_so = has_three_fields(&mut Screen::blank()) && loses_its_fields(&mut Screen::blank());
-    is_so
+    has_three_fields(&mut Screen::blank()) && loses_its_fields(&mut Screen::blank())
 }
 
 // ---- memory
@@ -251,8 +250,7 @@ fn appends(screen: &mut Screen, out: &mut Vec<u8>) -> bool {
 // With room for all of it an answer is appended; where memory is refused nothing is. Each growth is refused in turn by
 // running `rt try --fail-alloc N -- libraries` in crates/trials3270 with one N after another.
 fn appends_all_or_nothing(alloc: Global) -> bool {
-    let is_appended = appends(&mut Screen::blank(), &mut Vec::new(alloc));
-    is_appended
+    appends(&mut Screen::blank(), &mut Vec::new(alloc))
 }
 
 /// What is tried here, and whether it is so.

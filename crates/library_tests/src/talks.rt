@@ -41,8 +41,7 @@ fn up_to_its_closing(host: &mut HostTalk) -> bool {
 
 fn a_host_has_device_and_lu_up_to_its_closing() -> bool {
     talks_agree();
-    let is_so = up_to_its_closing(&mut HostTalk::new());
-    is_so
+    up_to_its_closing(&mut HostTalk::new())
 }
 
 // The LU that a terminal has, once this answers its request.
@@ -65,8 +64,7 @@ fn has_its_lu(granted: &mut TermTalk, refused: &mut TermTalk) -> bool {
 }
 
 fn a_terminal_has_the_lu_that_it_is_granted() -> bool {
-    let is_so = has_its_lu(&mut TermTalk::new(None), &mut TermTalk::new(None));
-    is_so
+    has_its_lu(&mut TermTalk::new(None), &mut TermTalk::new(None))
 }
 
 /// What is tried here, and whether it is so.

@@ -56,9 +56,8 @@ static PROTECTED: &[u8] = b"\xF5\xC3\x11\x5D\x7F\x1D\x60";
 static ONE_CELL_OPEN: &[u8] = b"\xF5\xC3\x1D\x60\x11\x5D\x7E\x1D\x40";
 
 pub(super) fn new_line_goes_as_searched() -> bool {
-    let is_so = goes_as_searched(&mut Screen::blank(), b"\xF5\xC3")
+    goes_as_searched(&mut Screen::blank(), b"\xF5\xC3")
         && goes_as_searched(&mut Screen::blank(), SIGN_ON)
         && goes_as_searched(&mut Screen::blank(), PROTECTED)
-        && goes_as_searched(&mut Screen::blank(), ONE_CELL_OPEN);
-    is_so
+        && goes_as_searched(&mut Screen::blank(), ONE_CELL_OPEN)
 }

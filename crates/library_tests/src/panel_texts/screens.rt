@@ -156,11 +156,10 @@ pub(super) fn a_sign_on_is_shown(alloc: Global) -> bool {
     let Ok(set) = PanelSet::read(alloc, SIGN_ON) else {
         return false;
     };
-    let is_shown = begins_with_the_sign_on(&set, &Values::new(alloc))
+    begins_with_the_sign_on(&set, &Values::new(alloc))
         && set.len() == 2
         && set.lus().len() == 2
-        && set.panel(2).is_none();
-    is_shown
+        && set.panel(2).is_none()
 }
 
 fn asks_for_the_user(sign_on: &Panel, values: &Values) -> bool {
@@ -206,8 +205,7 @@ pub(super) fn a_panel_is_shown_again(alloc: Global) -> bool {
     let Ok(set) = PanelSet::read(alloc, SIGN_ON) else {
         return false;
     };
-    let are_shown = matches!(both_are_shown(&set, &mut Values::new(alloc)), Ok(true));
-    are_shown
+    matches!(both_are_shown(&set, &mut Values::new(alloc)), Ok(true))
 }
 
 // ---- keys
@@ -243,9 +241,7 @@ pub(super) fn keys_lead_where_the_table_says(alloc: Global) -> bool {
     let Ok(set) = PanelSet::read(alloc, SIGN_ON) else {
         return false;
     };
-    let are_led = lead(&set, 1, &[pf(3)], Next::Go(0))
-        && lead(&set, 1, &[Aid::Enter, pf(15)], Next::Again);
-    are_led
+    lead(&set, 1, &[pf(3)], Next::Go(0)) && lead(&set, 1, &[Aid::Enter, pf(15)], Next::Again)
 }
 
 const KEYS: &str =
@@ -270,8 +266,7 @@ pub(super) fn each_kind_of_key_leads(alloc: Global) -> bool {
     let Ok(set) = PanelSet::read(alloc, KEYS) else {
         return false;
     };
-    let are_led = all_lead(&set);
-    are_led
+    all_lead(&set)
 }
 
 // ---- fields
@@ -317,8 +312,7 @@ pub(super) fn a_field_may_end_before_the_message(alloc: Global) -> bool {
     let Ok(set) = PanelSet::read(alloc, LAST_CELLS) else {
         return false;
     };
-    let end_there = both_end_there(&set, &Values::new(alloc));
-    end_there
+    both_end_there(&set, &Values::new(alloc))
 }
 
 const VALUES: &str =
@@ -369,6 +363,5 @@ pub(super) fn fields_are_written_from_their_values(alloc: Global) -> bool {
     let Ok(set) = PanelSet::read(alloc, VALUES) else {
         return false;
     };
-    let are_written = matches!(is_written_from(&set, &mut Values::new(alloc)), Ok(true));
-    are_written
+    matches!(is_written_from(&set, &mut Values::new(alloc)), Ok(true))
 }

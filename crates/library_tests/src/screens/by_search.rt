@@ -150,9 +150,8 @@ fn is_as_searched_after_keys(screen: &mut Screen) -> bool {
 }
 
 pub(super) fn any_screen_is_as_searched() -> bool {
-    let is_so = is_as_searched(&Screen::blank())
+    is_as_searched(&Screen::blank())
         && is_as_searched_after_others(&mut Screen::blank())
         && is_as_searched_when_full(&mut Screen::blank())
-        && is_as_searched_after_keys(&mut Screen::blank());
-    is_so
+        && is_as_searched_after_keys(&mut Screen::blank())
 }
