@@ -1,7 +1,7 @@
 //! Words, numbers and bytes, as lines spell them.
 use hex::FromHexError;
 use std::alloc::{AllocError, Global};
-use trial_tools::Fault;
+use trial_tools::{Fault, expect_bytes};
 
 const BYTES: &str = "bytes: pairs of hexadecimal digits, PAIRS*N, or \"TEXT\"";
 
@@ -13,6 +13,11 @@ pub(crate) fn bytes_of(alloc: Global, words: &str) -> Result<Vec<u8>, Fault> {
         put_word(alloc, &mut bytes, word)?;
     }
     Ok(bytes)
+}
+
+/// Expects the bytes that words spell.
+pub(crate) fn expect_spelt(alloc: Global, words: &str, came: &[u8]) -> Result<(), Fault> {
+    expect_bytes(alloc, bytes_of(alloc, words)?.as_slice(), came)
 }
 
 fn put_word(alloc: Global, bytes: &mut Vec<u8>, word: &str) -> Result<(), Fault> {

@@ -94,7 +94,7 @@ impl Subject for Switchboard {
     }
 
     fn obey(&mut self, line: &str) -> Result<(), Fault> {
-        let command = read_command(self.alloc, line)?;
+        let command = read_command(line)?;
         self.obey_command(&command)
     }
 

@@ -28,6 +28,7 @@ mod command;
 mod keys;
 mod sights;
 
+use crate::bytes::{bytes_of, expect_spelt};
 use crate::dialogue::subject::Subject;
 use command::{Command, read_command};
 use keyboard::Key;
@@ -36,7 +37,7 @@ use sights::{Sight, seen};
 use std::alloc::{AllocError, Global};
 use term_core::{TermPhase, Terminal};
 use tn3270e_msg::{Fed, Lu, Stop};
-use trial_tools::{Fault, expect_bytes, expect_text};
+use trial_tools::{Fault, expect_text};
 
 /// A terminal, and the host before it.
 #[derive(Drop)]
@@ -96,9 +97,21 @@ impl Desk {
         self.expect(Sight::Taken, count.as_str())
     }
 
+    /// Takes all of these.
+    fn hear_spelt(&mut self, words: &str) -> Result<(), Fault> {
+        self.hear_whole(bytes_of(self.alloc, words)?.as_slice())
+    }
+
+    /// Takes these as far as they are taken.
+    fn overhear(&mut self, words: &str) -> Result<(), Fault> {
+        self.hear(bytes_of(self.alloc, words)?.as_slice());
+        Ok(())
+    }
+
     /// Takes the front of bytes of the host, and keeps the rest.
-    fn hear_front(&mut self, bytes: &[u8]) -> Result<(), Fault> {
-        let (front, behind) = bytes.split_at(self.cut.min(bytes.len()));
+    fn hear_front(&mut self, words: &str) -> Result<(), Fault> {
+        let bytes = bytes_of(self.alloc, words)?;
+        let (front, behind) = bytes.as_slice().split_at(self.cut.min(bytes.len()));
         self.behind.clear();
         self.behind.extend_from_slice(behind)?;
         self.cuts = self.cuts.max(bytes.len().saturating_sub(1));
@@ -135,17 +148,17 @@ impl Desk {
     }
 
     /// Sends what the terminal has to send, which has to be this.
-    fn send(&mut self, expected: &[u8]) -> Result<(), Fault> {
-        expect_bytes(self.alloc, expected, self.terminal.out())?;
+    fn send(&mut self, words: &str) -> Result<(), Fault> {
+        expect_spelt(self.alloc, words, self.terminal.out())?;
         let count = self.terminal.out().len();
         self.terminal.sent(count);
         Ok(())
     }
 
     /// Loses the connection before this is sent.
-    fn lose(&mut self, expected: &[u8]) -> Result<(), Fault> {
+    fn lose(&mut self, words: &str) -> Result<(), Fault> {
         let unsent = self.terminal.lost();
-        expect_bytes(self.alloc, expected, unsent.as_slice())
+        expect_spelt(self.alloc, words, unsent.as_slice())
     }
 
     /// Expects to see this.
@@ -158,17 +171,14 @@ impl Desk {
     fn obey_command(&mut self, command: &Command<'_>) -> Result<(), Fault> {
         match command {
             Command::Connect(name) => connect(&mut self.terminal, name),
-            Command::Host(bytes) => self.hear_whole(bytes.as_slice()),
-            Command::Cut(bytes) => self.hear_front(bytes.as_slice()),
+            Command::Host(words) => self.hear_spelt(words),
+            Command::Cut(words) => self.hear_front(words),
             Command::Rest => self.hear_rest(),
-            Command::Offer(bytes) => {
-                self.hear(bytes.as_slice());
-                Ok(())
-            }
-            Command::Says(bytes) => self.send(bytes.as_slice()),
+            Command::Offer(words) => self.overhear(words),
+            Command::Says(words) => self.send(words),
             Command::Key(words) => self.press_named(words),
             Command::Type(text) => self.type_text(text),
-            Command::Lost(bytes) => self.lose(bytes.as_slice()),
+            Command::Lost(words) => self.lose(words),
             Command::Restart => {
                 self.terminal.restart();
                 Ok(())
@@ -194,7 +204,7 @@ impl Subject for Desk {
     }
 
     fn obey(&mut self, line: &str) -> Result<(), Fault> {
-        let command = read_command(self.alloc, line)?;
+        let command = read_command(line)?;
         self.obey_command(&command)
     }
 

@@ -197,42 +197,46 @@ fn strike(
     Ok(Told { fed, deeds })
 }
 
-/// Expects hosts to look the same on the connection that was struck.
-fn expect_same(one: &Host, other: &Host) -> Result<(), Fault> {
-    expect(
-        hosts_look_same(one, other, Seat::Struck.number()),
-        "connection 0 looks otherwise where bytes are cut otherwise",
-    )
-}
-
-/// Three hosts that are told the same, each in pieces of its own.
+/// Two hosts that are told the same: one whole, the other in pieces.
 #[derive(Drop)]
 struct Struck {
     whole: Host,
-    pieces: Host,
-    single: Host,
+    cut: Host,
 }
 
 impl Struck {
     fn new(alloc: Global, panel_text: &str) -> Result<Struck, Fault> {
         Ok(Struck {
             whole: read_host(alloc, panel_text)?,
-            pieces: read_host(alloc, panel_text)?,
-            single: read_host(alloc, panel_text)?,
+            cut: read_host(alloc, panel_text)?,
         })
     }
 
-    /// Tells all a tale, and expects the same to come of it however it is cut.
-    fn endure(&mut self, calm: &Host, script: &Script, tale: Tale<'_>) -> Result<Told, Fault> {
-        let told = strike(&mut self.whole, calm, script, Telling::Whole, tale)?;
-        let pieces = strike(&mut self.pieces, calm, script, Telling::Pieces, tale)?;
-        let single = strike(&mut self.single, calm, script, Telling::Single, tale)?;
+    /// Tells the other the tale in pieces, and expects what came of it whole.
+    fn expect_cut(
+        &mut self,
+        calm: &Host,
+        script: &Script,
+        telling: Telling,
+        tale: Tale<'_>,
+        fed: Fed,
+    ) -> Result<(), Fault> {
+        let came = strike(&mut self.cut, calm, script, telling, tale)?;
         expect(
-            told.fed == pieces.fed && told.fed == single.fed,
+            came.fed == fed,
             "a host stops otherwise where bytes are cut otherwise",
         )?;
-        expect_same(&self.whole, &self.pieces)?;
-        expect_same(&self.whole, &self.single)?;
+        expect(
+            hosts_look_same(&self.whole, &self.cut, Seat::Struck.number()),
+            "connection 0 looks otherwise where bytes are cut otherwise",
+        )
+    }
+
+    /// Tells both a tale, and expects the same to come of it however it is cut.
+    fn endure(&mut self, calm: &Host, script: &Script, tale: Tale<'_>) -> Result<Told, Fault> {
+        let told = strike(&mut self.whole, calm, script, Telling::Whole, tale)?;
+        self.expect_cut(calm, script, Telling::Pieces, tale, told.fed)?;
+        self.expect_cut(calm, script, Telling::Single, tale, told.fed)?;
         Ok(told)
     }
 }

@@ -64,14 +64,6 @@ fn refusals_in(out: &[u8]) -> usize {
         .count()
 }
 
-/// Expects terminals to look the same.
-fn expect_same(one: &Terminal, other: &Terminal) -> Result<(), Fault> {
-    expect(
-        terminals_look_same(one, other),
-        "a terminal looks otherwise where bytes are cut otherwise",
-    )
-}
-
 /// What came of a tale at a terminal.
 #[derive(Clone, Copy)]
 pub(crate) struct Heard {
@@ -80,34 +72,39 @@ pub(crate) struct Heard {
     pub(crate) refused: usize,
 }
 
-/// Three terminals that are told the same in pieces of their own.
+/// Two terminals that are told the same: one whole, the other in pieces.
 #[derive(Drop)]
 pub(crate) struct Terminals {
     whole: Terminal,
-    pieces: Terminal,
-    single: Terminal,
+    cut: Terminal,
 }
 
 impl Terminals {
     pub(crate) fn new(alloc: Global) -> Result<Terminals, AllocError> {
         Ok(Terminals {
             whole: Terminal::new(alloc)?,
-            pieces: Terminal::new(alloc)?,
-            single: Terminal::new(alloc)?,
+            cut: Terminal::new(alloc)?,
         })
     }
 
-    /// Tells all a tale, and expects the same to come of it however it is cut.
-    pub(crate) fn endure(&mut self, tale: Tale<'_>) -> Result<Heard, Fault> {
-        let fed = strike(&mut self.whole, Telling::Whole, tale)?;
-        let pieces = strike(&mut self.pieces, Telling::Pieces, tale)?;
-        let single = strike(&mut self.single, Telling::Single, tale)?;
+    /// Tells the other the tale in pieces, and expects what came of it whole.
+    fn expect_cut(&mut self, telling: Telling, tale: Tale<'_>, fed: Fed) -> Result<(), Fault> {
+        let came = strike(&mut self.cut, telling, tale)?;
         expect(
-            fed == pieces && fed == single,
+            came == fed,
             "a terminal stops otherwise where bytes are cut otherwise",
         )?;
-        expect_same(&self.whole, &self.pieces)?;
-        expect_same(&self.whole, &self.single)?;
+        expect(
+            terminals_look_same(&self.whole, &self.cut),
+            "a terminal looks otherwise where bytes are cut otherwise",
+        )
+    }
+
+    /// Tells both a tale, and expects the same to come of it however it is cut.
+    pub(crate) fn endure(&mut self, tale: Tale<'_>) -> Result<Heard, Fault> {
+        let fed = strike(&mut self.whole, Telling::Whole, tale)?;
+        self.expect_cut(Telling::Pieces, tale, fed)?;
+        self.expect_cut(Telling::Single, tale, fed)?;
         Ok(Heard {
             fed,
             refused: refusals_in(self.whole.out()),

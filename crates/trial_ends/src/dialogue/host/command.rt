@@ -1,11 +1,10 @@
 //! The lines of a dialogue with a host, as they are read.
-use crate::bytes::{bytes_of, first_of, number_of};
+use crate::bytes::{first_of, number_of};
 use crate::dialogue::host::sights::{Sight, sight_named};
-use std::alloc::Global;
 use trial_tools::Fault;
 
 /// A line of a dialogue with a host.
-#[derive(Drop)]
+#[derive(Clone, Copy)]
 pub(crate) enum Command<'a> {
     /// A line of the panel text.
     PanelText(&'a str),
@@ -17,39 +16,39 @@ pub(crate) enum Command<'a> {
     On(usize, Event<'a>),
 }
 
-/// What happens to a connection, or is to be seen of it.
-#[derive(Drop)]
+/// What happens to a connection, or is to be seen of it. Bytes are as the line spells them.
+#[derive(Clone, Copy)]
 pub(crate) enum Event<'a> {
     /// It begins.
     Open,
     /// Its client sends bytes, which are taken whole.
-    Client(Vec<u8>),
+    Client(&'a str),
     /// Its client sends bytes, at the last of which the host closes it for a cause.
-    Closes(&'a str, Vec<u8>),
+    Closes(&'a str, &'a str),
     /// What comes isn't taken.
     Deaf(&'a str),
     /// This is what there is to send first, and it is sent.
-    Begins(Vec<u8>),
+    Begins(&'a str),
     /// This is all that there is to send, and it is sent.
-    Says(Vec<u8>),
+    Says(&'a str),
     /// The host acts: what comes of it.
     Act(&'a str),
     /// A note is written: what comes of it, and the text.
     Note(&'a str, &'a str),
     /// It is lost before these bytes were sent.
-    Lost(Vec<u8>),
+    Lost(&'a str),
     /// What is to be seen of it is remembered.
     Keep,
     /// It is as it was then.
     Stays,
     /// This is what is believed of the field at an address.
-    Fact(u16, &'a str, Vec<u8>),
+    Fact(u16, &'a str, &'a str),
     /// This is what is to be seen.
     See(Sight, &'a str),
 }
 
 /// Reads a line.
-pub(crate) fn read_command<'a>(alloc: Global, line: &'a str) -> Result<Command<'a>, Fault> {
+pub(crate) fn read_command<'a>(line: &'a str) -> Result<Command<'a>, Fault> {
     let (word, words) = first_of(line);
     match word {
         "|" => Ok(Command::PanelText(words)),
@@ -58,37 +57,36 @@ pub(crate) fn read_command<'a>(alloc: Global, line: &'a str) -> Result<Command<'
         _ => {
             let (number, words) = first_of(words);
             let conn = usize::from(number_of(number)?);
-            Ok(Command::On(conn, read_event(alloc, word, words)?))
+            Ok(Command::On(conn, read_event(word, words)?))
         }
     }
 }
 
-fn read_event<'a>(alloc: Global, word: &str, words: &'a str) -> Result<Event<'a>, Fault> {
+fn read_event<'a>(word: &str, words: &'a str) -> Result<Event<'a>, Fault> {
     match word {
         "open" => Ok(Event::Open),
-        "client" => Ok(Event::Client(bytes_of(alloc, words)?)),
-        "begins" => Ok(Event::Begins(bytes_of(alloc, words)?)),
-        "says" => Ok(Event::Says(bytes_of(alloc, words)?)),
-        "silent" => Ok(Event::Says(Vec::new(alloc))),
-        "lost" => Ok(Event::Lost(bytes_of(alloc, words)?)),
+        "client" => Ok(Event::Client(words)),
+        "begins" => Ok(Event::Begins(words)),
+        "says" => Ok(Event::Says(words)),
+        "silent" => Ok(Event::Says("")),
+        "lost" => Ok(Event::Lost(words)),
         "deaf" => Ok(Event::Deaf(words)),
         "act" => Ok(Event::Act(words)),
         "keep" => Ok(Event::Keep),
         "stays" => Ok(Event::Stays),
-        _ => read_longer(alloc, word, words),
+        _ => read_longer(word, words),
     }
 }
 
 /// Reads what has more than one part.
-fn read_longer<'a>(alloc: Global, word: &str, words: &'a str) -> Result<Event<'a>, Fault> {
+fn read_longer<'a>(word: &str, words: &'a str) -> Result<Event<'a>, Fault> {
     let (first, rest) = first_of(words);
     match word {
-        "closes" => Ok(Event::Closes(first, bytes_of(alloc, rest)?)),
+        "closes" => Ok(Event::Closes(first, rest)),
         "note" => Ok(Event::Note(first, rest)),
         "fact" => {
             let (fact, text) = first_of(rest);
-            let at = number_of(first)?;
-            Ok(Event::Fact(at, fact, bytes_of(alloc, text)?))
+            Ok(Event::Fact(number_of(first)?, fact, text))
         }
         _ => match sight_named(word) {
             Some(sight) => Ok(Event::See(sight, words)),

@@ -2,6 +2,7 @@
 ghost use Rattle.std.specs.Prelude.{◌<◌};
 ghost use Rattle.host_core.specs.State.{most_connections};
 
+use crate::bytes::{bytes_of, expect_spelt};
 use crate::calls::{act, feed, feed_each, note, open};
 use crate::dialogue::host::belief::{fact_word, put_text};
 use crate::dialogue::host::command::Event;
@@ -81,38 +82,39 @@ impl Exchange {
         }
         match event {
             Event::Open => open(&mut self.host, conn),
-            Event::Client(bytes) => self.hear(conn, "going", bytes.as_slice()),
-            Event::Closes(cause, bytes) => self.hear_last(conn, cause, bytes.as_slice()),
+            Event::Client(words) => self.hear(conn, "going", words),
+            Event::Closes(cause, words) => self.hear_last(conn, cause, words),
             Event::Deaf(why) => self.overhear(conn, why),
-            Event::Begins(bytes) => self.send_first(conn, bytes.as_slice()),
-            Event::Says(bytes) => self.send(conn, bytes.as_slice()),
+            Event::Begins(words) => self.send_first(conn, words),
+            Event::Says(words) => self.send(conn, words),
             Event::Act(expected) => self.act(conn, expected),
             Event::Note(expected, text) => self.note(conn, expected, text),
-            Event::Lost(bytes) => self.lose(conn, bytes.as_slice()),
+            Event::Lost(words) => self.lose(conn, words),
             Event::Keep => self.keep(conn),
             Event::Stays => self.expect_kept(conn),
-            Event::Fact(at, fact, text) => self.expect_fact(conn, *at, fact, text.as_slice()),
+            Event::Fact(at, fact, words) => self.expect_fact(conn, *at, fact, words),
             Event::See(sight, expected) => self.expect(conn, *sight, expected),
         }
     }
 
     /// Takes what a client sends, all of it, and then goes on or is closed.
-    fn hear(&mut self, conn: usize, stop: &str, bytes: &[u8]) -> Result<(), Fault>
+    fn hear(&mut self, conn: usize, stop: &str, words: &str) -> Result<(), Fault>
         requires { conn < most_connections }
     {
+        let bytes = bytes_of(self.alloc, words)?;
         let fed = match self.delivery {
-            Delivery::InOnePiece => feed(&mut self.host, conn, bytes),
-            Delivery::ByteByByte => feed_each(&mut self.host, conn, bytes),
+            Delivery::InOnePiece => feed(&mut self.host, conn, bytes.as_slice()),
+            Delivery::ByteByByte => feed_each(&mut self.host, conn, bytes.as_slice()),
         };
         expect_fed(self.alloc, bytes.len(), stop, fed)
     }
 
     /// Takes what a client sends, at the last byte of which it is closed for a cause.
-    fn hear_last(&mut self, conn: usize, cause: &str, bytes: &[u8]) -> Result<(), Fault>
+    fn hear_last(&mut self, conn: usize, cause: &str, words: &str) -> Result<(), Fault>
         requires { conn < most_connections }
     {
         let stop = format!(in self.alloc; "closed {cause}")?;
-        self.hear(conn, stop.as_str(), bytes)
+        self.hear(conn, stop.as_str(), words)
     }
 
     /// Takes nothing of what comes.
@@ -140,31 +142,36 @@ impl Exchange {
     }
 
     /// Sends what the host has to send first, which has to be this.
-    fn send_first(&mut self, conn: usize, expected: &[u8]) -> Result<(), Fault>
+    fn send_first(&mut self, conn: usize, words: &str) -> Result<(), Fault>
         requires { conn < most_connections }
     {
+        let expected = bytes_of(self.alloc, words)?;
         let count = self.host.out(conn).len().min(expected.len());
-        expect_bytes(self.alloc, expected, &self.host.out(conn)[..count])?;
+        expect_bytes(
+            self.alloc,
+            expected.as_slice(),
+            &self.host.out(conn)[..count],
+        )?;
         self.host.sent(conn, count);
         Ok(())
     }
 
     /// Sends all that the host has to send, which has to be this.
-    fn send(&mut self, conn: usize, expected: &[u8]) -> Result<(), Fault>
+    fn send(&mut self, conn: usize, words: &str) -> Result<(), Fault>
         requires { conn < most_connections }
     {
-        expect_bytes(self.alloc, expected, self.host.out(conn))?;
+        expect_spelt(self.alloc, words, self.host.out(conn))?;
         let count = self.host.out(conn).len();
         self.host.sent(conn, count);
         Ok(())
     }
 
     /// Loses the connection before this is sent.
-    fn lose(&mut self, conn: usize, expected: &[u8]) -> Result<(), Fault>
+    fn lose(&mut self, conn: usize, words: &str) -> Result<(), Fault>
         requires { conn < most_connections }
     {
         let unsent = self.host.closed(conn);
-        expect_bytes(self.alloc, expected, unsent.as_slice())
+        expect_spelt(self.alloc, words, unsent.as_slice())
     }
 
     /// Remembers what is to be seen.
@@ -188,7 +195,7 @@ impl Exchange {
     }
 
     /// Expects this to be believed of the field at an address.
-    fn expect_fact(&self, conn: usize, at: u16, fact: &str, text: &[u8]) -> Result<(), Fault>
+    fn expect_fact(&self, conn: usize, at: u16, fact: &str, words: &str) -> Result<(), Fault>
         requires { conn < most_connections }
     {
         let Some(at) = Addr::new(at) else {
@@ -198,7 +205,7 @@ impl Exchange {
         expect_text(self.alloc, fact, fact_word(shadow, at))?;
         let mut came = Vec::new(self.alloc);
         put_text(&mut came, shadow, at)?;
-        expect_bytes(self.alloc, text, came.as_slice())
+        expect_spelt(self.alloc, words, came.as_slice())
     }
 
     /// Expects to see this.

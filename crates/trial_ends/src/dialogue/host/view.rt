@@ -8,15 +8,27 @@ use host_core::Host;
 use std::alloc::{AllocError, Global};
 use trial_tools::{Fault, expect_bytes, expect_text};
 
+const SIGHTS: [Sight; 4] = [Sight::Phase, Sight::Turn, Sight::Pending, Sight::Belief];
+
 /// What is to be seen of a connection.
 #[derive(Drop)]
 pub(crate) struct View {
-    phase: String,
-    turn: String,
-    pending: String,
-    belief: String,
+    /// The sights in words, each behind a blank.
+    sights: String,
     fields: Vec<u8>,
     out: Vec<u8>,
+}
+
+/// The sights of a connection.
+fn sights(alloc: Global, host: &Host, conn: usize) -> Result<String, AllocError>
+    requires { conn < most_connections }
+{
+    let mut words = String::new(alloc);
+    for sight in SIGHTS {
+        words.push(' ')?;
+        words.push_str(seen(alloc, host, conn, sight)?.as_str())?;
+    }
+    Ok(words)
 }
 
 impl View {
@@ -29,10 +41,7 @@ impl View {
         let mut out = Vec::new(alloc);
         out.extend_from_slice(host.out(conn))?;
         Ok(View {
-            phase: seen(alloc, host, conn, Sight::Phase)?,
-            turn: seen(alloc, host, conn, Sight::Turn)?,
-            pending: seen(alloc, host, conn, Sight::Pending)?,
-            belief: seen(alloc, host, conn, Sight::Belief)?,
+            sights: sights(alloc, host, conn)?,
             fields,
             out,
         })
@@ -40,10 +49,7 @@ impl View {
 
     /// Expects another to be the same.
     pub(crate) fn expect(&self, alloc: Global, came: &View) -> Result<(), Fault> {
-        expect_text(alloc, self.phase.as_str(), came.phase.as_str())?;
-        expect_text(alloc, self.turn.as_str(), came.turn.as_str())?;
-        expect_text(alloc, self.pending.as_str(), came.pending.as_str())?;
-        expect_text(alloc, self.belief.as_str(), came.belief.as_str())?;
+        expect_text(alloc, self.sights.as_str(), came.sights.as_str())?;
         expect_bytes(alloc, self.fields.as_slice(), came.fields.as_slice())?;
         expect_bytes(alloc, self.out.as_slice(), came.out.as_slice())
     }

@@ -1,30 +1,29 @@
 //! The lines of a dialogue with a terminal, as they are read.
-use crate::bytes::{bytes_of, number_of};
+use crate::bytes::number_of;
 use crate::dialogue::terminal::sights::{Sight, sight_named};
-use std::alloc::Global;
 use trial_tools::Fault;
 
-/// A line of a dialogue with a terminal.
-#[derive(Drop)]
+/// A line of a dialogue with a terminal. Bytes are as the line spells them.
+#[derive(Clone, Copy)]
 pub(crate) enum Command<'a> {
     /// A connection begins, on which the terminal asks for this LU, if one is named.
     Connect(&'a str),
     /// The host sends bytes, which are taken whole.
-    Host(Vec<u8>),
+    Host(&'a str),
     /// The host sends the front of bytes.
-    Cut(Vec<u8>),
+    Cut(&'a str),
     /// It sends the rest of them.
     Rest,
     /// The host sends bytes, which may be left.
-    Offer(Vec<u8>),
+    Offer(&'a str),
     /// This is all that there is to send, and it is sent.
-    Says(Vec<u8>),
+    Says(&'a str),
     /// A key is pressed: its name, and what comes of it.
     Key(&'a str),
     /// The keys of a text are pressed.
     Type(&'a str),
     /// The connection is lost before these bytes were sent.
-    Lost(Vec<u8>),
+    Lost(&'a str),
     /// The terminal begins anew.
     Restart,
     /// This is what is to be seen.
@@ -32,19 +31,19 @@ pub(crate) enum Command<'a> {
 }
 
 /// Reads a line.
-pub(crate) fn read_command<'a>(alloc: Global, line: &'a str) -> Result<Command<'a>, Fault> {
+pub(crate) fn read_command<'a>(line: &'a str) -> Result<Command<'a>, Fault> {
     let (word, words) = line.split_once(' ').unwrap_or((line, ""));
     match word {
         "connect" => Ok(Command::Connect(words)),
-        "host" => Ok(Command::Host(bytes_of(alloc, words)?)),
-        "cut" => Ok(Command::Cut(bytes_of(alloc, words)?)),
+        "host" => Ok(Command::Host(words)),
+        "cut" => Ok(Command::Cut(words)),
         "rest" => Ok(Command::Rest),
-        "offer" => Ok(Command::Offer(bytes_of(alloc, words)?)),
-        "says" => Ok(Command::Says(bytes_of(alloc, words)?)),
-        "silent" => Ok(Command::Says(Vec::new(alloc))),
+        "offer" => Ok(Command::Offer(words)),
+        "says" => Ok(Command::Says(words)),
+        "silent" => Ok(Command::Says("")),
         "key" => Ok(Command::Key(words)),
         "type" => Ok(Command::Type(words)),
-        "lost" => Ok(Command::Lost(bytes_of(alloc, words)?)),
+        "lost" => Ok(Command::Lost(words)),
         "restart" => Ok(Command::Restart),
         _ => read_sight(word, words),
     }
