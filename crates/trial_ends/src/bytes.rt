@@ -9,10 +9,17 @@ const BYTES: &str = "bytes: pairs of hexadecimal digits, PAIRS*N, or \"TEXT\"";
 /// or ASCII between quotes (`"IBM-3278-2"`).
 pub(crate) fn bytes_of(alloc: Global, words: &str) -> Result<Vec<u8>, Fault> {
     let mut bytes = Vec::new(alloc);
-    for word in words.split_whitespace() {
-        put_word(alloc, &mut bytes, word)?;
-    }
+    respell(alloc, &mut bytes, words)?;
     Ok(bytes)
+}
+
+/// Puts the bytes that words spell in the place of others.
+pub(crate) fn respell(alloc: Global, bytes: &mut Vec<u8>, words: &str) -> Result<(), Fault> {
+    bytes.clear();
+    for word in words.split_whitespace() {
+        put_word(alloc, bytes, word)?;
+    }
+    Ok(())
 }
 
 /// Expects the bytes that words spell.
@@ -25,10 +32,8 @@ fn put_word(alloc: Global, bytes: &mut Vec<u8>, word: &str) -> Result<(), Fault>
         bytes.extend_from_slice(text.as_bytes())?;
         return Ok(());
     }
-    match word.split_once('*') {
-        Some((pairs, times)) => put_pairs(alloc, bytes, pairs, number_of(times)?),
-        None => put_pairs(alloc, bytes, word, 1),
-    }
+    let (pairs, times) = word.split_once('*').unwrap_or((word, "1"));
+    put_pairs(alloc, bytes, pairs, number_of(times)?)
 }
 
 /// What stands between quotes.

@@ -16,7 +16,7 @@ mod words;
 
 use anyhow::Result;
 use host::Switchboard;
-use script::{Line, Numbered, With, body_of, dialogue_count, read_script};
+use script::{Line, Numbered, With, body_of, read_script};
 use std::alloc::Global;
 use std::io;
 use subject::hold;
@@ -49,25 +49,25 @@ fn hold_with(alloc: Global, with: With, body: &[Numbered<'_>]) -> std::result::R
     }
 }
 
-/// Holds the dialogues of a script one after another, and answers whether all came as expected.
+/// Holds the dialogues of a script one after another, and prints how many there were where all came as expected. Answers whether they did.
 fn hold_all(rt: &(impl Print + AllocGlobal), script: &[Numbered<'_>]) -> io::Result<bool> {
     let mut all = true;
+    let mut count = 0usize;
     for (index, numbered) in script.iter().enumerate() {
         if let Line::Dialogue(with, name) = numbered.line {
+            count = count.saturating_add(1);
             let outcome = hold_with(rt.alloc(), with, body_of(&script[index + 1..]));
             all = tell(rt, name, outcome)? && all;
         }
     }
-    Ok(all)
-}
-
-/// Holds the dialogues of a script, and prints how many there were where all came as expected. Answers whether they did.
-pub fn hold_script(rt: &(impl Print + AllocGlobal), text: &str) -> Result<bool> {
-    let script = read_script(rt.alloc(), text)?;
-    let all = hold_all(rt, script.as_slice())?;
     if all {
-        let count = dialogue_count(script.as_slice());
         println!(rt; "{count} dialogues came as expected")?;
     }
     Ok(all)
+}
+
+/// Holds the dialogues of a script, and prints how they came out. Answers whether all came as expected.
+pub fn hold_script(rt: &(impl Print + AllocGlobal), text: &str) -> Result<bool> {
+    let script = read_script(rt.alloc(), text)?;
+    Ok(hold_all(rt, script.as_slice())?)
 }

@@ -32,6 +32,39 @@ const WHOLE: Pace = Pace {
     pauses: false,
 };
 
+/// The paces at which the story is told, and their names.
+static PACES: [(&str, Pace); 5] = [
+    ("whole", WHOLE),
+    (
+        "whole, with pauses",
+        Pace {
+            piece: usize::MAX,
+            pauses: true,
+        },
+    ),
+    (
+        "in sevens",
+        Pace {
+            piece: 7,
+            pauses: false,
+        },
+    ),
+    (
+        "byte by byte",
+        Pace {
+            piece: 1,
+            pauses: false,
+        },
+    ),
+    (
+        "byte by byte, with pauses",
+        Pace {
+            piece: 1,
+            pauses: true,
+        },
+    ),
+];
+
 /// A kind of trouble.
 #[derive(Clone, Copy)]
 enum Kind {
@@ -148,36 +181,28 @@ fn try_kind(
     to: usize,
 ) -> io::Result<bool> {
     let (place, what) = (seat.name(), kind.name());
-    match first_otherwise(rt.alloc(), seat, kind, from, to)? {
-        None => {
-            println!(rt; "{place}: {what}, {from} to {to}: as expected")?;
-            Ok(true)
-        }
-        Some(number) => {
-            println!(rt; "{place}: {what}, {number}: otherwise")?;
-            Ok(false)
-        }
+    let otherwise = first_otherwise(rt.alloc(), seat, kind, from, to)?;
+    match otherwise {
+        None => println!(rt; "{place}: {what}, {from} to {to}: as expected")?,
+        Some(number) => println!(rt; "{place}: {what}, {number}: otherwise")?,
     }
+    Ok(otherwise.is_none())
 }
 
 /// Tells a story at a pace, and prints how long it was. Says whether all came as expected.
 fn try_pace(rt: &(impl Print + AllocGlobal), name: &str, pace: Pace) -> io::Result<bool> {
-    match whole(rt.alloc(), pace)? {
+    let told = whole(rt.alloc(), pace)?;
+    match told {
         Some(
             Extent {
                 reads,
                 writes,
                 said,
             },
-        ) => {
-            println!(rt; "told {name}: {reads} reads, {writes} writes, {said} bytes said")?;
-            Ok(true)
-        }
-        None => {
-            println!(rt; "told {name}: otherwise")?;
-            Ok(false)
-        }
+        ) => println!(rt; "told {name}: {reads} reads, {writes} writes, {said} bytes said")?,
+        None => println!(rt; "told {name}: otherwise")?,
     }
+    Ok(told.is_some())
 }
 
 /// Breaks stories off on a connection, in each kind of case.
@@ -193,15 +218,14 @@ fn try_kinds(rt: &(impl Print + AllocGlobal), range: Range, seat: Seat) -> io::R
     Ok(all)
 }
 
+/// Tells the story at each pace, up to one at which it comes otherwise.
 fn try_paces(rt: &(impl Print + AllocGlobal)) -> io::Result<bool> {
-    let pace = |piece, pauses| Pace { piece, pauses };
-    Ok(
-        try_pace(rt, "whole", WHOLE)?
-            && try_pace(rt, "whole, with pauses", pace(usize::MAX, true))?
-            && try_pace(rt, "in sevens", pace(7, false))?
-            && try_pace(rt, "byte by byte", pace(1, false))?
-            && try_pace(rt, "byte by byte, with pauses", pace(1, true))?,
-    )
+    for (name, pace) in &PACES {
+        if !try_pace(rt, name, *pace)? {
+            return Ok(false);
+        }
+    }
+    Ok(true)
 }
 
 fn try_refusals(rt: &(impl Print + AllocGlobal)) -> io::Result<bool> {

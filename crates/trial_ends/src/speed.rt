@@ -351,10 +351,8 @@ fn sizes(rt: &HostRuntime, scale: Scale) -> io::Result<()> {
     if let Scale::Once = scale {
         return Ok(());
     }
-    let size = size_of::<Terminal>();
-    println!(rt; "a terminal without its buffers: {size} bytes")?;
-    let size = size_of::<Shadow>();
-    println!(rt; "a belief: {size} bytes")
+    let (terminal, belief) = (size_of::<Terminal>(), size_of::<Shadow>());
+    println!(rt; "a terminal without its buffers: {terminal} bytes\na belief: {belief} bytes")
 }
 
 /// Runs all cases; `panels` is the text of the panels that the hosts serve.

@@ -21,8 +21,10 @@ mod telling;
 mod terminals;
 
 use anyhow::Result;
-use round::{Round, Storm};
+use hosts::Hosts;
+use round::Round;
 use script::{Script, read_script};
+use terminals::Terminals;
 use trial_tools::Fault;
 
 /// Prints where a storm came otherwise.
@@ -41,48 +43,61 @@ fn tell_difference(
     Ok(())
 }
 
-/// Takes the rounds of a script one after another. Says whether nothing came otherwise.
-fn rage(rt: &(impl Print + AllocGlobal), script: &Script, storm: &mut Storm) -> Result<bool> {
-    storm.begin(script)?;
-    for number in script.first..script.first.saturating_add(script.count) {
-        let round = Round::of(rt.alloc(), script, number)?;
-        if let Err(fault) = storm.endure(script, &round) {
+/// Takes a round of a script, and prints where it came otherwise. Says whether it didn't.
+fn take_round(
+    rt: &(impl Print + AllocGlobal),
+    script: &Script,
+    hosts: &mut Hosts,
+    terminals: &mut Terminals,
+    number: u64,
+) -> Result<bool> {
+    let round = Round::of(rt.alloc(), script, number)?;
+    match round.strike(script, hosts, terminals) {
+        Ok(()) => Ok(true),
+        Err(fault) => {
             tell_difference(rt, script, number, &round, &fault)?;
-            return Ok(false);
+            Ok(false)
         }
     }
-    Ok(true)
 }
 
 /// Prints what a storm came to.
-fn tell_end(rt: &impl Print, script: &Script, storm: &Storm) -> Result<()> {
+fn tell_end(rt: &impl Print, script: &Script, hosts: &Hosts, terminals: &Terminals) -> Result<()> {
     if script.tallies {
-        storm.at_hosts.print(rt, "hosts")?;
-        storm.at_terminals.print(rt, "terminals")?;
+        hosts.tally.print(rt, "hosts")?;
+        terminals.tally.print(rt, "terminals")?;
     }
     let count = script.count;
-    println!(rt; "{count} rounds: no difference")?;
-    println!(rt; "storm over")?;
-    Ok(())
+    Ok(println!(rt; "{count} rounds: no difference\nstorm over")?)
 }
 
-/// Takes the rounds of a script in a storm, and prints what they came to. Says whether nothing came otherwise.
-fn rage_and_tell(
+/// Takes the rounds of a script one after another, and prints what they came to. Says whether nothing came otherwise.
+fn rage(
     rt: &(impl Print + AllocGlobal),
     script: &Script,
-    storm: &mut Storm,
+    hosts: &mut Hosts,
+    terminals: &mut Terminals,
 ) -> Result<bool> {
-    let is_over = rage(rt, script, storm)?;
-    if is_over {
-        tell_end(rt, script, storm)?;
+    hosts.begin(script)?;
+    for number in script.first..script.first.saturating_add(script.count) {
+        if !take_round(rt, script, hosts, terminals, number)? {
+            return Ok(false);
+        }
     }
-    Ok(is_over)
+    tell_end(rt, script, hosts, terminals)?;
+    Ok(true)
+}
+
+/// Takes the rounds of a script in a storm at these hosts.
+fn rage_at(rt: &(impl Print + AllocGlobal), script: &Script, hosts: &mut Hosts) -> Result<bool> {
+    let mut terminals = Terminals::new(rt.alloc())?;
+    rage(rt, script, hosts, &mut terminals)
 }
 
 /// Takes the rounds of a script in a storm that begins.
 fn rage_from_calm(rt: &(impl Print + AllocGlobal), script: &Script) -> Result<bool> {
-    let mut storm = Storm::new(rt.alloc(), script)?;
-    rage_and_tell(rt, script, &mut storm)
+    let mut hosts = Hosts::new(rt.alloc(), script)?;
+    rage_at(rt, script, &mut hosts)
 }
 
 /// Reads a script, and takes its rounds. Says whether nothing came otherwise.

@@ -26,13 +26,12 @@
 //!
 //! Each dialogue is held twice: once what a line's client sends comes in one piece, and once byte by byte.
 mod belief;
-mod command;
 mod exchange;
 mod sights;
 mod view;
 
+use crate::bytes::{first_of, number_of};
 use crate::dialogue::subject::Subject;
-use command::{Command, read_command};
 use exchange::{Delivery, Exchange};
 use std::alloc::{AllocError, Global};
 use trial_tools::Fault;
@@ -69,17 +68,11 @@ impl Switchboard {
         }
     }
 
-    /// Does what a command says.
-    fn obey_command(&mut self, command: &Command<'_>) -> Result<(), Fault> {
-        match command {
-            Command::PanelText(text) => self.add_text(text),
-            Command::Serve => self.serve(),
-            Command::Restart => {
-                self.exchange()?.restart();
-                Ok(())
-            }
-            Command::On(conn, event) => self.exchange()?.obey(*conn, event),
-        }
+    /// Does what a line says that is about a connection, or sees whether it holds.
+    fn obey_on(&mut self, word: &str, words: &str) -> Result<(), Fault> {
+        let (number, words) = first_of(words);
+        let conn = usize::from(number_of(number)?);
+        self.exchange()?.obey(conn, word, words)
     }
 }
 
@@ -94,8 +87,16 @@ impl Subject for Switchboard {
     }
 
     fn obey(&mut self, line: &str) -> Result<(), Fault> {
-        let command = read_command(line)?;
-        self.obey_command(&command)
+        let (word, words) = first_of(line);
+        match word {
+            "|" => self.add_text(words),
+            "serve" => self.serve(),
+            "restart" => {
+                self.exchange()?.restart();
+                Ok(())
+            }
+            _ => self.obey_on(word, words),
+        }
     }
 
     fn holdings(&self) -> usize {

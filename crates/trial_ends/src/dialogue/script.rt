@@ -8,7 +8,7 @@
 //! host-dialogue NAME       begins a dialogue with a fresh host
 //! play NAME                stands for the lines of a passage further up, for the same subject
 //! ```
-ghost use Rattle.std.specs.Prelude.{◌≤◌, length};
+ghost use Rattle.std.specs.Prelude.{◌≤◌, IfOk, length};
 
 use std::alloc::Global;
 use trial_tools::{Failure, Fault};
@@ -57,14 +57,6 @@ impl Numbered<'_> {
             Line::Dialogue(_, _) | Line::Command(_) => false,
         }
     }
-}
-
-/// How many dialogues a script has.
-pub(crate) fn dialogue_count(script: &[Numbered<'_>]) -> usize {
-    script
-        .iter()
-        .filter(|line| matches!(line.line, Line::Dialogue(_, _)))
-        .count()
 }
 
 /// The lines up to the next heading.
@@ -127,18 +119,24 @@ fn present_subject(script: &[Numbered<'_>]) -> Option<With> {
     script.iter().rev().find_map(|line| line.begins())
 }
 
-/// Adds the lines of a passage.
-fn put_passage(script: &mut Vec<Numbered<'_>>, name: &str) -> Result<(), Fault> {
-    let Some(with) = present_subject(script.as_slice()) else {
+/// Where the lines begin of the passage with a name, for the present subject.
+fn passage_start(script: &[Numbered<'_>], name: &str) -> Result<usize, Fault>
+    ensures { IfOk result (λ start. start ≤ length script.now) }
+{
+    let Some(with) = present_subject(script) else {
         return Err(Fault::Needs("a heading above it"));
     };
-    let Some(heading) = script
-        .iter()
-        .position(|line| line.begins_passage(with, name))
-    else {
-        return Err(Fault::Needs("a passage for the same subject that stands further up"));
-    };
-    let start = heading + 1;
+    for (index, line) in script.iter().enumerate() {
+        if line.begins_passage(with, name) {
+            return Ok(index + 1);
+        }
+    }
+    Err(Fault::Needs("a passage for the same subject that stands further up"))
+}
+
+/// Adds the lines of a passage.
+fn put_passage(script: &mut Vec<Numbered<'_>>, name: &str) -> Result<(), Fault> {
+    let start = passage_start(script.as_slice(), name)?;
     let count = body_of(&script.as_slice()[start..]).len();
     script.extend_from_within(start..start + count)?;
     Ok(())

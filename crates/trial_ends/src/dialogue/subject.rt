@@ -47,10 +47,7 @@ fn hold_once<S: Subject>(
     holding: usize,
 ) -> Result<usize, Failure> {
     match S::fresh(alloc, holding) {
-        Ok(mut subject) => {
-            obey_all(&mut subject, body)?;
-            Ok(subject.holdings())
-        }
+        Ok(mut subject) => obey_all(&mut subject, body),
         Err(refused) => Err(Failure {
             line: 0,
             fault: Fault::NoMemory(refused),
@@ -58,7 +55,8 @@ fn hold_once<S: Subject>(
     }
 }
 
-fn obey_all<S: Subject>(subject: &mut S, body: &[Numbered<'_>]) -> Result<(), Failure> {
+/// Has a subject obey all lines. Answers how often a dialogue with these is to be held.
+fn obey_all<S: Subject>(subject: &mut S, body: &[Numbered<'_>]) -> Result<usize, Failure> {
     for numbered in body {
         if let Line::Command(text) = numbered.line {
             if let Err(fault) = subject.obey(text) {
@@ -69,5 +67,5 @@ fn obey_all<S: Subject>(subject: &mut S, body: &[Numbered<'_>]) -> Result<(), Fa
             }
         }
     }
-    Ok(())
+    Ok(subject.holdings())
 }

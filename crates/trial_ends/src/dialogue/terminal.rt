@@ -24,16 +24,14 @@
 //! screen [|TEXT]..     what the rows show from the first on; further ones are blank
 //! status TEXT          the line below the printed screen
 //! ```
-mod command;
 mod keys;
 mod sights;
 
-use crate::bytes::{bytes_of, expect_spelt};
+use crate::bytes::{bytes_of, expect_spelt, first_of};
 use crate::dialogue::subject::Subject;
-use command::{Command, read_command};
 use keyboard::Key;
 use keys::{key_or_character, press};
-use sights::{Sight, seen};
+use sights::{Sight, read_sight, seen};
 use std::alloc::{AllocError, Global};
 use term_core::{TermPhase, Terminal};
 use tn3270e_msg::{Fed, Lu, Stop};
@@ -167,24 +165,10 @@ impl Desk {
         expect_text(self.alloc, expected, came.as_str())
     }
 
-    /// Does what a command says.
-    fn obey_command(&mut self, command: &Command<'_>) -> Result<(), Fault> {
-        match command {
-            Command::Connect(name) => connect(&mut self.terminal, name),
-            Command::Host(words) => self.hear_spelt(words),
-            Command::Cut(words) => self.hear_front(words),
-            Command::Rest => self.hear_rest(),
-            Command::Offer(words) => self.overhear(words),
-            Command::Says(words) => self.send(words),
-            Command::Key(words) => self.press_named(words),
-            Command::Type(text) => self.type_text(text),
-            Command::Lost(words) => self.lose(words),
-            Command::Restart => {
-                self.terminal.restart();
-                Ok(())
-            }
-            Command::See(sight, expected) => self.expect(*sight, expected),
-        }
+    /// Expects to see what a line that begins with this word says.
+    fn expect_spelt(&self, word: &str, words: &str) -> Result<(), Fault> {
+        let (sight, expected) = read_sight(word, words)?;
+        self.expect(sight, expected)
     }
 }
 
@@ -204,8 +188,24 @@ impl Subject for Desk {
     }
 
     fn obey(&mut self, line: &str) -> Result<(), Fault> {
-        let command = read_command(line)?;
-        self.obey_command(&command)
+        let (word, words) = first_of(line);
+        match word {
+            "connect" => connect(&mut self.terminal, words),
+            "host" => self.hear_spelt(words),
+            "cut" => self.hear_front(words),
+            "rest" => self.hear_rest(),
+            "offer" => self.overhear(words),
+            "says" => self.send(words),
+            "silent" => self.send(""),
+            "key" => self.press_named(words),
+            "type" => self.type_text(words),
+            "lost" => self.lose(words),
+            "restart" => {
+                self.terminal.restart();
+                Ok(())
+            }
+            _ => self.expect_spelt(word, words),
+        }
     }
 
     fn holdings(&self) -> usize {

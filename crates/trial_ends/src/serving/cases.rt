@@ -70,16 +70,17 @@ fn is_alone_struck(hall: &Hall, twin: &Hall, struck: Seat) -> bool {
         && hall.looks_same(twin, struck.other())
 }
 
-/// Whether both stories are told once another client takes the lost connection, which is granted the same LU.
-fn goes_on(hall: &mut Hall, pace: Pace, struck: Seat) -> io::Result<bool> {
-    Ok(hall.begin_again(struck, pace)? && tell_both(hall))
+/// Whether a connection is lost and no other, which is as it is in a hall where none is.
+fn is_lost_alone(alloc: Global, hall: &mut Hall, pace: Pace, struck: Seat) -> io::Result<bool> {
+    let mut twin = Hall::new(alloc, pace)?;
+    Ok(lose_one(hall, &mut twin, struck) && is_alone_struck(hall, &twin, struck))
 }
 
-/// Whether trouble loses a connection and no other, its LU is granted again, and the other connection is unchanged and goes on to
-/// the end of its story.
+/// Whether trouble loses a connection and no other, and both stories are told once another client takes that connection, which is
+/// granted the same LU.
 fn is_broken_off(
+    alloc: Global,
     hall: &mut Hall,
-    twin: &mut Hall,
     pace: Pace,
     struck: Seat,
     trouble: Trouble,
@@ -87,9 +88,9 @@ fn is_broken_off(
     hall.clients
         .replace(struck, Client::new(struck.story(), pace, trouble));
     Ok(
-        lose_one(hall, twin, struck)
-            && is_alone_struck(hall, twin, struck)
-            && goes_on(hall, pace, struck)?,
+        is_lost_alone(alloc, hall, pace, struck)?
+            && hall.begin_again(struck, pace)?
+            && tell_both(hall),
     )
 }
 
@@ -101,6 +102,5 @@ pub(crate) fn break_off(
     trouble: Trouble,
 ) -> io::Result<bool> {
     let mut hall = Hall::new(alloc, pace)?;
-    let mut twin = Hall::new(alloc, pace)?;
-    is_broken_off(&mut hall, &mut twin, pace, struck, trouble)
+    is_broken_off(alloc, &mut hall, pace, struck, trouble)
 }

@@ -6,20 +6,19 @@ ghost use Rattle.trial_ends.specs.Counts.{Raises, count_at};
 use crate::serving::client::{Client, Pace, Trouble};
 use crate::serving::seat::Seat;
 use host_core::{LinkRead, LinkWrite, Links};
-use std::alloc::{AllocError, Global};
 
 /// Two clients, and how often the connection of each ended and failed.
 #[derive(Drop)]
 pub(crate) struct Clients {
     first: Client<'static>,
     second: Client<'static>,
-    ends: Vec<u64>,
-    failures: Vec<u64>,
+    ends: [u64; 2],
+    failures: [u64; 2],
 }
 
 /// Raises the count of a connection, but at its last value. Says whether it did.
-fn raise(counts: &mut Vec<u64>, conn: usize) -> bool
-    ensures { Raises conn result counts.old.items counts.new.items }
+fn raise(counts: &mut [u64; 2], conn: usize) -> bool
+    ensures { Raises conn result counts.old counts.new }
 {
     if conn < counts.len() && counts[conn] < u64::MAX {
         counts[conn] += 1;
@@ -29,23 +28,15 @@ fn raise(counts: &mut Vec<u64>, conn: usize) -> bool
     }
 }
 
-/// No connection was over yet.
-fn no_counts(alloc: Global) -> Result<Vec<u64>, AllocError> {
-    let mut counts = Vec::with_capacity(alloc, 2)?;
-    counts.push(0)?;
-    counts.push(0)?;
-    Ok(counts)
-}
-
 impl Clients {
     /// Two clients that begin.
-    pub(crate) fn new(alloc: Global, pace: Pace) -> Result<Clients, AllocError> {
-        Ok(Clients {
+    pub(crate) fn new(pace: Pace) -> Clients {
+        Clients {
             first: Client::new(Seat::First.story(), pace, Trouble::Nowhere),
             second: Client::new(Seat::Second.story(), pace, Trouble::Nowhere),
-            ends: no_counts(alloc)?,
-            failures: no_counts(alloc)?,
-        })
+            ends: [0; 2],
+            failures: [0; 2],
+        }
     }
 
     /// Another client takes a connection.
@@ -96,9 +87,9 @@ impl Clients {
 }
 
 impl Links for Clients {
-    ghost ends = { λ clients. count_at clients.ends.items };
+    ghost ends = { λ clients. count_at clients.ends };
 
-    ghost failures = { λ clients. count_at clients.failures.items };
+    ghost failures = { λ clients. count_at clients.failures };
 
     ghost gave = { λ before conn bytes answer after. ⊤ };
 

@@ -50,7 +50,7 @@ impl Hall {
         open_both(&mut host)?;
         Ok(Hall {
             host,
-            clients: Clients::new(alloc, pace)?,
+            clients: Clients::new(pace),
         })
     }
 

@@ -10,7 +10,7 @@ use crate::serving::seat::Seat;
 use crate::serving::story::{Line, PANELS};
 use host_core::{Acted, Host};
 use std::alloc::{AllocError, Global};
-use std::io;
+use std::{array, io};
 use tn3270e_msg::Stop;
 use trial_tools::{hosts_look_same, read_host};
 
@@ -143,9 +143,14 @@ fn are_alike(alloc: Global, host: &mut Host, twin: &mut Host, seat: Seat) -> io:
     )
 }
 
+/// Says whether a host that begins stays as its twin.
+fn stays_alike(alloc: Global, host: &mut Host) -> io::Result<bool> {
+    let mut twin = read_host(alloc, PANELS)?;
+    are_alike(alloc, host, &mut twin, Seat::First)
+}
+
 /// Says whether twins stay alike.
 pub(crate) fn stay_alike(alloc: Global) -> io::Result<bool> {
     let mut host = read_host(alloc, PANELS)?;
-    let mut twin = read_host(alloc, PANELS)?;
-    are_alike(alloc, &mut host, &mut twin, Seat::First)
+    stays_alike(alloc, &mut host)
 }

@@ -35,6 +35,16 @@ const MANY: Layout = Layout {
     every: 2,
 };
 
+/// What is painted: layouts, and of each how many cells are to be others.
+const PAINTS: [(Layout, u16); 6] = [
+    (USUAL, 0),
+    (USUAL, 1),
+    (USUAL, 80),
+    (USUAL, CELLS),
+    (FEW, 80),
+    (MANY, 80),
+];
+
 /// An attribute that the operator may type behind, and did.
 fn attribute(display: Display) -> Attr {
     Attr {
@@ -201,11 +211,8 @@ pub(crate) fn rate(count: u32, took: Duration) -> u64 {
 
 /// Paints by the number of cells that change and of fields, and what is heard by the number of fields.
 pub(crate) fn beliefs(rt: &HostRuntime, scale: Scale) -> io::Result<()> {
-    for changed_cells in [0, 1, 80, CELLS] {
-        paints(rt, scale, USUAL, changed_cells)?;
-    }
-    for layout in [FEW, MANY] {
-        paints(rt, scale, layout, 80)?;
+    for (layout, changed_cells) in PAINTS {
+        paints(rt, scale, layout, changed_cells)?;
     }
     for layout in [FEW, USUAL, MANY] {
         hears(rt, scale, layout, Form::All)?;

@@ -151,13 +151,14 @@ fn go_rounds(host: &mut Host, terminals: &mut [Terminal], rounds: u32) -> io::Re
 fn tell(rt: &HostRuntime, scale: Scale, case: Case, done: Done, took: Duration) -> io::Result<()> {
     let terminals = case.terminals;
     let Done { turns, bytes } = done;
-    if let Scale::Once = scale {
-        return println!(rt; "turns, terminals {terminals}: {turns} done, {bytes} bytes");
+    print!(rt; "turns, terminals {terminals}: {turns} done, {bytes} bytes")?;
+    match scale {
+        Scale::Once => println!(rt),
+        Scale::Measured => {
+            let each_second = rate(turns, took);
+            println!(rt; ", {each_second} a second")
+        }
     }
-    let each_second = rate(turns, took);
-    println!(rt;
-        "turns, terminals {terminals}: {turns} done, {bytes} bytes, {each_second} a second"
-    )
 }
 
 /// Goes the rounds of a case, and prints what was done.

@@ -4,10 +4,12 @@ ghost use Rattle.host_core.specs.State.{most_connections};
 
 use crate::storm::script::{Script, Speech};
 use crate::storm::seat::Seat;
+use crate::storm::tally::Tally;
 use crate::storm::telling::{End, Tale, Telling, tell};
 use codes3270::Addr;
 use host_core::{Acted, Host, Phase};
 use std::alloc::{AllocError, Global};
+use std::array;
 use tn3270e_msg::{Fed, Stop};
 use trial_tools::{Fault, expect, hosts_look_same, read_host};
 
@@ -16,11 +18,11 @@ const NOTE: [u8; 4] = [0xD5, 0xD6, 0xE3, 0xC5];
 
 /// What a host did on a connection, and what came of it.
 #[derive(Clone, Copy)]
-pub(crate) struct Deeds {
+struct Deeds {
     /// How many commands and notes it sent.
-    pub(crate) sent: u64,
+    sent: u64,
     /// How many of its commands were refused, and the connection went on.
-    pub(crate) refused: u64,
+    refused: u64,
 }
 
 /// A host on one of its connections.
@@ -50,18 +52,7 @@ fn is_refused(host: &Host, conn: usize) -> bool
     }
 }
 
-impl<'a> Seated<'a> {
-    fn at(host: &'a mut Host, seat: Seat) -> Seated<'a> {
-        Seated {
-            host,
-            seat,
-            deeds: Deeds {
-                sent: 0,
-                refused: 0,
-            },
-        }
-    }
-
+impl Seated<'_> {
     fn act(&mut self, word: Option<u32>) -> Acted {
         let conn = self.seat.number();
         match word.map(|word| word % 16) {
@@ -96,6 +87,35 @@ impl End for Seated<'_> {
     }
 }
 
+/// What came of a tale at a host.
+#[derive(Clone, Copy)]
+struct Told {
+    fed: Fed,
+    deeds: Deeds,
+}
+
+/// Tells a host a tale on one of its connections.
+fn tell_at(
+    host: &mut Host,
+    seat: Seat,
+    telling: Telling,
+    tale: Tale<'_>,
+) -> Result<Told, AllocError> {
+    let mut seated = Seated {
+        host,
+        seat,
+        deeds: Deeds {
+            sent: 0,
+            refused: 0,
+        },
+    };
+    let fed = tell(&mut seated, telling, tale)?;
+    Ok(Told {
+        fed,
+        deeds: seated.deeds,
+    })
+}
+
 /// Begins a connection.
 fn open(host: &mut Host, seat: Seat) -> Result<(), Fault> {
     let conn = seat.number();
@@ -118,7 +138,7 @@ fn tell_plainly(host: &mut Host, seat: Seat, bytes: &[u8]) -> Result<(), Fault> 
         deeds: None,
     };
     open(host, seat)?;
-    tell(&mut Seated::at(host, seat), Telling::Whole, tale)?;
+    tell_at(host, seat, Telling::Whole, tale)?;
     Ok(())
 }
 
@@ -174,13 +194,6 @@ fn expect_inherited(host: &mut Host, heir: &Speech) -> Result<(), Fault> {
     )
 }
 
-/// What came of a tale at a host.
-#[derive(Clone, Copy)]
-pub(crate) struct Told {
-    pub(crate) fed: Fed,
-    pub(crate) deeds: Deeds,
-}
-
 /// Tells a host a tale, on a connection that begins beside two that are bound. These stay as they are where none is struck.
 fn strike(
     host: &mut Host,
@@ -190,38 +203,47 @@ fn strike(
     tale: Tale<'_>,
 ) -> Result<Told, Fault> {
     begin(host, script)?;
-    let mut seated = Seated::at(host, Seat::Struck);
-    let fed = tell(&mut seated, telling, tale)?;
-    let deeds = seated.deeds;
+    let told = tell_at(host, Seat::Struck, telling, tale)?;
     expect_unstruck(host, calm)?;
-    Ok(Told { fed, deeds })
+    Ok(told)
 }
 
-/// Two hosts that are told the same: one whole, the other in pieces.
+/// A host that isn't struck, and two that are told the same: one whole, the other in pieces. And what these saw.
 #[derive(Drop)]
-struct Struck {
+pub(crate) struct Hosts {
+    calm: Host,
     whole: Host,
     cut: Host,
+    pub(crate) tally: Tally,
 }
 
-impl Struck {
-    fn new(alloc: Global, panel_text: &str) -> Result<Struck, Fault> {
-        Ok(Struck {
-            whole: read_host(alloc, panel_text)?,
-            cut: read_host(alloc, panel_text)?,
+impl Hosts {
+    /// Hosts that show the panels of a script.
+    pub(crate) fn new(alloc: Global, script: &Script) -> Result<Hosts, Fault> {
+        let panel_text = script.panel_text.as_str();
+        let [calm, whole, cut]: [Host; 3] = array::try_from_fn(|_| read_host(alloc, panel_text))?;
+        Ok(Hosts {
+            calm,
+            whole,
+            cut,
+            tally: Tally::new(),
         })
+    }
+
+    /// Puts the one that isn't struck before its clients.
+    pub(crate) fn begin(&mut self, script: &Script) -> Result<(), Fault> {
+        begin(&mut self.calm, script)
     }
 
     /// Tells the other the tale in pieces, and expects what came of it whole.
     fn expect_cut(
         &mut self,
-        calm: &Host,
         script: &Script,
         telling: Telling,
         tale: Tale<'_>,
         fed: Fed,
     ) -> Result<(), Fault> {
-        let came = strike(&mut self.cut, calm, script, telling, tale)?;
+        let came = strike(&mut self.cut, &self.calm, script, telling, tale)?;
         expect(
             came.fed == fed,
             "a host stops otherwise where bytes are cut otherwise",
@@ -232,41 +254,16 @@ impl Struck {
         )
     }
 
-    /// Tells both a tale, and expects the same to come of it however it is cut.
-    fn endure(&mut self, calm: &Host, script: &Script, tale: Tale<'_>) -> Result<Told, Fault> {
-        let told = strike(&mut self.whole, calm, script, Telling::Whole, tale)?;
-        self.expect_cut(calm, script, Telling::Pieces, tale, told.fed)?;
-        self.expect_cut(calm, script, Telling::Single, tale, told.fed)?;
-        Ok(told)
-    }
-}
-
-/// A host that isn't struck, and those that are.
-#[derive(Drop)]
-pub(crate) struct Hosts {
-    calm: Host,
-    struck: Struck,
-}
-
-impl Hosts {
-    /// Hosts that show the panels of a script.
-    pub(crate) fn new(alloc: Global, script: &Script) -> Result<Hosts, Fault> {
-        Ok(Hosts {
-            calm: read_host(alloc, script.panel_text.as_str())?,
-            struck: Struck::new(alloc, script.panel_text.as_str())?,
-        })
-    }
-
-    /// Puts the one that isn't struck before its clients.
-    pub(crate) fn begin(&mut self, script: &Script) -> Result<(), Fault> {
-        begin(&mut self.calm, script)
-    }
-
-    /// Tells the others a tale, and expects the other connections to stay as they are, and the LU to be granted again.
-    pub(crate) fn endure(&mut self, script: &Script, tale: Tale<'_>) -> Result<Told, Fault> {
-        let told = self.struck.endure(&self.calm, script, tale)?;
-        expect_inherited(&mut self.struck.whole, &script.heir)?;
-        expect_unstruck(&self.struck.whole, &self.calm)?;
-        Ok(told)
+    /// Tells both a tale, and expects the same to come of it however it is cut, the other connections to stay as they are, and the
+    /// LU to be granted again.
+    pub(crate) fn endure(&mut self, script: &Script, tale: Tale<'_>) -> Result<(), Fault> {
+        let told = strike(&mut self.whole, &self.calm, script, Telling::Whole, tale)?;
+        self.expect_cut(script, Telling::Pieces, tale, told.fed)?;
+        self.expect_cut(script, Telling::Single, tale, told.fed)?;
+        expect_inherited(&mut self.whole, &script.heir)?;
+        expect_unstruck(&self.whole, &self.calm)?;
+        self.tally
+            .add(told.fed, told.deeds.sent, told.deeds.refused);
+        Ok(())
     }
 }

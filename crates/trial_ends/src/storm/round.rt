@@ -3,7 +3,6 @@ use crate::storm::chance::Chance;
 use crate::storm::change::changed;
 use crate::storm::hosts::Hosts;
 use crate::storm::script::{Script, With};
-use crate::storm::tally::Tally;
 use crate::storm::telling::Tale;
 use crate::storm::terminals::Terminals;
 use std::alloc::Global;
@@ -37,52 +36,24 @@ impl Round {
         })
     }
 
+    /// Tells it to the ends of its kind, which have to endure it.
+    pub(crate) fn strike(
+        &self,
+        script: &Script,
+        hosts: &mut Hosts,
+        terminals: &mut Terminals,
+    ) -> Result<(), Fault> {
+        match self.with {
+            With::Host => hosts.endure(script, self.tale()),
+            With::Terminal => terminals.endure(self.tale()),
+        }
+    }
+
     fn tale(&self) -> Tale<'_> {
         Tale {
             bytes: self.bytes.as_slice(),
             cuts: self.cuts,
             deeds: Some(self.deeds),
         }
-    }
-}
-
-/// The hosts and terminals that a storm strikes, and what it saw.
-#[derive(Drop)]
-pub(crate) struct Storm {
-    hosts: Hosts,
-    terminals: Terminals,
-    pub(crate) at_hosts: Tally,
-    pub(crate) at_terminals: Tally,
-}
-
-impl Storm {
-    pub(crate) fn new(alloc: Global, script: &Script) -> Result<Storm, Fault> {
-        Ok(Storm {
-            hosts: Hosts::new(alloc, script)?,
-            terminals: Terminals::new(alloc)?,
-            at_hosts: Tally::new(),
-            at_terminals: Tally::new(),
-        })
-    }
-
-    /// Begins where there is no storm.
-    pub(crate) fn begin(&mut self, script: &Script) -> Result<(), Fault> {
-        self.hosts.begin(script)
-    }
-
-    /// Takes a round.
-    pub(crate) fn endure(&mut self, script: &Script, round: &Round) -> Result<(), Fault> {
-        match round.with {
-            With::Host => {
-                let told = self.hosts.endure(script, round.tale())?;
-                self.at_hosts
-                    .add(told.fed, told.deeds.sent, told.deeds.refused);
-            }
-            With::Terminal => {
-                let heard = self.terminals.endure(round.tale())?;
-                self.at_terminals.add(heard.fed, 0, heard.refused as u64);
-            }
-        }
-        Ok(())
     }
 }

@@ -14,7 +14,7 @@
 //! ```
 //!
 //! Bytes are spelt as in dialogues: `FF FD28 00*152`.
-use crate::bytes::{bytes_of, first_of};
+use crate::bytes::{bytes_of, first_of, respell};
 use std::alloc::{AllocError, Global};
 use trial_tools::Fault;
 
@@ -53,44 +53,10 @@ pub(crate) struct Script {
     pub(crate) dialogues: Vec<Dialogue>,
 }
 
-/// What a line has.
-#[derive(Clone, Copy)]
-enum Line<'a> {
-    Nothing,
-    PanelText(&'a str),
-    Seed(u64),
-    First(u64),
-    Count(u64),
-    Tally,
-    FirstClient(&'a str),
-    SecondClient(&'a str),
-    Heir(&'a str, &'a str),
-    Dialogue(With, &'a str, &'a str),
-}
-
 fn number_of(digits: &str) -> Result<u64, Fault> {
     match digits.parse::<u64>() {
         Ok(number) => Ok(number),
         Err(_) => Err(Fault::Needs("a number")),
-    }
-}
-
-fn read_line<'a>(line: &'a str) -> Result<Line<'a>, Fault> {
-    let (word, rest) = first_of(line);
-    let (name, words) = first_of(rest);
-    match word {
-        "" | "#" => Ok(Line::Nothing),
-        "|" => Ok(Line::PanelText(rest)),
-        "seed" => Ok(Line::Seed(number_of(rest)?)),
-        "first" => Ok(Line::First(number_of(rest)?)),
-        "count" => Ok(Line::Count(number_of(rest)?)),
-        "tally" => Ok(Line::Tally),
-        "client" if name == "1" => Ok(Line::FirstClient(words)),
-        "client" if name == "2" => Ok(Line::SecondClient(words)),
-        "heir" => Ok(Line::Heir(name, words)),
-        "host" => Ok(Line::Dialogue(With::Host, name, words)),
-        "term" => Ok(Line::Dialogue(With::Terminal, name, words)),
-        _ => Err(Fault::Needs("lines that begin with a word of its language")),
     }
 }
 
@@ -124,25 +90,56 @@ impl Script {
         self.panel_text.push('\n')
     }
 
-    fn add_dialogue(&mut self, with: With, speech: Speech) -> Result<(), AllocError> {
+    fn add_dialogue(
+        &mut self,
+        alloc: Global,
+        with: With,
+        name: &str,
+        words: &str,
+    ) -> Result<(), Fault> {
+        let speech = speech_of(alloc, name, words)?;
         self.dialogues.push(Dialogue { with, speech })?;
         Ok(())
     }
 
-    fn add(&mut self, alloc: Global, line: Line<'_>) -> Result<(), Fault> {
-        match line {
-            Line::Nothing => {}
-            Line::PanelText(text) => self.add_text(text)?,
-            Line::Seed(number) => self.seed = number,
-            Line::First(number) => self.first = number,
-            Line::Count(number) => self.count = number,
-            Line::Tally => self.tallies = true,
-            Line::FirstClient(words) => self.first_client = bytes_of(alloc, words)?,
-            Line::SecondClient(words) => self.second_client = bytes_of(alloc, words)?,
-            Line::Heir(lu, words) => self.heir = speech_of(alloc, lu, words)?,
-            Line::Dialogue(with, name, words) => {
-                self.add_dialogue(with, speech_of(alloc, name, words)?)?;
+    /// Adds what a line says.
+    fn add(&mut self, alloc: Global, line: &str) -> Result<(), Fault> {
+        let (word, rest) = first_of(line);
+        match word {
+            "" | "#" => {}
+            "|" => self.add_text(rest)?,
+            "seed" => self.seed = number_of(rest)?,
+            "first" => self.first = number_of(rest)?,
+            "count" => self.count = number_of(rest)?,
+            "tally" => self.tallies = true,
+            _ => self.add_speech(alloc, word, rest)?,
+        }
+        Ok(())
+    }
+
+    /// Adds what a line says that has bytes.
+    fn add_speech(&mut self, alloc: Global, word: &str, rest: &str) -> Result<(), Fault> {
+        let (name, words) = first_of(rest);
+        match word {
+            "client" if name == "1" => respell(alloc, &mut self.first_client, words),
+            "client" if name == "2" => respell(alloc, &mut self.second_client, words),
+            "heir" => {
+                self.heir = speech_of(alloc, name, words)?;
+                Ok(())
             }
+            "host" => self.add_dialogue(alloc, With::Host, name, words),
+            "term" => self.add_dialogue(alloc, With::Terminal, name, words),
+            _ => Err(Fault::Needs("lines that begin with a word of its language")),
+        }
+    }
+
+    /// Adds what all lines of a text say.
+    fn add_all(&mut self, alloc: Global, text: &str) -> Result<(), Fault> {
+        for line in text.lines() {
+            self.add(alloc, line.trim())?;
+        }
+        if self.dialogues.is_empty() {
+            return Err(Fault::Needs("a dialogue"));
         }
         Ok(())
     }
@@ -151,11 +148,6 @@ impl Script {
 /// Reads a script.
 pub(crate) fn read_script(alloc: Global, text: &str) -> Result<Script, Fault> {
     let mut script = Script::new(alloc);
-    for line in text.lines() {
-        script.add(alloc, read_line(line.trim())?)?;
-    }
-    if script.dialogues.is_empty() {
-        return Err(Fault::Needs("a dialogue"));
-    }
+    script.add_all(alloc, text)?;
     Ok(script)
 }

@@ -80,7 +80,13 @@ impl Tally {
         println!(rt;
             "{ends}: {dialogues} dialogues, {bytes} bytes, {sent} commands sent, {refused} refused"
         )?;
-        for (word, count) in CAUSE_WORDS.iter().zip(self.closed.iter()) {
+        self.print_closed(rt, ends)
+    }
+
+    /// Prints how often a connection was closed, for each cause.
+    fn print_closed(&self, rt: &impl Print, ends: &str) -> io::Result<()> {
+        for (place, count) in self.closed.iter().enumerate() {
+            let word = CAUSE_WORDS[place];
             println!(rt; "{ends}: closed {word}: {count}")?;
         }
         Ok(())

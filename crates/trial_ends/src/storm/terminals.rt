@@ -1,4 +1,5 @@
 //! A storm at terminals.
+use crate::storm::tally::Tally;
 use crate::storm::telling::{End, Tale, Telling, tell};
 use keyboard::Key;
 use std::alloc::{AllocError, Global};
@@ -64,19 +65,12 @@ fn refusals_in(out: &[u8]) -> usize {
         .count()
 }
 
-/// What came of a tale at a terminal.
-#[derive(Clone, Copy)]
-pub(crate) struct Heard {
-    pub(crate) fed: Fed,
-    /// How many commands it refused.
-    pub(crate) refused: usize,
-}
-
-/// Two terminals that are told the same: one whole, the other in pieces.
+/// Two terminals that are told the same: one whole, the other in pieces. And what they saw.
 #[derive(Drop)]
 pub(crate) struct Terminals {
     whole: Terminal,
     cut: Terminal,
+    pub(crate) tally: Tally,
 }
 
 impl Terminals {
@@ -84,6 +78,7 @@ impl Terminals {
         Ok(Terminals {
             whole: Terminal::new(alloc)?,
             cut: Terminal::new(alloc)?,
+            tally: Tally::new(),
         })
     }
 
@@ -101,13 +96,11 @@ impl Terminals {
     }
 
     /// Tells both a tale, and expects the same to come of it however it is cut.
-    pub(crate) fn endure(&mut self, tale: Tale<'_>) -> Result<Heard, Fault> {
+    pub(crate) fn endure(&mut self, tale: Tale<'_>) -> Result<(), Fault> {
         let fed = strike(&mut self.whole, Telling::Whole, tale)?;
         self.expect_cut(Telling::Pieces, tale, fed)?;
         self.expect_cut(Telling::Single, tale, fed)?;
-        Ok(Heard {
-            fed,
-            refused: refusals_in(self.whole.out()),
-        })
+        self.tally.add(fed, 0, refusals_in(self.whole.out()) as u64);
+        Ok(())
     }
 }

@@ -16,13 +16,23 @@ pub(crate) fn belief_word(shadow: &Shadow) -> &'static str {
 
 /// No cell is known, and no field.
 fn knows_nothing(shadow: &Shadow) -> bool {
-    Addr::all().all(|at| shadow.known(at).is_none() && shadow.fact(at).is_none())
+    for at in Addr::all() {
+        if shadow.known(at).is_some() || shadow.fact(at).is_some() {
+            return false;
+        }
+    }
+    true
 }
 
 /// Each cell is known to be null, and no field is.
 fn knows_nulls(shadow: &Shadow) -> bool {
-    Addr::all().all(|at| matches!(shadow.known(at), Some(Cell::Char(0)))
-        && shadow.fact(at).is_none())
+    for at in Addr::all() {
+        let is_null = matches!(shadow.known(at), Some(Cell::Char(0)));
+        if !is_null || shadow.fact(at).is_some() {
+            return false;
+        }
+    }
+    true
 }
 
 /// What is believed of the field whose attribute is at an address.

@@ -2,11 +2,10 @@
 ghost use Rattle.std.specs.Prelude.{◌<◌};
 ghost use Rattle.host_core.specs.State.{most_connections};
 
-use crate::bytes::{bytes_of, expect_spelt};
+use crate::bytes::{bytes_of, expect_spelt, first_of, number_of};
 use crate::calls::{act, feed, feed_each, note, open};
 use crate::dialogue::host::belief::{fact_word, put_text};
-use crate::dialogue::host::command::Event;
-use crate::dialogue::host::sights::{Sight, acted_word, seen};
+use crate::dialogue::host::sights::{Sight, acted_word, seen, sight_named};
 use crate::dialogue::host::view::View;
 use crate::dialogue::words::stop_seen;
 use codes3270::Addr;
@@ -75,25 +74,42 @@ impl Exchange {
         self.host.restart();
     }
 
-    /// Does what happens to a connection, or sees whether it is so.
-    pub(crate) fn obey(&mut self, conn: usize, event: &Event<'_>) -> Result<(), Fault> {
+    /// Does what a line says of a connection, or sees whether it holds.
+    pub(crate) fn obey(&mut self, conn: usize, word: &str, words: &str) -> Result<(), Fault> {
         if conn >= MOST_CONNECTIONS {
             return Err(Fault::Needs("a connection's number"));
         }
-        match event {
-            Event::Open => open(&mut self.host, conn),
-            Event::Client(words) => self.hear(conn, "going", words),
-            Event::Closes(cause, words) => self.hear_last(conn, cause, words),
-            Event::Deaf(why) => self.overhear(conn, why),
-            Event::Begins(words) => self.send_first(conn, words),
-            Event::Says(words) => self.send(conn, words),
-            Event::Act(expected) => self.act(conn, expected),
-            Event::Note(expected, text) => self.note(conn, expected, text),
-            Event::Lost(words) => self.lose(conn, words),
-            Event::Keep => self.keep(conn),
-            Event::Stays => self.expect_kept(conn),
-            Event::Fact(at, fact, words) => self.expect_fact(conn, *at, fact, words),
-            Event::See(sight, expected) => self.expect(conn, *sight, expected),
+        match word {
+            "open" => open(&mut self.host, conn),
+            "client" => self.hear(conn, "going", words),
+            "begins" => self.send_first(conn, words),
+            "says" => self.send(conn, words),
+            "silent" => self.send(conn, ""),
+            "lost" => self.lose(conn, words),
+            "deaf" => self.overhear(conn, words),
+            "act" => self.act(conn, words),
+            "keep" => self.keep(conn),
+            "stays" => self.expect_kept(conn),
+            _ => self.obey_longer(conn, word, words),
+        }
+    }
+
+    /// Does what a line says that has more than one part, or expects to see something.
+    fn obey_longer(&mut self, conn: usize, word: &str, words: &str) -> Result<(), Fault>
+        requires { conn < most_connections }
+    {
+        let (first, rest) = first_of(words);
+        match word {
+            "closes" => self.hear_last(conn, first, rest),
+            "note" => self.note(conn, first, rest),
+            "fact" => {
+                let (fact, text) = first_of(rest);
+                self.expect_fact(conn, number_of(first)?, fact, text)
+            }
+            _ => match sight_named(word) {
+                Some(sight) => self.expect(conn, sight, words),
+                None => Err(Fault::Needs("a command")),
+            },
         }
     }
 

@@ -1,9 +1,11 @@
 //! What is to be seen of a terminal, in words.
+use crate::bytes::{first_of, number_of};
 use crate::dialogue::words::{bound_seen, closed_seen, stop_seen};
 use codes3270::{Addr, Cell, aid_byte, attr_code};
 use std::alloc::{AllocError, Global};
 use term_core::{TermPhase, Terminal, screen_lines};
 use tn3270e_msg::Fed;
+use trial_tools::Fault;
 
 /// What is to be seen.
 #[derive(Clone, Copy)]
@@ -33,7 +35,7 @@ pub(crate) enum Sight {
 }
 
 /// The sight with a name, of those that have no number.
-pub(crate) fn sight_named(name: &str) -> Option<Sight> {
+fn sight_named(name: &str) -> Option<Sight> {
     match name {
         "taken" => Some(Sight::Taken),
         "stops" => Some(Sight::Stop),
@@ -45,6 +47,19 @@ pub(crate) fn sight_named(name: &str) -> Option<Sight> {
         "screen" => Some(Sight::Screen),
         "status" => Some(Sight::Status),
         _ => None,
+    }
+}
+
+/// Reads a line that expects to see something: what, and how it looks.
+pub(crate) fn read_sight<'a>(word: &str, words: &'a str) -> Result<(Sight, &'a str), Fault> {
+    if let Some(sight) = sight_named(word) {
+        return Ok((sight, words));
+    }
+    let (number, expected) = first_of(words);
+    match word {
+        "cell" => Ok((Sight::Cell(number_of(number)?), expected)),
+        "line" => Ok((Sight::Row(number_of(number)?), expected)),
+        _ => Err(Fault::Needs("a command")),
     }
 }
 
@@ -105,12 +120,16 @@ fn cell_seen(alloc: Global, terminal: &Terminal, at: u16) -> Result<String, Allo
 
 fn row_seen(alloc: Global, terminal: &Terminal, number: u16) -> Result<String, AllocError> {
     let rows = screen_lines(alloc, terminal.screen())?;
-    for (index, row) in rows.as_str().lines().enumerate() {
+    String::from_str(alloc, row_of(rows.as_str(), number))
+}
+
+fn row_of<'a>(rows: &'a str, number: u16) -> &'a str {
+    for (index, row) in rows.lines().enumerate() {
         if index + 1 == usize::from(number) {
-            return String::from_str(alloc, row);
+            return row;
         }
     }
-    String::from_str(alloc, "no row")
+    "no row"
 }
 
 /// Each row behind a bar, without the blank ones at the end.
