@@ -90,8 +90,7 @@ impl Desk {
     fn hear_whole(&mut self, bytes: &[u8]) -> Result<(), Fault> {
         self.hear(bytes);
         self.expect(Sight::Stop, "going")?;
-        let taken = bytes.len();
-        let count = format!(in self.alloc; "{taken}")?;
+        let count = bytes.len().to_string(self.alloc)?;
         self.expect(Sight::Taken, count.as_str())
     }
 
@@ -166,7 +165,7 @@ impl Desk {
     }
 
     /// Expects to see what a line that begins with this word says.
-    fn expect_spelt(&self, word: &str, words: &str) -> Result<(), Fault> {
+    fn expect_sight(&self, word: &str, words: &str) -> Result<(), Fault> {
         let (sight, expected) = read_sight(word, words)?;
         self.expect(sight, expected)
     }
@@ -204,7 +203,7 @@ impl Subject for Desk {
                 self.terminal.restart();
                 Ok(())
             }
-            _ => self.expect_spelt(word, words),
+            _ => self.expect_sight(word, words),
         }
     }
 

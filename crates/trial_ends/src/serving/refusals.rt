@@ -10,7 +10,7 @@ use crate::serving::seat::Seat;
 use crate::serving::story::{Line, PANELS};
 use host_core::{Acted, Host};
 use std::alloc::{AllocError, Global};
-use std::{array, io};
+use std::io;
 use tn3270e_msg::Stop;
 use trial_tools::{hosts_look_same, read_host};
 

@@ -14,7 +14,7 @@
 //! ```
 //!
 //! Bytes are spelt as in dialogues: `FF FD28 00*152`.
-use crate::bytes::{bytes_of, first_of, respell};
+use crate::bytes::{first_of, respell};
 use std::alloc::{AllocError, Global};
 use trial_tools::Fault;
 
@@ -60,11 +60,20 @@ fn number_of(digits: &str) -> Result<u64, Fault> {
     }
 }
 
-fn speech_of(alloc: Global, name: &str, words: &str) -> Result<Speech, Fault> {
-    Ok(Speech {
-        name: String::from_str(alloc, name)?,
-        bytes: bytes_of(alloc, words)?,
-    })
+impl Speech {
+    fn new(alloc: Global) -> Speech {
+        Speech {
+            name: String::new(alloc),
+            bytes: Vec::new(alloc),
+        }
+    }
+
+    /// Has a name, and the bytes that words spell, in the place of others.
+    fn respell(&mut self, alloc: Global, name: &str, words: &str) -> Result<(), Fault> {
+        self.name.clear();
+        self.name.push_str(name)?;
+        respell(alloc, &mut self.bytes, words)
+    }
 }
 
 impl Script {
@@ -77,10 +86,7 @@ impl Script {
             tallies: false,
             first_client: Vec::new(alloc),
             second_client: Vec::new(alloc),
-            heir: Speech {
-                name: String::new(alloc),
-                bytes: Vec::new(alloc),
-            },
+            heir: Speech::new(alloc),
             dialogues: Vec::new(alloc),
         }
     }
@@ -97,7 +103,8 @@ impl Script {
         name: &str,
         words: &str,
     ) -> Result<(), Fault> {
-        let speech = speech_of(alloc, name, words)?;
+        let mut speech = Speech::new(alloc);
+        speech.respell(alloc, name, words)?;
         self.dialogues.push(Dialogue { with, speech })?;
         Ok(())
     }
@@ -123,10 +130,7 @@ impl Script {
         match word {
             "client" if name == "1" => respell(alloc, &mut self.first_client, words),
             "client" if name == "2" => respell(alloc, &mut self.second_client, words),
-            "heir" => {
-                self.heir = speech_of(alloc, name, words)?;
-                Ok(())
-            }
+            "heir" => self.heir.respell(alloc, name, words),
             "host" => self.add_dialogue(alloc, With::Host, name, words),
             "term" => self.add_dialogue(alloc, With::Terminal, name, words),
             _ => Err(Fault::Needs("lines that begin with a word of its language")),

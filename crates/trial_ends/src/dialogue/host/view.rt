@@ -19,32 +19,31 @@ pub(crate) struct View {
     out: Vec<u8>,
 }
 
-/// The sights of a connection.
-fn sights(alloc: Global, host: &Host, conn: usize) -> Result<String, AllocError>
-    requires { conn < most_connections }
-{
-    let mut words = String::new(alloc);
-    for sight in SIGHTS {
-        words.push(' ')?;
-        words.push_str(seen(alloc, host, conn, sight)?.as_str())?;
-    }
-    Ok(words)
-}
-
 impl View {
     /// As it is now.
     pub(crate) fn of(alloc: Global, host: &Host, conn: usize) -> Result<View, AllocError>
         requires { conn < most_connections }
     {
-        let mut fields = Vec::new(alloc);
-        put_fields(&mut fields, host.shadow(conn))?;
-        let mut out = Vec::new(alloc);
-        out.extend_from_slice(host.out(conn))?;
-        Ok(View {
-            sights: sights(alloc, host, conn)?,
-            fields,
-            out,
-        })
+        let mut view = View {
+            sights: String::new(alloc),
+            fields: Vec::new(alloc),
+            out: Vec::new(alloc),
+        };
+        view.add(alloc, host, conn)?;
+        Ok(view)
+    }
+
+    /// Adds what is to be seen now.
+    fn add(&mut self, alloc: Global, host: &Host, conn: usize) -> Result<(), AllocError>
+        requires { conn < most_connections }
+    {
+        for sight in SIGHTS {
+            self.sights.push(' ')?;
+            self.sights
+                .push_str(seen(alloc, host, conn, sight)?.as_str())?;
+        }
+        put_fields(&mut self.fields, host.shadow(conn))?;
+        self.out.extend_from_slice(host.out(conn))
     }
 
     /// Expects another to be the same.
