@@ -21,7 +21,7 @@ mod watch;
 
 use case::{Outcome, tell};
 use script::{Line, Numbered, body_of, panel_text, read_script};
-use std::alloc::{AllocError, Global};
+use std::alloc::Global;
 use std::io::{self, ErrorKind};
 use trial_tools::{Failure, Fault};
 
@@ -60,19 +60,32 @@ fn tell_again(
 fn print_outcome(
     rt: &impl Print,
     name: &str,
-    outcome: Result<Outcome, Failure>,
+    outcome: &Result<Outcome, Failure>,
 ) -> io::Result<bool> {
+    println!(rt; "== {name}")?;
     match outcome {
         Ok(outcome) => {
             let text = outcome.text.as_str();
-            println!(rt; "== {name}\n{text}")?;
+            println!(rt; "{text}")?;
             Ok(outcome.is_right)
         }
         Err(failure) => {
-            println!(rt; "== {name}\n{failure}\n")?;
+            println!(rt; "{failure}\n")?;
             Ok(false)
         }
     }
+}
+
+/// Tells a case, and prints what it came to. Says whether all of it was right.
+fn tell_case(
+    rt: &(impl Print + AllocGlobal),
+    script: &[Numbered<'_>],
+    panels: &str,
+    name: &str,
+    body: &[Numbered<'_>],
+) -> io::Result<bool> {
+    let outcome = tell_again(rt.alloc(), script, panels, body);
+    print_outcome(rt, name, &outcome)
 }
 
 /// Tells the cases of a script one after another. Says whether all were right.
@@ -81,26 +94,25 @@ fn tell_all(rt: &(impl Print + AllocGlobal), script: &[Numbered<'_>]) -> io::Res
     for (index, numbered) in script.iter().enumerate() {
         if let Line::World(panels, name) = numbered.line {
             let body = body_of(&script[index + 1..]);
-            let outcome = tell_again(rt.alloc(), script, panels, body);
-            all = print_outcome(rt, name, outcome)? && all;
+            all = tell_case(rt, script, panels, name, body)? && all;
         }
     }
     Ok(all)
+}
+
+/// Prints what is wrong with a script; where that is want of memory, it is the error.
+fn tell_failure(rt: &impl Print, failure: &Failure) -> io::Result<bool> {
+    if let Fault::NoMemory(_) = &failure.fault {
+        return Err(io::Error::from(ErrorKind::OutOfMemory));
+    }
+    println!(rt; "{failure}")?;
+    Ok(false)
 }
 
 /// Tells the cases of a script. Says whether all were right; where memory for the script itself is refused, that is the error.
 pub fn tell_script(rt: &(impl Print + AllocGlobal), text: &str) -> io::Result<bool> {
     match read_script(rt.alloc(), text) {
         Ok(script) => tell_all(rt, script.as_slice()),
-        Err(
-            Failure {
-                fault: Fault::NoMemory(AllocError),
-                ..
-            },
-        ) => Err(io::Error::from(ErrorKind::OutOfMemory)),
-        Err(failure) => {
-            println!(rt; "{failure}")?;
-            Ok(false)
-        }
+        Err(failure) => tell_failure(rt, &failure),
     }
 }

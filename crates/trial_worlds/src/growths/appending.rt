@@ -59,6 +59,26 @@ fn put_paint(out: &mut Vec<u8>, cursor: Addr) -> Result<(), AllocError> {
     }
 }
 
+/// Appends by a call of the wire, or of messages.
+fn put_on_wire(out: &mut Vec<u8>, appends: Appends) -> Result<(), AllocError> {
+    match appends {
+        Appends::Record => put_record(out, MIXED),
+        Appends::Option => put_option(out, Verb::Do, 40),
+        Appends::Sub => put_sub(out, MIXED),
+        Appends::SubParts => put_sub_parts(out, &[MIXED, MIXED]),
+        _ => put_sub_message(out, &Sending::FunRequest.message()),
+    }
+}
+
+/// Appends by a call on a screen, or on a belief.
+fn put_screen(out: &mut Vec<u8>, screen: &Screen, appends: Appends) -> Result<(), AllocError> {
+    match appends {
+        Appends::ReadBuffer => screen.put_read_buffer(out),
+        Appends::ReadModified => screen.put_read_modified(out, false),
+        _ => put_paint(out, screen.cursor()),
+    }
+}
+
 /// Appends by a call on a command's writer.
 fn put_part(mut writer: CommandWriter<'_>, appends: Appends, at: Addr) -> Result<(), AllocError> {
     match appends {
@@ -87,14 +107,14 @@ impl Trial for Appending {
     fn call(&mut self) -> Answer {
         let out = &mut self.out;
         let appended = match self.appends {
-            Appends::Record => put_record(out, MIXED),
-            Appends::Option => put_option(out, Verb::Do, 40),
-            Appends::Sub => put_sub(out, MIXED),
-            Appends::SubParts => put_sub_parts(out, &[MIXED, MIXED]),
-            Appends::SubMessage => put_sub_message(out, &Sending::FunRequest.message()),
-            Appends::ReadBuffer => self.screen.put_read_buffer(out),
-            Appends::ReadModified => self.screen.put_read_modified(out, false),
-            Appends::Paint => put_paint(out, self.screen.cursor()),
+            Appends::Record
+            | Appends::Option
+            | Appends::Sub
+            | Appends::SubParts
+            | Appends::SubMessage => put_on_wire(out, self.appends),
+            Appends::ReadBuffer | Appends::ReadModified | Appends::Paint => {
+                put_screen(out, &self.screen, self.appends)
+            }
             _ => put_part(CommandWriter::new(out), self.appends, self.screen.cursor()),
         };
         match appended {
@@ -102,11 +122,6 @@ impl Trial for Appending {
             Err(_) => Answer::Memory,
         }
     }
-
-    /// It is handed all at once.
-    fn take(&mut self, _count: usize) {}
-
-    fn go_on(&mut self) {}
 
     fn looks_same(&self, twin: &Appending) -> bool {
         self.out.as_slice() == twin.out.as_slice()

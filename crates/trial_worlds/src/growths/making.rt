@@ -155,11 +155,6 @@ impl Trial for Maker {
         }
     }
 
-    /// It is handed all at once.
-    fn take(&mut self, _count: usize) {}
-
-    fn go_on(&mut self) {}
-
     fn looks_same(&self, twin: &Maker) -> bool {
         self.texts.characters.as_slice() == twin.texts.characters.as_slice()
             && self.texts.values.get(0) == twin.texts.values.get(0)
@@ -211,11 +206,6 @@ impl Trial for Founder {
             Founds::World => made(World::new(self.alloc, panels, pool, 1)),
         }
     }
-
-    /// It is handed all at once.
-    fn take(&mut self, _count: usize) {}
-
-    fn go_on(&mut self) {}
 
     /// What it takes is gone in any case.
     fn looks_same(&self, _twin: &Founder) -> bool {

@@ -29,11 +29,11 @@ pub(crate) trait Trial {
     /// Makes the call, on what is left to hand to it.
     fn call(&mut self) -> Answer;
 
-    /// Hands it so many of the bytes or events.
-    fn take(&mut self, count: usize);
+    /// Hands it so many of the bytes or events; nothing where it is handed all at once.
+    fn take(&mut self, _count: usize) {}
 
-    /// Does further things, which show what can't be looked at.
-    fn go_on(&mut self);
+    /// Does further things, if some show what can't be looked at.
+    fn go_on(&mut self) {}
 
     /// Whether the value looks as the twin does.
     fn looks_same(&self, twin: &Self) -> bool;

@@ -54,11 +54,6 @@ impl Trial for Filled {
         }
     }
 
-    /// It is handed all at once.
-    fn take(&mut self, _count: usize) {}
-
-    fn go_on(&mut self) {}
-
     fn looks_same(&self, twin: &Filled) -> bool {
         for field in 0..2 * FIELDS {
             if self.values.get(field) != twin.values.get(field) {

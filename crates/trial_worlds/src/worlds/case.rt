@@ -8,6 +8,7 @@ use crate::worlds::sights::{put_answer, put_outcome};
 use crate::worlds::teller::{Pace, Teller};
 use std::alloc::{AllocError, Global};
 use trial_tools::{Failure, Fault};
+use world3270::Stepped;
 
 /// A case that is told three times.
 #[derive(Drop)]
@@ -39,27 +40,27 @@ impl Case {
         })
     }
 
-    /// Something happens. Lists of events don't say what became of one: that is taken from the first telling.
     fn happen(&mut self, deed: &Deed<'_>) -> Result<(), Fault> {
         let stepped = self.by_event.happen(deed)?;
-        put_outcome(&mut self.by_event.page, stepped)?;
-        put_outcome(&mut self.by_list.page, stepped)?;
         self.by_list.add(deed)?;
-        let stepped = self.by_byte.happen(deed)?;
-        put_outcome(&mut self.by_byte.page, stepped)?;
+        let by_byte = self.by_byte.happen(deed)?;
+        self.put_outcomes(stepped, by_byte)?;
         Ok(())
     }
 
     fn type_text(&mut self, terminal: usize, text: &str) -> Result<(), Fault> {
         let (pressed, stepped) = self.by_event.type_text(terminal, text)?;
+        self.by_list.add_letters(terminal, text, pressed)?;
+        let (_, by_byte) = self.by_byte.type_text(terminal, text)?;
+        self.put_outcomes(stepped, by_byte)?;
+        Ok(())
+    }
+
+    /// Adds what became of an event to each page. Lists of events don't say that: it is taken from the first telling.
+    fn put_outcomes(&mut self, stepped: Stepped, by_byte: Stepped) -> Result<(), AllocError> {
         put_outcome(&mut self.by_event.page, stepped)?;
         put_outcome(&mut self.by_list.page, stepped)?;
-        for letter in text.chars().take(pressed) {
-            self.by_list.add(&Deed::Letter(terminal, letter))?;
-        }
-        let (_, stepped) = self.by_byte.type_text(terminal, text)?;
-        put_outcome(&mut self.by_byte.page, stepped)?;
-        Ok(())
+        put_outcome(&mut self.by_byte.page, by_byte)
     }
 
     fn settle(&mut self) -> Result<(), Fault> {
@@ -122,30 +123,46 @@ impl Case {
         Ok(())
     }
 
+    /// Adds whether the page is the one that is wanted. Says whether it is.
+    fn put_judgement(&self, text: &mut String, wanted: &str) -> Result<bool, AllocError> {
+        let page = self.by_event.page.as_str();
+        let is_expected = put_difference(text, "OTHERWISE", wanted, page)?;
+        put_where(text, is_expected, "as expected\n")
+    }
+
+    /// Adds whether the page is the one that the case has to print. Says whether it is.
+    fn put_expectation(
+        &self,
+        text: &mut String,
+        body: &[Numbered<'_>],
+    ) -> Result<bool, AllocError> {
+        let mut expected = String::new(self.alloc);
+        put_expected(&mut expected, body)?;
+        self.put_judgement(text, expected.as_str())
+    }
+
     /// Adds whether the tellings printed the same, and their worlds look the same. Says whether.
     fn put_likeness(&self, text: &mut String) -> Result<bool, AllocError> {
+        let is_same = self.put_differences(text)? && self.put_unlike(text)?;
+        put_where(text, is_same, "the same by run and byte by byte\n")
+    }
+
+    /// Adds where another telling printed otherwise. Says whether they printed the same.
+    fn put_differences(&self, text: &mut String) -> Result<bool, AllocError> {
         let page = self.by_event.page.as_str();
-        let is_same = put_difference(text, "DIFFERS by run", page, self.by_list.page.as_str())?
-            && put_difference(
-                text,
-                "DIFFERS byte by byte",
-                page,
-                self.by_byte.page.as_str(),
-            )?
-            && self.put_unlike(text)?;
-        if is_same {
-            text.push_str("the same by run and byte by byte\n")?;
-        }
-        Ok(is_same)
+        let by_list = self.by_list.page.as_str();
+        let by_byte = self.by_byte.page.as_str();
+        Ok(
+            put_difference(text, "DIFFERS by run", page, by_list)?
+                && put_difference(text, "DIFFERS byte by byte", page, by_byte)?,
+        )
     }
 
     /// Adds whether the worlds look otherwise at the end. Says whether they look the same.
     fn put_unlike(&self, text: &mut String) -> Result<bool, AllocError> {
         let town = &self.by_event.town;
         let is_like = look_same(town, &self.by_list.town) && look_same(town, &self.by_byte.town);
-        if !is_like {
-            text.push_str("DIFFERS at the end\n")?;
-        }
+        put_where(text, !is_like, "DIFFERS at the end\n")?;
         Ok(is_like)
     }
 
@@ -158,6 +175,50 @@ impl Case {
             None => Ok(true),
         }
     }
+
+    /// Adds all that is to be said of the page. Says whether all was right.
+    fn put_verdict(&self, text: &mut String, body: &[Numbered<'_>]) -> Result<bool, AllocError> {
+        let is_expected = self.put_expectation(text, body)?;
+        let is_same = self.put_likeness(text)?;
+        let holds = self.put_headline(text)?;
+        Ok(is_expected && is_same && holds)
+    }
+
+    fn judge(&self, body: &[Numbered<'_>]) -> Result<Outcome, AllocError> {
+        let mut text = String::from_str(self.alloc, self.by_event.page.as_str())?;
+        let is_right = self.put_verdict(&mut text, body)?;
+        Ok(Outcome { text, is_right })
+    }
+
+    fn tell(&mut self, body: &[Numbered<'_>]) -> Result<Outcome, Failure> {
+        self.obey_all(body)?;
+        match self.judge(body) {
+            Ok(outcome) => Ok(outcome),
+            Err(refused) => Err(of_no_line(Fault::NoMemory(refused))),
+        }
+    }
+}
+
+/// Adds a line where this holds. Says whether it does.
+fn put_where(text: &mut String, holds: bool, line: &str) -> Result<bool, AllocError> {
+    if holds {
+        text.push_str(line)?;
+    }
+    Ok(holds)
+}
+
+/// Adds texts one behind the other.
+fn put_parts(text: &mut String, parts: &[&str]) -> Result<(), AllocError> {
+    for part in parts {
+        text.push_str(part)?;
+    }
+    Ok(())
+}
+
+/// Adds what is said of a line, and its number.
+fn put_place(text: &mut String, what: &str, place: &str, number: usize) -> Result<(), AllocError> {
+    put_parts(text, &[what, place])?;
+    write!(text, "{number}")
 }
 
 /// Adds the first line in which a page differs from the one that is wanted. Says whether they are the same.
@@ -172,11 +233,12 @@ fn put_difference(
     }
     match first_difference(wanted, page) {
         Some((number, line, came)) => {
-            write!(text, "{what} in line {number}: \"{line}\", \"{came}\"\n")?;
+            put_place(text, what, " in line ", number)?;
+            put_parts(text, &[": \"", line, "\", \"", came, "\"\n"])?;
         }
         None => {
-            let number = wanted.lines().count();
-            write!(text, "{what} behind line {number}\n")?;
+            put_place(text, what, " behind line ", wanted.lines().count())?;
+            text.push('\n')?;
         }
     }
     Ok(false)
@@ -196,34 +258,6 @@ fn first_difference<'a>(wanted: &'a str, page: &'a str) -> Option<(usize, &'a st
     None
 }
 
-/// Adds whether the page is the one that the case has to print. Says whether it is.
-fn put_judgement(
-    alloc: Global,
-    text: &mut String,
-    page: &str,
-    body: &[Numbered<'_>],
-) -> Result<bool, AllocError> {
-    let mut expected = String::new(alloc);
-    put_expected(&mut expected, body)?;
-    let is_expected = put_difference(text, "OTHERWISE", expected.as_str(), page)?;
-    if is_expected {
-        text.push_str("as expected\n")?;
-    }
-    Ok(is_expected)
-}
-
-fn judge(alloc: Global, case: &Case, body: &[Numbered<'_>]) -> Result<Outcome, AllocError> {
-    let page = case.by_event.page.as_str();
-    let mut text = String::from_str(alloc, page)?;
-    let is_expected = put_judgement(alloc, &mut text, page, body)?;
-    let is_same = case.put_likeness(&mut text)?;
-    let holds = case.put_headline(&mut text)?;
-    Ok(Outcome {
-        text,
-        is_right: is_expected && is_same && holds,
-    })
-}
-
 /// A fault of no line.
 fn of_no_line(fault: Fault) -> Failure {
     Failure { line: 0, fault }
@@ -236,9 +270,5 @@ pub(crate) fn tell(
     body: &[Numbered<'_>],
 ) -> Result<Outcome, Failure> {
     let mut case = Case::new(alloc, panel_text).map_err(of_no_line)?;
-    case.obey_all(body)?;
-    match judge(alloc, &case, body) {
-        Ok(outcome) => Ok(outcome),
-        Err(refused) => Err(of_no_line(Fault::NoMemory(refused))),
-    }
+    case.tell(body)
 }

@@ -66,6 +66,19 @@ impl Lister {
         Ok(())
     }
 
+    /// The keys of a text's first characters are to be pressed.
+    pub(crate) fn add_letters(
+        &mut self,
+        terminal: usize,
+        text: &str,
+        count: usize,
+    ) -> Result<(), Fault> {
+        for letter in text.chars().take(count) {
+            self.add(&Deed::Letter(terminal, letter))?;
+        }
+        Ok(())
+    }
+
     /// All that is to happen does.
     pub(crate) fn run(&mut self) -> Result<(), Fault> {
         let events = self.waiting.as_slice();

@@ -109,20 +109,31 @@ pub(crate) fn read_script<'a>(alloc: Global, text: &'a str) -> Result<Vec<Number
 pub(crate) fn body_of<'a>(lines: &'a [Numbered<'a>]) -> &'a [Numbered<'a>]
     ensures { length result.now ≤ length lines.now }
 {
-    match lines.iter().position(|line| line.is_heading()) {
-        Some(end) => &lines[..end],
-        None => lines,
+    for (index, numbered) in lines.iter().enumerate() {
+        if numbered.is_heading() {
+            return &lines[..index];
+        }
     }
+    lines
 }
 
 fn put_panels(text: &mut String, body: &[Numbered<'_>]) -> Result<(), AllocError> {
     for numbered in body {
         if let Line::PanelText(line) = numbered.line {
-            text.push_str(line)?;
-            text.push('\n')?;
+            put_whole_line(text, line)?;
         }
     }
     Ok(())
+}
+
+/// The lines of the panel text with a name.
+fn panels_named<'a>(script: &'a [Numbered<'a>], name: &str) -> Option<&'a [Numbered<'a>]> {
+    for (index, numbered) in script.iter().enumerate() {
+        if numbered.begins_panels(name) {
+            return Some(body_of(&script[index + 1..]));
+        }
+    }
+    None
 }
 
 /// The panel text with a name.
@@ -131,11 +142,11 @@ pub(crate) fn panel_text(
     script: &[Numbered<'_>],
     name: &str,
 ) -> Result<String, Fault> {
-    let Some(heading) = script.iter().position(|line| line.begins_panels(name)) else {
+    let Some(body) = panels_named(script, name) else {
         return Err(Fault::Needs("panels of this name"));
     };
     let mut text = String::new(alloc);
-    put_panels(&mut text, body_of(&script[heading + 1..]))?;
+    put_panels(&mut text, body)?;
     Ok(text)
 }
 
