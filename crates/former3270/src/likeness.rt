@@ -50,11 +50,10 @@ impl Answers {
 }
 
 /// The text that a fact speaks of, character by character.
-fn texts_alike(former: &FormerShadow, shadow: &Shadow, place: u16) -> Alike {
-    let at = Addr::first().forward(place % CELLS);
+fn texts_alike(former: &FormerShadow, shadow: &Shadow, at: Addr) -> Alike {
     for index in 0..usize::from(CELLS) {
         let value = shadow.value(at, index);
-        alike_at(former.value(at, index) == value, "value", place)?;
+        alike_at(former.value(at, index) == value, "value", at.get())?;
         if value.is_none() {
             return Ok(());
         }
@@ -62,18 +61,23 @@ fn texts_alike(former: &FormerShadow, shadow: &Shadow, place: u16) -> Alike {
     Ok(())
 }
 
-/// What is believed of each cell, and of each field. The characters of an exact field are known, cell by cell.
+/// What is believed of a cell, and of the field whose attribute is there. The characters of an exact field are known, cell by cell.
+fn facts_alike_at(former: &FormerShadow, cells: &[Known], shadow: &Shadow, at: Addr) -> Alike {
+    let place = at.get();
+    let known = known_in(cells, usize::from(place));
+    alike_at(known == shadow.known(at), "known", place)?;
+    let fact = former.fact(at);
+    alike_at(fact == shadow.fact(at), "fact", place)?;
+    alike_at(former.value(at, 0) == shadow.value(at, 0), "value", place)?;
+    if fact.is_some() && fact != Some(Fact::Exact) {
+        texts_alike(former, shadow, at)?;
+    }
+    Ok(())
+}
+
 fn facts_alike(former: &FormerShadow, cells: &[Known], shadow: &Shadow) -> Alike {
     for place in 0..CELLS {
-        let at = Addr::first().forward(place);
-        let known = known_in(cells, usize::from(place));
-        alike_at(known == shadow.known(at), "known", place)?;
-        let fact = former.fact(at);
-        alike_at(fact == shadow.fact(at), "fact", place)?;
-        alike_at(former.value(at, 0) == shadow.value(at, 0), "value", place)?;
-        if fact.is_some() && fact != Some(Fact::Exact) {
-            texts_alike(former, shadow, place)?;
-        }
+        facts_alike_at(former, cells, shadow, Addr::first().forward(place))?;
     }
     Ok(())
 }
@@ -111,20 +115,43 @@ pub(crate) fn beliefs_alike(
     Ok(())
 }
 
-/// Each cell, what is printed of it, and its field.
+/// The field of a cell: its attribute's place, and its length.
+fn field_of(screen: &Screen, at: Addr) -> Option<(u16, usize)> {
+    match screen.field_at(at) {
+        Some(field) => Some((field.attr.get(), usize::from(field.length))),
+        None => None,
+    }
+}
+
+/// A cell, what is printed of it, alone and among all, and its field.
+fn cell_alike(former: &FormerScreen, screen: &Screen, at: Addr, printed: Option<char>) -> Alike {
+    let place = at.get();
+    let glyph = former.glyph_at(place);
+    alike_at(former.cell(place) == screen.cell(at), "cell", place)?;
+    alike_at(glyph == screen.glyph_at(at), "glyph", place)?;
+    alike_at(printed == Some(glyph), "glyphs", place)?;
+    alike_at(
+        former.field_at(place) == field_of(screen, at),
+        "field at",
+        place,
+    )
+}
+
 fn cells_alike(former: &FormerScreen, screen: &Screen) -> Alike {
     let mut glyphs = screen.glyphs();
     for place in 0..CELLS {
-        let at = Addr::first().forward(place);
-        let glyph = former.glyph_at(place);
-        alike_at(former.cell(place) == screen.cell(at), "cell", place)?;
-        alike_at(glyph == screen.glyph_at(at), "glyph", place)?;
-        alike_at(glyphs.next() == Some(glyph), "glyphs", place)?;
-        let field = screen.field_at(at);
-        let seen = field.map(|field| (field.attr.get(), usize::from(field.length)));
-        alike_at(former.field_at(place) == seen, "field at", place)?;
+        cell_alike(former, screen, Addr::first().forward(place), glyphs.next())?;
     }
     Ok(())
+}
+
+/// Whether the first field from a place on has its attribute here, and this length.
+fn field_alike(former: &FormerScreen, from: u16, place: u16, length: usize) -> Alike {
+    alike_at(
+        former.field_from(from) == Some((place, length)),
+        "field",
+        place,
+    )
 }
 
 /// The fields in their order.
@@ -132,8 +159,7 @@ fn fields_alike(former: &FormerScreen, screen: &Screen) -> Alike {
     let mut next = 0u16;
     for field in screen.fields() {
         let place = field.attr.get();
-        let seen = Some((place, usize::from(field.length)));
-        alike_at(former.field_from(next) == seen, "field", place)?;
+        field_alike(former, next, place, usize::from(field.length))?;
         next = place.saturating_add(1);
     }
     alike_at(former.field_from(next).is_none(), "field", next)

@@ -32,29 +32,29 @@ pub(crate) enum Step {
     EraseInput,
 }
 
-fn step_named(word: &str) -> Option<Step> {
-    match word {
-        "write" => Some(Step::Write),
-        "modified" => Some(Step::Hear(Form::Modified)),
-        "all" => Some(Step::Hear(Form::All)),
-        "buffer" => Some(Step::Hear(Form::Buffer)),
-        "answer-modified" => Some(Step::Answer(Form::Modified)),
-        "answer-all" => Some(Step::Answer(Form::All)),
-        "answer-buffer" => Some(Step::Answer(Form::Buffer)),
-        "type" => Some(Step::Type),
-        "press" => Some(Step::Press),
-        "clear" => Some(Step::Clear),
-        "erase-input" => Some(Step::EraseInput),
-        _ => None,
-    }
-}
+/// What each word asks for.
+static STEPS: [(&str, Step); 11] = [
+    ("write", Step::Write),
+    ("modified", Step::Hear(Form::Modified)),
+    ("all", Step::Hear(Form::All)),
+    ("buffer", Step::Hear(Form::Buffer)),
+    ("answer-modified", Step::Answer(Form::Modified)),
+    ("answer-all", Step::Answer(Form::All)),
+    ("answer-buffer", Step::Answer(Form::Buffer)),
+    ("type", Step::Type),
+    ("press", Step::Press),
+    ("clear", Step::Clear),
+    ("erase-input", Step::EraseInput),
+];
 
 /// The step that a word names.
 pub(crate) fn step_of(word: &str) -> io::Result<Step> {
-    match step_named(word) {
-        Some(step) => Ok(step),
-        None => Err(io::Error::from(ErrorKind::InvalidData)),
+    for (name, step) in &STEPS {
+        if *name == word {
+            return Ok(*step);
+        }
     }
+    Err(io::Error::from(ErrorKind::InvalidData))
 }
 
 fn number_of(digits: &str) -> io::Result<u16> {
@@ -64,17 +64,22 @@ fn number_of(digits: &str) -> io::Result<u16> {
     }
 }
 
+/// Adds bytes so many times.
+fn put_times(bytes: &mut Vec<u8>, some: &[u8], count: u16) -> io::Result<()> {
+    for _ in 0..count {
+        bytes.extend_from_slice(some)?;
+    }
+    Ok(())
+}
+
 /// Adds the bytes of a word.
 fn put_word(alloc: Global, bytes: &mut Vec<u8>, word: &str) -> io::Result<()> {
     let (pairs, times) = word.split_once('*').unwrap_or((word, "1"));
     let count = number_of(times)?;
-    let Ok(some) = hex::decode(alloc, pairs) else {
-        return Err(io::Error::from(ErrorKind::InvalidData));
-    };
-    for _ in 0..count {
-        bytes.extend_from_slice(some.as_slice())?;
+    match hex::decode(alloc, pairs) {
+        Ok(some) => put_times(bytes, some.as_slice(), count),
+        Err(_) => Err(io::Error::from(ErrorKind::InvalidData)),
     }
-    Ok(())
 }
 
 /// Puts the bytes that words spell in place of those that there are.
