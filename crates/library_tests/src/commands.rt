@@ -1,7 +1,7 @@
 //! Commands read and written, byte for byte, and wanted screens. What is owned lives in helpers that answer whether all is as
 //! it should be, so that a check has few ways out.
 
-use crate::Check;
+use crate::{Check, prints};
 use codes3270::{Addr, Attr, CELL_COUNT, CELLS, COLUMNS, Wcc};
 use datastream::{
     Command, CommandCode, CommandFault, CommandWriter, Memory, Order, Want, Wanted,
@@ -9,7 +9,6 @@ use datastream::{
     tabs_by_place, what_a_note_keeps, written_is_read,
 };
 use std::alloc::Global;
-use std::fmt;
 
 const CHARS: [u8; 2] = [0xC8, 0xC9];
 
@@ -61,32 +60,18 @@ fn reads(bytes: &[u8], code: CommandCode, wcc: Option<Wcc>, orders: &[Order]) ->
 }
 
 /// Whether a command begins with just these bytes.
-fn begins_as(alloc: Global, code: CommandCode, bytes: &[u8]) -> Result<bool, Memory> {
+fn begins_as(alloc: Global, code: CommandCode, bytes: &[u8]) -> bool {
     let mut out = Vec::new(alloc);
-    CommandWriter::new(&mut out).begin(code, CLEARED_WCC)?;
-    Ok(out.as_slice() == bytes)
+    appends(&mut out, Call::Begin(code), bytes)
 }
 
 /// Whether a write is read by both its codes, and written with the second.
-fn is_write(alloc: Global, code: CommandCode, first: u8, second: u8) -> Result<bool, Memory> {
+fn is_write(alloc: Global, code: CommandCode, first: u8, second: u8) -> bool {
     let wcc = Some(CLEARED_WCC);
-    Ok(
-        reads(&[first, 0xC3], code, wcc, &[])
-            && reads(&[second, 0xC3], code, wcc, &[])
-            && code.has_orders()
-            && begins_as(alloc, code, &[second, 0xC3])?,
-    )
-}
-
-/// Whether another command is read by both its codes, and written with the second.
-fn is_other(alloc: Global, code: CommandCode, first: u8, second: u8) -> Result<bool, Memory> {
-    Ok(
-        reads(&[first, 0xC3], code, None, &[])
-            && reads(&[second, 0xC3], code, None, &[])
-            && reads(&[second], code, None, &[])
-            && !code.has_orders()
-            && begins_as(alloc, code, &[second])?,
-    )
+    reads(&[first, 0xC3], code, wcc, &[])
+        && reads(&[second, 0xC3], code, wcc, &[])
+        && code.has_orders()
+        && begins_as(alloc, code, &[second, 0xC3])
 }
 
 static WRITES: [(u8, u8, CommandCode); 3] = [
@@ -95,18 +80,23 @@ static WRITES: [(u8, u8, CommandCode); 3] = [
     (0x0D, 0x7E, CommandCode::EraseWriteAlternate),
 ];
 
-/// The first of these that is no write by its codes.
-fn first_no_write(alloc: Global) -> Result<Option<CommandCode>, Memory> {
+fn each_write_has_two_codes_and_a_write_control_character(alloc: Global) -> bool {
     for (first, second, code) in &WRITES {
-        if !is_write(alloc, *code, *first, *second)? {
-            return Ok(Some(*code));
+        if !is_write(alloc, *code, *first, *second) {
+            return false;
         }
     }
-    Ok(None)
+    true
 }
 
-fn each_write_has_two_codes_and_a_write_control_character(alloc: Global) -> bool {
-    matches!(first_no_write(alloc), Ok(None))
+/// Whether another command is read by both its codes, whatever follows, and written with the second.
+fn is_other(alloc: Global, code: CommandCode, first: u8, second: u8) -> bool {
+    reads(&[first, 0xC3], code, None, &[])
+        && reads(&[second, 0xC3], code, None, &[])
+        && reads(&[second], code, None, &[])
+        && reads(&[second, 0x11, 0x5E, 0x40, 0x02, 0xC1], code, None, &[])
+        && !code.has_orders()
+        && begins_as(alloc, code, &[second])
 }
 
 static OTHERS: [(u8, u8, CommandCode); 4] = [
@@ -116,23 +106,13 @@ static OTHERS: [(u8, u8, CommandCode); 4] = [
     (0x0F, 0x6F, CommandCode::EraseAllUnprotected),
 ];
 
-/// Whether what follows a command's code is ignored.
-fn ignores_the_rest(code: CommandCode, byte: u8) -> bool {
-    reads(&[byte, 0x11, 0x5E, 0x40, 0x02, 0xC1], code, None, &[])
-}
-
-/// The first of these that is no other command by its codes.
-fn first_no_other(alloc: Global) -> Result<Option<CommandCode>, Memory> {
+fn each_other_command_has_two_codes_alone(alloc: Global) -> bool {
     for (first, second, code) in &OTHERS {
-        if !is_other(alloc, *code, *first, *second)? || !ignores_the_rest(*code, *second) {
-            return Ok(Some(*code));
+        if !is_other(alloc, *code, *first, *second) {
+            return false;
         }
     }
-    Ok(None)
-}
-
-fn each_other_command_has_two_codes_alone(alloc: Global) -> bool {
-    matches!(first_no_other(alloc), Ok(None))
+    true
 }
 
 /// The fault of bytes that spell no command.
@@ -192,18 +172,13 @@ static FAULTS: [(&[u8], CommandFault); 24] = [
     ),
 ];
 
-/// The first of these bytes that has another fault, or none.
-fn first_without_its_fault() -> Option<&'static [u8]> {
+fn the_first_fault_is_answered() -> bool {
     for (bytes, fault) in &FAULTS {
         if fault_of(bytes) != Some(*fault) {
-            return Some(bytes);
+            return false;
         }
     }
-    None
-}
-
-fn the_first_fault_is_answered() -> bool {
-    first_without_its_fault().is_none()
+    true
 }
 
 /// The first of these commands that is read otherwise.
@@ -314,34 +289,38 @@ fn put(writer: &mut CommandWriter, call: Call) -> Result<(), Memory> {
     }
 }
 
-fn put_all(mut writer: CommandWriter, calls: &[Call]) -> Result<(), Memory> {
+/// Whether all calls of one writer are carried out.
+fn put_all(out: &mut Vec<u8>, calls: &[Call]) -> bool {
+    let mut writer = CommandWriter::new(out);
     for call in calls {
-        put(&mut writer, *call)?;
+        if put(&mut writer, *call).is_err() {
+            return false;
+        }
     }
-    Ok(())
+    true
 }
 
-/// Whether one command is written, and then the other behind it.
-fn writes_both(out: &mut Vec<u8>) -> Result<bool, Memory> {
-    let two_fields = [
-        Call::Begin(CommandCode::EraseWrite),
-        Call::Sba,
-        Call::Sf(0x60),
-        Call::Chars,
-        Call::Sf(0x40),
-        Call::Ic,
-    ];
-    let filled = [Call::Begin(CommandCode::Write), Call::Sba, Call::Ra];
-    put_all(CommandWriter::new(out), &two_fields)?;
-    let is_first = out.as_slice() == TWO_FIELDS.as_slice();
-    // What stands in the vector stays.
-    put_all(CommandWriter::new(out), &filled)?;
-    Ok(is_first && out.strip_prefix(TWO_FIELDS.as_slice()) == Some(FILLED.as_slice()))
+static TWO_FIELDS_CALLS: [Call; 6] = [
+    Call::Begin(CommandCode::EraseWrite),
+    Call::Sba,
+    Call::Sf(0x60),
+    Call::Chars,
+    Call::Sf(0x40),
+    Call::Ic,
+];
+
+static FILLED_CALLS: [Call; 3] = [Call::Begin(CommandCode::Write), Call::Sba, Call::Ra];
+
+/// Whether one command is written, and then the other behind it: what stands in the vector stays.
+fn writes_both(out: &mut Vec<u8>) -> bool {
+    put_all(out, &TWO_FIELDS_CALLS)
+        && out.as_slice() == TWO_FIELDS.as_slice()
+        && put_all(out, &FILLED_CALLS)
+        && out.strip_prefix(TWO_FIELDS.as_slice()) == Some(FILLED.as_slice())
 }
 
 fn commands_are_written(alloc: Global) -> bool {
-    let mut out = Vec::new(alloc);
-    matches!(writes_both(&mut out), Ok(true))
+    writes_both(&mut Vec::new(alloc))
 }
 
 /// Whether a call appends these bytes to an empty vector, or is refused and appends nothing.
@@ -383,19 +362,14 @@ static CALLS: [(Call, &[u8]); 7] = [
     (Call::Ic, &[0x13]),
 ];
 
-/// The bytes of the first of these calls that appends others.
-fn first_appended_otherwise(alloc: Global) -> Option<&'static [u8]> {
-    for (call, bytes) in &CALLS {
-        if !appends_to_full(alloc, *call, bytes) || !appends_to_roomy(alloc, *call, bytes) {
-            return Some(bytes);
-        }
-    }
-    None
-}
-
 // Run it with each allocation failing in turn: a call is then refused at some time, and the vector stays as it was.
 fn a_call_appends_its_bytes_or_changes_nothing(alloc: Global) -> bool {
-    first_appended_otherwise(alloc).is_none()
+    for (call, bytes) in &CALLS {
+        if !appends_to_full(alloc, *call, bytes) || !appends_to_roomy(alloc, *call, bytes) {
+            return false;
+        }
+    }
+    true
 }
 
 // ---- wanted screens
@@ -426,12 +400,6 @@ fn a_wanted_screen_names_each_cell() -> bool {
     names_each_cell(&wanted) && !example(false).reset()
 }
 
-/// Whether a fault has this text.
-fn has_text(alloc: Global, fault: CommandFault, text: &str) -> Result<bool, fmt::Error> {
-    let printed = format!(in alloc; "{fault}")?;
-    Ok(printed.as_str() == text)
-}
-
 static TEXTS: [(CommandFault, &str); 4] = [
     (CommandFault::BadCommand, "unknown command"),
     (CommandFault::BadOrder, "neither an order nor a character"),
@@ -439,18 +407,13 @@ static TEXTS: [(CommandFault, &str); 4] = [
     (CommandFault::Truncated, "command cut short"),
 ];
 
-/// The first fault that has another text.
-fn first_with_another_text(alloc: Global) -> Result<Option<CommandFault>, fmt::Error> {
+fn faults_have_texts(alloc: Global) -> bool {
     for (fault, text) in &TEXTS {
-        if !has_text(alloc, *fault, text)? {
-            return Ok(Some(*fault));
+        if !prints(alloc, fault, text) {
+            return false;
         }
     }
-    Ok(None)
-}
-
-fn faults_have_texts(alloc: Global) -> bool {
-    matches!(first_with_another_text(alloc), Ok(None))
+    true
 }
 
 fn laws_do_nothing() -> bool {

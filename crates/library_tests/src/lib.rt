@@ -5,6 +5,7 @@
 #![tactic(auto)]
 
 mod beliefs;
+mod bytes;
 mod codes;
 mod commands;
 mod inbound;
@@ -18,10 +19,20 @@ mod talks;
 mod terminals;
 mod wire;
 
+use std::alloc::Global;
+use std::fmt::Display;
 use std::io;
 
 /// What is tried, in words, and whether it is so.
 type Check = (&'static str, bool);
+
+/// Whether a value is printed so.
+fn prints<D: Display>(alloc: Global, value: &D, text: &str) -> bool {
+    match format!(in alloc; "{value}") {
+        Ok(printed) => printed.as_str() == text,
+        Err(_) => false,
+    }
+}
 
 /// Prints the checks of a library. Says whether all are so.
 fn tell(rt: &impl Print, library: &str, checks: &[Check]) -> io::Result<bool> {

@@ -6,22 +6,17 @@ mod texts;
 
 use crate::Check;
 use panels::{At, PanelFault, PanelSet, TreeFault, Values};
-use std::alloc::{AllocError, Global};
+use std::alloc::Global;
 use texts::SIGN_ON;
-
-fn has_fault(alloc: Global, text: &str, wanted: PanelFault) -> bool {
-    match PanelSet::read(alloc, text) {
-        Ok(_) => false,
-        Err(fault) => fault == wanted,
-    }
-}
 
 const OVERLAP: &str =
     "start = \"A\"\nlus = []\npanel = [{name = \"A\", field = [{name = \"f\", row = 1, col = 2, length = 3}, {name = \"g\", row = 1, col = 5, length = 1}]}]";
 
 fn a_fault_has_its_place(alloc: Global) -> bool {
-    let overlap = PanelFault::Tree(TreeFault::Overlap, At::Field(0, 1));
-    has_fault(alloc, OVERLAP, overlap)
+    match PanelSet::read(alloc, OVERLAP) {
+        Ok(_) => false,
+        Err(fault) => fault == PanelFault::Tree(TreeFault::Overlap, At::Field(0, 1)),
+    }
 }
 
 /// How long the value of a field is.
@@ -32,50 +27,47 @@ fn length_at(values: &Values, field: usize) -> Option<usize> {
     }
 }
 
-fn keeps_what_is_set(values: &mut Values) -> Result<bool, AllocError> {
-    let begins_empty = values.get(0).is_none();
-    values.set(3, &[0xC1])?;
-    values.set(1, &[0xC2, 0xC3])?;
-    values.set(3, &[])?;
-    Ok(
-        begins_empty
-            && length_at(values, 3) == Some(0)
-            && length_at(values, 1) == Some(2)
-            && values.get(2).is_none(),
-    )
+fn keeps_what_is_set(values: &mut Values) -> bool {
+    values.get(0).is_none()
+        && values.set(3, &[0xC1]).is_ok()
+        && values.set(1, &[0xC2, 0xC3]).is_ok()
+        && values.set(3, &[]).is_ok()
+        && length_at(values, 3) == Some(0)
+        && length_at(values, 1) == Some(2)
+        && values.get(2).is_none()
 }
 
 fn values_are_kept(alloc: Global) -> bool {
-    matches!(keeps_what_is_set(&mut Values::new(alloc)), Ok(true))
+    keeps_what_is_set(&mut Values::new(alloc))
 }
 
-fn learns(values: &mut Values) -> Result<bool, AllocError> {
-    values.set_if(2, Some(&[0xC4]))?;
-    values.set_if(1, None)?;
-    Ok(length_at(values, 2) == Some(1) && length_at(values, 1) == Some(2))
+fn learns(values: &mut Values) -> bool {
+    values.set_if(2, Some(&[0xC4])).is_ok()
+        && values.set_if(1, None).is_ok()
+        && length_at(values, 2) == Some(1)
+        && length_at(values, 1) == Some(2)
 }
 
-fn learns_into_a_copy(values: &mut Values) -> Result<bool, AllocError> {
-    values.set(1, &[0xC2, 0xC3])?;
-    let mut copy = values.clone()?;
-    Ok(learns(&mut copy)? && values.get(2).is_none())
+/// Whether a copy learns, and the values don't.
+fn learns_into_a_copy(values: &Values) -> bool {
+    match values.clone() {
+        Ok(mut copy) => learns(&mut copy) && values.get(2).is_none(),
+        Err(_) => false,
+    }
 }
 
 fn a_copy_learns_alone(alloc: Global) -> bool {
-    matches!(learns_into_a_copy(&mut Values::new(alloc)), Ok(true))
+    let mut values = Values::new(alloc);
+    values.set(1, &[0xC2, 0xC3]).is_ok() && learns_into_a_copy(&values)
 }
 
 // `rt try --fail-alloc N -- libraries` in crates/trials3270 refuses the Nth growth: the next two show what is left then.
 
-fn reads_or_wants_memory(alloc: Global) -> bool {
+fn a_refused_growth_is_told(alloc: Global) -> bool {
     match PanelSet::read(alloc, SIGN_ON) {
         Ok(set) => set.len() == 2,
         Err(fault) => fault == PanelFault::Memory,
     }
-}
-
-fn a_refused_growth_is_told(alloc: Global) -> bool {
-    reads_or_wants_memory(alloc)
 }
 
 fn changes_nothing_without_room(values: &mut Values) -> bool {
