@@ -1,6 +1,6 @@
 //! Worked dialogues: what is believed after commands were taken and data was heard. They are tables of steps, which one function takes
 //! in turn.
-use crate::Check;
+use crate::Tried;
 use crate::bytes::{Run, spelt};
 use codes3270::{Addr, Attr, CELL_COUNT, Cell};
 use datastream::{Form, InboundFault, read_command, read_inbound};
@@ -392,49 +392,64 @@ static STORED: [Step; 12] = [
     Step::Unknown(0),
 ];
 
-/// What is tried here, and whether it is so.
-pub(crate) fn checks(alloc: Global) -> [Check; 11] {
-    [
-        (
-            "an unreturned field is as it was or null",
-            begins_with(alloc, &UNRETURNED),
-        ),
-        (
-            "erased input is heard as nulls",
-            erased_input_is_heard_as_nulls(alloc),
-        ),
-        (
-            "a returned text leaves its places open",
-            begins_with(alloc, &TEXT_ANYWHERE),
-        ),
-        ("a panel answers", a_panel_answers(alloc)),
-        (
-            "what cannot be is refused",
-            what_cannot_be_is_refused(alloc),
-        ),
-        (
-            "a field goes on behind the last cell",
-            begins_with(alloc, &ROUND_THE_END),
-        ),
-        (
-            "a text that was reset may be null",
-            begins_with(alloc, &RESET_TEXT),
-        ),
-        (
-            "a host that knows nothing learns nothing of fields",
-            begins_with(alloc, &NOTHING_IS_LEARNT),
-        ),
-        (
-            "a cleared screen is null until it is typed on",
-            begins_with(alloc, &CLEARED),
-        ),
-        (
-            "a protected field that is on comes with its text",
-            begins_with(alloc, &PROTECTED),
-        ),
-        (
-            "a write makes known what it stores",
-            begins_with(alloc, &STORED),
-        ),
-    ]
+/// What is tried here.
+pub(crate) enum Check {
+    Unreturned,
+    ErasedInput,
+    ReturnedText,
+    Panel,
+    CannotBe,
+    RoundTheEnd,
+    ResetText,
+    KnowsNothing,
+    Cleared,
+    Protected,
+    Stored,
+}
+
+pub(crate) static CHECKS: [(&str, Check); 11] = [
+    (
+        "an unreturned field is as it was or null",
+        Check::Unreturned,
+    ),
+    ("erased input is heard as nulls", Check::ErasedInput),
+    (
+        "a returned text leaves its places open",
+        Check::ReturnedText,
+    ),
+    ("a panel answers", Check::Panel),
+    ("what cannot be is refused", Check::CannotBe),
+    ("a field goes on behind the last cell", Check::RoundTheEnd),
+    ("a text that was reset may be null", Check::ResetText),
+    (
+        "a host that knows nothing learns nothing of fields",
+        Check::KnowsNothing,
+    ),
+    (
+        "a cleared screen is null until it is typed on",
+        Check::Cleared,
+    ),
+    (
+        "a protected field that is on comes with its text",
+        Check::Protected,
+    ),
+    ("a write makes known what it stores", Check::Stored),
+];
+
+impl Tried for Check {
+    fn is_so(&self, alloc: Global) -> bool {
+        match self {
+            Check::Unreturned => begins_with(alloc, &UNRETURNED),
+            Check::ErasedInput => erased_input_is_heard_as_nulls(alloc),
+            Check::ReturnedText => begins_with(alloc, &TEXT_ANYWHERE),
+            Check::Panel => a_panel_answers(alloc),
+            Check::CannotBe => what_cannot_be_is_refused(alloc),
+            Check::RoundTheEnd => begins_with(alloc, &ROUND_THE_END),
+            Check::ResetText => begins_with(alloc, &RESET_TEXT),
+            Check::KnowsNothing => begins_with(alloc, &NOTHING_IS_LEARNT),
+            Check::Cleared => begins_with(alloc, &CLEARED),
+            Check::Protected => begins_with(alloc, &PROTECTED),
+            Check::Stored => begins_with(alloc, &STORED),
+        }
+    }
 }

@@ -1,7 +1,7 @@
 //! The published tables of codes, byte by byte, and each call once on its happy path.
 //!
 //! A helper says of a table whether all of it is right.
-use crate::{Check, prints};
+use crate::{Tried, prints};
 use codes3270::{
     Addr, AddrFault, Aid, Attr, CELL_COUNT, CELLS, COLUMNS, Cell, Display, PaNo, PfNo, ROWS, Wcc,
     addr_from_bytes, addr_to_bytes, aid_byte, aid_from_byte, attr_code, code_laws, from_latin1,
@@ -426,45 +426,49 @@ fn cells_hold_characters_or_attributes() -> bool {
         && an_attribute_is_one(Attr::from_code(0xF0), false)
 }
 
-/// What is tried here, and whether it is so.
-pub(crate) fn checks(alloc: Global) -> [Check; 10] {
-    [
-        (
-            "each six bit value has its code",
-            each_six_bit_value_has_its_code(),
-        ),
-        (
-            "addresses are written and read",
-            addresses_are_written_and_read(alloc),
-        ),
-        (
-            "addresses go round the screen",
-            addresses_go_round_the_screen(),
-        ),
-        ("attributes have their codes", attributes_have_their_codes()),
-        (
-            "other bits of an attribute are dropped",
-            other_bits_of_an_attribute_are_dropped(),
-        ),
-        (
-            "write control characters have their codes",
-            write_control_characters_have_their_codes(),
-        ),
-        (
-            "attention identifiers have their bytes",
-            attention_identifiers_have_their_bytes(),
-        ),
-        (
-            "cells hold the listed bytes",
-            cells_hold_the_listed_bytes(200),
-        ),
-        (
-            "the code page is the published one",
-            the_code_page_is_the_published_one(),
-        ),
-        (
-            "cells hold characters or attributes",
-            cells_hold_characters_or_attributes(),
-        ),
-    ]
+/// What is tried here.
+pub(crate) enum Check {
+    SixBits,
+    Addresses,
+    RoundTheScreen,
+    Attributes,
+    OtherBits,
+    WriteControls,
+    Identifiers,
+    ListedBytes,
+    CodePage,
+    Cells,
+}
+
+pub(crate) static CHECKS: [(&str, Check); 10] = [
+    ("each six bit value has its code", Check::SixBits),
+    ("addresses are written and read", Check::Addresses),
+    ("addresses go round the screen", Check::RoundTheScreen),
+    ("attributes have their codes", Check::Attributes),
+    ("other bits of an attribute are dropped", Check::OtherBits),
+    (
+        "write control characters have their codes",
+        Check::WriteControls,
+    ),
+    ("attention identifiers have their bytes", Check::Identifiers),
+    ("cells hold the listed bytes", Check::ListedBytes),
+    ("the code page is the published one", Check::CodePage),
+    ("cells hold characters or attributes", Check::Cells),
+];
+
+impl Tried for Check {
+    fn is_so(&self, alloc: Global) -> bool {
+        match self {
+            Check::SixBits => each_six_bit_value_has_its_code(),
+            Check::Addresses => addresses_are_written_and_read(alloc),
+            Check::RoundTheScreen => addresses_go_round_the_screen(),
+            Check::Attributes => attributes_have_their_codes(),
+            Check::OtherBits => other_bits_of_an_attribute_are_dropped(),
+            Check::WriteControls => write_control_characters_have_their_codes(),
+            Check::Identifiers => attention_identifiers_have_their_bytes(),
+            Check::ListedBytes => cells_hold_the_listed_bytes(200),
+            Check::CodePage => the_code_page_is_the_published_one(),
+            Check::Cells => cells_hold_characters_or_attributes(),
+        }
+    }
 }

@@ -1,6 +1,6 @@
 //! Inbound data as bytes: what a 3278 sends in worked dialogues, whole buffers, and what isn't inbound data.
 use crate::bytes::{Run, spelt};
-use crate::{Check, prints};
+use crate::{Tried, prints};
 use codes3270::{Addr, Aid, Attr, CELL_COUNT, CELLS, Cell, PaNo};
 use datastream::{Form, Inbound, InboundFault, Part, parts_are_fields, read_inbound, sent_is_read};
 use std::alloc::Global;
@@ -318,33 +318,49 @@ fn faults_are_printed(alloc: Global) -> bool {
     true
 }
 
-/// What is tried here, and whether it is so.
-pub(crate) fn checks(alloc: Global) -> [Check; 10] {
-    [
-        (
-            "enter sends the modified fields",
-            enter_sends_the_modified_fields(),
-        ),
-        (
-            "a field that wraps comes last",
-            a_field_that_wraps_comes_last(),
-        ),
-        (
-            "parts are in the order of the bytes",
-            parts_are_in_the_order_of_the_bytes(),
-        ),
-        (
-            "a short aid stands alone only for read modified",
-            a_short_aid_stands_alone_only_for_read_modified(),
-        ),
-        ("the first fault is answered", the_first_fault_is_answered()),
-        ("a buffer has every cell", a_buffer_has_every_cell(alloc)),
-        (
-            "a buffer has no other number of cells",
-            a_buffer_has_no_other_number_of_cells(alloc),
-        ),
-        ("an address is no cell", an_address_is_no_cell()),
-        ("laws do nothing", laws_do_nothing()),
-        ("faults are printed", faults_are_printed(alloc)),
-    ]
+/// What is tried here.
+pub(crate) enum Check {
+    Fields,
+    Wrapped,
+    InOrder,
+    ShortAids,
+    FirstFault,
+    EveryCell,
+    OtherBuffers,
+    NoCell,
+    Laws,
+    Texts,
+}
+
+pub(crate) static CHECKS: [(&str, Check); 10] = [
+    ("enter sends the modified fields", Check::Fields),
+    ("a field that wraps comes last", Check::Wrapped),
+    ("parts are in the order of the bytes", Check::InOrder),
+    (
+        "a short aid stands alone only for read modified",
+        Check::ShortAids,
+    ),
+    ("the first fault is answered", Check::FirstFault),
+    ("a buffer has every cell", Check::EveryCell),
+    ("a buffer has no other number of cells", Check::OtherBuffers),
+    ("an address is no cell", Check::NoCell),
+    ("laws do nothing", Check::Laws),
+    ("faults are printed", Check::Texts),
+];
+
+impl Tried for Check {
+    fn is_so(&self, alloc: Global) -> bool {
+        match self {
+            Check::Fields => enter_sends_the_modified_fields(),
+            Check::Wrapped => a_field_that_wraps_comes_last(),
+            Check::InOrder => parts_are_in_the_order_of_the_bytes(),
+            Check::ShortAids => a_short_aid_stands_alone_only_for_read_modified(),
+            Check::FirstFault => the_first_fault_is_answered(),
+            Check::EveryCell => a_buffer_has_every_cell(alloc),
+            Check::OtherBuffers => a_buffer_has_no_other_number_of_cells(alloc),
+            Check::NoCell => an_address_is_no_cell(),
+            Check::Laws => laws_do_nothing(),
+            Check::Texts => faults_are_printed(alloc),
+        }
+    }
 }

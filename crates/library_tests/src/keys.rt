@@ -2,11 +2,12 @@
 //! stand in trials3270's dialogues.
 mod by_search;
 
-use crate::Check;
+use crate::Tried;
 use keyboard::{
     Key, Refusal, edits_rewrite_the_text, keys_are_real, keys_go_to_the_nearest,
     keys_keep_what_was_left, locks_hold, sent_keys_wait, what_keys_leave_can_be_sent,
 };
+use std::alloc::Global;
 
 fn refusals_have_numbers() -> bool {
     Refusal::Locked.number() == 1
@@ -27,14 +28,25 @@ fn laws_do_nothing() -> bool {
     true
 }
 
-/// What is tried here, and whether it is so.
-pub(crate) fn checks() -> [Check; 3] {
-    [
-        ("refusals have numbers", refusals_have_numbers()),
-        ("laws do nothing", laws_do_nothing()),
-        (
-            "new line goes as searched",
-            by_search::new_line_goes_as_searched(),
-        ),
-    ]
+/// What is tried here.
+pub(crate) enum Check {
+    Numbers,
+    Laws,
+    NewLine,
+}
+
+pub(crate) static CHECKS: [(&str, Check); 3] = [
+    ("refusals have numbers", Check::Numbers),
+    ("laws do nothing", Check::Laws),
+    ("new line goes as searched", Check::NewLine),
+];
+
+impl Tried for Check {
+    fn is_so(&self, _: Global) -> bool {
+        match self {
+            Check::Numbers => refusals_have_numbers(),
+            Check::Laws => laws_do_nothing(),
+            Check::NewLine => by_search::new_line_goes_as_searched(),
+        }
+    }
 }

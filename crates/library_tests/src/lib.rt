@@ -19,12 +19,24 @@ mod talks;
 mod terminals;
 mod wire;
 
+use codes3270::Addr;
 use std::alloc::Global;
 use std::fmt::Display;
 use std::io;
 
-/// What is tried, in words, and whether it is so.
-type Check = (&'static str, bool);
+/// What is tried of a library.
+trait Tried {
+    /// Whether it is so.
+    fn is_so(&self, alloc: Global) -> bool;
+}
+
+/// The address of a place on the screen. The checks ask for no place beyond.
+fn at(place: u16) -> Addr {
+    match Addr::new(place) {
+        Some(addr) => addr,
+        None => Addr::first(),
+    }
+}
 
 /// Whether a value is printed so.
 fn prints<D: Display>(alloc: Global, value: &D, text: &str) -> bool {
@@ -34,33 +46,77 @@ fn prints<D: Display>(alloc: Global, value: &D, text: &str) -> bool {
     }
 }
 
-/// Prints the checks of a library. Says whether all are so.
-fn tell(rt: &impl Print, library: &str, checks: &[Check]) -> io::Result<bool> {
+/// Tries a library's checks, which have names, and prints whether they are so. Says whether all are.
+fn tell<T: Tried>(
+    rt: &(impl Print + AllocGlobal),
+    library: &str,
+    checks: &[(&str, T)],
+) -> io::Result<bool> {
     let mut all = true;
-    for (what, is_so) in checks {
-        let word = if *is_so { "so" } else { "otherwise" };
+    for (what, check) in checks {
+        let is_so = check.is_so(rt.alloc());
+        let word = if is_so { "so" } else { "otherwise" };
         println!(rt; "{library}: {what}: {word}")?;
-        all = all && *is_so;
+        all = all && is_so;
     }
     Ok(all)
 }
 
+enum Library {
+    Beliefs,
+    Codes,
+    Commands,
+    Inbound,
+    Keys,
+    Messages,
+    Paints,
+    PanelTexts,
+    Pools,
+    Screens,
+    Talks,
+    Terminals,
+    Wire,
+}
+
+static LIBRARIES: [Library; 13] = [
+    Library::Beliefs,
+    Library::Codes,
+    Library::Commands,
+    Library::Inbound,
+    Library::Keys,
+    Library::Messages,
+    Library::Paints,
+    Library::PanelTexts,
+    Library::Pools,
+    Library::Screens,
+    Library::Talks,
+    Library::Terminals,
+    Library::Wire,
+];
+
+fn try_library(rt: &(impl Print + AllocGlobal), library: &Library) -> io::Result<bool> {
+    match library {
+        Library::Beliefs => tell(rt, "beliefs", &beliefs::CHECKS),
+        Library::Codes => tell(rt, "codes", &codes::CHECKS),
+        Library::Commands => tell(rt, "commands", &commands::CHECKS),
+        Library::Inbound => tell(rt, "inbound", &inbound::CHECKS),
+        Library::Keys => tell(rt, "keys", &keys::CHECKS),
+        Library::Messages => tell(rt, "messages", &messages::CHECKS),
+        Library::Paints => tell(rt, "paints", &paints::CHECKS),
+        Library::PanelTexts => tell(rt, "panel texts", &panel_texts::CHECKS),
+        Library::Pools => tell(rt, "pools", &pools::CHECKS),
+        Library::Screens => tell(rt, "screens", &screens::CHECKS),
+        Library::Talks => tell(rt, "talks", &talks::CHECKS),
+        Library::Terminals => tell(rt, "terminals", &terminals::CHECKS),
+        Library::Wire => tell(rt, "wire", &wire::CHECKS),
+    }
+}
+
 /// Tries all. Says whether all are so.
 pub fn try_libraries(rt: &(impl Print + AllocGlobal)) -> io::Result<bool> {
-    let alloc = rt.alloc();
-    Ok(
-        tell(rt, "beliefs", &beliefs::checks(alloc))?
-            & tell(rt, "codes", &codes::checks(alloc))?
-            & tell(rt, "commands", &commands::checks(alloc))?
-            & tell(rt, "inbound", &inbound::checks(alloc))?
-            & tell(rt, "keys", &keys::checks())?
-            & tell(rt, "messages", &messages::checks(alloc))?
-            & tell(rt, "paints", &paints::checks(alloc))?
-            & tell(rt, "panel texts", &panel_texts::checks(alloc))?
-            & tell(rt, "pools", &pools::checks(alloc))?
-            & tell(rt, "screens", &screens::checks(alloc))?
-            & tell(rt, "talks", &talks::checks())?
-            & tell(rt, "terminals", &terminals::checks(alloc))?
-            & tell(rt, "wire", &wire::checks(alloc))?,
-    )
+    let mut all = true;
+    for library in &LIBRARIES {
+        all = try_library(rt, library)? && all;
+    }
+    Ok(all)
 }

@@ -1,6 +1,6 @@
 //! Headers, names and messages as bytes, which no contract gives as such, and refused memory.
 use crate::bytes::{are_all, fill_room};
-use crate::{Check, prints};
+use crate::{Tried, prints};
 use std::alloc::Global;
 use telnet_wire::put_record;
 use tn3270e_msg::{
@@ -39,8 +39,10 @@ fn response_is_spelt(out: &mut Vec<u8>) -> bool {
     };
     let [kind, request, flag, high, low] = header_bytes(&answer);
     let record = [kind, request, flag, high, low, 0];
-    put_record(out, &record).is_ok()
-        && out.as_slice() == b"\x02\x00\x00\x00\xff\xff\x00\xff\xef".as_slice()
+    if put_record(out, &record).is_err() {
+        return false;
+    }
+    out.as_slice() == b"\x02\x00\x00\x00\xff\xff\x00\xff\xef".as_slice()
 }
 
 fn a_header_of_number_255(alloc: Global) -> bool {
@@ -239,7 +241,10 @@ fn is_written_as(out: &mut Vec<u8>, payload: &[u8], spelling: &[u8]) -> bool {
         return false;
     };
     out.clear();
-    put_sub_message(out, &message).is_ok() && out.as_slice() == spelling
+    if put_sub_message(out, &message).is_err() {
+        return false;
+    }
+    out.as_slice() == spelling
 }
 
 fn are_written(out: &mut Vec<u8>) -> bool {
@@ -261,9 +266,12 @@ fn is_put_at_last(out: &mut Vec<u8>, payload: &[u8]) -> bool {
         return false;
     };
     let start = out.len();
-    let is_put = put_sub_message(out, &message).is_ok()
-        || are_all(out, 7, start) && put_sub_message(out, &message).is_ok();
-    is_put && out.len() > start
+    if put_sub_message(out, &message).is_err()
+        && !(are_all(out, 7, start) && put_sub_message(out, &message).is_ok())
+    {
+        return false;
+    }
+    out.len() > start
 }
 
 // Whether so in a vector of two bytes, where one is had, behind as many sevens as there is room for.
@@ -311,31 +319,49 @@ fn where_there_is_room_no_memory_is_taken(alloc: Global) -> bool {
     true
 }
 
-/// What is tried here, and whether it is so.
-pub(crate) fn checks(alloc: Global) -> [Check; 11] {
-    [
-        ("a header of number 255", a_header_of_number_255(alloc)),
-        ("headers that are none", headers_that_are_none()),
-        ("each type has its code", each_type_has_its_code()),
-        ("faults are printed", faults_are_printed(alloc)),
-        ("numbers go round", numbers_go_round()),
-        ("names of logical units", names_of_logical_units()),
-        ("types of device", types_of_device()),
-        (
-            "payloads that are no message",
-            payloads_that_are_no_message(),
-        ),
-        (
-            "what is read is written as it was",
-            what_is_read_is_written_as_it_was(alloc),
-        ),
-        (
-            "a refused growth changes nothing",
-            a_refused_growth_changes_nothing(alloc),
-        ),
-        (
-            "where there is room no memory is taken",
-            where_there_is_room_no_memory_is_taken(alloc),
-        ),
-    ]
+/// What is tried here.
+pub(crate) enum Check {
+    Number255,
+    NoHeaders,
+    Types,
+    Texts,
+    NextNumbers,
+    Names,
+    Devices,
+    NoMessages,
+    WrittenAsRead,
+    RefusedGrowth,
+    Room,
+}
+
+pub(crate) static CHECKS: [(&str, Check); 11] = [
+    ("a header of number 255", Check::Number255),
+    ("headers that are none", Check::NoHeaders),
+    ("each type has its code", Check::Types),
+    ("faults are printed", Check::Texts),
+    ("numbers go round", Check::NextNumbers),
+    ("names of logical units", Check::Names),
+    ("types of device", Check::Devices),
+    ("payloads that are no message", Check::NoMessages),
+    ("what is read is written as it was", Check::WrittenAsRead),
+    ("a refused growth changes nothing", Check::RefusedGrowth),
+    ("where there is room no memory is taken", Check::Room),
+];
+
+impl Tried for Check {
+    fn is_so(&self, alloc: Global) -> bool {
+        match self {
+            Check::Number255 => a_header_of_number_255(alloc),
+            Check::NoHeaders => headers_that_are_none(),
+            Check::Types => each_type_has_its_code(),
+            Check::Texts => faults_are_printed(alloc),
+            Check::NextNumbers => numbers_go_round(),
+            Check::Names => names_of_logical_units(),
+            Check::Devices => types_of_device(),
+            Check::NoMessages => payloads_that_are_no_message(),
+            Check::WrittenAsRead => what_is_read_is_written_as_it_was(alloc),
+            Check::RefusedGrowth => a_refused_growth_changes_nothing(alloc),
+            Check::Room => where_there_is_room_no_memory_is_taken(alloc),
+        }
+    }
 }

@@ -1,25 +1,17 @@
 //! Worked dialogues that end in a paint: the bytes that make of a screen that is believed the one that is wanted.
 ghost use Rattle.datastream.specs.Wanted.{IsProper};
 
-use crate::Check;
 use crate::beliefs::{
     SECOND_FIELD, SIGN_ON, Step, fact_at, follows, known_at, refuses, sign_on, take,
 };
 use crate::bytes::{Run, spelt};
+use crate::{Tried, at};
 use codes3270::{Addr, Attr, CELL_COUNT, CELLS, Cell, storable};
 use datastream::{Form, Want, Wanted};
 use shadow::{Fact, HeardFault, Shadow};
 use std::alloc::Global;
 
 // ---- what is wanted
-
-/// The address of a place on the screen. The checks ask for no place beyond.
-fn at(place: u16) -> Addr {
-    match Addr::new(place) {
-        Some(addr) => addr,
-        None => Addr::first(),
-    }
-}
 
 fn keep(wanted: &mut Wanted, from: u16, to: u16) {
     for place in from..to {
@@ -418,56 +410,55 @@ fn after_an_attention_mdt_is_open(alloc: Global) -> bool {
     follows(alloc, &mut shadow, &MDT_IS_OPEN) && its_attribute_is_painted(alloc, &shadow)
 }
 
-/// What is tried here, and whether it is so.
-pub(crate) fn checks(alloc: Global) -> [Check; 12] {
-    [
-        (
-            "a screen of attributes is read",
-            a_screen_of_attributes_is_read(alloc),
-        ),
-        (
-            "a screen of characters is read",
-            a_screen_of_characters_is_read(alloc),
-        ),
-        (
-            "a text with a gap is painted anew",
-            a_text_with_a_gap_is_painted_anew(alloc),
-        ),
-        (
-            "what is right is not painted",
-            what_is_right_is_not_painted(alloc),
-        ),
-        (
-            "a blank shadow is painted over",
-            a_blank_shadow_is_painted_over(alloc),
-        ),
-        (
-            "a screen that was read is known",
-            a_screen_that_was_read_is_known(alloc),
-        ),
-        (
-            "a message is painted alone",
-            asks_again(alloc, &ANSWERED_IN_PART, REQUIRED_PAINTED),
-        ),
-        (
-            "erased input leaves nothing to paint",
-            asks_again(alloc, &ERASED_INPUT, CURSOR_ALONE),
-        ),
-        (
-            "another panel is painted over",
-            another_panel_is_painted_over(alloc),
-        ),
-        (
-            "a field that may be null is read first",
-            a_field_that_may_be_null_is_read_first(alloc),
-        ),
-        (
-            "a paint appends its bytes or changes nothing",
-            a_paint_appends_its_bytes_or_changes_nothing(alloc),
-        ),
-        (
-            "after an attention mdt is open",
-            after_an_attention_mdt_is_open(alloc),
-        ),
-    ]
+/// What is tried here.
+pub(crate) enum Check {
+    Attributes,
+    Characters,
+    Gap,
+    RightAlready,
+    Blank,
+    Read,
+    MessageAlone,
+    ErasedInput,
+    AnotherPanel,
+    MaybeNull,
+    Appends,
+    OpenMdt,
+}
+
+pub(crate) static CHECKS: [(&str, Check); 12] = [
+    ("a screen of attributes is read", Check::Attributes),
+    ("a screen of characters is read", Check::Characters),
+    ("a text with a gap is painted anew", Check::Gap),
+    ("what is right is not painted", Check::RightAlready),
+    ("a blank shadow is painted over", Check::Blank),
+    ("a screen that was read is known", Check::Read),
+    ("a message is painted alone", Check::MessageAlone),
+    ("erased input leaves nothing to paint", Check::ErasedInput),
+    ("another panel is painted over", Check::AnotherPanel),
+    ("a field that may be null is read first", Check::MaybeNull),
+    (
+        "a paint appends its bytes or changes nothing",
+        Check::Appends,
+    ),
+    ("after an attention mdt is open", Check::OpenMdt),
+];
+
+impl Tried for Check {
+    fn is_so(&self, alloc: Global) -> bool {
+        match self {
+            Check::Attributes => a_screen_of_attributes_is_read(alloc),
+            Check::Characters => a_screen_of_characters_is_read(alloc),
+            Check::Gap => a_text_with_a_gap_is_painted_anew(alloc),
+            Check::RightAlready => what_is_right_is_not_painted(alloc),
+            Check::Blank => a_blank_shadow_is_painted_over(alloc),
+            Check::Read => a_screen_that_was_read_is_known(alloc),
+            Check::MessageAlone => asks_again(alloc, &ANSWERED_IN_PART, REQUIRED_PAINTED),
+            Check::ErasedInput => asks_again(alloc, &ERASED_INPUT, CURSOR_ALONE),
+            Check::AnotherPanel => another_panel_is_painted_over(alloc),
+            Check::MaybeNull => a_field_that_may_be_null_is_read_first(alloc),
+            Check::Appends => a_paint_appends_its_bytes_or_changes_nothing(alloc),
+            Check::OpenMdt => after_an_attention_mdt_is_open(alloc),
+        }
+    }
 }

@@ -1,6 +1,6 @@
 //! Pools of few LUs: who holds one, and refused memory. The talk of a host that asks its pool is told by trials3270's
 //! dialogues.
-use crate::{Check, prints};
+use crate::{Tried, prints};
 use lu_pool::{Pool, PoolFault};
 use std::alloc::{AllocError, Global};
 use tn3270e_msg::{Lu, Reason};
@@ -115,17 +115,25 @@ fn a_refused_growth_makes_no_pool(alloc: Global) -> bool {
     is_made_at_last(alloc, &mut texts)
 }
 
-/// What is tried here, and whether it is so. The faults of lists are shown by runs of the program (runs/panel-texts.md).
-pub(crate) fn checks(alloc: Global) -> [Check; 3] {
-    [
-        (
-            "refused memory is printed",
-            prints(alloc, &PoolFault::Memory, "no memory"),
-        ),
-        ("an lu has one holder", an_lu_has_one_holder(alloc)),
-        (
-            "a refused growth makes no pool",
-            a_refused_growth_makes_no_pool(alloc),
-        ),
-    ]
+/// What is tried here. The faults of lists are shown by runs of the program (runs/panel-texts.md).
+pub(crate) enum Check {
+    Text,
+    OneHolder,
+    RefusedGrowth,
+}
+
+pub(crate) static CHECKS: [(&str, Check); 3] = [
+    ("refused memory is printed", Check::Text),
+    ("an lu has one holder", Check::OneHolder),
+    ("a refused growth makes no pool", Check::RefusedGrowth),
+];
+
+impl Tried for Check {
+    fn is_so(&self, alloc: Global) -> bool {
+        match self {
+            Check::Text => prints(alloc, &PoolFault::Memory, "no memory"),
+            Check::OneHolder => an_lu_has_one_holder(alloc),
+            Check::RefusedGrowth => a_refused_growth_makes_no_pool(alloc),
+        }
+    }
 }

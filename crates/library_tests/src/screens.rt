@@ -4,8 +4,8 @@
 
 mod by_search;
 
-use crate::Check;
-use codes3270::{Addr, CELLS};
+use crate::{Tried, at};
+use codes3270::Addr;
 use datastream::read_command;
 use presentation::{Applied, Field, Screen};
 use std::alloc::Global;
@@ -28,11 +28,6 @@ fn obeys(screen: &mut Screen, commands: &[&[u8]]) -> bool {
         }
     }
     true
-}
-
-/// The address with a number.
-fn at(place: u16) -> Addr {
-    Addr::first().forward(place % CELLS)
 }
 
 /// Types characters as keys would: stores them from a place on, and sets MDT in their field.
@@ -256,23 +251,34 @@ fn appends_all_or_nothing(alloc: Global) -> bool {
     appends(&mut Screen::blank(), &mut Vec::new(alloc))
 }
 
-/// What is tried here, and whether it is so.
-pub(crate) fn checks(alloc: Global) -> [Check; 6] {
-    [
-        (
-            "commands ask for the alarm or to restore",
-            commands_ask_for_the_alarm_or_to_restore(),
-        ),
-        ("a copy is the same", a_copy_is_the_same()),
-        ("lists and finds fields", lists_and_finds_fields()),
-        ("appends all or nothing", appends_all_or_nothing(alloc)),
-        (
-            "what is shown is as searched",
-            by_search::what_is_shown_is_as_searched(),
-        ),
-        (
-            "any screen is as searched",
-            by_search::any_screen_is_as_searched(),
-        ),
-    ]
+/// What is tried here.
+pub(crate) enum Check {
+    Asked,
+    Copy,
+    Fields,
+    Appends,
+    Shown,
+    Any,
+}
+
+pub(crate) static CHECKS: [(&str, Check); 6] = [
+    ("commands ask for the alarm or to restore", Check::Asked),
+    ("a copy is the same", Check::Copy),
+    ("lists and finds fields", Check::Fields),
+    ("appends all or nothing", Check::Appends),
+    ("what is shown is as searched", Check::Shown),
+    ("any screen is as searched", Check::Any),
+];
+
+impl Tried for Check {
+    fn is_so(&self, alloc: Global) -> bool {
+        match self {
+            Check::Asked => commands_ask_for_the_alarm_or_to_restore(),
+            Check::Copy => a_copy_is_the_same(),
+            Check::Fields => lists_and_finds_fields(),
+            Check::Appends => appends_all_or_nothing(alloc),
+            Check::Shown => by_search::what_is_shown_is_as_searched(),
+            Check::Any => by_search::any_screen_is_as_searched(),
+        }
+    }
 }

@@ -3,7 +3,7 @@
 //! In an ordinary run no growth is refused. `rt try --fail-alloc N -- libraries` in crates/trials3270 refuses the Nth one: the helpers then ask again,
 //! and all is so at every N, whichever growth it meets.
 
-use crate::Check;
+use crate::Tried;
 use codes3270::Aid;
 use keyboard::{Key, Pressed};
 use std::alloc::Global;
@@ -222,16 +222,25 @@ fn bytes_are_fed_again_after_a_refused_growth(alloc: Global) -> bool {
     }
 }
 
-/// What is tried here, and whether it is so.
-pub(crate) fn checks(alloc: Global) -> [Check; 2] {
-    [
-        (
-            "a refused growth changes nothing",
-            a_refused_growth_changes_nothing(alloc),
-        ),
-        (
-            "bytes are fed again after a refused growth",
-            bytes_are_fed_again_after_a_refused_growth(alloc),
-        ),
-    ]
+/// What is tried here.
+pub(crate) enum Check {
+    RefusedGrowth,
+    FedAgain,
+}
+
+pub(crate) static CHECKS: [(&str, Check); 2] = [
+    ("a refused growth changes nothing", Check::RefusedGrowth),
+    (
+        "bytes are fed again after a refused growth",
+        Check::FedAgain,
+    ),
+];
+
+impl Tried for Check {
+    fn is_so(&self, alloc: Global) -> bool {
+        match self {
+            Check::RefusedGrowth => a_refused_growth_changes_nothing(alloc),
+            Check::FedAgain => bytes_are_fed_again_after_a_refused_growth(alloc),
+        }
+    }
 }

@@ -2,7 +2,7 @@
 //!
 //! A check makes what is owned, and a helper that borrows it says whether all is right: each way out of a function costs a
 //! proof for what the function owns.
-use crate::Check;
+use crate::Tried;
 use crate::bytes::{are_all, fill_room};
 use std::alloc::Global;
 use telnet_wire::{
@@ -470,24 +470,28 @@ fn where_there_is_room_no_memory_is_taken(alloc: Global) -> bool {
     true
 }
 
-/// What is tried here, and whether it is so.
-pub(crate) fn checks(alloc: Global) -> [Check; 4] {
-    [
-        (
-            "items are read and written",
-            items_are_read_and_written(alloc),
-        ),
-        (
-            "a stream is read refused and reset",
-            a_stream_is_read_refused_and_reset(alloc),
-        ),
-        (
-            "a refused growth changes nothing",
-            a_refused_growth_changes_nothing(alloc),
-        ),
-        (
-            "where there is room no memory is taken",
-            where_there_is_room_no_memory_is_taken(alloc),
-        ),
-    ]
+/// What is tried here.
+pub(crate) enum Check {
+    Items,
+    Stream,
+    RefusedGrowth,
+    Room,
+}
+
+pub(crate) static CHECKS: [(&str, Check); 4] = [
+    ("items are read and written", Check::Items),
+    ("a stream is read refused and reset", Check::Stream),
+    ("a refused growth changes nothing", Check::RefusedGrowth),
+    ("where there is room no memory is taken", Check::Room),
+];
+
+impl Tried for Check {
+    fn is_so(&self, alloc: Global) -> bool {
+        match self {
+            Check::Items => items_are_read_and_written(alloc),
+            Check::Stream => a_stream_is_read_refused_and_reset(alloc),
+            Check::RefusedGrowth => a_refused_growth_changes_nothing(alloc),
+            Check::Room => where_there_is_room_no_memory_is_taken(alloc),
+        }
+    }
 }

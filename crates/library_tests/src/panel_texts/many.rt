@@ -1,6 +1,7 @@
 //! A text with as much as there may be, and the examples.
+use super::screens::pf;
 use super::texts::{AIRLINE, BANK};
-use codes3270::{Aid, PfNo};
+use codes3270::Aid;
 use panels::{Next, PanelSet};
 use std::alloc::{AllocError, Global};
 
@@ -30,16 +31,16 @@ fn push_full_panel(text: &mut String, panel: usize) -> Result<(), AllocError> {
     for field in 0..128 {
         push_field(text, panel, field)?;
     }
-    write!(text, "]\ntext = [")?;
+    text.push_str("]\ntext = [")?;
     for item in 0..256 {
         push_shown(text, panel, item)?;
     }
-    write!(text, "]\n")
+    text.push_str("]\n")
 }
 
 /// As many panels as there may be, each full.
 fn push_all_panels(text: &mut String) -> Result<(), AllocError> {
-    write!(text, "start = \"P0\"\nlus = []\n")?;
+    text.push_str("start = \"P0\"\nlus = []\n")?;
     for panel in 0..64 {
         push_full_panel(text, panel)?;
     }
@@ -76,13 +77,6 @@ pub(super) fn a_large_text_is_read(alloc: Global) -> bool {
     match large_text(alloc) {
         Ok(text) => 1_048_576 < text.len() && last_numbers_begin_at(alloc, text.as_str(), 8064),
         Err(_) => false,
-    }
-}
-
-fn pf(number: u8) -> Aid {
-    match PfNo::new(number) {
-        Some(key) => Aid::Pf(key),
-        None => Aid::NoAid,
     }
 }
 

@@ -206,7 +206,7 @@ pub(super) fn a_panel_is_shown_again(alloc: Global) -> bool {
 
 // ---- keys
 
-fn pf(number: u8) -> Aid {
+pub(super) fn pf(number: u8) -> Aid {
     match PfNo::new(number) {
         Some(key) => Aid::Pf(key),
         None => Aid::NoAid,

@@ -1,7 +1,8 @@
 //! What is looked up by the index of attributes, beside what a search from cell to cell finds.
 use super::{
-    Commands, ERASE, FIELDS, NULLED_ROUND_THE_END, SHOWN, THREE_FIELDS, at, obey, obeys, type_at,
+    Commands, ERASE, FIELDS, NULLED_ROUND_THE_END, SHOWN, THREE_FIELDS, obey, obeys, type_at,
 };
+use crate::at;
 use crate::beliefs::SIGN_ON;
 use codes3270::{Addr, Attr, CELLS};
 use presentation::{Field, Screen};
