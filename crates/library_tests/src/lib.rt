@@ -46,8 +46,14 @@ fn prints<D: Display>(alloc: Global, value: &D, text: &str) -> bool {
     }
 }
 
-/// Tries a library's checks, which have names, and prints whether they are so. Says whether all are.
-fn tell<T: Tried>(
+/// Prints whether a check is so.
+fn tell(rt: &impl Print, library: &str, what: &str, is_so: bool) -> io::Result<()> {
+    let word = if is_so { "so" } else { "otherwise" };
+    println!(rt; "{library}: {what}: {word}")
+}
+
+/// Tries a library's checks, which have names, and prints each. Says whether all are so.
+fn try_all<T: Tried>(
     rt: &(impl Print + AllocGlobal),
     library: &str,
     checks: &[(&str, T)],
@@ -55,60 +61,82 @@ fn tell<T: Tried>(
     let mut all = true;
     for (what, check) in checks {
         let is_so = check.is_so(rt.alloc());
-        let word = if is_so { "so" } else { "otherwise" };
-        println!(rt; "{library}: {what}: {word}")?;
+        tell(rt, library, what, is_so)?;
         all = all && is_so;
     }
     Ok(all)
 }
 
-enum Library {
-    Beliefs,
+/// Libraries of what is sent.
+enum Sent {
     Codes,
     Commands,
     Inbound,
-    Keys,
     Messages,
-    Paints,
-    PanelTexts,
     Pools,
-    Screens,
     Talks,
-    Terminals,
     Wire,
 }
 
+/// Libraries of what is seen.
+enum Seen {
+    Beliefs,
+    Keys,
+    Paints,
+    PanelTexts,
+    Screens,
+    Terminals,
+}
+
+enum Library {
+    Sent(Sent),
+    Seen(Seen),
+}
+
+/// In the order in which they are tried.
 static LIBRARIES: [Library; 13] = [
-    Library::Beliefs,
-    Library::Codes,
-    Library::Commands,
-    Library::Inbound,
-    Library::Keys,
-    Library::Messages,
-    Library::Paints,
-    Library::PanelTexts,
-    Library::Pools,
-    Library::Screens,
-    Library::Talks,
-    Library::Terminals,
-    Library::Wire,
+    Library::Seen(Seen::Beliefs),
+    Library::Sent(Sent::Codes),
+    Library::Sent(Sent::Commands),
+    Library::Sent(Sent::Inbound),
+    Library::Seen(Seen::Keys),
+    Library::Sent(Sent::Messages),
+    Library::Seen(Seen::Paints),
+    Library::Seen(Seen::PanelTexts),
+    Library::Sent(Sent::Pools),
+    Library::Seen(Seen::Screens),
+    Library::Sent(Sent::Talks),
+    Library::Seen(Seen::Terminals),
+    Library::Sent(Sent::Wire),
 ];
+
+fn try_sent(rt: &(impl Print + AllocGlobal), library: &Sent) -> io::Result<bool> {
+    match library {
+        Sent::Codes => try_all(rt, "codes", &codes::CHECKS),
+        Sent::Commands => try_all(rt, "commands", &commands::CHECKS),
+        Sent::Inbound => try_all(rt, "inbound", &inbound::CHECKS),
+        Sent::Messages => try_all(rt, "messages", &messages::CHECKS),
+        Sent::Pools => try_all(rt, "pools", &pools::CHECKS),
+        Sent::Talks => try_all(rt, "talks", &talks::CHECKS),
+        Sent::Wire => try_all(rt, "wire", &wire::CHECKS),
+    }
+}
+
+fn try_seen(rt: &(impl Print + AllocGlobal), library: &Seen) -> io::Result<bool> {
+    match library {
+        Seen::Beliefs => try_all(rt, "beliefs", &beliefs::CHECKS),
+        Seen::Keys => try_all(rt, "keys", &keys::CHECKS),
+        Seen::Paints => try_all(rt, "paints", &paints::CHECKS),
+        Seen::PanelTexts => try_all(rt, "panel texts", &panel_texts::CHECKS),
+        Seen::Screens => try_all(rt, "screens", &screens::CHECKS),
+        Seen::Terminals => try_all(rt, "terminals", &terminals::CHECKS),
+    }
+}
 
 fn try_library(rt: &(impl Print + AllocGlobal), library: &Library) -> io::Result<bool> {
     match library {
-        Library::Beliefs => tell(rt, "beliefs", &beliefs::CHECKS),
-        Library::Codes => tell(rt, "codes", &codes::CHECKS),
-        Library::Commands => tell(rt, "commands", &commands::CHECKS),
-        Library::Inbound => tell(rt, "inbound", &inbound::CHECKS),
-        Library::Keys => tell(rt, "keys", &keys::CHECKS),
-        Library::Messages => tell(rt, "messages", &messages::CHECKS),
-        Library::Paints => tell(rt, "paints", &paints::CHECKS),
-        Library::PanelTexts => tell(rt, "panel texts", &panel_texts::CHECKS),
-        Library::Pools => tell(rt, "pools", &pools::CHECKS),
-        Library::Screens => tell(rt, "screens", &screens::CHECKS),
-        Library::Talks => tell(rt, "talks", &talks::CHECKS),
-        Library::Terminals => tell(rt, "terminals", &terminals::CHECKS),
-        Library::Wire => tell(rt, "wire", &wire::CHECKS),
+        Library::Sent(library) => try_sent(rt, library),
+        Library::Seen(library) => try_seen(rt, library),
     }
 }
 
