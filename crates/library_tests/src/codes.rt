@@ -1,13 +1,13 @@
 //! The published tables of codes, byte by byte, and each call once on its happy path.
 //!
 //! A helper says of a table whether all of it is right.
-use crate::Check;
+use crate::{Tried, prints};
 use codes3270::{
     Addr, AddrFault, Aid, Attr, CELL_COUNT, CELLS, COLUMNS, Cell, Display, PaNo, PfNo, ROWS, Wcc,
     addr_from_bytes, addr_to_bytes, aid_byte, aid_from_byte, attr_code, code_laws, from_latin1,
     size_laws, storable, to_latin1,
 };
-use std::alloc::{AllocError, Global};
+use std::alloc::Global;
 use std::ops::RangeInclusive;
 
 /// The runs of six-bit codes, in the order of their values: the first and the last code of each.
@@ -76,7 +76,7 @@ fn is_code_of(value: u8, code: u8) -> bool {
 }
 
 /// Says whether the runs are the codes of the values from 0 to 63.
-fn runs_agree() -> bool {
+fn each_six_bit_value_has_its_code() -> bool {
     let mut values = 0..64;
     for (first, last) in &SIX_BIT_RUNS {
         for code in *first..=*last {
@@ -91,41 +91,25 @@ fn runs_agree() -> bool {
     values.next().is_none()
 }
 
-fn each_six_bit_value_has_its_code() -> bool {
-    runs_agree()
-}
-
-static ADDRESSES: [(u16, [u8; 2]); 4] = [
-    (0, [0x40, 0x40]),
-    (79, [0xC1, 0x4F]),
-    (80, [0xC1, 0x50]),
-    (1919, [0x5D, 0x7F]),
-];
-
-/// Bytes that are read, of fourteen bits or with other codes, and nobody writes.
-static OTHER_ADDRESSES: [([u8; 2], u16); 6] = [
-    ([0x07, 0x7F], 1919),
-    ([0x00, 0x00], 0),
-    ([0x01, 0x40], 320),
-    ([0x80, 0x81], 1),
-    ([0xC0, 0xC1], 1),
-    ([0xDD, 0xFF], 1919),
+/// Bytes that are read, and whether they are those that are written. Others have fourteen bits, or other codes.
+static ADDRESSES: [(u16, [u8; 2], bool); 10] = [
+    (0, [0x40, 0x40], true),
+    (79, [0xC1, 0x4F], true),
+    (80, [0xC1, 0x50], true),
+    (1919, [0x5D, 0x7F], true),
+    (1919, [0x07, 0x7F], false),
+    (0, [0x00, 0x00], false),
+    (320, [0x01, 0x40], false),
+    (1, [0x80, 0x81], false),
+    (1, [0xC0, 0xC1], false),
+    (1919, [0xDD, 0xFF], false),
 ];
 
 static NO_ADDRESSES: [[u8; 2]; 4] = [[0x5E, 0x40], [0x07, 0x80], [0x3F, 0xFF], [0x7F, 0x7F]];
 
 fn addresses_agree() -> bool {
-    for (number, bytes) in &ADDRESSES {
-        if !(is_written_as(*number, *bytes) && is_read_as(*bytes, *number)) {
-            return false;
-        }
-    }
-    true
-}
-
-fn other_addresses_are_read() -> bool {
-    for (bytes, number) in &OTHER_ADDRESSES {
-        if !is_read_as(*bytes, *number) {
+    for (number, bytes, is_written) in &ADDRESSES {
+        if !is_read_as(*bytes, *number) || is_written_as(*number, *bytes) != *is_written {
             return false;
         }
     }
@@ -141,28 +125,19 @@ fn no_addresses_are_refused() -> bool {
     Addr::new(1920).is_none()
 }
 
-fn fault_is_printed(alloc: Global) -> Result<bool, AllocError> {
-    let printed = format!(in alloc; "{}", AddrFault::TooLarge)?;
-    Ok(printed.as_str() == "address beyond the screen")
-}
-
 fn addresses_are_written_and_read(alloc: Global) -> bool {
     addresses_agree()
-        && other_addresses_are_read()
         && no_addresses_are_refused()
-        && fault_is_printed(alloc) == Ok(true)
+        && prints(alloc, &AddrFault::TooLarge, "address beyond the screen")
 }
 
-fn goes_forward(last: Addr) -> bool {
+fn goes_round(last: Addr) -> bool {
     Addr::first().get() == 0
         && Addr::first().next().get() == 1
         && last.next().get() == 0
         && last.forward(80).get() == 79
         && last.forward(1920).get() == 1919
-}
-
-fn goes_backward(last: Addr) -> bool {
-    last.backward(80).get() == 1839
+        && last.backward(80).get() == 1839
         && Addr::first().backward(1).get() == 1919
         && Addr::first().backward(1920).get() == 0
 }
@@ -188,8 +163,7 @@ fn addresses_go_round_the_screen() -> bool {
     ROWS == 24
         && COLUMNS == 80
         && CELLS == 1920
-        && goes_forward(last)
-        && goes_backward(last)
+        && goes_round(last)
         && CELL_COUNT == 1920
         && all_are_in_order()
 }
@@ -222,7 +196,7 @@ fn answers_agree(attr: Attr) -> bool {
         && attr.hidden() == (attr.display == Display::Hidden)
 }
 
-fn attributes_agree() -> bool {
+fn attributes_have_their_codes() -> bool {
     for (code, protected, numeric, display, mdt) in &ATTRIBUTES {
         let attr = Attr {
             protected: *protected,
@@ -234,16 +208,8 @@ fn attributes_agree() -> bool {
             return false;
         }
     }
-    true
-}
-
-fn tags_are_changed() -> bool {
     attr_code(Attr::from_code(0x40).with_mdt(true)) == 0xC1
         && attr_code(Attr::from_code(0xC1).with_mdt(false)) == 0x40
-}
-
-fn attributes_have_their_codes() -> bool {
-    attributes_agree() && tags_are_changed()
 }
 
 /// Bytes that are read as an attribute, and the code that it is written as.
@@ -257,17 +223,13 @@ static OTHER_BITS: [(u8, u8); 7] = [
     (0xFF, 0x7D),
 ];
 
-fn other_bits_are_dropped() -> bool {
+fn other_bits_of_an_attribute_are_dropped() -> bool {
     for (byte, written) in &OTHER_BITS {
         if attr_code(Attr::from_code(*byte)) != *written {
             return false;
         }
     }
     true
-}
-
-fn other_bits_of_an_attribute_are_dropped() -> bool {
-    other_bits_are_dropped()
 }
 
 /// Write control characters by their bytes: alarm, restore, reset.
@@ -288,7 +250,7 @@ fn write_control_agrees(byte: u8, wcc: Wcc) -> bool {
         && wcc.reset() == wcc.reset
 }
 
-fn write_controls_agree() -> bool {
+fn write_control_characters_have_their_codes() -> bool {
     for (byte, alarm, restore, reset) in &WRITE_CONTROLS {
         let wcc = Wcc {
             alarm: *alarm,
@@ -299,17 +261,10 @@ fn write_controls_agree() -> bool {
             return false;
         }
     }
-    true
-}
-
-fn other_bits_of_a_write_control_are_dropped() -> bool {
+    // Other bits are dropped.
     Wcc::from_byte(0xF8).byte() == 0x40
         && Wcc::from_byte(0x03).byte() == 0xC3
         && Wcc::from_byte(0xFF).byte() == 0xC7
-}
-
-fn write_control_characters_have_their_codes() -> bool {
-    write_controls_agree() && other_bits_of_a_write_control_are_dropped()
 }
 
 fn is_read_as_aid(byte: u8, aid: &Aid) -> bool {
@@ -397,7 +352,7 @@ fn attention_identifiers_have_their_bytes() -> bool {
 }
 
 /// Says whether a cell holds the listed bytes, as many as this.
-fn listed_bytes_are_held(count: u8) -> bool {
+fn cells_hold_the_listed_bytes(count: u8) -> bool {
     let mut numbers = 0..count;
     for byte in 0..=255 {
         let listed = STORED_CONTROLS.contains(&byte) || (0x40..=0xFE).contains(&byte);
@@ -406,10 +361,6 @@ fn listed_bytes_are_held(count: u8) -> bool {
         }
     }
     numbers.next().is_none()
-}
-
-fn cells_hold_the_listed_bytes() -> bool {
-    listed_bytes_are_held(200)
 }
 
 fn character_agrees(code: u8, character: char) -> bool {
@@ -432,6 +383,11 @@ fn rows_agree() -> bool {
     codes.next().is_none()
 }
 
+/// Characters that no code has.
+static OTHER_CHARACTERS: [char; 7] = [
+    '\0', '\n', '\u{7F}', '\u{85}', '\u{9F}', '\u{100}', '\u{20AC}',
+];
+
 fn controls_have_no_character() -> bool {
     for code in 0x00..0x40 {
         if to_latin1(code).is_some() {
@@ -440,11 +396,6 @@ fn controls_have_no_character() -> bool {
     }
     to_latin1(0xFF).is_none()
 }
-
-/// Characters that no code has.
-static OTHER_CHARACTERS: [char; 7] = [
-    '\0', '\n', '\u{7F}', '\u{85}', '\u{9F}', '\u{100}', '\u{20AC}',
-];
 
 fn other_characters_have_no_code() -> bool {
     for character in &OTHER_CHARACTERS {
@@ -475,42 +426,49 @@ fn cells_hold_characters_or_attributes() -> bool {
         && an_attribute_is_one(Attr::from_code(0xF0), false)
 }
 
-/// What is tried here, and whether it is so.
-pub(crate) fn checks(alloc: Global) -> [Check; 10] {
-    [
-        (
-            "each six bit value has its code",
-            each_six_bit_value_has_its_code(),
-        ),
-        (
-            "addresses are written and read",
-            addresses_are_written_and_read(alloc),
-        ),
-        (
-            "addresses go round the screen",
-            addresses_go_round_the_screen(),
-        ),
-        ("attributes have their codes", attributes_have_their_codes()),
-        (
-            "other bits of an attribute are dropped",
-            other_bits_of_an_attribute_are_dropped(),
-        ),
-        (
-            "write control characters have their codes",
-            write_control_characters_have_their_codes(),
-        ),
-        (
-            "attention identifiers have their bytes",
-            attention_identifiers_have_their_bytes(),
-        ),
-        ("cells hold the listed bytes", cells_hold_the_listed_bytes()),
-        (
-            "the code page is the published one",
-            the_code_page_is_the_published_one(),
-        ),
-        (
-            "cells hold characters or attributes",
-            cells_hold_characters_or_attributes(),
-        ),
-    ]
+/// What is tried here.
+pub(crate) enum Check {
+    SixBits,
+    Addresses,
+    RoundTheScreen,
+    Attributes,
+    OtherBits,
+    WriteControls,
+    Identifiers,
+    ListedBytes,
+    CodePage,
+    Cells,
+}
+
+pub(crate) static CHECKS: [(&str, Check); 10] = [
+    ("each six bit value has its code", Check::SixBits),
+    ("addresses are written and read", Check::Addresses),
+    ("addresses go round the screen", Check::RoundTheScreen),
+    ("attributes have their codes", Check::Attributes),
+    ("other bits of an attribute are dropped", Check::OtherBits),
+    (
+        "write control characters have their codes",
+        Check::WriteControls,
+    ),
+    ("attention identifiers have their bytes", Check::Identifiers),
+    ("cells hold the listed bytes", Check::ListedBytes),
+    ("the code page is the published one", Check::CodePage),
+    ("cells hold characters or attributes", Check::Cells),
+];
+
+impl Tried for Check {
+    fn is_so(&self, alloc: Global) -> bool {
+        match self {
+            Check::SixBits => each_six_bit_value_has_its_code(),
+            Check::Addresses => addresses_are_written_and_read(alloc),
+            Check::RoundTheScreen => addresses_go_round_the_screen(),
+            Check::Attributes => attributes_have_their_codes(),
+            Check::OtherBits => other_bits_of_an_attribute_are_dropped(),
+            Check::WriteControls => write_control_characters_have_their_codes(),
+            Check::Identifiers => attention_identifiers_have_their_bytes(),
+            Check::ListedBytes => cells_hold_the_listed_bytes(200),
+            Check::CodePage => the_code_page_is_the_published_one(),
+            Check::Cells => cells_hold_characters_or_attributes(),
+        }
+    }
 }

@@ -1,7 +1,7 @@
 //! Commands read and written, byte for byte, and wanted screens. What is owned lives in helpers that answer whether all is as
 //! it should be, so that a check has few ways out.
 
-use crate::Check;
+use crate::{Tried, at, prints};
 use codes3270::{Addr, Attr, CELL_COUNT, CELLS, COLUMNS, Wcc};
 use datastream::{
     Command, CommandCode, CommandFault, CommandWriter, Memory, Order, Want, Wanted,
@@ -9,7 +9,6 @@ use datastream::{
     tabs_by_place, what_a_note_keeps, written_is_read,
 };
 use std::alloc::Global;
-use std::fmt;
 
 const CHARS: [u8; 2] = [0xC8, 0xC9];
 
@@ -19,33 +18,42 @@ const CLEARED_WCC: Wcc = Wcc {
     reset: true,
 };
 
-/// The address of a place on the screen. The checks ask for no place beyond.
-fn at(place: u16) -> Addr {
-    match Addr::new(place) {
-        Some(addr) => addr,
-        None => Addr::first(),
-    }
-}
-
-fn attribute(code: u8) -> Attr {
-    Attr::from_code(code)
-}
-
 // A field with the text HI, a field behind it, and the cursor in that.
-const TWO_FIELDS: [u8; 12] = [
-    0xF5, 0xC3, 0x11, 0x40, 0x40, 0x1D, 0x60, 0xC8, 0xC9, 0x1D, 0x40, 0x13,
-];
+const TWO_FIELDS: &[u8] = b"\xF5\xC3\x11\x40\x40\x1D\x60\xC8\xC9\x1D\x40\x13";
 
 // All cells filled with one character.
-const FILLED: [u8; 9] = [0xF1, 0xC3, 0x11, 0x40, 0x40, 0x3C, 0x40, 0x40, 0x5C];
+const FILLED: &[u8] = b"\xF1\xC3\x11\x40\x40\x3C\x40\x40\x5C";
 
 // ---- commands read
 
+/// An order, its address as a number and its attribute as a code.
+enum Shown {
+    Sba(u16),
+    Sf(u8),
+    Ra(u16, u8),
+    Eua(u16),
+    Char(u8),
+    Pt,
+    Ic,
+}
+
+fn order_of(shown: &Shown) -> Order {
+    match shown {
+        Shown::Sba(place) => Order::Sba(at(*place)),
+        Shown::Sf(code) => Order::Sf(Attr::from_code(*code)),
+        Shown::Ra(place, byte) => Order::Ra(at(*place), *byte),
+        Shown::Eua(place) => Order::Eua(at(*place)),
+        Shown::Char(byte) => Order::Char(*byte),
+        Shown::Pt => Order::Pt,
+        Shown::Ic => Order::Ic,
+    }
+}
+
 /// Whether a command gives these orders, and then no more.
-fn gives(command: &Command, wanted: &[Order]) -> bool {
+fn gives(command: &Command, wanted: &[Shown]) -> bool {
     let mut orders = command.orders();
-    for order in wanted {
-        if orders.next() != Some(*order) {
+    for shown in wanted {
+        if orders.next() != Some(order_of(shown)) {
             return false;
         }
     }
@@ -53,7 +61,7 @@ fn gives(command: &Command, wanted: &[Order]) -> bool {
 }
 
 /// Whether bytes are read as a command of this code, this write control character or none, and these orders.
-fn reads(bytes: &[u8], code: CommandCode, wcc: Option<Wcc>, orders: &[Order]) -> bool {
+fn reads(bytes: &[u8], code: CommandCode, wcc: Option<Wcc>, orders: &[Shown]) -> bool {
     match read_command(bytes) {
         Ok(command) => command.code() == code && command.wcc() == wcc && gives(&command, orders),
         Err(_) => false,
@@ -61,32 +69,18 @@ fn reads(bytes: &[u8], code: CommandCode, wcc: Option<Wcc>, orders: &[Order]) ->
 }
 
 /// Whether a command begins with just these bytes.
-fn begins_as(alloc: Global, code: CommandCode, bytes: &[u8]) -> Result<bool, Memory> {
+fn begins_as(alloc: Global, code: CommandCode, bytes: &[u8]) -> bool {
     let mut out = Vec::new(alloc);
-    CommandWriter::new(&mut out).begin(code, CLEARED_WCC)?;
-    Ok(out.as_slice() == bytes)
+    appends(&mut out, Call::Begin(code), bytes)
 }
 
 /// Whether a write is read by both its codes, and written with the second.
-fn is_write(alloc: Global, code: CommandCode, first: u8, second: u8) -> Result<bool, Memory> {
+fn is_write(alloc: Global, code: CommandCode, first: u8, second: u8) -> bool {
     let wcc = Some(CLEARED_WCC);
-    Ok(
-        reads(&[first, 0xC3], code, wcc, &[])
-            && reads(&[second, 0xC3], code, wcc, &[])
-            && code.has_orders()
-            && begins_as(alloc, code, &[second, 0xC3])?,
-    )
-}
-
-/// Whether another command is read by both its codes, and written with the second.
-fn is_other(alloc: Global, code: CommandCode, first: u8, second: u8) -> Result<bool, Memory> {
-    Ok(
-        reads(&[first, 0xC3], code, None, &[])
-            && reads(&[second, 0xC3], code, None, &[])
-            && reads(&[second], code, None, &[])
-            && !code.has_orders()
-            && begins_as(alloc, code, &[second])?,
-    )
+    reads(&[first, 0xC3], code, wcc, &[])
+        && reads(&[second, 0xC3], code, wcc, &[])
+        && code.has_orders()
+        && begins_as(alloc, code, &[second, 0xC3])
 }
 
 static WRITES: [(u8, u8, CommandCode); 3] = [
@@ -95,18 +89,23 @@ static WRITES: [(u8, u8, CommandCode); 3] = [
     (0x0D, 0x7E, CommandCode::EraseWriteAlternate),
 ];
 
-/// The first of these that is no write by its codes.
-fn first_no_write(alloc: Global) -> Result<Option<CommandCode>, Memory> {
+fn each_write_has_two_codes_and_a_write_control_character(alloc: Global) -> bool {
     for (first, second, code) in &WRITES {
-        if !is_write(alloc, *code, *first, *second)? {
-            return Ok(Some(*code));
+        if !is_write(alloc, *code, *first, *second) {
+            return false;
         }
     }
-    Ok(None)
+    true
 }
 
-fn each_write_has_two_codes_and_a_write_control_character(alloc: Global) -> bool {
-    matches!(first_no_write(alloc), Ok(None))
+/// Whether another command is read by both its codes, whatever follows, and written with the second.
+fn is_other(alloc: Global, code: CommandCode, first: u8, second: u8) -> bool {
+    reads(&[first, 0xC3], code, None, &[])
+        && reads(&[second, 0xC3], code, None, &[])
+        && reads(&[second], code, None, &[])
+        && reads(&[second, 0x11, 0x5E, 0x40, 0x02, 0xC1], code, None, &[])
+        && !code.has_orders()
+        && begins_as(alloc, code, &[second])
 }
 
 static OTHERS: [(u8, u8, CommandCode); 4] = [
@@ -116,23 +115,13 @@ static OTHERS: [(u8, u8, CommandCode); 4] = [
     (0x0F, 0x6F, CommandCode::EraseAllUnprotected),
 ];
 
-/// Whether what follows a command's code is ignored.
-fn ignores_the_rest(code: CommandCode, byte: u8) -> bool {
-    reads(&[byte, 0x11, 0x5E, 0x40, 0x02, 0xC1], code, None, &[])
-}
-
-/// The first of these that is no other command by its codes.
-fn first_no_other(alloc: Global) -> Result<Option<CommandCode>, Memory> {
+fn each_other_command_has_two_codes_alone(alloc: Global) -> bool {
     for (first, second, code) in &OTHERS {
-        if !is_other(alloc, *code, *first, *second)? || !ignores_the_rest(*code, *second) {
-            return Ok(Some(*code));
+        if !is_other(alloc, *code, *first, *second) {
+            return false;
         }
     }
-    Ok(None)
-}
-
-fn each_other_command_has_two_codes_alone(alloc: Global) -> bool {
-    matches!(first_no_other(alloc), Ok(None))
+    true
 }
 
 /// The fault of bytes that spell no command.
@@ -192,101 +181,91 @@ static FAULTS: [(&[u8], CommandFault); 24] = [
     ),
 ];
 
-/// The first of these bytes that has another fault, or none.
-fn first_without_its_fault() -> Option<&'static [u8]> {
+fn the_first_fault_is_answered() -> bool {
     for (bytes, fault) in &FAULTS {
         if fault_of(bytes) != Some(*fault) {
-            return Some(bytes);
+            return false;
         }
     }
-    None
+    true
 }
 
-fn the_first_fault_is_answered() -> bool {
-    first_without_its_fault().is_none()
-}
-
-/// The first of these commands that is read otherwise.
-fn first_read_otherwise(table: &[(&[u8], CommandCode, &[Order])]) -> Option<usize> {
-    for row in 0..table.len() {
-        let (bytes, code, orders) = table[row];
-        if !reads(bytes, code, Some(CLEARED_WCC), orders) {
-            return Some(row);
-        }
-    }
-    None
-}
+static COMMANDS: [(&[u8], CommandCode, &[Shown]); 6] = [
+    (
+        TWO_FIELDS,
+        CommandCode::EraseWrite,
+        &[
+            Shown::Sba(0),
+            Shown::Sf(0x60),
+            Shown::Char(0xC8),
+            Shown::Char(0xC9),
+            Shown::Sf(0x40),
+            Shown::Ic,
+        ],
+    ),
+    (
+        FILLED,
+        CommandCode::Write,
+        &[Shown::Sba(0), Shown::Ra(0, 0x5C)],
+    ),
+    (
+        &[
+            0xF5, 0xC3, 0x3C, 0x40, 0x40, 0x5C, 0x11, 0x40, 0xC3, 0x1D, 0x60, 0x11, 0x5D, 0x7A,
+            0x1D, 0x40, 0xC1, 0x05, 0x05, 0xC2, 0x13,
+        ],
+        CommandCode::EraseWrite,
+        &[
+            Shown::Ra(0, 0x5C),
+            Shown::Sba(3),
+            Shown::Sf(0x60),
+            Shown::Sba(CELLS - 6),
+            Shown::Sf(0x40),
+            Shown::Char(0xC1),
+            Shown::Pt,
+            Shown::Pt,
+            Shown::Char(0xC2),
+            Shown::Ic,
+        ],
+    ),
+    (
+        &[0xF1, 0xC3, 0x11, 0x40, 0xC2, 0x12, 0x40, 0xC6],
+        CommandCode::Write,
+        &[Shown::Sba(2), Shown::Eua(6)],
+    ),
+    // The ends of the first row, and the last cell in both forms.
+    (
+        &[
+            0xF1, 0xC3, 0x11, 0xC1, 0x4F, 0x11, 0xC1, 0x50, 0x11, 0x5D, 0x7F, 0x11, 0x07, 0x7F,
+        ],
+        CommandCode::Write,
+        &[
+            Shown::Sba(COLUMNS - 1),
+            Shown::Sba(COLUMNS),
+            Shown::Sba(CELLS - 1),
+            Shown::Sba(CELLS - 1),
+        ],
+    ),
+    // The characters that look like controls are stored too.
+    (
+        &[0xF1, 0xC3, 0x00, 0x0C, 0x15, 0x3F, 0xFF],
+        CommandCode::Write,
+        &[
+            Shown::Char(0x00),
+            Shown::Char(0x0C),
+            Shown::Char(0x15),
+            Shown::Char(0x3F),
+            Shown::Char(0xFF),
+        ],
+    ),
+];
 
 fn orders_are_read_one_by_one() -> bool {
-    let table: [(&[u8], CommandCode, &[Order]); 6] = [
-        (
-            &TWO_FIELDS,
-            CommandCode::EraseWrite,
-            &[
-                Order::Sba(at(0)),
-                Order::Sf(attribute(0x60)),
-                Order::Char(0xC8),
-                Order::Char(0xC9),
-                Order::Sf(attribute(0x40)),
-                Order::Ic,
-            ],
-        ),
-        (
-            &FILLED,
-            CommandCode::Write,
-            &[Order::Sba(at(0)), Order::Ra(at(0), 0x5C)],
-        ),
-        (
-            &[
-                0xF5, 0xC3, 0x3C, 0x40, 0x40, 0x5C, 0x11, 0x40, 0xC3, 0x1D, 0x60, 0x11, 0x5D, 0x7A,
-                0x1D, 0x40, 0xC1, 0x05, 0x05, 0xC2, 0x13,
-            ],
-            CommandCode::EraseWrite,
-            &[
-                Order::Ra(at(0), 0x5C),
-                Order::Sba(at(3)),
-                Order::Sf(attribute(0x60)),
-                Order::Sba(at(CELLS - 6)),
-                Order::Sf(attribute(0x40)),
-                Order::Char(0xC1),
-                Order::Pt,
-                Order::Pt,
-                Order::Char(0xC2),
-                Order::Ic,
-            ],
-        ),
-        (
-            &[0xF1, 0xC3, 0x11, 0x40, 0xC2, 0x12, 0x40, 0xC6],
-            CommandCode::Write,
-            &[Order::Sba(at(2)), Order::Eua(at(6))],
-        ),
-        // The ends of the first row, and the last cell in both forms.
-        (
-            &[
-                0xF1, 0xC3, 0x11, 0xC1, 0x4F, 0x11, 0xC1, 0x50, 0x11, 0x5D, 0x7F, 0x11, 0x07, 0x7F,
-            ],
-            CommandCode::Write,
-            &[
-                Order::Sba(at(COLUMNS - 1)),
-                Order::Sba(at(COLUMNS)),
-                Order::Sba(at(CELLS - 1)),
-                Order::Sba(at(CELLS - 1)),
-            ],
-        ),
-        // The characters that look like controls are stored too.
-        (
-            &[0xF1, 0xC3, 0x00, 0x0C, 0x15, 0x3F, 0xFF],
-            CommandCode::Write,
-            &[
-                Order::Char(0x00),
-                Order::Char(0x0C),
-                Order::Char(0x15),
-                Order::Char(0x3F),
-                Order::Char(0xFF),
-            ],
-        ),
-    ];
-    first_read_otherwise(&table).is_none()
+    for (bytes, code, orders) in &COMMANDS {
+        if !reads(bytes, *code, Some(CLEARED_WCC), orders) {
+            return false;
+        }
+    }
+    true
 }
 
 // ---- commands written
@@ -307,41 +286,45 @@ fn put(writer: &mut CommandWriter, call: Call) -> Result<(), Memory> {
     match call {
         Call::Begin(code) => writer.begin(code, CLEARED_WCC),
         Call::Sba => writer.sba(addr),
-        Call::Sf(code) => writer.sf(attribute(code)),
+        Call::Sf(code) => writer.sf(Attr::from_code(code)),
         Call::Chars => writer.chars(&CHARS),
         Call::Ra => writer.ra(addr, 0x5C),
         Call::Ic => writer.ic(),
     }
 }
 
-fn put_all(mut writer: CommandWriter, calls: &[Call]) -> Result<(), Memory> {
+/// Whether all calls of one writer are carried out.
+fn put_all(out: &mut Vec<u8>, calls: &[Call]) -> bool {
+    let mut writer = CommandWriter::new(out);
     for call in calls {
-        put(&mut writer, *call)?;
+        if put(&mut writer, *call).is_err() {
+            return false;
+        }
     }
-    Ok(())
+    true
 }
 
-/// Whether one command is written, and then the other behind it.
-fn writes_both(out: &mut Vec<u8>) -> Result<bool, Memory> {
-    let two_fields = [
-        Call::Begin(CommandCode::EraseWrite),
-        Call::Sba,
-        Call::Sf(0x60),
-        Call::Chars,
-        Call::Sf(0x40),
-        Call::Ic,
-    ];
-    let filled = [Call::Begin(CommandCode::Write), Call::Sba, Call::Ra];
-    put_all(CommandWriter::new(out), &two_fields)?;
-    let is_first = out.as_slice() == TWO_FIELDS.as_slice();
-    // What stands in the vector stays.
-    put_all(CommandWriter::new(out), &filled)?;
-    Ok(is_first && out.strip_prefix(TWO_FIELDS.as_slice()) == Some(FILLED.as_slice()))
+static TWO_FIELDS_CALLS: [Call; 6] = [
+    Call::Begin(CommandCode::EraseWrite),
+    Call::Sba,
+    Call::Sf(0x60),
+    Call::Chars,
+    Call::Sf(0x40),
+    Call::Ic,
+];
+
+static FILLED_CALLS: [Call; 3] = [Call::Begin(CommandCode::Write), Call::Sba, Call::Ra];
+
+/// Whether one command is written, and then the other behind it: what stands in the vector stays.
+fn writes_both(out: &mut Vec<u8>) -> bool {
+    put_all(out, &TWO_FIELDS_CALLS)
+        && out.as_slice() == TWO_FIELDS
+        && put_all(out, &FILLED_CALLS)
+        && out.strip_prefix(TWO_FIELDS) == Some(FILLED)
 }
 
 fn commands_are_written(alloc: Global) -> bool {
-    let mut out = Vec::new(alloc);
-    matches!(writes_both(&mut out), Ok(true))
+    writes_both(&mut Vec::new(alloc))
 }
 
 /// Whether a call appends these bytes to an empty vector, or is refused and appends nothing.
@@ -383,19 +366,14 @@ static CALLS: [(Call, &[u8]); 7] = [
     (Call::Ic, &[0x13]),
 ];
 
-/// The bytes of the first of these calls that appends others.
-fn first_appended_otherwise(alloc: Global) -> Option<&'static [u8]> {
-    for (call, bytes) in &CALLS {
-        if !appends_to_full(alloc, *call, bytes) || !appends_to_roomy(alloc, *call, bytes) {
-            return Some(bytes);
-        }
-    }
-    None
-}
-
 // Run it with each allocation failing in turn: a call is then refused at some time, and the vector stays as it was.
 fn a_call_appends_its_bytes_or_changes_nothing(alloc: Global) -> bool {
-    first_appended_otherwise(alloc).is_none()
+    for (call, bytes) in &CALLS {
+        if !appends_to_full(alloc, *call, bytes) || !appends_to_roomy(alloc, *call, bytes) {
+            return false;
+        }
+    }
+    true
 }
 
 // ---- wanted screens
@@ -403,7 +381,7 @@ fn a_call_appends_its_bytes_or_changes_nothing(alloc: Global) -> bool {
 /// An attribute in the first cell and a character in the last, and the cursor at 7.
 fn example(reset: bool) -> Wanted {
     let mut wanted = Wanted::filled(Want::Keep);
-    wanted.put(0, Want::Attr(attribute(0x60)));
+    wanted.put(0, Want::Attr(Attr::from_code(0x60)));
     wanted.put(CELL_COUNT - 1, Want::Char(0xC1));
     wanted.aim(at(7), reset);
     wanted
@@ -411,7 +389,7 @@ fn example(reset: bool) -> Wanted {
 
 /// Whether each cell of the example is as it was wanted.
 fn names_each_cell(wanted: &Wanted) -> bool {
-    let attr = Want::Attr(attribute(0x60));
+    let attr = Want::Attr(Attr::from_code(0x60));
     wanted.want(at(0)) == attr
         && wanted.want(at(1)) == Want::Keep
         && wanted.want(at(CELLS - 1)) == Want::Char(0xC1)
@@ -426,12 +404,6 @@ fn a_wanted_screen_names_each_cell() -> bool {
     names_each_cell(&wanted) && !example(false).reset()
 }
 
-/// Whether a fault has this text.
-fn has_text(alloc: Global, fault: CommandFault, text: &str) -> Result<bool, fmt::Error> {
-    let printed = format!(in alloc; "{fault}")?;
-    Ok(printed.as_str() == text)
-}
-
 static TEXTS: [(CommandFault, &str); 4] = [
     (CommandFault::BadCommand, "unknown command"),
     (CommandFault::BadOrder, "neither an order nor a character"),
@@ -439,18 +411,13 @@ static TEXTS: [(CommandFault, &str); 4] = [
     (CommandFault::Truncated, "command cut short"),
 ];
 
-/// The first fault that has another text.
-fn first_with_another_text(alloc: Global) -> Result<Option<CommandFault>, fmt::Error> {
+fn faults_have_texts(alloc: Global) -> bool {
     for (fault, text) in &TEXTS {
-        if !has_text(alloc, *fault, text)? {
-            return Ok(Some(*fault));
+        if !prints(alloc, fault, text) {
+            return false;
         }
     }
-    Ok(None)
-}
-
-fn faults_have_texts(alloc: Global) -> bool {
-    matches!(first_with_another_text(alloc), Ok(None))
+    true
 }
 
 fn laws_do_nothing() -> bool {
@@ -464,29 +431,52 @@ fn laws_do_nothing() -> bool {
     true
 }
 
-/// What is tried here, and whether it is so.
-pub(crate) fn checks(alloc: Global) -> [Check; 9] {
-    [
-        (
-            "each write has two codes and a write control character",
-            each_write_has_two_codes_and_a_write_control_character(alloc),
-        ),
-        (
-            "each other command has two codes alone",
-            each_other_command_has_two_codes_alone(alloc),
-        ),
-        ("the first fault is answered", the_first_fault_is_answered()),
-        ("orders are read one by one", orders_are_read_one_by_one()),
-        ("commands are written", commands_are_written(alloc)),
-        (
-            "a call appends its bytes or changes nothing",
-            a_call_appends_its_bytes_or_changes_nothing(alloc),
-        ),
-        (
-            "a wanted screen names each cell",
-            a_wanted_screen_names_each_cell(),
-        ),
-        ("faults have texts", faults_have_texts(alloc)),
-        ("laws do nothing", laws_do_nothing()),
-    ]
+/// What is tried here.
+pub(crate) enum Check {
+    Writes,
+    OtherCommands,
+    FirstFault,
+    Orders,
+    Written,
+    Appends,
+    Wanted,
+    Texts,
+    Laws,
+}
+
+pub(crate) static CHECKS: [(&str, Check); 9] = [
+    (
+        "each write has two codes and a write control character",
+        Check::Writes,
+    ),
+    (
+        "each other command has two codes alone",
+        Check::OtherCommands,
+    ),
+    ("the first fault is answered", Check::FirstFault),
+    ("orders are read one by one", Check::Orders),
+    ("commands are written", Check::Written),
+    (
+        "a call appends its bytes or changes nothing",
+        Check::Appends,
+    ),
+    ("a wanted screen names each cell", Check::Wanted),
+    ("faults have texts", Check::Texts),
+    ("laws do nothing", Check::Laws),
+];
+
+impl Tried for Check {
+    fn is_so(&self, alloc: Global) -> bool {
+        match self {
+            Check::Writes => each_write_has_two_codes_and_a_write_control_character(alloc),
+            Check::OtherCommands => each_other_command_has_two_codes_alone(alloc),
+            Check::FirstFault => the_first_fault_is_answered(),
+            Check::Orders => orders_are_read_one_by_one(),
+            Check::Written => commands_are_written(alloc),
+            Check::Appends => a_call_appends_its_bytes_or_changes_nothing(alloc),
+            Check::Wanted => a_wanted_screen_names_each_cell(),
+            Check::Texts => faults_have_texts(alloc),
+            Check::Laws => laws_do_nothing(),
+        }
+    }
 }

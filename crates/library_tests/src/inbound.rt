@@ -1,9 +1,9 @@
 //! Inbound data as bytes: what a 3278 sends in worked dialogues, whole buffers, and what isn't inbound data.
-use crate::Check;
-use codes3270::{Addr, Aid, Attr, CELLS, Cell, PaNo};
+use crate::bytes::{Run, spelt};
+use crate::{Tried, prints};
+use codes3270::{Addr, Aid, Attr, CELL_COUNT, CELLS, Cell, PaNo};
 use datastream::{Form, Inbound, InboundFault, Part, parts_are_fields, read_inbound, sent_is_read};
-use std::alloc::{AllocError, Global};
-use std::fmt;
+use std::alloc::Global;
 
 /// Whether these are the fields that came, each by its first address and its text.
 fn has_fields(inbound: &Inbound<'_>, wanted: &[(u16, &[u8])]) -> bool {
@@ -46,42 +46,39 @@ fn sends_fields(bytes: &[u8], cursor: u16, fields: &[(u16, &[u8])]) -> bool {
     }
 }
 
-static ENTERED: [(&str, &[u8], u16, &[(u16, &[u8])]); 7] = [
+static ENTERED: [(&[u8], u16, &[(u16, &[u8])]); 7] = [
+    // One field.
     (
-        "one field",
         &[0x7D, 0x40, 0xC5, 0x11, 0x40, 0xC4, 0xC1],
         5,
         &[(4, &[0xC1])],
     ),
+    // An emptied field.
+    (&[0x7D, 0x40, 0xC4, 0x11, 0x40, 0xC4], 4, &[(4, &[])]),
+    // Nothing modified.
+    (&[0x7D, 0x40, 0xC1], 1, &[]),
+    // The cursor elsewhere.
     (
-        "an emptied field",
-        &[0x7D, 0x40, 0xC4, 0x11, 0x40, 0xC4],
-        4,
-        &[(4, &[])],
-    ),
-    ("nothing modified", &[0x7D, 0x40, 0xC1], 1, &[]),
-    (
-        "the cursor elsewhere",
         &[0x7D, 0x40, 0x40, 0x11, 0x40, 0xC4, 0xC4],
         0,
         &[(4, &[0xC4])],
     ),
+    // Two characters.
     (
-        "two characters",
         &[0x7D, 0x40, 0xC4, 0x11, 0x40, 0xC1, 0xC1, 0xC2],
         4,
         &[(1, &[0xC1, 0xC2])],
     ),
+    // Two fields.
     (
-        "two fields",
         &[
             0x7D, 0x40, 0xC7, 0x11, 0x40, 0xC1, 0xC1, 0x11, 0x40, 0xC5, 0xC2,
         ],
         7,
         &[(1, &[0xC1]), (5, &[0xC2])],
     ),
+    // A character deleted.
     (
-        "a character deleted",
         &[
             0x7D, 0xC1, 0x4D, 0x11, 0xC1, 0x4C, 0xC1, 0xC3, 0xC4, 0xC5, 0xC6,
         ],
@@ -90,18 +87,13 @@ static ENTERED: [(&str, &[u8], u16, &[(u16, &[u8])]); 7] = [
     ),
 ];
 
-/// The name of the first of these that isn't read so.
-fn first_entered_otherwise() -> Option<&'static str> {
-    for (name, bytes, cursor, fields) in &ENTERED {
+fn enter_sends_the_modified_fields() -> bool {
+    for (bytes, cursor, fields) in &ENTERED {
         if !sends_fields(bytes, *cursor, fields) {
-            return Some(name);
+            return false;
         }
     }
-    None
-}
-
-fn enter_sends_the_modified_fields() -> bool {
-    first_entered_otherwise().is_none()
+    true
 }
 
 fn a_field_that_wraps_comes_last() -> bool {
@@ -186,29 +178,13 @@ static FAULTS: [(&[u8], InboundFault); 11] = [
     (&[0x7D, 0x40, 0x40, 0x1D, 0x40], InboundFault::BadForm),
 ];
 
-/// The first of these bytes that has another fault as Read Modified's data, or none.
-fn first_without_its_fault() -> Option<&'static [u8]> {
+fn the_first_fault_is_answered() -> bool {
     for (bytes, fault) in &FAULTS {
         if fault_of(bytes, Form::Modified) != Some(*fault) {
-            return Some(bytes);
+            return false;
         }
     }
-    None
-}
-
-fn the_first_fault_is_answered() -> bool {
-    first_without_its_fault().is_none() && fault_of(&[0x6C], Form::All) == Some(InboundFault::Short)
-}
-
-/// Read Buffer's data after PA1 with the cursor at 169: an attribute, `count` cells of `A`, and more bytes.
-fn buffer(alloc: Global, count: u16, more: &[u8]) -> Result<Vec<u8>, AllocError> {
-    let mut bytes = Vec::new(alloc);
-    bytes.extend_from_slice(&[0x6C, 0xC2, 0xE9, 0x1D, 0xF0])?;
-    for _ in 0..count {
-        bytes.push(0xC1)?;
-    }
-    bytes.extend_from_slice(more)?;
-    Ok(bytes)
+    fault_of(&[0x6C], Form::All) == Some(InboundFault::Short)
 }
 
 /// Whether the parts are an attribute, characters, and a null in the last cell.
@@ -255,50 +231,56 @@ fn is_whole_buffer(bytes: &[u8]) -> bool {
     }
 }
 
+/// Read Buffer's data after PA1 begins so, with the cursor at 169 and an attribute; cells of `A` follow.
+const BEGUN: Run = (b"\x6C\xC2\xE9\x1D\xF0", 1);
+
+/// A whole buffer. The last cell is null.
+static WHOLE_BUFFER: [Run; 3] = [BEGUN, (b"\xC1", CELL_COUNT - 2), (b"\x00", 1)];
+
 fn a_buffer_has_every_cell(alloc: Global) -> bool {
-    // The last cell is null.
-    let Ok(bytes) = buffer(alloc, CELLS - 2, &[0x00]) else {
-        return false;
-    };
-    is_whole_buffer(&bytes)
+    match spelt(alloc, &WHOLE_BUFFER) {
+        Ok(bytes) => is_whole_buffer(bytes.as_slice()),
+        Err(_) => false,
+    }
 }
 
-/// Whether an attribute, `count` cells and more bytes have this fault.
-fn has_fault(
-    alloc: Global,
-    count: u16,
-    more: &[u8],
-    fault: InboundFault,
-) -> Result<bool, AllocError> {
-    let bytes = buffer(alloc, count, more)?;
-    Ok(fault_of(&bytes, Form::Buffer) == Some(fault))
+/// Whether a buffer of these runs has this fault.
+fn has_fault(alloc: Global, runs: &[Run], fault: InboundFault) -> bool {
+    match spelt(alloc, runs) {
+        Ok(bytes) => fault_of(bytes.as_slice(), Form::Buffer) == Some(fault),
+        Err(_) => false,
+    }
 }
 
-static BUFFERS: [(&str, u16, &[u8], InboundFault); 5] = [
-    ("too many", CELLS, &[], InboundFault::BadForm),
-    ("too few", CELLS - 2, &[], InboundFault::Short),
-    ("an attribute cut", CELLS - 2, &[0x1D], InboundFault::Short),
+static OTHER_BUFFERS: [(&[Run], InboundFault); 5] = [
+    // Too many.
+    (&[BEGUN, (b"\xC1", CELL_COUNT)], InboundFault::BadForm),
+    // Too few.
+    (&[BEGUN, (b"\xC1", CELL_COUNT - 2)], InboundFault::Short),
+    // An attribute cut.
     (
-        "one cut behind the last",
-        CELLS - 1,
-        &[0x1D],
+        &[BEGUN, (b"\xC1", CELL_COUNT - 2), (b"\x1D", 1)],
+        InboundFault::Short,
+    ),
+    // One cut behind the last.
+    (
+        &[BEGUN, (b"\xC1", CELL_COUNT - 1), (b"\x1D", 1)],
         InboundFault::BadForm,
     ),
-    ("unstorable", CELLS - 2, &[0x11], InboundFault::BadForm),
+    // Unstorable.
+    (
+        &[BEGUN, (b"\xC1", CELL_COUNT - 2), (b"\x11", 1)],
+        InboundFault::BadForm,
+    ),
 ];
 
-/// The name of the first of these buffers that has another fault, or none.
-fn first_buffer_without_its_fault(alloc: Global) -> Result<Option<&'static str>, AllocError> {
-    for (name, count, more, fault) in &BUFFERS {
-        if !has_fault(alloc, *count, more, *fault)? {
-            return Ok(Some(name));
+fn a_buffer_has_no_other_number_of_cells(alloc: Global) -> bool {
+    for (runs, fault) in &OTHER_BUFFERS {
+        if !has_fault(alloc, runs, *fault) {
+            return false;
         }
     }
-    Ok(None)
-}
-
-fn a_buffer_has_no_other_number_of_cells(alloc: Global) -> bool {
-    matches!(first_buffer_without_its_fault(alloc), Ok(None))
+    true
 }
 
 fn an_address_is_no_cell() -> bool {
@@ -314,12 +296,6 @@ fn laws_do_nothing() -> bool {
     true
 }
 
-/// Whether a fault has this text.
-fn has_text(alloc: Global, fault: InboundFault, text: &str) -> Result<bool, fmt::Error> {
-    let printed = format!(in alloc; "{fault}")?;
-    Ok(printed.as_str() == text)
-}
-
 static TEXTS: [(InboundFault, &str); 4] = [
     (InboundFault::Short, "the inbound data ends too early"),
     (InboundFault::BadAid, "the inbound data begins with no AID"),
@@ -333,47 +309,58 @@ static TEXTS: [(InboundFault, &str); 4] = [
     ),
 ];
 
-/// The first fault that has another text.
-fn first_with_another_text(alloc: Global) -> Result<Option<InboundFault>, fmt::Error> {
+fn faults_are_printed(alloc: Global) -> bool {
     for (fault, text) in &TEXTS {
-        if !has_text(alloc, *fault, text)? {
-            return Ok(Some(*fault));
+        if !prints(alloc, fault, text) {
+            return false;
         }
     }
-    Ok(None)
+    true
 }
 
-fn faults_are_printed(alloc: Global) -> bool {
-    matches!(first_with_another_text(alloc), Ok(None))
+/// What is tried here.
+pub(crate) enum Check {
+    Fields,
+    Wrapped,
+    InOrder,
+    ShortAids,
+    FirstFault,
+    EveryCell,
+    OtherBuffers,
+    NoCell,
+    Laws,
+    Texts,
 }
 
-/// What is tried here, and whether it is so.
-pub(crate) fn checks(alloc: Global) -> [Check; 10] {
-    [
-        (
-            "enter sends the modified fields",
-            enter_sends_the_modified_fields(),
-        ),
-        (
-            "a field that wraps comes last",
-            a_field_that_wraps_comes_last(),
-        ),
-        (
-            "parts are in the order of the bytes",
-            parts_are_in_the_order_of_the_bytes(),
-        ),
-        (
-            "a short aid stands alone only for read modified",
-            a_short_aid_stands_alone_only_for_read_modified(),
-        ),
-        ("the first fault is answered", the_first_fault_is_answered()),
-        ("a buffer has every cell", a_buffer_has_every_cell(alloc)),
-        (
-            "a buffer has no other number of cells",
-            a_buffer_has_no_other_number_of_cells(alloc),
-        ),
-        ("an address is no cell", an_address_is_no_cell()),
-        ("laws do nothing", laws_do_nothing()),
-        ("faults are printed", faults_are_printed(alloc)),
-    ]
+pub(crate) static CHECKS: [(&str, Check); 10] = [
+    ("enter sends the modified fields", Check::Fields),
+    ("a field that wraps comes last", Check::Wrapped),
+    ("parts are in the order of the bytes", Check::InOrder),
+    (
+        "a short aid stands alone only for read modified",
+        Check::ShortAids,
+    ),
+    ("the first fault is answered", Check::FirstFault),
+    ("a buffer has every cell", Check::EveryCell),
+    ("a buffer has no other number of cells", Check::OtherBuffers),
+    ("an address is no cell", Check::NoCell),
+    ("laws do nothing", Check::Laws),
+    ("faults are printed", Check::Texts),
+];
+
+impl Tried for Check {
+    fn is_so(&self, alloc: Global) -> bool {
+        match self {
+            Check::Fields => enter_sends_the_modified_fields(),
+            Check::Wrapped => a_field_that_wraps_comes_last(),
+            Check::InOrder => parts_are_in_the_order_of_the_bytes(),
+            Check::ShortAids => a_short_aid_stands_alone_only_for_read_modified(),
+            Check::FirstFault => the_first_fault_is_answered(),
+            Check::EveryCell => a_buffer_has_every_cell(alloc),
+            Check::OtherBuffers => a_buffer_has_no_other_number_of_cells(alloc),
+            Check::NoCell => an_address_is_no_cell(),
+            Check::Laws => laws_do_nothing(),
+            Check::Texts => faults_are_printed(alloc),
+        }
+    }
 }

@@ -4,24 +4,19 @@ mod many;
 mod screens;
 mod texts;
 
-use crate::Check;
+use crate::Tried;
 use panels::{At, PanelFault, PanelSet, TreeFault, Values};
-use std::alloc::{AllocError, Global};
+use std::alloc::Global;
 use texts::SIGN_ON;
-
-fn has_fault(alloc: Global, text: &str, wanted: PanelFault) -> bool {
-    match PanelSet::read(alloc, text) {
-        Ok(_) => false,
-        Err(fault) => fault == wanted,
-    }
-}
 
 const OVERLAP: &str =
     "start = \"A\"\nlus = []\npanel = [{name = \"A\", field = [{name = \"f\", row = 1, col = 2, length = 3}, {name = \"g\", row = 1, col = 5, length = 1}]}]";
 
 fn a_fault_has_its_place(alloc: Global) -> bool {
-    let overlap = PanelFault::Tree(TreeFault::Overlap, At::Field(0, 1));
-    has_fault(alloc, OVERLAP, overlap)
+    match PanelSet::read(alloc, OVERLAP) {
+        Ok(_) => false,
+        Err(fault) => fault == PanelFault::Tree(TreeFault::Overlap, At::Field(0, 1)),
+    }
 }
 
 /// How long the value of a field is.
@@ -32,106 +27,129 @@ fn length_at(values: &Values, field: usize) -> Option<usize> {
     }
 }
 
-fn keeps_what_is_set(values: &mut Values) -> Result<bool, AllocError> {
-    let begins_empty = values.get(0).is_none();
-    values.set(3, &[0xC1])?;
-    values.set(1, &[0xC2, 0xC3])?;
-    values.set(3, &[])?;
-    Ok(
-        begins_empty
-            && length_at(values, 3) == Some(0)
-            && length_at(values, 1) == Some(2)
-            && values.get(2).is_none(),
-    )
+fn keeps_what_is_set(values: &mut Values) -> bool {
+    values.get(0).is_none()
+        && values.set(3, &[0xC1]).is_ok()
+        && values.set(1, &[0xC2, 0xC3]).is_ok()
+        && values.set(3, &[]).is_ok()
+        && length_at(values, 3) == Some(0)
+        && length_at(values, 1) == Some(2)
+        && values.get(2).is_none()
 }
 
 fn values_are_kept(alloc: Global) -> bool {
-    matches!(keeps_what_is_set(&mut Values::new(alloc)), Ok(true))
+    keeps_what_is_set(&mut Values::new(alloc))
 }
 
-fn learns(values: &mut Values) -> Result<bool, AllocError> {
-    values.set_if(2, Some(&[0xC4]))?;
-    values.set_if(1, None)?;
-    Ok(length_at(values, 2) == Some(1) && length_at(values, 1) == Some(2))
+fn learns(values: &mut Values) -> bool {
+    values.set_if(2, Some(&[0xC4])).is_ok()
+        && values.set_if(1, None).is_ok()
+        && length_at(values, 2) == Some(1)
+        && length_at(values, 1) == Some(2)
 }
 
-fn learns_into_a_copy(values: &mut Values) -> Result<bool, AllocError> {
-    values.set(1, &[0xC2, 0xC3])?;
-    let mut copy = values.clone()?;
-    Ok(learns(&mut copy)? && values.get(2).is_none())
+/// Whether a copy learns, and the values don't.
+fn learns_into_a_copy(values: &Values) -> bool {
+    match values.clone() {
+        Ok(mut copy) => learns(&mut copy) && values.get(2).is_none(),
+        Err(_) => false,
+    }
 }
 
 fn a_copy_learns_alone(alloc: Global) -> bool {
-    matches!(learns_into_a_copy(&mut Values::new(alloc)), Ok(true))
+    let mut values = Values::new(alloc);
+    values.set(1, &[0xC2, 0xC3]).is_ok() && learns_into_a_copy(&values)
 }
 
 // `rt try --fail-alloc N -- libraries` in crates/trials3270 refuses the Nth growth: the next two show what is left then.
 
-fn reads_or_wants_memory(alloc: Global) -> bool {
+fn a_refused_growth_is_told(alloc: Global) -> bool {
     match PanelSet::read(alloc, SIGN_ON) {
         Ok(set) => set.len() == 2,
         Err(fault) => fault == PanelFault::Memory,
     }
 }
 
-fn a_refused_growth_is_told(alloc: Global) -> bool {
-    reads_or_wants_memory(alloc)
+fn sets_a_value_or_not(values: &mut Values) -> bool {
+    let is_set = values.set(3, &[0xC1]).is_ok();
+    let wanted = if is_set { Some(1) } else { None };
+    length_at(values, 3) == wanted
+}
+
+fn sets_another_or_not(values: &mut Values) -> bool {
+    let before = length_at(values, 3);
+    let is_set = values.set(1, &[0xC2, 0xC3]).is_ok();
+    values.get(1).is_some() == is_set && length_at(values, 3) == before
+}
+
+fn sets_it_again_or_not(values: &mut Values) -> bool {
+    let before = length_at(values, 3);
+    let other = length_at(values, 1);
+    let is_set = values.set(3, &[0xC4, 0xC5, 0xC6]).is_ok();
+    let wanted = if is_set { Some(3) } else { before };
+    length_at(values, 3) == wanted && length_at(values, 1) == other
 }
 
 fn changes_nothing_without_room(values: &mut Values) -> bool {
-    let first = values.set(3, &[0xC1]).is_ok();
-    let has_first = values.get(3).is_some() == first;
-    let second = values.set(1, &[0xC2, 0xC3]).is_ok();
-    let has_second = values.get(1).is_some() == second && values.get(3).is_some() == first;
-    let third = values.set(3, &[0xC4, 0xC5, 0xC6]).is_ok();
-    let length = length_at(values, 3).unwrap_or(0);
-    has_first
-        && has_second
-        && length == if third { 3 } else { usize::from(first) }
-        && values.get(1).is_some() == second
+    sets_a_value_or_not(values) && sets_another_or_not(values) && sets_it_again_or_not(values)
 }
 
 fn a_value_without_room_changes_nothing(alloc: Global) -> bool {
     changes_nothing_without_room(&mut Values::new(alloc))
 }
 
-/// What is tried here, and whether it is so.
-pub(crate) fn checks(alloc: Global) -> [Check; 14] {
-    [
-        ("a fault has its place", a_fault_has_its_place(alloc)),
-        ("values are kept", values_are_kept(alloc)),
-        ("a copy learns alone", a_copy_learns_alone(alloc)),
-        ("a refused growth is told", a_refused_growth_is_told(alloc)),
-        (
-            "a value without room changes nothing",
-            a_value_without_room_changes_nothing(alloc),
-        ),
-        ("a large text is read", many::a_large_text_is_read(alloc)),
-        ("the examples are read", many::the_examples_are_read(alloc)),
-        ("a sign on is shown", screens::a_sign_on_is_shown(alloc)),
-        (
-            "a panel is shown again",
-            screens::a_panel_is_shown_again(alloc),
-        ),
-        (
-            "keys lead where the table says",
-            screens::keys_lead_where_the_table_says(alloc),
-        ),
-        (
-            "each kind of key leads",
-            screens::each_kind_of_key_leads(alloc),
-        ),
-        (
-            "fields have their attributes and fills",
-            screens::fields_have_their_attributes_and_fills(alloc),
-        ),
-        (
-            "a field may end before the message",
-            screens::a_field_may_end_before_the_message(alloc),
-        ),
-        (
-            "fields are written from their values",
-            screens::fields_are_written_from_their_values(alloc),
-        ),
-    ]
+/// What is tried here.
+pub(crate) enum Check {
+    Place,
+    Kept,
+    Copy,
+    ToldGrowth,
+    RefusedGrowth,
+    Large,
+    Examples,
+    SignOn,
+    Again,
+    Keys,
+    KindsOfKey,
+    Attributes,
+    LastCells,
+    Values,
+}
+
+pub(crate) static CHECKS: [(&str, Check); 14] = [
+    ("a fault has its place", Check::Place),
+    ("values are kept", Check::Kept),
+    ("a copy learns alone", Check::Copy),
+    ("a refused growth is told", Check::ToldGrowth),
+    ("a value without room changes nothing", Check::RefusedGrowth),
+    ("a large text is read", Check::Large),
+    ("the examples are read", Check::Examples),
+    ("a sign on is shown", Check::SignOn),
+    ("a panel is shown again", Check::Again),
+    ("keys lead where the table says", Check::Keys),
+    ("each kind of key leads", Check::KindsOfKey),
+    ("fields have their attributes and fills", Check::Attributes),
+    ("a field may end before the message", Check::LastCells),
+    ("fields are written from their values", Check::Values),
+];
+
+impl Tried for Check {
+    fn is_so(&self, alloc: Global) -> bool {
+        match self {
+            Check::Place => a_fault_has_its_place(alloc),
+            Check::Kept => values_are_kept(alloc),
+            Check::Copy => a_copy_learns_alone(alloc),
+            Check::ToldGrowth => a_refused_growth_is_told(alloc),
+            Check::RefusedGrowth => a_value_without_room_changes_nothing(alloc),
+            Check::Large => many::a_large_text_is_read(alloc),
+            Check::Examples => many::the_examples_are_read(alloc),
+            Check::SignOn => screens::a_sign_on_is_shown(alloc),
+            Check::Again => screens::a_panel_is_shown_again(alloc),
+            Check::Keys => screens::keys_lead_where_the_table_says(alloc),
+            Check::KindsOfKey => screens::each_kind_of_key_leads(alloc),
+            Check::Attributes => screens::fields_have_their_attributes_and_fills(alloc),
+            Check::LastCells => screens::a_field_may_end_before_the_message(alloc),
+            Check::Values => screens::fields_are_written_from_their_values(alloc),
+        }
+    }
 }

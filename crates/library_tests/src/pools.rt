@@ -1,6 +1,6 @@
 //! Pools of few LUs: who holds one, and refused memory. The talk of a host that asks its pool is told by trials3270's
 //! dialogues.
-use crate::Check;
+use crate::{Tried, prints};
 use lu_pool::{Pool, PoolFault};
 use std::alloc::{AllocError, Global};
 use tn3270e_msg::{Lu, Reason};
@@ -27,18 +27,6 @@ fn read_with(alloc: Global, texts: &mut Vec<String>, names: &[&str]) -> Result<P
 fn pool_of(alloc: Global, names: &[&str]) -> Result<Pool, PoolFault> {
     let mut texts = Vec::new(alloc);
     read_with(alloc, &mut texts, names)
-}
-
-// Whether refused memory is printed so. The faults of lists are shown by runs of the program (runs/panel-texts.md).
-fn refused_memory_prints(alloc: Global) -> bool {
-    match format!(in alloc; "{}", PoolFault::Memory) {
-        Ok(text) => text.as_str() == "no memory",
-        Err(_) => false,
-    }
-}
-
-fn refused_memory_is_printed(alloc: Global) -> bool {
-    refused_memory_prints(alloc)
 }
 
 // What the pool answers a connection, which must hold none.
@@ -93,7 +81,7 @@ fn has_one_holder_each(pool: &mut Pool, first: Lu, second: Lu) -> bool {
 }
 
 // Whether it is so of a pool of PNL01 and PNL02.
-fn two_are_held_once(alloc: Global) -> bool {
+fn an_lu_has_one_holder(alloc: Global) -> bool {
     let (Some(first), Some(second)) = (Lu::read(b"PNL01"), Lu::read(b"PNL02")) else {
         return false;
     };
@@ -101,10 +89,6 @@ fn two_are_held_once(alloc: Global) -> bool {
         Ok(mut pool) => has_one_holder_each(&mut pool, first, second),
         Err(_) => false,
     }
-}
-
-fn an_lu_has_one_holder(alloc: Global) -> bool {
-    two_are_held_once(alloc)
 }
 
 // Whether the pool of these texts grants an LU.
@@ -131,17 +115,25 @@ fn a_refused_growth_makes_no_pool(alloc: Global) -> bool {
     is_made_at_last(alloc, &mut texts)
 }
 
-/// What is tried here, and whether it is so.
-pub(crate) fn checks(alloc: Global) -> [Check; 3] {
-    [
-        (
-            "refused memory is printed",
-            refused_memory_is_printed(alloc),
-        ),
-        ("an lu has one holder", an_lu_has_one_holder(alloc)),
-        (
-            "a refused growth makes no pool",
-            a_refused_growth_makes_no_pool(alloc),
-        ),
-    ]
+/// What is tried here. The faults of lists are shown by runs of the program (runs/panel-texts.md).
+pub(crate) enum Check {
+    Text,
+    OneHolder,
+    RefusedGrowth,
+}
+
+pub(crate) static CHECKS: [(&str, Check); 3] = [
+    ("refused memory is printed", Check::Text),
+    ("an lu has one holder", Check::OneHolder),
+    ("a refused growth makes no pool", Check::RefusedGrowth),
+];
+
+impl Tried for Check {
+    fn is_so(&self, alloc: Global) -> bool {
+        match self {
+            Check::Text => prints(alloc, &PoolFault::Memory, "no memory"),
+            Check::OneHolder => an_lu_has_one_holder(alloc),
+            Check::RefusedGrowth => a_refused_growth_makes_no_pool(alloc),
+        }
+    }
 }

@@ -4,8 +4,8 @@
 
 mod by_search;
 
-use crate::Check;
-use codes3270::{Addr, CELLS};
+use crate::{Tried, at};
+use codes3270::Addr;
 use datastream::read_command;
 use presentation::{Applied, Field, Screen};
 use std::alloc::Global;
@@ -30,11 +30,6 @@ fn obeys(screen: &mut Screen, commands: &[&[u8]]) -> bool {
     true
 }
 
-/// The address with a number.
-fn at(place: u16) -> Addr {
-    Addr::first().forward(place % CELLS)
-}
-
 /// Types characters as keys would: stores them from a place on, and sets MDT in their field.
 fn type_at(screen: &mut Screen, place: Addr, codes: &[u8]) {
     store(screen, place, codes);
@@ -56,7 +51,7 @@ fn store(screen: &mut Screen, place: Addr, codes: &[u8]) {
 
 // ---- commands
 
-/// Commands for a blank screen.
+/// Commands in turn.
 type Commands = &'static [&'static [u8]];
 
 const GREETING: &[u8] = b"\xF5\xC3\x11\x40\x40\x1D\x60\xC8\xC9\x1D\x40\x13";
@@ -66,30 +61,25 @@ const FIELDS: &[u8] = b"\xF5\xC3\x11\x40\x40\x1D\x40\xC1\xC2\x1D\x60\xC3\x1D\xC1
 
 const ERASE: &[u8] = b"\xF1\xC3\x11\x40\xC2\x12\x40\xC6";
 
-static ERASE_WRITES: [Commands; 4] = [
+/// Commands for a blank screen each.
+static SHOWN: [Commands; 14] = [
     // A hidden field, text round the end, and a greeting.
     &[b"\xF5\xC3\x11\x40\x40\x1D\x4C\xC1\xC2\x1D\x60\xC3\x13"],
     &[b"\xF5\xC3\x11\x5D\x7F\xC1\xC2\x13"],
     &[GREETING],
     // DUP and FM, other controls, and code 41, a no-break space.
     &[b"\x7E\xC3\x1C\x1E\x0C\x15\xFF\x3F\xC1\x41\x4B"],
-];
-
-static REPEATED_AND_ERASED: [Commands; 4] = [
-    // Unprotected fields up to an address, and in all of the screen.
+    // Unprotected fields erased up to an address, and in all of the screen.
     &[FIELDS, ERASE],
     &[FIELDS, ERASE, b"\x6F"],
-    // From the last but one cell up to address 2.
+    // A character repeated from the last but one cell up to address 2.
     &[b"\xF5\xC3\x11\x5D\x7E\x3C\x40\xC2\x5C\x13"],
     // The field at 1918 is protected and goes on to 1; that at 2 isn't.
     &[
         b"\xF5\xC3\x11\x5D\x7D\xC1\x1D\x60\xC2\xC3\xC4\x1D\x40\xC5\xC6\x13",
         b"\xF1\xC2\x11\x5D\x7D\x12\x40\xC5",
     ],
-];
-
-static TABS: [Commands; 6] = [
-    // To the next unprotected field.
+    // Tabs: to the next unprotected field.
     &[b"\xF5\xC3\x11\x40\x40\x1D\x40\x1D\x60\x11\x40\x40\x05\xC1\x13"],
     // Without data nothing is nulled: after SBA, after IC, after RA, and after SF.
     &[b"\xF5\xC3\x3C\x40\xC6\x5C\x1D\x40\x11\x40\xC1\x05\x13"],
@@ -100,12 +90,8 @@ static TABS: [Commands; 6] = [
     &[b"\xF5\xC3\x3C\x40\xC6\x5C\x1D\x40\x11\x40\xC1\xC1\x05\x13"],
 ];
 
-static NULLED_ROUND_THE_END: &[u8] =
+const NULLED_ROUND_THE_END: &[u8] =
     b"\xF5\xC3\x3C\x40\x40\x5C\x11\x40\xC3\x1D\x60\x11\x5D\x7A\x1D\x40\xC1\x05\x05\xC2\x13";
-
-/// A panel with a title, two labels and two fields.
-static SIGN_ON: &[u8] =
-    b"\xF5\xC3\x11\x40\x40\x1D\xF0\xE2\xC9\xC7\xD5\x40\xD6\xD5\x11\xC2\x60\x1D\xF0\xE4\xE2\xC5\xD9\x11\xC2\xE6\x1D\x40\x11\xC2\x6F\x1D\xF0\x11\xC3\xF0\x1D\xF0\xC4\xC5\xD7\xE3\x11\xC3\xF6\x1D\x40\x11\xC3\x7B\x1D\xF0\x11\x5C\xF0\x1D\xF8\x11\xC2\xE7\x13";
 
 // ---- what commands ask for
 
@@ -124,27 +110,28 @@ const RESTORE: Applied = Applied {
     alarm: false,
 };
 
-static READS: [&[u8]; 6] = [b"\xF2", b"\xF6", b"\x6E", b"\x02", b"\x06", b"\x0E\xC1"];
+/// Commands in turn, and what each asks for: writes what their control characters say, Erase All Unprotected to restore, and reads
+/// nothing.
+static ASKED: [(&[u8], Applied); 9] = [
+    (b"\xF1\xC5", ALARM),
+    (b"\xF1\xC2", RESTORE),
+    (b"\x6F", RESTORE),
+    (b"\xF2", NOTHING),
+    (b"\xF6", NOTHING),
+    (b"\x6E", NOTHING),
+    (b"\x02", NOTHING),
+    (b"\x06", NOTHING),
+    (b"\x0E\xC1", NOTHING),
+];
 
-/// Whether all commands ask for this.
-fn ask(screen: &mut Screen, commands: &[&[u8]], asked: Applied) -> bool {
-    for command in commands {
-        if obey(screen, command) != Some(asked) {
+fn commands_ask_for_the_alarm_or_to_restore() -> bool {
+    let mut screen = Screen::blank();
+    for (command, asked) in &ASKED {
+        if obey(&mut screen, command) != Some(*asked) {
             return false;
         }
     }
     true
-}
-
-/// Whether writes ask for what their control characters say, Erase All Unprotected restores, and reads ask for nothing.
-fn ask_what_they_say(screen: &mut Screen) -> bool {
-    ask(screen, &[b"\xF1\xC5"], ALARM)
-        && ask(screen, &[b"\xF1\xC2", b"\x6F"], RESTORE)
-        && ask(screen, &READS, NOTHING)
-}
-
-fn commands_ask_for_the_alarm_or_to_restore() -> bool {
-    ask_what_they_say(&mut Screen::blank())
 }
 
 // ---- fields
@@ -157,29 +144,40 @@ fn field(attr: u16, length: u16) -> Field {
     }
 }
 
-/// Whether there are three fields: at 3, 5 and 1910; the last goes round the end up to 2, the second goes up to 1909, the
-/// first has one cell.
+/// Three fields, by the addresses of their attributes and how many cells they have; the last goes round the end up to 2.
+static THREE: [(u16, u16); 3] = [(3, 1), (5, 1904), (1910, 12)];
+
 fn lists_three(screen: &Screen) -> bool {
     let mut fields = screen.fields();
-    fields.next() == Some(field(3, 1))
-        && fields.next() == Some(field(5, 1904))
-        && fields.next() == Some(field(1910, 12))
-        && fields.next().is_none()
+    for (attr, length) in &THREE {
+        if fields.next() != Some(field(*attr, *length)) {
+            return false;
+        }
+    }
+    fields.next().is_none()
 }
 
-/// Whether they are found at their first and last addresses.
+/// Their first and last addresses, and those of their attributes.
+static FOUND: [(u16, u16, u16); 7] = [
+    (3, 3, 1),
+    (4, 3, 1),
+    (5, 5, 1904),
+    (1909, 5, 1904),
+    (1910, 1910, 12),
+    (0, 1910, 12),
+    (2, 1910, 12),
+];
+
 fn finds_three(screen: &Screen) -> bool {
-    screen.field_at(at(3)) == Some(field(3, 1))
-        && screen.field_at(at(4)) == Some(field(3, 1))
-        && screen.field_at(at(5)) == Some(field(5, 1904))
-        && screen.field_at(at(1909)) == Some(field(5, 1904))
-        && screen.field_at(at(1910)) == Some(field(1910, 12))
-        && screen.field_at(at(0)) == Some(field(1910, 12))
-        && screen.field_at(at(2)) == Some(field(1910, 12))
+    for (place, attr, length) in &FOUND {
+        if screen.field_at(at(*place)) != Some(field(*attr, *length)) {
+            return false;
+        }
+    }
+    true
 }
 
-static THREE_FIELDS: &[u8] =
-    b"\xF5\xC3\x11\x5D\xF6\x1D\x40\xC1\x11\x40\xC3\x1D\x60\xC2\x1D\x40\xC3";
+const THREE_FIELDS: &[u8] = b"\xF5\xC3\x11\x5D\xF6\x1D\x40\xC1\x11\x40\xC3\x1D\x60\xC2\x1D\x40\xC3";
 
 fn has_three_fields(screen: &mut Screen) -> bool {
     obey(screen, THREE_FIELDS).is_some() && lists_three(screen) && finds_three(screen)
@@ -253,23 +251,34 @@ fn appends_all_or_nothing(alloc: Global) -> bool {
     appends(&mut Screen::blank(), &mut Vec::new(alloc))
 }
 
-/// What is tried here, and whether it is so.
-pub(crate) fn checks(alloc: Global) -> [Check; 6] {
-    [
-        (
-            "commands ask for the alarm or to restore",
-            commands_ask_for_the_alarm_or_to_restore(),
-        ),
-        ("a copy is the same", a_copy_is_the_same()),
-        ("lists and finds fields", lists_and_finds_fields()),
-        ("appends all or nothing", appends_all_or_nothing(alloc)),
-        (
-            "what is shown is as searched",
-            by_search::what_is_shown_is_as_searched(),
-        ),
-        (
-            "any screen is as searched",
-            by_search::any_screen_is_as_searched(),
-        ),
-    ]
+/// What is tried here.
+pub(crate) enum Check {
+    Asked,
+    Copy,
+    Fields,
+    Appends,
+    Shown,
+    Any,
+}
+
+pub(crate) static CHECKS: [(&str, Check); 6] = [
+    ("commands ask for the alarm or to restore", Check::Asked),
+    ("a copy is the same", Check::Copy),
+    ("lists and finds fields", Check::Fields),
+    ("appends all or nothing", Check::Appends),
+    ("what is shown is as searched", Check::Shown),
+    ("any screen is as searched", Check::Any),
+];
+
+impl Tried for Check {
+    fn is_so(&self, alloc: Global) -> bool {
+        match self {
+            Check::Asked => commands_ask_for_the_alarm_or_to_restore(),
+            Check::Copy => a_copy_is_the_same(),
+            Check::Fields => lists_and_finds_fields(),
+            Check::Appends => appends_all_or_nothing(alloc),
+            Check::Shown => by_search::what_is_shown_is_as_searched(),
+            Check::Any => by_search::any_screen_is_as_searched(),
+        }
+    }
 }

@@ -1,6 +1,7 @@
 //! What no end shows of its talk: that the talks' law may be called, a host's device, the LU at either end, and that a closed talk answers
 //! its cause again. What is sent, the phase after it and why an end closes stand in trials3270's dialogues, byte for byte.
-use crate::Check;
+use crate::Tried;
+use std::alloc::Global;
 use telnet_wire::{Item, Verb};
 use tn3270e_msg::{Cause, Device, HostTalk, Lu, Reply, TermTalk, talks_agree};
 
@@ -67,16 +68,22 @@ fn a_terminal_has_the_lu_that_it_is_granted() -> bool {
     has_its_lu(&mut TermTalk::new(None), &mut TermTalk::new(None))
 }
 
-/// What is tried here, and whether it is so.
-pub(crate) fn checks() -> [Check; 2] {
-    [
-        (
-            "a host has device and lu up to its closing",
-            a_host_has_device_and_lu_up_to_its_closing(),
-        ),
-        (
-            "a terminal has the lu that it is granted",
-            a_terminal_has_the_lu_that_it_is_granted(),
-        ),
-    ]
+/// What is tried here.
+pub(crate) enum Check {
+    Host,
+    Terminal,
+}
+
+pub(crate) static CHECKS: [(&str, Check); 2] = [
+    ("a host has device and lu up to its closing", Check::Host),
+    ("a terminal has the lu that it is granted", Check::Terminal),
+];
+
+impl Tried for Check {
+    fn is_so(&self, _: Global) -> bool {
+        match self {
+            Check::Host => a_host_has_device_and_lu_up_to_its_closing(),
+            Check::Terminal => a_terminal_has_the_lu_that_it_is_granted(),
+        }
+    }
 }

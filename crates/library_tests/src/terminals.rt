@@ -3,7 +3,7 @@
 //! In an ordinary run no growth is refused. `rt try --fail-alloc N -- libraries` in crates/trials3270 refuses the Nth one: the helpers then ask again,
 //! and all is so at every N, whichever growth it meets.
 
-use crate::Check;
+use crate::Tried;
 use codes3270::Aid;
 use keyboard::{Key, Pressed};
 use std::alloc::Global;
@@ -119,65 +119,67 @@ fn feeds_twins(terminal: &mut Terminal, twin: &mut Terminal, bytes: &[u8]) -> bo
     stopped_alike && same(terminal, twin)
 }
 
-/// Presses a key at a terminal, and then at its twin. Says whether the terminal looked as before where memory was refused,
-/// and whether they look the same then.
-fn presses_twins(terminal: &mut Terminal, twin: &mut Terminal, key: Key) -> Result<bool, Memory> {
+/// Presses a key at a terminal, and where memory is refused again. Says whether it looked as before then, like its twin.
+fn is_unchanged_when_refused(terminal: &mut Terminal, twin: &Terminal, key: Key) -> bool {
     let again = key;
-    let at_the_twin = key;
-    let unchanged = match terminal.press(key) {
+    match terminal.press(key) {
         Ok(Pressed::Done | Pressed::Refused(_) | Pressed::Send(Aid::Enter | _)) => true,
-        Err(_) => {
-            let unchanged = same(terminal, twin);
-            terminal.press(again)?;
-            unchanged
-        }
-    };
-    press(twin, at_the_twin)?;
-    Ok(unchanged && same(terminal, twin))
+        Err(_) => same(terminal, twin) && terminal.press(again).is_ok(),
+    }
+}
+
+/// Presses a key at a terminal, and then at its twin. Says whether a refusal changed nothing, and whether they look the same then.
+fn presses_twins(terminal: &mut Terminal, twin: &mut Terminal, key: Key) -> bool {
+    let at_the_twin = key;
+    is_unchanged_when_refused(terminal, twin, key)
+        && press(twin, at_the_twin).is_ok()
+        && same(terminal, twin)
 }
 
 /// Says whether the twins are the same through a key before the talk, and through the talk.
-fn talk_alike(terminal: &mut Terminal, twin: &mut Terminal) -> Result<bool, Memory> {
+fn talk_alike(terminal: &mut Terminal, twin: &mut Terminal) -> bool {
     connect(terminal);
     connect(twin);
-    let mut alike = presses_twins(terminal, twin, Key::Enter)?;
+    let mut alike = presses_twins(terminal, twin, Key::Enter);
     for said in HOST_TALK {
         alike = feeds_twins(terminal, twin, said) && alike;
     }
-    Ok(alike)
+    alike
 }
 
 /// Says whether the twins are the same through a write, a read, a character and Enter.
-fn answer_alike(terminal: &mut Terminal, twin: &mut Terminal) -> Result<bool, Memory> {
-    Ok(
-        feeds_twins(terminal, twin, SHOW_HI)
-            && feeds_twins(terminal, twin, READ_BUFFER)
-            && presses_twins(terminal, twin, Key::Char('A'))?
-            && presses_twins(terminal, twin, Key::Enter)?,
-    )
+fn answer_alike(terminal: &mut Terminal, twin: &mut Terminal) -> bool {
+    feeds_twins(terminal, twin, SHOW_HI)
+        && feeds_twins(terminal, twin, READ_BUFFER)
+        && presses_twins(terminal, twin, Key::Char('A'))
+        && presses_twins(terminal, twin, Key::Enter)
 }
 
 /// Says whether the twins are the same in all of it. What there is to send stays, so that room runs out: at a key, and
 /// between two records.
-fn stay_alike(terminal: &mut Terminal, twin: &mut Terminal) -> Result<bool, Memory> {
-    let mut alike = talk_alike(terminal, twin)?;
+fn stay_alike(terminal: &mut Terminal, twin: &mut Terminal) -> bool {
+    let mut alike = talk_alike(terminal, twin);
     for _ in 0..8 {
-        alike = answer_alike(terminal, twin)? && alike;
+        alike = answer_alike(terminal, twin) && alike;
     }
     for _ in 0..20 {
         alike = feeds_twins(terminal, twin, READ_AND_SHOW_HI) && alike;
     }
-    Ok(alike)
+    alike
 }
 
-fn twins_stay_alike(alloc: Global) -> Result<bool, Memory> {
-    let mut terminal = new_terminal(alloc)?;
-    let mut twin = new_terminal(alloc)?;
-    stay_alike(&mut terminal, &mut twin)
+fn has_a_twin(alloc: Global, terminal: &mut Terminal) -> bool {
+    match new_terminal(alloc) {
+        Ok(mut twin) => stay_alike(terminal, &mut twin),
+        Err(_) => false,
+    }
 }
 
 fn a_refused_growth_changes_nothing(alloc: Global) -> bool {
-    matches!(twins_stay_alike(alloc), Ok(true))
+    match new_terminal(alloc) {
+        Ok(mut terminal) => has_a_twin(alloc, &mut terminal),
+        Err(_) => false,
+    }
 }
 
 /// Says whether a write behind a read is taken whole and done. The buffer's data stays to be sent, so that room runs out
@@ -203,32 +205,42 @@ fn shows_each_time(terminal: &mut Terminal) -> bool {
 }
 
 /// Says whether it shows `HI`; where memory is refused it is asked for again.
-fn shows_hi(alloc: Global, terminal: &Terminal) -> Result<bool, Memory> {
+fn shows_hi(alloc: Global, terminal: &Terminal) -> bool {
     match terminal.screen_text(alloc) {
-        Ok(text) => Ok(text.as_str() == HI_SHOWN),
-        Err(_) => Ok(terminal.screen_text(alloc)?.as_str() == HI_SHOWN),
+        Ok(text) => text.as_str() == HI_SHOWN,
+        Err(_) => match terminal.screen_text(alloc) {
+            Ok(text) => text.as_str() == HI_SHOWN,
+            Err(_) => false,
+        },
     }
 }
 
-fn shows_each_time_and_then_hi(alloc: Global) -> Result<bool, Memory> {
-    let mut terminal = new_terminal(alloc)?;
-    Ok(shows_each_time(&mut terminal) && shows_hi(alloc, &terminal)?)
-}
-
 fn bytes_are_fed_again_after_a_refused_growth(alloc: Global) -> bool {
-    matches!(shows_each_time_and_then_hi(alloc), Ok(true))
+    match new_terminal(alloc) {
+        Ok(mut terminal) => shows_each_time(&mut terminal) && shows_hi(alloc, &terminal),
+        Err(_) => false,
+    }
 }
 
-/// What is tried here, and whether it is so.
-pub(crate) fn checks(alloc: Global) -> [Check; 2] {
-    [
-        (
-            "a refused growth changes nothing",
-            a_refused_growth_changes_nothing(alloc),
-        ),
-        (
-            "bytes are fed again after a refused growth",
-            bytes_are_fed_again_after_a_refused_growth(alloc),
-        ),
-    ]
+/// What is tried here.
+pub(crate) enum Check {
+    RefusedGrowth,
+    FedAgain,
+}
+
+pub(crate) static CHECKS: [(&str, Check); 2] = [
+    ("a refused growth changes nothing", Check::RefusedGrowth),
+    (
+        "bytes are fed again after a refused growth",
+        Check::FedAgain,
+    ),
+];
+
+impl Tried for Check {
+    fn is_so(&self, alloc: Global) -> bool {
+        match self {
+            Check::RefusedGrowth => a_refused_growth_changes_nothing(alloc),
+            Check::FedAgain => bytes_are_fed_again_after_a_refused_growth(alloc),
+        }
+    }
 }

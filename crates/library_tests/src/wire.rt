@@ -2,7 +2,8 @@
 //!
 //! A check makes what is owned, and a helper that borrows it says whether all is right: each way out of a function costs a
 //! proof for what the function owns.
-use crate::Check;
+use crate::Tried;
+use crate::bytes::{are_all, fill_room};
 use std::alloc::Global;
 use telnet_wire::{
     Decoder, Item, Memory, Step, Verb, WireFault, one_reading, put_option, put_record, put_sub,
@@ -67,16 +68,6 @@ fn is_as_new_after_reset(decoder: &mut Decoder) -> bool {
     completes(decoder, b"\x07\xff\xef", Item::Record(b"\x07"))
 }
 
-/// Says whether there are so many, all of them this byte.
-fn are_all(bytes: &[u8], byte: u8, count: usize) -> bool {
-    for other in bytes {
-        if *other != byte {
-            return false;
-        }
-    }
-    bytes.len() == count
-}
-
 /// Adds the item's bytes. Nobody writes other commands.
 fn put_item(out: &mut Vec<u8>, item: Item) -> Result<(), Memory> {
     match item {
@@ -93,8 +84,9 @@ fn is_written_as(out: &mut Vec<u8>, item: Item, bytes: &[u8]) -> bool {
     put_item(out, item).is_ok() && out.as_slice() == bytes
 }
 
-/// A negotiation of TN3270E: DO, WILL, SEND DEVICE-TYPE, REQUEST IBM-3278-2 CONNECT PNL01, IS, REQUEST and IS.
-static NEGOTIATION: [(&[u8], Item); 7] = [
+/// Items, and how they are spelt.
+static ITEMS: [(&[u8], Item); 17] = [
+    // A negotiation of TN3270E: DO, WILL, SEND DEVICE-TYPE, REQUEST IBM-3278-2 CONNECT PNL01, IS, REQUEST and IS.
     (
         b"\xff\xfd\x28",
         Item::Opt {
@@ -126,10 +118,7 @@ static NEGOTIATION: [(&[u8], Item); 7] = [
         b"\xff\xfa\x28\x03\x04\x02\xff\xf0",
         Item::Sub(b"\x28\x03\x04\x02"),
     ),
-];
-
-/// The options of other protocols, and how they are refused.
-static OTHER_OPTIONS: [(&[u8], Item); 5] = [
+    // The options of other protocols, and how they are refused.
     (
         b"\xff\xfd\x18",
         Item::Opt {
@@ -165,10 +154,7 @@ static OTHER_OPTIONS: [(&[u8], Item); 5] = [
             code: 1,
         },
     ),
-];
-
-/// Records: responses, and a write and its response with 255 in the number. Then 255 in a subnegotiation.
-static RECORDS: [(&[u8], Item); 5] = [
+    // Records: responses, and a write and its response with 255 in the number. Then 255 in a subnegotiation.
     (
         b"\x02\x00\x01\x00\x07\x02\xff\xef",
         Item::Record(b"\x02\x00\x01\x00\x07\x02"),
@@ -188,21 +174,14 @@ static RECORDS: [(&[u8], Item); 5] = [
     (b"\xff\xfa\x28\xff\xff\xff\xf0", Item::Sub(b"\x28\xff")),
 ];
 
-/// Says whether the bytes of each pair are read as its item, and the item is written as the bytes.
-fn are_read_and_written(decoder: &mut Decoder, out: &mut Vec<u8>, pairs: &[(&[u8], Item)]) -> bool {
-    for (bytes, item) in pairs {
+/// Says whether all are read and written so.
+fn are_read_and_written(decoder: &mut Decoder, out: &mut Vec<u8>) -> bool {
+    for (bytes, item) in &ITEMS {
         if !(completes(decoder, bytes, *item) && is_written_as(out, *item, bytes)) {
             return false;
         }
     }
     true
-}
-
-/// Says of all three tables whether they are read and written.
-fn tables_agree(decoder: &mut Decoder, out: &mut Vec<u8>) -> bool {
-    are_read_and_written(decoder, out, &NEGOTIATION)
-        && are_read_and_written(decoder, out, &OTHER_OPTIONS)
-        && are_read_and_written(decoder, out, &RECORDS)
 }
 
 /// The parts of a request of a device type, and how they are written.
@@ -234,28 +213,22 @@ fn is_read_from_any_cut(decoder: &mut Decoder, bytes: &[u8], item: Item) -> bool
     true
 }
 
-/// Says of the tables whether they are read and written, of a record whether it is the same however it is cut, and of a
+/// Says of all items whether they are read and written, of a record whether it is the same however it is cut, and of a
 /// subnegotiation whether it is written in parts.
 fn items_agree(decoder: &mut Decoder, out: &mut Vec<u8>) -> bool {
     let record = Item::Record(WRITE);
-    tables_agree(decoder, out)
+    are_read_and_written(decoder, out)
         && is_read_from_any_cut(decoder, WRITE_SPELT, record)
         && is_written_as(out, record, WRITE_SPELT)
         && parts_are_written_as(out, &REQUEST, REQUEST_SPELT)
 }
 
-/// Says so of what it writes to a vector of its own.
-fn items_agree_in(alloc: Global, decoder: &mut Decoder) -> bool {
-    let mut out = Vec::new(alloc);
-    items_agree(decoder, &mut out)
-}
-
 fn items_are_read_and_written(alloc: Global) -> bool {
     one_reading();
-    let Ok(mut decoder) = Decoder::new(alloc, RECORD_LIMIT) else {
-        return false;
-    };
-    items_agree_in(alloc, &mut decoder)
+    match Decoder::new(alloc, RECORD_LIMIT) {
+        Ok(mut decoder) => items_agree(&mut decoder, &mut Vec::new(alloc)),
+        Err(_) => false,
+    }
 }
 
 /// Items that come between the bytes of a record, and then the record.
@@ -397,10 +370,10 @@ fn stream_agrees(decoder: &mut Decoder) -> bool {
 }
 
 fn a_stream_is_read_refused_and_reset(alloc: Global) -> bool {
-    let Ok(mut decoder) = Decoder::new(alloc, RECORD_LIMIT) else {
-        return false;
-    };
-    stream_agrees(&mut decoder)
+    match Decoder::new(alloc, RECORD_LIMIT) {
+        Ok(mut decoder) => stream_agrees(&mut decoder),
+        Err(_) => false,
+    }
 }
 
 /// The calls that add bytes, each with bytes of 255 as long as it takes to grow several times.
@@ -412,7 +385,13 @@ enum Put {
     SubParts,
 }
 
-static PUTS: [Put; 4] = [Put::Record, Put::Opt, Put::Sub, Put::SubParts];
+/// The calls, and how many bytes each adds.
+static PUTS: [(Put, usize); 4] = [
+    (Put::Record, 202),
+    (Put::Opt, 3),
+    (Put::Sub, 204),
+    (Put::SubParts, 404),
+];
 
 static LONG: &[u8] = &[255; 100];
 
@@ -427,29 +406,9 @@ fn put_long(put: Put, out: &mut Vec<u8>) -> Result<(), Memory> {
     }
 }
 
-/// How many bytes the call adds.
-fn added(put: Put) -> usize {
-    match put {
-        Put::Record => 202,
-        Put::Opt => 3,
-        Put::Sub => 204,
-        Put::SubParts => 404,
-    }
-}
-
-static SEVENS: [u8; 64] = [7; 64];
-
-/// Fills the room that a new vector has with sevens. Says whether there were enough.
-fn fill_room(out: &mut Vec<u8>) -> bool {
-    match SEVENS.get(..out.capacity()) {
-        Some(sevens) => out.extend_from_slice(sevens).is_ok(),
-        None => false,
-    }
-}
-
-/// Says whether the call, behind as many sevens as a new vector has room for, adds its bytes, and, where a growth was
+/// Says whether the call, behind as many sevens as a new vector has room for, adds so many bytes, and, where a growth was
 /// refused, nothing at first and all of them then.
-fn adds_all_or_nothing(put: Put, out: &mut Vec<u8>) -> bool {
+fn adds_all_or_nothing(put: Put, added: usize, out: &mut Vec<u8>) -> bool {
     if !fill_room(out) {
         return false;
     }
@@ -457,13 +416,13 @@ fn adds_all_or_nothing(put: Put, out: &mut Vec<u8>) -> bool {
     if put_long(put, out).is_err() && !(are_all(out, 7, start) && put_long(put, out).is_ok()) {
         return false;
     }
-    out.len().checked_sub(start) == Some(added(put))
+    out.len().checked_sub(start) == Some(added)
 }
 
 /// Says so of a vector of two bytes, where one is had.
-fn is_all_or_nothing(alloc: Global, put: Put) -> bool {
+fn is_all_or_nothing(alloc: Global, put: Put, added: usize) -> bool {
     match Vec::with_capacity(alloc, 2) {
-        Ok(mut out) => adds_all_or_nothing(put, &mut out),
+        Ok(mut out) => adds_all_or_nothing(put, added, &mut out),
         Err(_) => true,
     }
 }
@@ -476,20 +435,16 @@ fn is_made_or_refused(alloc: Global, limit: usize) -> bool {
     }
 }
 
-fn each_is_all_or_nothing(alloc: Global) -> bool {
-    for put in &PUTS {
-        if !is_all_or_nothing(alloc, *put) {
+// In an ordinary run no growth is refused, and each call succeeds. `rt try --fail-alloc N -- libraries` in
+// crates/trials3270 refuses the Nth one: this and the next are so at every N, whichever growth it meets.
+fn a_refused_growth_changes_nothing(alloc: Global) -> bool {
+    for (put, added) in &PUTS {
+        if !is_all_or_nothing(alloc, *put, *added) {
             return false;
         }
     }
     // There is no memory for the highest limit.
     is_made_or_refused(alloc, RECORD_LIMIT) && is_made_or_refused(alloc, usize::MAX)
-}
-
-// In an ordinary run no growth is refused, and each call succeeds. `rt try --fail-alloc N -- libraries` in
-// crates/trials3270 refuses the Nth one: this and the next are so at every N, whichever growth it meets.
-fn a_refused_growth_changes_nothing(alloc: Global) -> bool {
-    each_is_all_or_nothing(alloc)
 }
 
 /// Says whether the call takes no more room.
@@ -499,44 +454,44 @@ fn stays_in_room(put: Put, out: &mut Vec<u8>) -> bool {
 }
 
 /// Says so of a vector with the room that the call wants, where one is had.
-fn stays_in_its_room(alloc: Global, put: Put) -> bool {
-    match Vec::with_capacity(alloc, added(put)) {
+fn stays_in_its_room(alloc: Global, put: Put, added: usize) -> bool {
+    match Vec::with_capacity(alloc, added) {
         Ok(mut out) => stays_in_room(put, &mut out),
         Err(_) => true,
     }
 }
 
-fn each_stays_in_its_room(alloc: Global) -> bool {
-    for put in &PUTS {
-        if !stays_in_its_room(alloc, *put) {
+fn where_there_is_room_no_memory_is_taken(alloc: Global) -> bool {
+    for (put, added) in &PUTS {
+        if !stays_in_its_room(alloc, *put, *added) {
             return false;
         }
     }
     true
 }
 
-fn where_there_is_room_no_memory_is_taken(alloc: Global) -> bool {
-    each_stays_in_its_room(alloc)
+/// What is tried here.
+pub(crate) enum Check {
+    Items,
+    Stream,
+    RefusedGrowth,
+    Room,
 }
 
-/// What is tried here, and whether it is so.
-pub(crate) fn checks(alloc: Global) -> [Check; 4] {
-    [
-        (
-            "items are read and written",
-            items_are_read_and_written(alloc),
-        ),
-        (
-            "a stream is read refused and reset",
-            a_stream_is_read_refused_and_reset(alloc),
-        ),
-        (
-            "a refused growth changes nothing",
-            a_refused_growth_changes_nothing(alloc),
-        ),
-        (
-            "where there is room no memory is taken",
-            where_there_is_room_no_memory_is_taken(alloc),
-        ),
-    ]
+pub(crate) static CHECKS: [(&str, Check); 4] = [
+    ("items are read and written", Check::Items),
+    ("a stream is read refused and reset", Check::Stream),
+    ("a refused growth changes nothing", Check::RefusedGrowth),
+    ("where there is room no memory is taken", Check::Room),
+];
+
+impl Tried for Check {
+    fn is_so(&self, alloc: Global) -> bool {
+        match self {
+            Check::Items => items_are_read_and_written(alloc),
+            Check::Stream => a_stream_is_read_refused_and_reset(alloc),
+            Check::RefusedGrowth => a_refused_growth_changes_nothing(alloc),
+            Check::Room => where_there_is_room_no_memory_is_taken(alloc),
+        }
+    }
 }

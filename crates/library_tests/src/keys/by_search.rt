@@ -1,7 +1,8 @@
 //! Where New Line goes, beside what a search from cell to cell finds.
-use super::{DONE, SIGN_ON, free, obey, presses_one};
+use crate::beliefs::SIGN_ON;
 use codes3270::{Addr, CELLS, COLUMNS, Cell, ROWS};
-use keyboard::Key;
+use datastream::read_command;
+use keyboard::{Key, Keyboard, Pressed};
 use presentation::Screen;
 
 /// Whether a cell is a character that isn't protected.
@@ -25,10 +26,12 @@ fn searched_line(screen: &Screen, row: u16) -> Addr {
     Addr::first()
 }
 
-/// Whether New Line goes there from a cell.
+/// Whether New Line goes there from a cell, at a keyboard that a write has freed.
 fn goes_from(screen: &mut Screen, at: Addr, wanted: Addr) -> bool {
+    let mut keyboard = Keyboard::new();
+    keyboard.restored();
     screen.set_cursor(at);
-    presses_one(&mut free(), screen, (Key::NewLine, DONE, wanted.get()))
+    keyboard.press(screen, Key::NewLine) == Pressed::Done && screen.cursor() == wanted
 }
 
 /// Whether New Line goes there from the first and the last cell of a row.
@@ -37,27 +40,43 @@ fn goes_to(screen: &mut Screen, row: u16, wanted: Addr) -> bool {
     goes_from(screen, first, wanted) && goes_from(screen, first.forward(COLUMNS - 1), wanted)
 }
 
-/// Whether New Line goes from each row to where a search does, on the screen that a command makes.
-fn goes_as_searched(screen: &mut Screen, command: &[u8]) -> bool {
-    let is_obeyed = obey(screen, command).is_some();
+/// Whether New Line goes from each row to where a search does.
+fn goes_as_searched(screen: &mut Screen) -> bool {
     for row in 0..ROWS {
         let wanted = searched_line(screen, row);
         if !goes_to(screen, row, wanted) {
             return false;
         }
     }
-    is_obeyed
+    true
 }
 
-/// The last cell holds the only attribute, a protected one.
-static PROTECTED: &[u8] = b"\xF5\xC3\x11\x5D\x7F\x1D\x60";
+/// Whether so on the screen that a command makes.
+fn goes_as_searched_after(screen: &mut Screen, command: &[u8]) -> bool {
+    match read_command(command) {
+        Ok(command) => {
+            screen.apply(&command);
+            goes_as_searched(screen)
+        }
+        Err(_) => false,
+    }
+}
 
-/// A protected attribute begins the screen, and an unprotected one ends it.
-static ONE_CELL_OPEN: &[u8] = b"\xF5\xC3\x1D\x60\x11\x5D\x7E\x1D\x40";
+static COMMANDS: [&[u8]; 4] = [
+    b"\xF5\xC3",
+    // Two fields with autoskip fields round them.
+    SIGN_ON,
+    // The last cell holds the only attribute, a protected one.
+    b"\xF5\xC3\x11\x5D\x7F\x1D\x60",
+    // A protected attribute begins the screen, and an unprotected one ends it.
+    b"\xF5\xC3\x1D\x60\x11\x5D\x7E\x1D\x40",
+];
 
 pub(super) fn new_line_goes_as_searched() -> bool {
-    goes_as_searched(&mut Screen::blank(), b"\xF5\xC3")
-        && goes_as_searched(&mut Screen::blank(), SIGN_ON)
-        && goes_as_searched(&mut Screen::blank(), PROTECTED)
-        && goes_as_searched(&mut Screen::blank(), ONE_CELL_OPEN)
+    for command in &COMMANDS {
+        if !goes_as_searched_after(&mut Screen::blank(), command) {
+            return false;
+        }
+    }
+    true
 }

@@ -2,8 +2,8 @@
 use super::texts::SIGN_ON;
 use codes3270::{Aid, Attr, PaNo, PfNo};
 use datastream::{Want, Wants};
-use panels::{Field, Message, Next, Panel, PanelFault, PanelSet, Values};
-use std::alloc::{AllocError, Global};
+use panels::{Field, Message, Next, Panel, PanelSet, Values};
+use std::alloc::Global;
 
 /// An item of a screen: the address of the attribute, its code, and the codes of the characters.
 type Item = (usize, u8, &'static [u8]);
@@ -147,28 +147,22 @@ fn is_sign_on(panel: &Panel, values: &Values) -> bool {
 
 fn begins_with_the_sign_on(set: &PanelSet, values: &Values) -> bool {
     match set.panel(0) {
-        Some(panel) => set.start() == 0 && is_sign_on(panel, values),
+        Some(panel) => {
+            set.start() == 0
+                && is_sign_on(panel, values)
+                && set.len() == 2
+                && set.lus().len() == 2
+                && set.panel(2).is_none()
+        }
         None => false,
     }
 }
 
 pub(super) fn a_sign_on_is_shown(alloc: Global) -> bool {
-    let Ok(set) = PanelSet::read(alloc, SIGN_ON) else {
-        return false;
-    };
-    begins_with_the_sign_on(&set, &Values::new(alloc))
-        && set.len() == 2
-        && set.lus().len() == 2
-        && set.panel(2).is_none()
-}
-
-fn asks_for_the_user(sign_on: &Panel, values: &Values) -> bool {
-    asks_for(sign_on, values, Message::Required(0), &REQUIRED_SCREEN, 167)
-}
-
-fn asks_for_the_department(sign_on: &Panel, values: &Values) -> bool {
-    let screen = sign_on.wanted(values, Message::Required(1), false);
-    screen.cursor().get() == 247
+    match PanelSet::read(alloc, SIGN_ON) {
+        Ok(set) => begins_with_the_sign_on(&set, &Values::new(alloc)),
+        Err(_) => false,
+    }
 }
 
 fn keeps_both_fields(sign_on: &Panel, values: &Values) -> bool {
@@ -180,9 +174,11 @@ fn keeps_both_fields(sign_on: &Panel, values: &Values) -> bool {
     )
 }
 
+/// Whether it asks for the user, for the department, and for another key.
 fn is_shown_again(sign_on: &Panel, values: &Values) -> bool {
-    asks_for_the_user(sign_on, values)
-        && asks_for_the_department(sign_on, values)
+    let asks_for_department = sign_on.wanted(values, Message::Required(1), false);
+    asks_for(sign_on, values, Message::Required(0), &REQUIRED_SCREEN, 167)
+        && asks_for_department.cursor().get() == 247
         && keeps_both_fields(sign_on, values)
 }
 
@@ -194,23 +190,23 @@ fn sign_on_is_shown_again(set: &PanelSet, values: &Values) -> bool {
 }
 
 /// The department is set first, and then the user.
-fn both_are_shown(set: &PanelSet, values: &mut Values) -> Result<bool, AllocError> {
-    values.set(1, &[0xC4, 0xF7])?;
-    let is_again = sign_on_is_shown_again(set, values);
-    values.set(0, &[0xC1, 0xD5, 0xD5])?;
-    Ok(is_again && shows(set, 1, values, &HELLO_SCREEN, 0))
+fn both_are_shown(set: &PanelSet, values: &mut Values) -> bool {
+    values.set(1, &[0xC4, 0xF7]).is_ok()
+        && sign_on_is_shown_again(set, values)
+        && values.set(0, &[0xC1, 0xD5, 0xD5]).is_ok()
+        && shows(set, 1, values, &HELLO_SCREEN, 0)
 }
 
 pub(super) fn a_panel_is_shown_again(alloc: Global) -> bool {
-    let Ok(set) = PanelSet::read(alloc, SIGN_ON) else {
-        return false;
-    };
-    matches!(both_are_shown(&set, &mut Values::new(alloc)), Ok(true))
+    match PanelSet::read(alloc, SIGN_ON) {
+        Ok(set) => both_are_shown(&set, &mut Values::new(alloc)),
+        Err(_) => false,
+    }
 }
 
 // ---- keys
 
-fn pf(number: u8) -> Aid {
+pub(super) fn pf(number: u8) -> Aid {
     match PfNo::new(number) {
         Some(key) => Aid::Pf(key),
         None => Aid::NoAid,
@@ -237,11 +233,15 @@ fn lead(set: &PanelSet, index: usize, aids: &[Aid], next: Next) -> bool {
     true
 }
 
+fn sign_on_leads(set: &PanelSet) -> bool {
+    lead(set, 1, &[pf(3)], Next::Go(0)) && lead(set, 1, &[Aid::Enter, pf(15)], Next::Again)
+}
+
 pub(super) fn keys_lead_where_the_table_says(alloc: Global) -> bool {
-    let Ok(set) = PanelSet::read(alloc, SIGN_ON) else {
-        return false;
-    };
-    lead(&set, 1, &[pf(3)], Next::Go(0)) && lead(&set, 1, &[Aid::Enter, pf(15)], Next::Again)
+    match PanelSet::read(alloc, SIGN_ON) {
+        Ok(set) => sign_on_leads(&set),
+        Err(_) => false,
+    }
 }
 
 const KEYS: &str =
@@ -263,19 +263,13 @@ fn all_lead(set: &PanelSet) -> bool {
 }
 
 pub(super) fn each_kind_of_key_leads(alloc: Global) -> bool {
-    let Ok(set) = PanelSet::read(alloc, KEYS) else {
-        return false;
-    };
-    all_lead(&set)
+    match PanelSet::read(alloc, KEYS) {
+        Ok(set) => all_lead(&set),
+        Err(_) => false,
+    }
 }
 
 // ---- fields
-
-/// Whether a text's first panel is shown so where fields have no values.
-fn text_shows(alloc: Global, text: &str, items: &[Item], cursor: u16) -> Result<bool, PanelFault> {
-    let set = PanelSet::read(alloc, text)?;
-    Ok(shows(&set, 0, &Values::new(alloc), items, cursor))
-}
 
 const ATTRIBUTES: &str =
     "start = \"A\"\nlus = []\npanel = [{name = \"A\", cursor = \"g\", text = [{row = 23, col = 80, text = \"X\", bright = true}], field = [{name = \"f\", row = 1, col = 2, length = 3, fill = \"7\", numeric = true, hidden = true, marked = true}, {name = \"g\", row = 1, col = 6, length = 2, fill = \"AB\"}, {name = \"h\", row = 23, col = 60, length = 18}]}]";
@@ -291,10 +285,10 @@ static ATTRIBUTES_SCREEN: [Item; 7] = [
 ];
 
 pub(super) fn fields_have_their_attributes_and_fills(alloc: Global) -> bool {
-    matches!(
-        text_shows(alloc, ATTRIBUTES, &ATTRIBUTES_SCREEN, 5),
-        Ok(true)
-    )
+    match PanelSet::read(alloc, ATTRIBUTES) {
+        Ok(set) => shows(&set, 0, &Values::new(alloc), &ATTRIBUTES_SCREEN, 5),
+        Err(_) => false,
+    }
 }
 
 const LAST_CELLS: &str =
@@ -309,10 +303,10 @@ fn both_end_there(set: &PanelSet, values: &Values) -> bool {
 }
 
 pub(super) fn a_field_may_end_before_the_message(alloc: Global) -> bool {
-    let Ok(set) = PanelSet::read(alloc, LAST_CELLS) else {
-        return false;
-    };
-    both_end_there(&set, &Values::new(alloc))
+    match PanelSet::read(alloc, LAST_CELLS) {
+        Ok(set) => both_end_there(&set, &Values::new(alloc)),
+        Err(_) => false,
+    }
 }
 
 const VALUES: &str =
@@ -353,15 +347,15 @@ fn is_written(set: &PanelSet, values: &Values) -> bool {
     }
 }
 
-fn is_written_from(set: &PanelSet, values: &mut Values) -> Result<bool, AllocError> {
-    values.set(0, &[0xC1, 0xC2, 0xC3, 0xC4])?;
-    values.set(1, &[])?;
-    Ok(is_written(set, values))
+fn is_written_from(set: &PanelSet, values: &mut Values) -> bool {
+    values.set(0, &[0xC1, 0xC2, 0xC3, 0xC4]).is_ok()
+        && values.set(1, &[]).is_ok()
+        && is_written(set, values)
 }
 
 pub(super) fn fields_are_written_from_their_values(alloc: Global) -> bool {
-    let Ok(set) = PanelSet::read(alloc, VALUES) else {
-        return false;
-    };
-    matches!(is_written_from(&set, &mut Values::new(alloc)), Ok(true))
+    match PanelSet::read(alloc, VALUES) {
+        Ok(set) => is_written_from(&set, &mut Values::new(alloc)),
+        Err(_) => false,
+    }
 }

@@ -1,8 +1,9 @@
 //! What is looked up by the index of attributes, beside what a search from cell to cell finds.
 use super::{
-    Commands, ERASE, ERASE_WRITES, FIELDS, NULLED_ROUND_THE_END, REPEATED_AND_ERASED, SIGN_ON,
-    TABS, THREE_FIELDS, at, obey, obeys, type_at,
+    Commands, ERASE, FIELDS, NULLED_ROUND_THE_END, SHOWN, THREE_FIELDS, obey, obeys, type_at,
 };
+use crate::at;
+use crate::beliefs::SIGN_ON;
 use codes3270::{Addr, Attr, CELLS};
 use presentation::{Field, Screen};
 
@@ -93,36 +94,33 @@ fn becomes_as_searched(screen: &mut Screen, commands: &[&[u8]]) -> bool {
     obeys(screen, commands) && is_as_searched(screen)
 }
 
-/// Which case is the first whose screens aren't as searched.
-fn first_other_shown(cases: &[Commands]) -> Option<usize> {
-    for case in 0..cases.len() {
-        let commands = cases[case];
+pub(super) fn what_is_shown_is_as_searched() -> bool {
+    for commands in &SHOWN {
         if !becomes_as_searched(&mut Screen::blank(), commands) {
-            return Some(case);
+            return false;
         }
     }
-    None
+    true
 }
 
-pub(super) fn what_is_shown_is_as_searched() -> bool {
-    first_other_shown(&ERASE_WRITES).is_none()
-        && first_other_shown(&REPEATED_AND_ERASED).is_none()
-        && first_other_shown(&TABS).is_none()
-}
-
-/// The last cell holds the only attribute.
-static LAST_ALONE: &[u8] = b"\xF5\xC3\x11\x5D\x7F\x1D\x60";
-
-/// A character takes its place.
-static LAST_OVERWRITTEN: &[u8] = b"\xF1\xC3\x11\x5D\x7F\xC1";
+/// Commands in turn, for one screen.
+static IN_TURN: [Commands; 6] = [
+    &[THREE_FIELDS],
+    &[FIELDS, ERASE],
+    &[b"\x6F"],
+    &[NULLED_ROUND_THE_END],
+    // The last cell holds the only attribute, and then a character takes its place.
+    &[b"\xF5\xC3\x11\x5D\x7F\x1D\x60"],
+    &[b"\xF1\xC3\x11\x5D\x7F\xC1"],
+];
 
 fn is_as_searched_after_others(screen: &mut Screen) -> bool {
-    becomes_as_searched(screen, &[THREE_FIELDS])
-        && becomes_as_searched(screen, &[FIELDS, ERASE])
-        && becomes_as_searched(screen, &[b"\x6F"])
-        && becomes_as_searched(screen, &[NULLED_ROUND_THE_END])
-        && becomes_as_searched(screen, &[LAST_ALONE])
-        && becomes_as_searched(screen, &[LAST_OVERWRITTEN])
+    for commands in &IN_TURN {
+        if !becomes_as_searched(screen, commands) {
+            return false;
+        }
+    }
+    true
 }
 
 /// A write of an attribute at the cursor, which goes on to the next cell.
