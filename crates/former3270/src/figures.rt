@@ -32,13 +32,13 @@ fn tell(
     let rounds = u128::from(rounds).max(1);
     let former = former.as_nanos() / rounds;
     let present = present.as_nanos() / rounds;
-    print!(rt; "{what}, {size}: ")?;
-    println!(rt; "former {former} ns, present {present} ns")
+    println!(rt; "{what}, {size}: former {former} ns, present {present} ns")
 }
 
-/// Adds an Erase/Write of so many fields that are modified.
-fn put_command(bytes: &mut Vec<u8>, fields: u16) -> Result<(), Memory> {
-    let mut writer = CommandWriter::new(bytes);
+/// An Erase/Write of so many fields that are modified.
+fn command_of(alloc: Global, fields: u16) -> Result<Vec<u8>, Memory> {
+    let mut bytes = Vec::new(alloc);
+    let mut writer = CommandWriter::new(&mut bytes);
     let wcc = Wcc {
         alarm: false,
         restore: true,
@@ -60,12 +60,6 @@ fn put_command(bytes: &mut Vec<u8>, fields: u16) -> Result<(), Memory> {
             writer.chars(&[0xC1])?;
         }
     }
-    Ok(())
-}
-
-fn command_of(alloc: Global, fields: u16) -> Result<Vec<u8>, Memory> {
-    let mut bytes = Vec::new(alloc);
-    put_command(&mut bytes, fields)?;
     Ok(bytes)
 }
 
@@ -159,28 +153,23 @@ fn changed(subjects: &Subjects, cells: u16) -> Wanted {
     wanted
 }
 
-/// Paints what is wanted, each time on nothing.
-fn paints_wanted(
-    rt: &HostRuntime,
-    subjects: &Subjects,
-    cells: u16,
-    former_wanted: &FormerWanted,
-    wanted: &Wanted,
-    out: &mut Vec<u8>,
-) -> io::Result<()> {
-    if !subjects.shadow.fits(wanted) {
+fn paints(rt: &HostRuntime, subjects: &Subjects, cells: u16) -> io::Result<()> {
+    let wanted = changed(subjects, cells);
+    let former_wanted = FormerWanted::new(&wanted);
+    if !subjects.shadow.fits(&wanted) {
         return Ok(());
     }
+    let mut out = Vec::new(rt.alloc());
     let start = Instant::now(rt)?;
     for _ in 0..ROUNDS {
         out.clear();
-        subjects.former_shadow.paint(out, former_wanted)?;
+        subjects.former_shadow.paint(&mut out, &former_wanted)?;
     }
     let former = start.elapsed(rt)?;
     let start = Instant::now(rt)?;
     for _ in 0..ROUNDS {
         out.clear();
-        subjects.shadow.paint(out, wanted)?;
+        subjects.shadow.paint(&mut out, &wanted)?;
     }
     let present = start.elapsed(rt)?;
     tell(
@@ -191,13 +180,6 @@ fn paints_wanted(
         former,
         present,
     )
-}
-
-fn paints(rt: &HostRuntime, subjects: &Subjects, cells: u16) -> io::Result<()> {
-    let wanted = changed(subjects, cells);
-    let former_wanted = FormerWanted::new(&wanted);
-    let mut out = Vec::new(rt.alloc());
-    paints_wanted(rt, subjects, cells, &former_wanted, &wanted, &mut out)
 }
 
 /// How many cells are known, in so many walks over them.
@@ -301,21 +283,12 @@ fn walks(rt: &HostRuntime, what: &str, subjects: &Subjects, walk: Walk) -> io::R
 /// One character that a Write stores.
 const ONE_CHARACTER: &[u8] = b"\xF1\xC2\x11\x40\xC1\xC1";
 
-/// Both have what a command makes of a blank screen.
-fn begin_with(subjects: &mut Subjects, bytes: &[u8]) {
+/// What is heard and taken in on a screen of so many fields.
+fn figures_of(rt: &HostRuntime, subjects: &mut Subjects, fields: u16) -> io::Result<()> {
+    let bytes = command_of(rt.alloc(), fields)?;
     subjects.begin();
-    let _alike = subjects.write(bytes);
-}
-
-/// What is heard and taken in on the screen that a command of so many fields makes.
-fn figures_with(
-    rt: &HostRuntime,
-    subjects: &mut Subjects,
-    fields: u16,
-    bytes: &[u8],
-) -> io::Result<()> {
-    begin_with(subjects, bytes);
-    if let Ok(command) = read_command(bytes) {
+    let _alike = subjects.write(bytes.as_slice());
+    if let Ok(command) = read_command(bytes.as_slice()) {
         applies(rt, fields, subjects, &command)?;
     }
     takes(
@@ -323,7 +296,7 @@ fn figures_with(
         "sent_taken, Erase/Write, fields",
         fields,
         subjects,
-        bytes,
+        bytes.as_slice(),
     )?;
     takes(
         rt,
@@ -332,13 +305,22 @@ fn figures_with(
         subjects,
         ONE_CHARACTER,
     )?;
-    for (what, form) in [
-        ("heard, Read Buffer, fields", Form::Buffer),
-        ("heard, Read Modified All, fields", Form::All),
-    ] {
-        hears_form(rt, what, fields, subjects, form)?;
-    }
-    begin_with(subjects, bytes);
+    hears_form(
+        rt,
+        "heard, Read Buffer, fields",
+        fields,
+        subjects,
+        Form::Buffer,
+    )?;
+    hears_form(
+        rt,
+        "heard, Read Modified All, fields",
+        fields,
+        subjects,
+        Form::All,
+    )?;
+    subjects.begin();
+    let _alike = subjects.write(bytes.as_slice());
     if let Some(number) = PaNo::new(1) {
         subjects.screen.set_aid(Aid::Pa(number));
     }
@@ -351,33 +333,19 @@ fn figures_with(
     )
 }
 
-/// What is heard and taken in on a screen of so many fields.
-fn figures_of(rt: &HostRuntime, subjects: &mut Subjects, fields: u16) -> io::Result<()> {
-    let bytes = command_of(rt.alloc(), fields)?;
-    figures_with(rt, subjects, fields, bytes.as_slice())
-}
-
-/// A screen of 96 fields is painted over, and walked over.
-fn figures_over(rt: &HostRuntime, subjects: &Subjects) -> io::Result<()> {
-    for cells in [0, 1, 80] {
-        paints(rt, subjects, cells)?;
-    }
-    walks(rt, "known of all cells, fields", subjects, Walk::Known)?;
-    walks(rt, "field_at of all cells, fields", subjects, Walk::Fields)?;
-    walks(rt, "printed screen, fields", subjects, Walk::Printed)
-}
-
-fn print_with(rt: &HostRuntime, subjects: &mut Subjects) -> io::Result<()> {
-    for fields in FIELD_COUNTS {
-        figures_of(rt, subjects, fields)?;
-    }
-    let bytes = command_of(rt.alloc(), 96)?;
-    begin_with(subjects, bytes.as_slice());
-    figures_over(rt, subjects)
-}
-
 /// Measures former and present.
 pub fn print_figures(rt: &HostRuntime) -> io::Result<()> {
     let mut subjects = Subjects::new(rt.alloc());
-    print_with(rt, &mut subjects)
+    for fields in FIELD_COUNTS {
+        figures_of(rt, &mut subjects, fields)?;
+    }
+    let bytes = command_of(rt.alloc(), 96)?;
+    subjects.begin();
+    let _alike = subjects.write(bytes.as_slice());
+    for cells in [0, 1, 80] {
+        paints(rt, &subjects, cells)?;
+    }
+    walks(rt, "known of all cells, fields", &subjects, Walk::Known)?;
+    walks(rt, "field_at of all cells, fields", &subjects, Walk::Fields)?;
+    walks(rt, "printed screen, fields", &subjects, Walk::Printed)
 }

@@ -14,7 +14,7 @@ mod subjects;
 mod wanting;
 
 pub use figures::print_figures;
-use likeness::{Alike, Difference};
+use likeness::Difference;
 use script::{put_bytes, step_of};
 use std::alloc::Global;
 use std::io;
@@ -27,41 +27,22 @@ struct Found {
     difference: Difference,
 }
 
-/// Holds a line, whose bytes take the place of the last one's. Answers what it made otherwise; a comment makes nothing so.
-fn hold_line(
-    alloc: Global,
-    subjects: &mut Subjects,
-    text: &str,
-    bytes: &mut Vec<u8>,
-) -> io::Result<Alike> {
-    let (word, words) = text.split_once(' ').unwrap_or((text, ""));
-    if word == "#" {
-        return Ok(Ok(()));
-    }
-    put_bytes(alloc, bytes, words)?;
-    Ok(subjects.perform(step_of(word)?, bytes))
-}
-
-fn hold_lines(
-    alloc: Global,
-    subjects: &mut Subjects,
-    lines: &str,
-    bytes: &mut Vec<u8>,
-) -> io::Result<Option<Found>> {
+/// Holds a case. Answers its first line that makes a difference.
+fn hold(alloc: Global, subjects: &mut Subjects, lines: &str) -> io::Result<Option<Found>> {
+    let mut bytes = Vec::new(alloc);
     let mut line = 0u32;
     for text in lines.lines() {
         line = line.saturating_add(1);
-        if let Err(difference) = hold_line(alloc, subjects, text, bytes)? {
+        let (word, words) = text.split_once(' ').unwrap_or((text, ""));
+        if word == "#" {
+            continue;
+        }
+        put_bytes(alloc, &mut bytes, words)?;
+        if let Err(difference) = subjects.perform(step_of(word)?, &mut bytes) {
             return Ok(Some(Found { line, difference }));
         }
     }
     Ok(None)
-}
-
-/// Holds a case. Answers its first line that makes a difference.
-fn hold(alloc: Global, subjects: &mut Subjects, lines: &str) -> io::Result<Option<Found>> {
-    let mut bytes = Vec::new(alloc);
-    hold_lines(alloc, subjects, lines, &mut bytes)
 }
 
 fn tell(rt: &impl Print, name: &str, found: Option<Found>) -> io::Result<()> {
@@ -69,8 +50,7 @@ fn tell(rt: &impl Print, name: &str, found: Option<Found>) -> io::Result<()> {
         None => println!(rt; "{name}: same"),
         Some(Found { line, difference }) => {
             let Difference { what, place } = difference;
-            print!(rt; "{name}: line {line}: ")?;
-            println!(rt; "{what} at {place} is otherwise")
+            println!(rt; "{name}: line {line}: {what} at {place} is otherwise")
         }
     }
 }
@@ -83,32 +63,9 @@ fn tell_tally(rt: &impl Print, cases: u32, tally: Tally) -> io::Result<()> {
         refused,
         unread,
     } = tally;
-    print!(rt; "{cases} cases: {obeyed} commands, ")?;
-    print!(rt; "{taken} taken in; {heard} texts heard, ")?;
-    println!(rt; "{refused} refused; {unread} unread")
-}
-
-/// The name of a case, and its lines; none of a block that is a comment.
-fn case_of<'a>(block: &'a str) -> Option<(&'a str, &'a str)> {
-    let (name, lines) = block.trim().split_once('\n')?;
-    if name.starts_with('#') {
-        None
-    } else {
-        Some((name, lines))
-    }
-}
-
-/// Holds a case from the beginning, and tells what came of it. Answers whether all is the same.
-fn hold_told(
-    rt: &(impl Print + AllocGlobal),
-    subjects: &mut Subjects,
-    name: &str,
-    lines: &str,
-) -> io::Result<bool> {
-    subjects.begin();
-    let found = hold(rt.alloc(), subjects, lines)?;
-    tell(rt, name, found)?;
-    Ok(found.is_none())
+    println!(rt;
+        "{cases} cases: {obeyed} commands, {taken} taken in; {heard} texts heard, {refused} refused; {unread} unread"
+    )
 }
 
 /// Holds the cases one after another. Answers whether all are the same.
@@ -120,8 +77,12 @@ fn hold_all(
     let mut cases = 0u32;
     let mut same = true;
     for block in text.split("\n\n") {
-        if let Some((name, lines)) = case_of(block) {
-            same = hold_told(rt, subjects, name, lines)? && same;
+        let (name, lines) = block.trim().split_once('\n').unwrap_or(("#", ""));
+        if !name.starts_with('#') {
+            subjects.begin();
+            let found = hold(rt.alloc(), subjects, lines)?;
+            tell(rt, name, found)?;
+            same = same && found.is_none();
             cases = cases.saturating_add(1);
         }
     }

@@ -156,39 +156,21 @@ impl Subjects {
         }
     }
 
-    /// The screen answers behind these bytes, and all of them are heard.
-    fn answer(&mut self, bytes: &mut Vec<u8>, form: Form) -> Alike {
-        let put = self.put_answer(bytes, form);
-        alike_at(put.is_ok(), "memory", 0)?;
-        self.hear(bytes.as_slice(), form)
-    }
-
-    /// What is done with a key: nothing that may be answered otherwise.
-    fn strike(&mut self, step: Step, bytes: &[u8]) {
-        match step {
-            Step::Type => self.type_bytes(bytes),
-            Step::Press => self.press(bytes),
-            Step::Clear => self.clear(),
-            Step::EraseInput => self.erase_input(),
-            _ => {}
-        }
-    }
-
-    fn act(&mut self, step: Step, bytes: &mut Vec<u8>) -> Alike {
-        match step {
-            Step::Write => self.write(bytes.as_slice()),
-            Step::Hear(form) => self.hear(bytes.as_slice(), form),
-            Step::Answer(form) => self.answer(bytes, form),
-            _ => {
-                self.strike(step, bytes.as_slice());
-                Ok(())
-            }
-        }
-    }
-
     /// Does what a line asks for. What the screen answers takes the place of its bytes.
     pub(crate) fn perform(&mut self, step: Step, bytes: &mut Vec<u8>) -> Alike {
-        self.act(step, bytes)?;
+        match step {
+            Step::Write => self.write(bytes.as_slice())?,
+            Step::Hear(form) => self.hear(bytes.as_slice(), form)?,
+            Step::Answer(form) => {
+                let put = self.put_answer(bytes, form);
+                alike_at(put.is_ok(), "memory", 0)?;
+                self.hear(bytes.as_slice(), form)?;
+            }
+            Step::Type => self.type_bytes(bytes.as_slice()),
+            Step::Press => self.press(bytes.as_slice()),
+            Step::Clear => self.clear(),
+            Step::EraseInput => self.erase_input(),
+        }
         self.alike()
     }
 

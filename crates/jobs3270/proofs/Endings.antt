@@ -1,13 +1,22 @@
 -- How a run ends, from the ends of its parts.
-use Rattle.std.proofs.Common.{◌≡◌, ℕ, ◌+◌, ◌<◌, ◌≤◌, List, ◌++◌, length, take, Result, Ok, Err, IfErr, OnErr, IsUtf8, Option, None, Some, refl, sym, subst, arith, length-append}
+use Rattle.std.proofs.Common.{◌≡◌, ℕ, zero, suc, ◌+◌, ◌<◌, ◌≤◌, List, ◌++◌, length, take, Result, Ok, Err, IfErr, OnErr, IsUtf8, Option, None, Some, refl, sym, subst, arith, length-append}
 use Rattle.std.specs.Io.KnownBytes.{Consumes}
 use Rattle.std.proofs.KnownBytes.{Consumes-trans, Keeps-refl}
 use Rattle.std.proofs.lemmas.List.{length-take-le}
-use Rattle.jobs3270.specs.Counting.{Input, Output}
+use Rattle.jobs3270.specs.Counting.{Input, Output, more}
 use Rattle.jobs3270.specs.Runs.{ReadWhole, NotRead, too_many_bytes, no_text, most_bytes, RefusesInput, IsInput, EndsPrinting, HasCause}
 use Rattle.jobs3270.specs.declared.fault.Fault.{Fault}
 use Rattle.jobs3270.specs.declared.fault.Fault.TheVariants.{InputNotRead, Panels, Pool, NotHex, NotUnderstood, NoMemory, SocketFailed, TurnsOver, OutputFailed}
 use Rattle.jobs3270.specs.declared.task.Task.{Task}
+
+-- one read more, where as many were counted before as there were rounds
+pub reads_more : (first old new rounds : ℕ) → (rounds ≡ 0 → old ≡ first) → (0 < rounds → old ≡ more first rounds) → new ≡ more old 1
+    → new ≡ more first (rounds + 1)
+reads_more first old new zero none some is = let before = none refl in omega arith
+reads_more first old new (suc rounds) none some is =
+    let positive : 0 < suc rounds = omega arith in
+    let before = some positive in
+    omega arith
 
 -- what was read is no text
 pub refused : {T : Type 0} → (text : Result T Fault) (old new : Input) (bytes : List ℕ) → ReadWhole old new bytes → IfErr text (λ fault. fault ≡ InputNotRead)

@@ -22,6 +22,19 @@ number_among names name = option_map (λ place. place + 1) (position (λ other. 
 unfoldable pub numbered_key : List ℕ → Option Key
 numbered_key name = option_or (option_map Pf (number_among pf_names name)) (option_map Pa (number_among pa_names name))
 
+-- the key with a name, but for those that do no more than move the cursor
+abbrev pub working_key : List ℕ → Option Key
+working_key name =
+    if bytes_eq name (codes "backspace") then Some Backspace else
+    if bytes_eq name (codes "insert") then Some Insert else
+    if bytes_eq name (codes "delete") then Some Delete else
+    if bytes_eq name (codes "eraseeof") then Some EraseEof else
+    if bytes_eq name (codes "eraseinput") then Some EraseInput else
+    if bytes_eq name (codes "reset") then Some Reset else
+    if bytes_eq name (codes "enter") then Some Enter else
+    if bytes_eq name (codes "clear") then Some Clear else
+    numbered_key name
+
 -- the key with a name
 unfoldable pub key_named : List ℕ → Option Key
 key_named name =
@@ -33,12 +46,4 @@ key_named name =
     if bytes_eq name (codes "down") then Some CursorDown else
     if bytes_eq name (codes "left") then Some CursorLeft else
     if bytes_eq name (codes "right") then Some CursorRight else
-    if bytes_eq name (codes "backspace") then Some Backspace else
-    if bytes_eq name (codes "insert") then Some Insert else
-    if bytes_eq name (codes "delete") then Some Delete else
-    if bytes_eq name (codes "eraseeof") then Some EraseEof else
-    if bytes_eq name (codes "eraseinput") then Some EraseInput else
-    if bytes_eq name (codes "reset") then Some Reset else
-    if bytes_eq name (codes "enter") then Some Enter else
-    if bytes_eq name (codes "clear") then Some Clear else
-    numbered_key name
+    working_key name

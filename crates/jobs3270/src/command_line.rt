@@ -1,10 +1,10 @@
 //! The words behind the program's name.
-ghost use Rattle.std.specs.Prelude.{◌≡◌, ◌∷◌, [], IfOk, IfErr, Some, map, option_map, string_bytes};
+ghost use Rattle.std.specs.Prelude.{◌≡◌, ◌∷◌, [], false, IfOk, IfErr, Some, map, option_map, string_bytes};
 ghost use Rattle.clap.specs.Walk.{first_of, rows_of};
 ghost use Rattle.clap.specs.Simple.{App, Shape, subcommand_rows_of, with_subcommand};
 ghost use Rattle.clap.specs.Matches.{found_of};
 ghost use Rattle.clap.specs.Values.{kind_of};
-ghost use Rattle.jobs3270.specs.Words.{HasNoJob, program, job_of, job_by, job_named, given_port, given_turns, given_lu, port_rule, turns_rule, lu_rule, script_shape, show_shape, selfrun_shape, host_shape, serve_shape, term_shape};
+ghost use Rattle.jobs3270.specs.Words.{HasNoJob, program, job_of, job_by, job_named, given_port, given_turns, given_lu, option_rule, port_rule, job_shape, selfrun_shape};
 ghost use Rattle.jobs3270.specs.ClapCommands.{IsOption, IsJob, IsCommand, IsMatch, HasNoMatch, fault_by};
 
 use crate::job::{Job, Port, Turns, WordFault};
@@ -15,89 +15,56 @@ use tn3270e_msg::Lu;
 
 // ---- the command line
 
-/// `--port P`, which has to be given.
-fn port_option<'a>(alloc: Global) -> Arg<'a>
-    ensures { IsOption port_rule result }
+/// An option with a name, which may be left out.
+fn option<'a>(alloc: Global, name: &'a str) -> Arg<'a>
+    ensures { IsOption (option_rule name.now false) result }
 {
-    Arg::new(alloc, "port").long("port").required(true)
-}
-
-/// `--turns N`.
-fn turns_option<'a>(alloc: Global) -> Arg<'a>
-    ensures { IsOption turns_rule result }
-{
-    Arg::new(alloc, "turns").long("turns")
-}
-
-/// `--lu NAME`.
-fn lu_option<'a>(alloc: Global) -> Arg<'a>
-    ensures { IsOption lu_rule result }
-{
-    Arg::new(alloc, "lu").long("lu")
+    Arg::new(alloc, name).long(name)
 }
 
 /// `selfrun [--turns N]`.
 fn selfrun<'a>(alloc: Global) -> Result<Command<'a>, AllocError>
     ensures { IfOk result (IsJob selfrun_shape) }
 {
-    Command::new(alloc, "selfrun").arg(turns_option(alloc))
+    Command::new(alloc, "selfrun").arg(option(alloc, "turns"))
 }
 
-/// `host --port P [--turns N]`.
-fn host<'a>(alloc: Global) -> Result<Command<'a>, AllocError>
-    ensures { IfOk result (IsJob host_shape) }
+/// A job with `--port P`, which has to be given.
+fn at_port<'a>(alloc: Global, name: &'a str) -> Result<Command<'a>, AllocError>
+    ensures { IfOk result (IsJob (job_shape name.now (port_rule ∷ []))) }
 {
-    let command = Command::new(alloc, "host").arg(port_option(alloc))?;
-    command.arg(turns_option(alloc))
+    Command::new(alloc, name).arg(option(alloc, "port").required(true))
 }
 
-/// `serve --port P`.
-fn serve<'a>(alloc: Global) -> Result<Command<'a>, AllocError>
-    ensures { IfOk result (IsJob serve_shape) }
+/// A job with `--port P` and an option more, which may be left out.
+fn at_port_with<'a>(alloc: Global, name: &'a str, other: &'a str) -> Result<Command<'a>, AllocError>
+    ensures { IfOk result (IsJob (job_shape name.now (port_rule ∷ option_rule other.now false ∷ []))) }
 {
-    Command::new(alloc, "serve").arg(port_option(alloc))
+    at_port(alloc, name)?.arg(option(alloc, other))
 }
 
-/// `term --port P [--lu NAME]`.
-fn term<'a>(alloc: Global) -> Result<Command<'a>, AllocError>
-    ensures { IfOk result (IsJob term_shape) }
-{
-    let command = Command::new(alloc, "term").arg(port_option(alloc))?;
-    command.arg(lu_option(alloc))
-}
-
-/// A command with one job more, if that could be made.
+/// A command with one job more, if both could be made.
 fn with_job<'a>(
-    command: Command<'a>,
+    command: Result<Command<'a>, AllocError>,
     job: Result<Command<'a>, AllocError>,
 ) -> Result<Command<'a>, AllocError>
-    ensures { (app : App) (shape : Shape) → IsCommand app command.entry → IfOk job.entry (IsJob shape) → IfOk result (IsCommand (with_subcommand app shape)) }
+    ensures { (app : App) (shape : Shape) → IfOk command.entry (IsCommand app) → IfOk job.entry (IsJob shape) → IfOk result (IsCommand (with_subcommand app shape)) }
 {
-    match job {
-        Ok(job) => command.subcommand(job),
-        Err(error) => Err(error),
-    }
-}
-
-/// The program, with the two jobs that have no options.
-fn plain_program<'a>(alloc: Global) -> Result<Command<'a>, AllocError>
-    ensures { IfOk result (IsCommand (record program { subs = script_shape ∷ show_shape ∷ [] })) }
-{
-    Command::new(alloc, "panel3270")
-        .no_binary_name(true)
-        .subcommand(Command::new(alloc, "script"))?
-        .subcommand(Command::new(alloc, "show"))
+    command?.subcommand(job?)
 }
 
 /// The program, with its jobs as subcommands.
 fn program<'a>(alloc: Global) -> Result<Command<'a>, AllocError>
     ensures { IfOk result (IsCommand program) }
 {
-    let two = plain_program(alloc)?;
-    let three = with_job(two, selfrun(alloc))?;
-    let four = with_job(three, host(alloc))?;
-    let five = with_job(four, serve(alloc))?;
-    with_job(five, term(alloc))
+    let bare = Ok(Command::new(alloc, "panel3270").no_binary_name(true));
+    let one = with_job(bare, Ok(Command::new(alloc, "script")));
+    let two = with_job(one, Ok(Command::new(alloc, "show")));
+    let three = with_job(two, selfrun(alloc));
+    // `host --port P [--turns N]`, `serve --port P` and `term --port P [--lu NAME]`.
+    let four = with_job(three, at_port_with(alloc, "host", "turns"));
+    let five = with_job(four, at_port(alloc, "serve"));
+    with_job(five, at_port_with(alloc, "term", "lu"))
 }
 
 // ---- what was given

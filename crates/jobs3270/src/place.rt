@@ -7,6 +7,7 @@ use host_core::{LinkRead, LinkWrite};
 use mio::net::TcpStream;
 use std::io::{ErrorKind, Read, Write};
 use std::marker::Model;
+use std::net::SocketAddr;
 
 /// How many bytes may wait to be sent on a connection from which is still read.
 const MOST_WAITING: usize = 65_536;
@@ -106,9 +107,9 @@ impl Place {
         self.socket.is_some()
     }
 
-    /// Its socket, if it has a connection.
-    pub(crate) fn socket(&self) -> Option<&TcpStream> {
-        self.socket.as_ref()
+    /// Where its peer is, if it has a connection and that is known.
+    pub(crate) fn peer(&self) -> Option<SocketAddr> {
+        self.socket.as_ref()?.peer_addr().ok()
     }
 
     /// A connection begins.

@@ -1,6 +1,6 @@
 //! Lines of scripts: what a line asks for.
 ghost use Rattle.std.specs.Prelude.{◌≡◌, ◌≤◌, ◌<◌, length, map, position, bytes_eq, IfSome};
-ghost use Rattle.jobs3270.specs.KeyNames.{number_among, numbered_key, key_named};
+ghost use Rattle.jobs3270.specs.KeyNames.{number_among, numbered_key, working_key, key_named};
 ghost use Rattle.jobs3270.specs.ScriptLines.{behind, typed_text, is_digits, number_of, note_of, asks_alone, asks_of_one, asks_with, asks};
 
 use codes3270::from_latin1;
@@ -89,7 +89,8 @@ fn place_of(names: &[&str], name: &str) -> Option<usize>
 #[tactic(auto, using(crate::proofs::ScriptLines::position_mapped))]
 fn number_among(names: &[&str], name: &str) -> Option<u8>
     requires { length names.now ≤ 24 }
-    ensures { result ≡ number_among (map (λ other. other.now) names.now) name.now }
+    ensures number { result ≡ number_among (map (λ other. other.now) names.now) name.now }
+    ensures in_range { IfSome result (λ number. (1 ≤ number) × (number ≤ length names.now)) }
 {
     let place = place_of(names, name)?;
     Some(place as u8 + 1)
@@ -107,6 +108,23 @@ fn numbered_key(name: &str) -> Option<Key>
     PaNo::new(number).map(Key::Pa)
 }
 
+/// The key with a name, but for those that do no more than move the cursor.
+fn working_key(name: &str) -> Option<Key>
+    ensures { result ≡ working_key name.now }
+{
+    match name {
+        "backspace" => Some(Key::Backspace),
+        "insert" => Some(Key::Insert),
+        "delete" => Some(Key::Delete),
+        "eraseeof" => Some(Key::EraseEof),
+        "eraseinput" => Some(Key::EraseInput),
+        "reset" => Some(Key::Reset),
+        "enter" => Some(Key::Enter),
+        "clear" => Some(Key::Clear),
+        _ => numbered_key(name),
+    }
+}
+
 /// The key with a name.
 #[tactic(auto, unfolding(crate::specs::KeyNames::key_named))]
 pub(crate) fn key_named(name: &str) -> Option<Key>
@@ -121,15 +139,7 @@ pub(crate) fn key_named(name: &str) -> Option<Key>
         "down" => Some(Key::CursorDown),
         "left" => Some(Key::CursorLeft),
         "right" => Some(Key::CursorRight),
-        "backspace" => Some(Key::Backspace),
-        "insert" => Some(Key::Insert),
-        "delete" => Some(Key::Delete),
-        "eraseeof" => Some(Key::EraseEof),
-        "eraseinput" => Some(Key::EraseInput),
-        "reset" => Some(Key::Reset),
-        "enter" => Some(Key::Enter),
-        "clear" => Some(Key::Clear),
-        _ => numbered_key(name),
+        _ => working_key(name),
     }
 }
 

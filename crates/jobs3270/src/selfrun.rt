@@ -13,11 +13,12 @@ use crate::seat::Seat;
 use crate::server::{Server, Unwatched, patience};
 use crate::show::end_by;
 use crate::streams::{Sink, Source};
+use crate::term;
 use host_core::MOST_CONNECTIONS;
 use keyboard::Key;
 use mio::net::TcpStream;
 use std::alloc::{AllocError, Global};
-use std::net::{Net, SocketAddr};
+use std::net::Net;
 use term_core::Terminal;
 use tn3270e_msg::Lu;
 use world3270::{Event, Stepped};
@@ -39,11 +40,16 @@ fn is_taken(asks: &Asks) -> bool
     }
 }
 
+/// What a line asks for: None where it isn't understood, or may not be asked for over sockets.
+fn taken(line: &str) -> Option<Asks> {
+    let asks = asked(line)?;
+    if is_taken(&asks) { Some(asks) } else { None }
+}
+
 /// A host, the terminals of a script, and how many turns they may still take.
 #[derive(Drop)]
 struct Household {
     server: Server,
-    address: SocketAddr,
     seats: Vec<Seat>,
     turns: u32,
 }
@@ -62,13 +68,8 @@ impl Household {
     fn new(net: &impl Net, alloc: Global, panels: &str, turns: u32) -> Result<Household, Fault> {
         let host = host_of(alloc, panels)?;
         let seats = seats_of(alloc)?;
-        let server = Server::new(net, alloc, host, 0)?;
-        let Ok(address) = server.address() else {
-            return Err(Fault::SocketFailed);
-        };
         Ok(Household {
-            server,
-            address,
+            server: Server::new(net, alloc, host, 0)?,
             seats,
             turns,
         })
@@ -104,7 +105,10 @@ impl Household {
         if terminal >= self.seats.len() || !self.seats[terminal].is_idle() {
             return Ok(Stepped::Skipped);
         }
-        let Ok(mut socket) = TcpStream::connect(net, self.address) else {
+        let Ok(address) = self.server.address() else {
+            return Err(Fault::SocketFailed);
+        };
+        let Ok(mut socket) = TcpStream::connect(net, address) else {
             return Err(Fault::SocketFailed);
         };
         // As at the host's end: a socket that goes without these is used all the same.
@@ -168,8 +172,7 @@ impl Household {
     /// Adds a terminal's screen.
     fn show(&self, alloc: Global, terminal: usize, text: &mut String) -> Result<(), Fault> {
         if let Some(seat) = self.seats.get(terminal) {
-            let screen = seat.terminal().screen_text(alloc)?;
-            text.push_str(screen.as_str())?;
+            term::show(alloc, seat.terminal(), text)?;
         }
         Ok(())
     }
@@ -192,17 +195,17 @@ impl Household {
         text: &mut String,
     ) -> Result<(), Fault> {
         match asks {
-            Asks::Nothing => {}
+            Asks::Nothing => Ok(()),
             Asks::Happens(event) => {
                 let answer = self.happen(net, event)?;
                 put_answer(text, answer)?;
+                Ok(())
             }
-            Asks::Types(terminal) => self.type_text(terminal, typed_text(line), text)?,
-            Asks::Settles => self.settle()?,
-            Asks::Shows(terminal) => self.show(alloc, terminal, text)?,
-            Asks::Tells(terminal) => self.tell(terminal, text)?,
+            Asks::Types(terminal) => self.type_text(terminal, typed_text(line), text),
+            Asks::Settles => self.settle(),
+            Asks::Shows(terminal) => self.show(alloc, terminal, text),
+            Asks::Tells(terminal) => self.tell(terminal, text),
         }
-        Ok(())
     }
 
     /// Does the commands of a script, one a line, and adds what they print.
@@ -214,10 +217,10 @@ impl Household {
         text: &mut String,
     ) -> Result<(), Fault> {
         for (index, line) in script.split_terminator('\n').enumerate() {
-            match asked(line) {
-                Some(asks) if is_taken(&asks) => self.play_line(net, alloc, asks, line, text)?,
-                _ => return Err(Fault::NotUnderstood(index + 1)),
-            }
+            let Some(asks) = taken(line) else {
+                return Err(Fault::NotUnderstood(index + 1));
+            };
+            self.play_line(net, alloc, asks, line, text)?;
         }
         Ok(())
     }

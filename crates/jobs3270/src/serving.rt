@@ -25,16 +25,19 @@ fn begin<N: Net, I: Source>(
     Server::new(net, alloc, host, port.get())
 }
 
-/// Serves so many turns.
-fn serve_turns(server: &mut Server, turns: Turns) -> Result<(), Fault> {
+/// Serves so many turns, and answers what ended them.
+fn serve_turns(server: &mut Server, turns: Turns) -> Fault {
     let mut moved = false;
     for _ in 0..turns.get() {
-        moved = server.turn(patience(moved), &mut Unwatched)?;
+        moved = match server.turn(patience(moved), &mut Unwatched) {
+            Ok(moved) => moved,
+            Err(fault) => return fault,
+        };
     }
-    Ok(())
+    Fault::TurnsOver
 }
 
-/// Serves so many turns, and answers what ended them.
+/// Begins to serve, and answers what ended that.
 fn host<N: Net, I: Source>(
     net: &N,
     alloc: Global,
@@ -42,12 +45,8 @@ fn host<N: Net, I: Source>(
     turns: Turns,
     input: &mut I,
 ) -> Fault {
-    let mut server = match begin(net, alloc, port, input) {
-        Ok(server) => server,
-        Err(fault) => return fault,
-    };
-    match serve_turns(&mut server, turns) {
-        Ok(()) => Fault::TurnsOver,
+    match begin(net, alloc, port, input) {
+        Ok(mut server) => serve_turns(&mut server, turns),
         Err(fault) => fault,
     }
 }

@@ -39,7 +39,12 @@ fn is_skipped(answer: Stepped) -> bool
 fn are_skipped(answers: &[Stepped]) -> bool
     ensures { result ≡ list_all is_skipped answers.now }
 {
-    answers.iter().all(|answer| is_skipped(*answer))
+    for answer in answers {
+        if !is_skipped(*answer) {
+            return false;
+        }
+    }
+    true
 }
 
 /// On one connection all that is under way comes up, the host acts, and all that is then under way comes down. Answers whether all

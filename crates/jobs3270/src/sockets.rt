@@ -108,7 +108,7 @@ impl Sockets {
 
     /// Where the peer of a number is, if it has a connection and that is known.
     pub(crate) fn peer(&self, conn: usize) -> Option<SocketAddr> {
-        self.places.get(conn)?.socket()?.peer_addr().ok()
+        self.places.get(conn)?.peer()
     }
 
     /// A connection begins on a number.

@@ -29,7 +29,7 @@ pub struct Wire<D, U> {
 }
 
 /// Adds the terminal's screen.
-fn show(alloc: Global, terminal: &Terminal, text: &mut String) -> Result<(), AllocError>
+pub(crate) fn show(alloc: Global, terminal: &Terminal, text: &mut String) -> Result<(), AllocError>
     ensures { OnOk result (string_bytes text.new ≡ string_bytes text.old ++ screen_text terminal.now.station) }
 {
     let screen = terminal.screen_text(alloc)?;
@@ -75,10 +75,13 @@ fn do_lines<D: Source, U: Sink, O: Sink>(
     out: &mut O,
 ) -> Result<(), Fault> {
     for (index, line) in script.split_terminator('\n').enumerate() {
-        let asks = term_asks_of(line).ok_or(Fault::NotUnderstood(index + 1))?;
-        do_line(alloc, terminal, wire, asks, line, text).map_err(|_| Fault::NoMemory)?;
-        out.write_all(text.as_bytes())
-            .map_err(|_| Fault::OutputFailed)?;
+        let Some(asks) = term_asks_of(line) else {
+            return Err(Fault::NotUnderstood(index + 1));
+        };
+        do_line(alloc, terminal, wire, asks, line, text)?;
+        if out.write_all(text.as_bytes()).is_err() {
+            return Err(Fault::OutputFailed);
+        }
         text.clear();
     }
     Ok(())
@@ -96,7 +99,7 @@ pub fn operate<D: Source, U: Sink, O: Sink>(
     wire: &mut Wire<D, U>,
     out: &mut O,
 ) -> Result<(), Fault> {
-    let mut terminal = Terminal::new(alloc).map_err(|_| Fault::NoMemory)?;
+    let mut terminal = Terminal::new(alloc)?;
     terminal.connected(lu);
     let mut text = String::new(alloc);
     do_lines(alloc, &mut terminal, wire, script, &mut text, out)

@@ -207,20 +207,6 @@ fn put_where(text: &mut String, holds: bool, line: &str) -> Result<bool, AllocEr
     Ok(holds)
 }
 
-/// Adds texts one behind the other.
-fn put_parts(text: &mut String, parts: &[&str]) -> Result<(), AllocError> {
-    for part in parts {
-        text.push_str(part)?;
-    }
-    Ok(())
-}
-
-/// Adds what is said of a line, and its number.
-fn put_place(text: &mut String, what: &str, place: &str, number: usize) -> Result<(), AllocError> {
-    put_parts(text, &[what, place])?;
-    write!(text, "{number}")
-}
-
 /// Adds the first line in which a page differs from the one that is wanted. Says whether they are the same.
 fn put_difference(
     text: &mut String,
@@ -233,12 +219,11 @@ fn put_difference(
     }
     match first_difference(wanted, page) {
         Some((number, line, came)) => {
-            put_place(text, what, " in line ", number)?;
-            put_parts(text, &[": \"", line, "\", \"", came, "\"\n"])?;
+            write!(text, "{what} in line {number}: \"{line}\", \"{came}\"\n")?;
         }
         None => {
-            put_place(text, what, " behind line ", wanted.lines().count())?;
-            text.push('\n')?;
+            let number = wanted.lines().count();
+            write!(text, "{what} behind line {number}\n")?;
         }
     }
     Ok(false)

@@ -1,6 +1,10 @@
-use Rattle.std.proofs.Common.{rules, ◌≡◌, ◌<◌, ◌+◌, ◌-◌, ◌^◌, ◌∙◌, ℕ, min, length, arith}
-use Rattle.std.proofs.KnownBytes.{Consumes-kept}
-use Rattle.jobs3270.proofs.Endings.{refused, too_many}
+use Rattle.std.proofs.Common.{rules, ◌≡◌, ◌<◌, ◌+◌, ◌-◌, ◌^◌, ◌∙◌, ◌++◌, ap, subst, sym, ℕ, List, min, length, take, arith}
+use Rattle.std.proofs.KnownBytes.{Consumes-kept, Consumes-trans}
+use Rattle.std.specs.Io.KnownBytes.{Consumes}
+use Rattle.jobs3270.specs.Counting.{more}
+use Rattle.jobs3270.specs.Runs.{read_failed}
+use Rattle.jobs3270.proofs.Endings.{reads_more, refused, too_many}
+use Rattle.jobs3270.proofs.input.read_whole.Goals.{in-Gave+else-saturating_add-gt-MOST_BYTES+else-is_err, in-Interrupted}
 use Rattle.jobs3270.proofs.input.read_whole.Goals as goal
 
 pub returns-in-Ended-clause-fault : goal.returns-in-Ended-clause-fault
@@ -25,3 +29,34 @@ returns-then-saturating_add-gt-MOST_BYTES-clause-fault g c =
     too_many (g.I.Source.seen c.args.input.now) (g.I.Source.seen c.loop.input) (g.I.Source.seen c.read.new.self) c.loop.bytes.items c.read.new.buffer c.in-Gave.count
     c.loop.invariant.consumed c.in-Gave.ensures.bytes c.in-Gave.ensures.within.1
     (long (length c.loop.bytes.items) c.in-Gave.count c.len.result c.saturating_add.result (c.len.ensures ∙ search rules) c.saturating_add.ensures c.if-saturating_add-gt-MOST_BYTES.true)
+
+pub returns-in-Failed-clause-fault : goal.returns-in-Failed-clause-fault
+returns-in-Failed-clause-fault g c = read_failed (c.in-Failed.ensures.counts.failures ∙ ap (λ (n : ℕ). more n 1) c.loop.invariant.failures)
+
+pub loop-preserved : goal.loop-preserved
+loop-preserved g c =
+    let before = c.loop.invariant in
+    let first = g.I.Source.seen c.args.input.now in
+    let new = g.I.Source.seen c.read.new.self in
+    elim c.match-read.branch [
+      | in-Gave+else-saturating_add-gt-MOST_BYTES+else-is_err w ↦
+          let came = take w.in-Gave.count c.read.new.buffer in
+          let items : c.match-read.bytes.items ≡ c.loop.bytes.items ++ came = search rules in
+          record {
+            consumed = subst (λ (bytes : List ℕ). Consumes first.left new.left bytes) (sym items)
+                (Consumes-trans first.left (g.I.Source.seen c.loop.input).left new.left c.loop.bytes.items came before.consumed w.in-Gave.ensures.bytes);
+            within = search rules;
+            not_read = λ none. absurd (omega arith);
+            read = λ some. reads_more _ _ _ c.loop.counter before.not_read before.read c.read.ensures.counts.reads;
+            ends = w.in-Gave.ensures.counts.ends ∙ before.ends;
+            failures = w.in-Gave.ensures.counts.failures ∙ before.failures;
+          }
+      | in-Interrupted w ↦ record {
+        consumed = search rules;
+        within = search rules;
+        not_read = λ none. absurd (omega arith);
+        read = λ some. reads_more _ _ _ c.loop.counter before.not_read before.read c.read.ensures.counts.reads;
+        ends = w.in-Interrupted.ensures.counts.ends ∙ before.ends;
+        failures = w.in-Interrupted.ensures.counts.failures ∙ before.failures;
+      }
+    ]
