@@ -1,5 +1,5 @@
 //! Trials of the libraries up to terminal, belief and panels, over their public calls: tables, worked commands and screens as bytes, printed texts, and
-//! growths refused. A line is printed for each, that it is so or otherwise.
+//! growths refused. A line is printed for each, that it is so or otherwise. `former` compares a belief and a screen with what they were.
 //!
 //! They are a library that a program runs, and no tests: a crate with tests is proved as a program, which loads all that it stands on.
 #![tactic(auto)]
@@ -8,6 +8,7 @@ mod beliefs;
 mod bytes;
 mod codes;
 mod commands;
+mod former;
 mod inbound;
 mod keys;
 mod messages;
@@ -20,6 +21,7 @@ mod terminals;
 mod wire;
 
 use codes3270::Addr;
+pub use former::{compare, print_figures};
 use std::alloc::Global;
 use std::fmt::Display;
 use std::io;

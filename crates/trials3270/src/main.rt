@@ -1,33 +1,33 @@
 //! Programs that try the whole system, as one: worked dialogues, whole worlds, storms of bytes, connections that break off, growths of memory
-//! that are refused, and figures of speed. What they do stands in library_tests, trial_ends, trial_worlds, trial_jobs and former3270.
+//! that are refused, and figures of speed. What they do stands in library_tests and trials, and in `jobs`.
 //!
 //! Without a word, standard input is the stored run (`stdin`, and `stdout` what it has to print): parts, each headed by a line `%% PART`.
 //! With a part's name as the first word, standard input is that part's text alone:
 //!
 //! ```text
-//! dialogues        a script of dialogues: trial_ends `dialogue`
+//! dialogues        a script of dialogues: trials `dialogue`
 //! libraries        nothing; the libraries' public calls, check by check: library_tests
-//! worlds           a script of cases: trial_worlds `worlds`
-//! storm            a storm's script: trial_ends `storm`
-//! serving [last]   nothing; with `last` the last case of each kind alone: trial_ends `serving`
-//! asks             a script of words and lines: trial_jobs `asks`
-//! jobs             nothing; the jobs where the program can't show them: trial_jobs `checks`
-//! growths [CALL]   nothing; the call to try, without one their names: trial_worlds `growths`
-//! former           a script of cases: former3270
-//! speed [figures]  a panel text with 64 LUs; with `figures` it is measured: trial_ends `speed`
-//! then             nothing; what former and present bodies take is measured: former3270 `figures`
+//! worlds           a script of cases: trials `worlds`
+//! storm            a storm's script: trials `storm`
+//! serving [last]   nothing; with `last` the last case of each kind alone: trials `serving`
+//! asks             a script of words and lines: `jobs::asks`
+//! jobs             nothing; the jobs where the program can't show them: `jobs::checks`
+//! growths [CALL]   nothing; the call to try, without one their names: trials `growths`
+//! former           a script of cases: library_tests `former`
+//! speed [figures]  a panel text with 64 LUs; with `figures` it is measured: trials `speed`
+//! then             nothing; what former and present bodies take is measured: library_tests `former::figures`
 //! ```
 //!
 //! The exit status is 1 where something came otherwise than it has to.
 #![tactic(auto)]
 
+mod jobs;
+
 use anyhow::{Context, Result, bail, ensure};
-use former3270::{compare, print_figures};
-use library_tests::try_libraries;
+use jobs::{tell_asks, try_jobs};
+use library_tests::{compare, print_figures, try_libraries};
 use std::{env, io};
-use trial_ends::{Range, Scale, hold_script, measure, rage_by, serve};
-use trial_jobs::{tell_asks, try_jobs};
-use trial_worlds::{tell_script, try_named};
+use trials::{Range, Scale, hold_script, measure, rage_by, serve, tell_script, try_named};
 
 const PARTS: &str =
     "dialogues, libraries, worlds, storm, serving, asks, jobs, growths, former, speed and then";

@@ -1,0 +1,121 @@
+//! The bytes of a paint, and whether what is to be kept is believed to be there.
+use crate::former::bodies::cells::next_of;
+use crate::former::bodies::fields::{Fields, Known};
+use crate::former::bodies::wanted::FormerWanted;
+use codes3270::{Addr, Attr, CELLS, Cell, attr_code, storable};
+use datastream::{CommandWriter, Memory, Want};
+use shadow::Mark;
+
+fn is_attribute(want: &Want) -> bool {
+    matches!(want, Want::Attr(_))
+}
+
+/// Whether Keep stands before the first attribute, in these and then in all wants.
+fn keeps_round(behind: &[Want], whole: &[Want]) -> bool {
+    let ends = |want: &&Want| !matches!(want, Want::Char(_));
+    match behind.iter().chain(whole).find(ends) {
+        Some(Want::Keep) => true,
+        _ => false,
+    }
+}
+
+/// How many cells stand before the first attribute, in these and then in all wants.
+fn count_round(behind: &[Want], whole: &[Want]) -> usize {
+    behind
+        .iter()
+        .chain(whole)
+        .take_while(|want| !is_attribute(want))
+        .count()
+}
+
+fn same_attr(one: Attr, other: Attr) -> bool {
+    attr_code(one.with_mdt(false)) == attr_code(other.with_mdt(false))
+}
+
+/// Whether a field is believed to be.
+fn any_field(fields: &Fields, place: usize, attr: Attr, count: usize) -> bool {
+    fields.heads().iter().any(|head| {
+        head.place == place && same_attr(head.attr, attr) && head.length == count
+    })
+}
+
+/// Whether Keep stands in fields alone, and each of these fits.
+pub(crate) fn fits_fields(fields: &Fields, wants: &[Want]) -> bool {
+    let mut keeps = false;
+    let mut attributes = false;
+    for (place, want) in wants.iter().enumerate() {
+        keeps = keeps || matches!(want, Want::Keep);
+        let Want::Attr(attr) = *want else { continue };
+        attributes = true;
+        let behind = wants.get(place.saturating_add(1)..).unwrap_or(&[]);
+        if keeps_round(behind, wants)
+            && (attr.protected || !any_field(fields, place, attr, count_round(behind, wants)))
+        {
+            return false;
+        }
+    }
+    !keeps || attributes
+}
+
+/// Whether a cell is known to be the wanted one.
+fn is_there(known: Known, cell: Cell) -> bool {
+    match (known, cell) {
+        (Known::Attr(believed, mark), Cell::Attr(attr)) => {
+            let wanted = if attr.mdt { Mark::On } else { Mark::Off };
+            same_attr(believed, attr) && mark == wanted
+        }
+        (Known::Char(char, _), Cell::Char(byte)) => char == Some(byte),
+        _ => false,
+    }
+}
+
+/// What a paint stores in a cell; `behind` is what is wanted behind it.
+fn cell_to_store(want: Want, known: Known, behind: &[Want], whole: &[Want]) -> Option<Cell> {
+    let cell = match want {
+        Want::Keep => return None,
+        Want::Attr(_) if keeps_round(behind, whole) => return None,
+        Want::Attr(attr) => Cell::Attr(attr),
+        Want::Char(byte) => Cell::Char(byte),
+    };
+    if is_there(known, cell) {
+        None
+    } else {
+        Some(cell)
+    }
+}
+
+/// Puts a cell, with its address unless the write is at it.
+fn put_store(out: &mut Vec<u8>, at: Option<u16>, place: u16, cell: Cell) -> Result<(), Memory> {
+    let mut writer = CommandWriter::new(out);
+    if at != Some(place) {
+        writer.sba(Addr::first().forward(place % CELLS))?;
+    }
+    match cell {
+        Cell::Attr(attr) => writer.sf(attr),
+        Cell::Char(byte) if storable(byte) => writer.chars(&[byte]),
+        Cell::Char(_) => Ok(()),
+    }
+}
+
+/// Puts the cells that aren't known to be right, and then the cursor.
+pub(crate) fn put_cells(
+    out: &mut Vec<u8>,
+    wanted: &FormerWanted,
+    known: &[Known],
+) -> Result<(), Memory> {
+    let wants = wanted.cells.as_slice();
+    let mut at = None;
+    for place in 0..CELLS {
+        let index = usize::from(place);
+        let want = wants.get(index).copied().unwrap_or(Want::Keep);
+        let known = known.get(index).copied().unwrap_or_default();
+        let behind = wants.get(index.saturating_add(1)..).unwrap_or(&[]);
+        if let Some(cell) = cell_to_store(want, known, behind, wants) {
+            put_store(out, at, place, cell)?;
+            at = Some(next_of(place));
+        }
+    }
+    let mut writer = CommandWriter::new(out);
+    writer.sba(wanted.cursor)?;
+    writer.ic()
+}

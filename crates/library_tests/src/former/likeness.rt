@@ -1,0 +1,199 @@
+//! Whether former and present answer the same.
+use crate::former::bodies::{FormerScreen, FormerShadow, FormerWanted, Known, known_in};
+use crate::former::wanting::{WANTINGS, wanted_of};
+use codes3270::{Addr, CELLS};
+use datastream::{Memory, Wanted};
+use presentation::Screen;
+use shadow::{Fact, Shadow};
+
+/// What is otherwise, and at which cell.
+#[derive(Clone, Copy)]
+pub(crate) struct Difference {
+    pub(crate) what: &'static str,
+    pub(crate) place: u16,
+}
+
+pub(crate) type Alike = Result<(), Difference>;
+
+/// The bytes that both answered.
+#[derive(Drop)]
+pub(crate) struct Answers {
+    pub(crate) former: Vec<u8>,
+    pub(crate) present: Vec<u8>,
+}
+
+pub(crate) fn alike_at(holds: bool, what: &'static str, place: u16) -> Alike {
+    if holds {
+        Ok(())
+    } else {
+        Err(Difference { what, place })
+    }
+}
+
+impl Answers {
+    fn clear(&mut self) {
+        self.former.clear();
+        self.present.clear();
+    }
+
+    /// Whether both were answered, and are the same.
+    fn alike(
+        &self,
+        former: Result<(), Memory>,
+        present: Result<(), Memory>,
+        what: &'static str,
+    ) -> Alike {
+        let answered = former.is_ok() && present.is_ok();
+        let same = self.former.as_slice() == self.present.as_slice();
+        alike_at(answered && same, what, 0)
+    }
+}
+
+/// The text that a fact speaks of, character by character.
+fn texts_alike(former: &FormerShadow, shadow: &Shadow, at: Addr) -> Alike {
+    for index in 0..usize::from(CELLS) {
+        let value = shadow.value(at, index);
+        alike_at(former.value(at, index) == value, "value", at.get())?;
+        if value.is_none() {
+            return Ok(());
+        }
+    }
+    Ok(())
+}
+
+/// What is believed of a cell, and of the field whose attribute is there. The characters of an exact field are known, cell by cell.
+fn facts_alike_at(former: &FormerShadow, cells: &[Known], shadow: &Shadow, at: Addr) -> Alike {
+    let place = at.get();
+    let known = known_in(cells, usize::from(place));
+    alike_at(known == shadow.known(at), "known", place)?;
+    let fact = former.fact(at);
+    alike_at(fact == shadow.fact(at), "fact", place)?;
+    alike_at(former.value(at, 0) == shadow.value(at, 0), "value", place)?;
+    if fact.is_some() && fact != Some(Fact::Exact) {
+        texts_alike(former, shadow, at)?;
+    }
+    Ok(())
+}
+
+fn facts_alike(former: &FormerShadow, cells: &[Known], shadow: &Shadow) -> Alike {
+    for place in 0..CELLS {
+        facts_alike_at(former, cells, shadow, Addr::first().forward(place))?;
+    }
+    Ok(())
+}
+
+/// Whether a wanted screen fits both beliefs or neither, and the bytes that paint it.
+fn paints_alike(
+    former: &FormerShadow,
+    shadow: &Shadow,
+    wanted: &Wanted,
+    answers: &mut Answers,
+) -> Alike {
+    answers.clear();
+    let former_wanted = FormerWanted::new(wanted);
+    let former_fits = former.fits(&former_wanted);
+    if !shadow.fits(wanted) {
+        return alike_at(!former_fits, "fits", 0);
+    }
+    alike_at(former_fits, "fits", 0)?;
+    let former_put = former.paint(&mut answers.former, &former_wanted);
+    let put = shadow.paint(&mut answers.present, wanted);
+    answers.alike(former_put, put, "paint")
+}
+
+/// Two beliefs.
+pub(crate) fn beliefs_alike(
+    former: &FormerShadow,
+    shadow: &Shadow,
+    answers: &mut Answers,
+) -> Alike {
+    let cells = former.cells();
+    facts_alike(former, cells.as_slice(), shadow)?;
+    for wanting in WANTINGS {
+        paints_alike(former, shadow, &wanted_of(wanting, shadow), answers)?;
+    }
+    Ok(())
+}
+
+/// The field of a cell: its attribute's place, and its length.
+fn field_of(screen: &Screen, at: Addr) -> Option<(u16, usize)> {
+    match screen.field_at(at) {
+        Some(field) => Some((field.attr.get(), usize::from(field.length))),
+        None => None,
+    }
+}
+
+/// A cell, what is printed of it, alone and among all, and its field.
+fn cell_alike(former: &FormerScreen, screen: &Screen, at: Addr, printed: Option<char>) -> Alike {
+    let place = at.get();
+    let glyph = former.glyph_at(place);
+    alike_at(former.cell(place) == screen.cell(at), "cell", place)?;
+    alike_at(glyph == screen.glyph_at(at), "glyph", place)?;
+    alike_at(printed == Some(glyph), "glyphs", place)?;
+    alike_at(
+        former.field_at(place) == field_of(screen, at),
+        "field at",
+        place,
+    )
+}
+
+fn cells_alike(former: &FormerScreen, screen: &Screen) -> Alike {
+    let mut glyphs = screen.glyphs();
+    for place in 0..CELLS {
+        cell_alike(former, screen, Addr::first().forward(place), glyphs.next())?;
+    }
+    Ok(())
+}
+
+/// Whether the first field from a place on has its attribute here, and this length.
+fn field_alike(former: &FormerScreen, from: u16, place: u16, length: usize) -> Alike {
+    alike_at(
+        former.field_from(from) == Some((place, length)),
+        "field",
+        place,
+    )
+}
+
+/// The fields in their order.
+fn fields_alike(former: &FormerScreen, screen: &Screen) -> Alike {
+    let mut next = 0u16;
+    for field in screen.fields() {
+        let place = field.attr.get();
+        field_alike(former, next, place, usize::from(field.length))?;
+        next = place.saturating_add(1);
+    }
+    alike_at(former.field_from(next).is_none(), "field", next)
+}
+
+/// What the three reads answer.
+fn reads_alike(former: &FormerScreen, screen: &Screen, answers: &mut Answers) -> Alike {
+    answers.clear();
+    let former_put = former.put_read_buffer(&mut answers.former);
+    let put = screen.put_read_buffer(&mut answers.present);
+    answers.alike(former_put, put, "Read Buffer")?;
+    for all in [false, true] {
+        answers.clear();
+        let former_put = former.put_read_modified(&mut answers.former, all);
+        let put = screen.put_read_modified(&mut answers.present, all);
+        answers.alike(former_put, put, "Read Modified")?;
+    }
+    Ok(())
+}
+
+/// Two screens.
+pub(crate) fn screens_alike(
+    former: &FormerScreen,
+    screen: &Screen,
+    answers: &mut Answers,
+) -> Alike {
+    alike_at(
+        former.cursor == screen.cursor().get(),
+        "cursor",
+        former.cursor,
+    )?;
+    alike_at(former.aid == screen.aid(), "AID", 0)?;
+    alike_at(former.home() == screen.home().get(), "home", former.home())?;
+    cells_alike(former, screen)?;
+    fields_alike(former, screen)?;
+    reads_alike(former, screen, answers)
+}

@@ -1,0 +1,73 @@
+//! Worked dialogues, byte for byte. A script has dialogues, each with a terminal or with a host: what the other end sends, what an operator presses, when a host acts, and what has to come of it.
+//! For each dialogue a line is printed: `ok`, or the first of its lines that came otherwise.
+//!
+//! `script` says how a script is read, `terminal` which lines a dialogue with a terminal has, and `host` which one with a
+//! host. What the script expects is taken from the standards, and never from what the program printed.
+//!
+//! Run with each allocation refused in turn (in crates/trials3270, `rt try --fail-alloc N -- dialogues`) it prints the same: a terminal
+//! or a host is asked again in the midst of its dialogue, so that it has to stand as before the refusal, and a dialogue that the program
+//! has no memory for is held again. Only memory for the script itself is asked for once; its want is told.
+
+mod host;
+mod script;
+mod subject;
+mod terminal;
+mod words;
+
+use crate::fault::Failure;
+use anyhow::Result;
+use host::Switchboard;
+use script::{Line, Numbered, With, body_of, read_script};
+use std::alloc::Global;
+use std::io;
+use subject::hold;
+use terminal::Desk;
+
+/// Prints how a dialogue came out, and answers whether all of it came as expected.
+fn tell(
+    rt: &impl Print,
+    name: &str,
+    outcome: std::result::Result<(), Failure>,
+) -> io::Result<bool> {
+    match outcome {
+        Ok(()) => {
+            println!(rt; "{name}: ok")?;
+            Ok(true)
+        }
+        Err(Failure { line, fault }) => {
+            println!(rt; "{name}: line {line}: {fault}")?;
+            Ok(false)
+        }
+    }
+}
+
+/// Holds a dialogue with its subject.
+fn hold_with(alloc: Global, with: With, body: &[Numbered<'_>]) -> std::result::Result<(), Failure> {
+    match with {
+        With::Terminal => hold::<Desk>(alloc, body),
+        With::Host => hold::<Switchboard>(alloc, body),
+    }
+}
+
+/// Holds the dialogues of a script one after another, and prints how many there were where all came as expected. Answers whether they did.
+fn hold_all(rt: &(impl Print + AllocGlobal), script: &[Numbered<'_>]) -> io::Result<bool> {
+    let mut all = true;
+    let mut count = 0usize;
+    for (index, numbered) in script.iter().enumerate() {
+        if let Line::Dialogue(with, name) = numbered.line {
+            count = count.saturating_add(1);
+            let outcome = hold_with(rt.alloc(), with, body_of(&script[index + 1..]));
+            all = tell(rt, name, outcome)? && all;
+        }
+    }
+    if all {
+        println!(rt; "{count} dialogues came as expected")?;
+    }
+    Ok(all)
+}
+
+/// Holds the dialogues of a script, and prints how they came out. Answers whether all came as expected.
+pub fn hold_script(rt: &(impl Print + AllocGlobal), text: &str) -> Result<bool> {
+    let script = read_script(rt.alloc(), text)?;
+    Ok(hold_all(rt, script.as_slice())?)
+}

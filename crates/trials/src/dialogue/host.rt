@@ -1,0 +1,105 @@
+//! Dialogues with a host. A line holds if what it expects came. C is a connection's number, 0 to 63.
+//!
+//! ```text
+//! | TEXT                a line of the panel text
+//! serve                 a fresh host begins to show the panels of that text
+//! open C                a connection begins
+//! client C BYTES        its client sends these; the host takes all of them and goes on
+//! closes C CAUSE BYTES  its client sends these; at the last the host closes the connection, for this cause
+//! deaf C WHY            what comes isn't taken: going, or closed CAUSE
+//! begins C BYTES        this is what the host has to send first; it is sent
+//! says C BYTES          this is all that the host has to send; it is sent
+//! silent C              it has nothing to send
+//! act C WHAT            the host acts: sent, or nothing
+//! note C WHAT TEXT      a note is written: sent, or nothing
+//! lost C [BYTES]        the connection is lost before these were sent
+//! restart               the host begins anew
+//! phase C PHASE         free, talking, bound LU, or closed CAUSE
+//! turn C WHOSE          host or terminal
+//! pending C N           the number of the command that waits for its answer, or none
+//! belief C WHAT         nothing; nulls, where each cell is known to be null, without fields; or more
+//! fact C AT FACT BYTES  what is believed of the field whose attribute is there: Exact, ExactOrNulls, Text, TextOrNulls or
+//!                       Any, and the characters; or none, where no field is believed to be
+//! keep C                remembers all of this: phase, turn, pending, belief, each fact, and what there is to send
+//! stays C               all of it is as it was then
+//! ```
+//!
+//! Each dialogue is held twice: once what a line's client sends comes in one piece, and once byte by byte.
+mod belief;
+mod exchange;
+mod sights;
+mod view;
+
+use crate::bytes::{first_of, number_of};
+use crate::dialogue::subject::Subject;
+use crate::fault::Fault;
+use exchange::{Delivery, Exchange};
+use std::alloc::{AllocError, Global};
+
+/// Where a host's panels are written, and the host, once it serves.
+#[derive(Drop)]
+pub(crate) struct Switchboard {
+    alloc: Global,
+    delivery: Delivery,
+    panel_text: String,
+    exchange: Option<Exchange>,
+}
+
+impl Switchboard {
+    /// Adds a line to the panel text.
+    fn add_text(&mut self, text: &str) -> Result<(), Fault> {
+        self.panel_text.push_str(text)?;
+        self.panel_text.push('\n')?;
+        Ok(())
+    }
+
+    /// Puts a host to work on the panels of that text.
+    fn serve(&mut self) -> Result<(), Fault> {
+        let exchange = Exchange::new(self.alloc, self.panel_text.as_str(), self.delivery)?;
+        self.exchange = Some(exchange);
+        Ok(())
+    }
+
+    /// The host that serves, and its connections.
+    fn exchange(&mut self) -> Result<&mut Exchange, Fault> {
+        match &mut self.exchange {
+            Some(exchange) => Ok(exchange),
+            None => Err(Fault::Needs("a host that serves")),
+        }
+    }
+
+    /// Does what a line says that is about a connection, or sees whether it holds.
+    fn obey_on(&mut self, word: &str, words: &str) -> Result<(), Fault> {
+        let (number, words) = first_of(words);
+        let conn = usize::from(number_of(number)?);
+        self.exchange()?.obey(conn, word, words)
+    }
+}
+
+impl Subject for Switchboard {
+    fn fresh(alloc: Global, holding: usize) -> Result<Switchboard, AllocError> {
+        Ok(Switchboard {
+            alloc,
+            delivery: Delivery::at(holding),
+            panel_text: String::new(alloc),
+            exchange: None,
+        })
+    }
+
+    fn obey(&mut self, line: &str) -> Result<(), Fault> {
+        let (word, words) = first_of(line);
+        match word {
+            "|" => self.add_text(words),
+            "serve" => self.serve(),
+            "restart" => {
+                self.exchange()?.restart();
+                Ok(())
+            }
+            _ => self.obey_on(word, words),
+        }
+    }
+
+    fn holdings(&self) -> usize {
+        Delivery::HOW_MANY
+    }
+}

@@ -1,0 +1,71 @@
+//! How a dialogue is held, whatever its subject is.
+use crate::dialogue::script::{Line, Numbered};
+use crate::fault::{Failure, Fault};
+use std::alloc::{AllocError, Global};
+
+/// What a dialogue is held with. It obeys a dialogue's lines in turn, until one doesn't hold.
+pub(crate) trait Subject: Sized + Drop {
+    /// A fresh one, for a dialogue that is held for this time, counted from 1.
+    fn fresh(alloc: Global, holding: usize) -> Result<Self, AllocError>;
+
+    /// Does what a line says, or sees whether it holds.
+    fn obey(&mut self, line: &str) -> Result<(), Fault>;
+
+    /// How often a dialogue with the lines so far is to be held.
+    fn holdings(&self) -> usize;
+}
+
+/// Holds a dialogue, as often as its subject wants.
+pub(crate) fn hold<S: Subject>(alloc: Global, body: &[Numbered<'_>]) -> Result<(), Failure> {
+    let holdings = hold_again::<S>(alloc, body, 1)?;
+    for holding in 2..=holdings {
+        hold_again::<S>(alloc, body, holding)?;
+    }
+    Ok(())
+}
+
+/// Holds a dialogue, and again if memory is refused. Answers how often it is to be held.
+fn hold_again<S: Subject>(
+    alloc: Global,
+    body: &[Numbered<'_>],
+    holding: usize,
+) -> Result<usize, Failure> {
+    match hold_once::<S>(alloc, body, holding) {
+        Err(
+            Failure {
+                fault: Fault::NoMemory(_),
+                ..
+            },
+        ) => hold_once::<S>(alloc, body, holding),
+        outcome => outcome,
+    }
+}
+
+fn hold_once<S: Subject>(
+    alloc: Global,
+    body: &[Numbered<'_>],
+    holding: usize,
+) -> Result<usize, Failure> {
+    match S::fresh(alloc, holding) {
+        Ok(mut subject) => obey_all(&mut subject, body),
+        Err(refused) => Err(Failure {
+            line: 0,
+            fault: Fault::NoMemory(refused),
+        }),
+    }
+}
+
+/// Has a subject obey all lines. Answers how often a dialogue with these is to be held.
+fn obey_all<S: Subject>(subject: &mut S, body: &[Numbered<'_>]) -> Result<usize, Failure> {
+    for numbered in body {
+        if let Line::Command(text) = numbered.line {
+            if let Err(fault) = subject.obey(text) {
+                return Err(Failure {
+                    line: numbered.number,
+                    fault,
+                });
+            }
+        }
+    }
+    Ok(subject.holdings())
+}

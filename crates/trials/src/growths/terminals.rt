@@ -1,0 +1,141 @@
+//! A terminal: refused memory it stands as before, or as after the bytes that it took.
+use crate::growths::story::{
+    DO_OTHER, DO_TN3270E, IS_LU, IS_RESPONSES, PAINT, READ_BUFFER, SEND_TYPE,
+};
+use crate::growths::trial::{Answer, Trial};
+use crate::likeness::terminals_look_same;
+use keyboard::{Key, Pressed};
+use std::alloc::{AllocError, Global};
+use std::io;
+use term_core::{TermPhase, Terminal};
+use tn3270e_msg::{Lu, Stop};
+
+/// A call on a terminal.
+#[derive(Clone, Copy)]
+pub(crate) enum Does {
+    /// A whole talk, a panel, its reading, and many bytes, from the first on.
+    Feed,
+    PressChar,
+    PressEnter,
+}
+
+/// From the offer to a panel.
+static STORY: [&[u8]; 5] = [DO_TN3270E, SEND_TYPE, IS_LU, IS_RESPONSES, PAINT];
+
+/// The first room that a terminal makes is for one reply, the largest, 11,552 bytes; the second is twice that. With as many
+/// unsent bytes as this there is no room for a reply any more.
+const NO_ROOM: usize = 11_552;
+
+/// How often an option is negotiated where many bytes are fed. The answers outgrow the first three rooms.
+const MANY: usize = 14_000;
+
+/// A terminal before the call, and the bytes that it is to be fed.
+#[derive(Drop)]
+pub(crate) struct Attached {
+    does: Does,
+    terminal: Terminal,
+    bytes: Vec<u8>,
+    taken: usize,
+}
+
+fn put_bytes(bytes: &mut Vec<u8>) -> Result<(), AllocError> {
+    for line in STORY {
+        bytes.extend_from_slice(line)?;
+    }
+    bytes.extend_from_slice(READ_BUFFER)?;
+    for _ in 0..MANY {
+        bytes.extend_from_slice(DO_OTHER)?;
+    }
+    Ok(())
+}
+
+fn all_bytes(alloc: Global) -> Result<Vec<u8>, AllocError> {
+    let mut bytes = Vec::new(alloc);
+    put_bytes(&mut bytes)?;
+    Ok(bytes)
+}
+
+/// The story, and then options until there is no room for a reply.
+fn fill(terminal: &mut Terminal) {
+    for line in STORY {
+        terminal.feed(line);
+    }
+    for _ in 0..MANY {
+        if terminal.out().len() > NO_ROOM {
+            return;
+        }
+        terminal.feed(DO_OTHER);
+    }
+}
+
+/// What happens before the call.
+fn prepare(terminal: &mut Terminal, does: Does) {
+    if terminal.phase() == TermPhase::Idle {
+        terminal.connected(Lu::read(b"PNL01"));
+    }
+    match does {
+        Does::Feed => {}
+        Does::PressChar | Does::PressEnter => fill(terminal),
+    }
+}
+
+impl Attached {
+    fn feed(&mut self) -> Answer {
+        let rest = self.bytes.get(self.taken..).unwrap_or(&[]);
+        let fed = self.terminal.feed(rest);
+        self.taken = self.taken.saturating_add(fed.taken);
+        match fed.stop {
+            Stop::Going => Answer::Done,
+            Stop::Memory => Answer::Part(fed.taken),
+            Stop::Closed(_) => Answer::Otherwise,
+        }
+    }
+}
+
+fn press(terminal: &mut Terminal, key: Key) -> Answer {
+    match terminal.press(key) {
+        Ok(Pressed::Refused(_)) => Answer::Otherwise,
+        Ok(_) => Answer::Done,
+        Err(_) => Answer::Memory,
+    }
+}
+
+impl Trial for Attached {
+    type Call = Does;
+
+    fn before(alloc: Global, does: Does) -> io::Result<Attached> {
+        let bytes = all_bytes(alloc)?;
+        let mut terminal = Terminal::new(alloc)?;
+        prepare(&mut terminal, does);
+        Ok(Attached {
+            does,
+            terminal,
+            bytes,
+            taken: 0,
+        })
+    }
+
+    fn call(&mut self) -> Answer {
+        match self.does {
+            Does::Feed => self.feed(),
+            Does::PressChar => press(&mut self.terminal, Key::Char('A')),
+            Does::PressEnter => press(&mut self.terminal, Key::Enter),
+        }
+    }
+
+    fn take(&mut self, count: usize) {
+        let taken = self.bytes.get(..count).unwrap_or(&[]);
+        self.terminal.feed(taken);
+        self.taken = count;
+    }
+
+    /// What was typed is sent, and what is shown is read.
+    fn go_on(&mut self) {
+        press(&mut self.terminal, Key::Enter);
+        self.terminal.feed(READ_BUFFER);
+    }
+
+    fn looks_same(&self, twin: &Attached) -> bool {
+        terminals_look_same(&self.terminal, &twin.terminal)
+    }
+}

@@ -1,0 +1,157 @@
+//! The script of a storm. A line has a word, and mostly what it is about:
+//!
+//! ```text
+//! # A comment; blank lines are passed over.
+//! | TEXT           a line of the text of the hosts' panels
+//! seed N           what all that is drawn comes from
+//! first N          the number of the first round; 1 where there is no such line
+//! count N          how many rounds there are
+//! tally            at the end it is told what was seen
+//! client N BYTES   what the client on connection 1 or 2 says, before the storm
+//! heir LU BYTES    what a client says, once connection 0 is over, to be bound to this LU
+//! host NAME BYTES  a dialogue of which the storm is made: what a host is told on connection 0
+//! term NAME BYTES  one of those at a terminal: what it is told
+//! ```
+//!
+//! Bytes are spelt as in dialogues: `FF FD28 00*152`.
+use crate::bytes::{first_of, respell};
+use crate::fault::Fault;
+use std::alloc::{AllocError, Global};
+
+/// With whom a dialogue is.
+#[derive(Clone, Copy, PartialEq, Eq)]
+pub(crate) enum With {
+    Host,
+    Terminal,
+}
+
+/// What a client says, or a host: under a name, which of an heir is the LU's.
+#[derive(Drop)]
+pub(crate) struct Speech {
+    pub(crate) name: String,
+    pub(crate) bytes: Vec<u8>,
+}
+
+/// A dialogue of which the storm is made.
+#[derive(Drop)]
+pub(crate) struct Dialogue {
+    pub(crate) with: With,
+    pub(crate) speech: Speech,
+}
+
+/// A script.
+#[derive(Drop)]
+pub(crate) struct Script {
+    pub(crate) panel_text: String,
+    pub(crate) seed: u64,
+    pub(crate) first: u64,
+    pub(crate) count: u64,
+    pub(crate) tallies: bool,
+    pub(crate) first_client: Vec<u8>,
+    pub(crate) second_client: Vec<u8>,
+    pub(crate) heir: Speech,
+    pub(crate) dialogues: Vec<Dialogue>,
+}
+
+fn number_of(digits: &str) -> Result<u64, Fault> {
+    match digits.parse::<u64>() {
+        Ok(number) => Ok(number),
+        Err(_) => Err(Fault::Needs("a number")),
+    }
+}
+
+impl Speech {
+    fn new(alloc: Global) -> Speech {
+        Speech {
+            name: String::new(alloc),
+            bytes: Vec::new(alloc),
+        }
+    }
+
+    /// Has a name, and the bytes that words spell, in the place of others.
+    fn respell(&mut self, alloc: Global, name: &str, words: &str) -> Result<(), Fault> {
+        self.name.clear();
+        self.name.push_str(name)?;
+        respell(alloc, &mut self.bytes, words)
+    }
+}
+
+impl Script {
+    fn new(alloc: Global) -> Script {
+        Script {
+            panel_text: String::new(alloc),
+            seed: 0,
+            first: 1,
+            count: 0,
+            tallies: false,
+            first_client: Vec::new(alloc),
+            second_client: Vec::new(alloc),
+            heir: Speech::new(alloc),
+            dialogues: Vec::new(alloc),
+        }
+    }
+
+    fn add_text(&mut self, text: &str) -> Result<(), AllocError> {
+        self.panel_text.push_str(text)?;
+        self.panel_text.push('\n')
+    }
+
+    fn add_dialogue(
+        &mut self,
+        alloc: Global,
+        with: With,
+        name: &str,
+        words: &str,
+    ) -> Result<(), Fault> {
+        let mut speech = Speech::new(alloc);
+        speech.respell(alloc, name, words)?;
+        self.dialogues.push(Dialogue { with, speech })?;
+        Ok(())
+    }
+
+    /// Adds what a line says.
+    fn add(&mut self, alloc: Global, line: &str) -> Result<(), Fault> {
+        let (word, rest) = first_of(line);
+        match word {
+            "" | "#" => {}
+            "|" => self.add_text(rest)?,
+            "seed" => self.seed = number_of(rest)?,
+            "first" => self.first = number_of(rest)?,
+            "count" => self.count = number_of(rest)?,
+            "tally" => self.tallies = true,
+            _ => self.add_speech(alloc, word, rest)?,
+        }
+        Ok(())
+    }
+
+    /// Adds what a line says that has bytes.
+    fn add_speech(&mut self, alloc: Global, word: &str, rest: &str) -> Result<(), Fault> {
+        let (name, words) = first_of(rest);
+        match word {
+            "client" if name == "1" => respell(alloc, &mut self.first_client, words),
+            "client" if name == "2" => respell(alloc, &mut self.second_client, words),
+            "heir" => self.heir.respell(alloc, name, words),
+            "host" => self.add_dialogue(alloc, With::Host, name, words),
+            "term" => self.add_dialogue(alloc, With::Terminal, name, words),
+            _ => Err(Fault::Needs("lines that begin with a word of its language")),
+        }
+    }
+
+    /// Adds what all lines of a text say.
+    fn add_all(&mut self, alloc: Global, text: &str) -> Result<(), Fault> {
+        for line in text.lines() {
+            self.add(alloc, line.trim())?;
+        }
+        if self.dialogues.is_empty() {
+            return Err(Fault::Needs("a dialogue"));
+        }
+        Ok(())
+    }
+}
+
+/// Reads a script.
+pub(crate) fn read_script(alloc: Global, text: &str) -> Result<Script, Fault> {
+    let mut script = Script::new(alloc);
+    script.add_all(alloc, text)?;
+    Ok(script)
+}

@@ -1,0 +1,100 @@
+//! What happens in a case, as its script says it. An event is made of it each time that it happens.
+use crate::fault::Fault;
+use crate::keys::key_named;
+use codes3270::from_latin1;
+use keyboard::Key;
+use tn3270e_msg::Lu;
+use world3270::{Event, NoteText};
+
+/// The characters that a note has at most.
+const LONGEST_NOTE: usize = 131;
+
+/// What happens at a terminal or on a connection, by its number.
+#[derive(Clone, Copy)]
+pub(crate) enum Deed<'a> {
+    /// A terminal connects: the name of the LU that it wants, if one.
+    Connect(usize, &'a str),
+    /// The key with this name.
+    Key(usize, &'a str),
+    /// A character's key.
+    Letter(usize, char),
+    Up(usize, usize),
+    Down(usize, usize),
+    Act(usize),
+    Note(usize, &'a str),
+    Lose(usize),
+    HostSees(usize),
+    TermSees(usize),
+    RestartTerm(usize),
+    RestartHost,
+}
+
+impl Deed<'_> {
+    /// The event.
+    pub(crate) fn event(&self) -> Result<Event, Fault> {
+        match self {
+            Deed::Connect(terminal, name) => wanting(*terminal, name),
+            Deed::Key(terminal, name) => pressing(*terminal, name),
+            Deed::Letter(terminal, letter) => Ok(Event::Key(*terminal, Key::Char(*letter))),
+            Deed::Up(conn, count) => Ok(Event::Up(*conn, *count)),
+            Deed::Down(conn, count) => Ok(Event::Down(*conn, *count)),
+            Deed::Act(conn) => Ok(Event::Act(*conn)),
+            Deed::Note(conn, text) => noting(*conn, text),
+            Deed::Lose(conn) => Ok(Event::Lose(*conn)),
+            Deed::HostSees(conn) => Ok(Event::HostSees(*conn)),
+            Deed::TermSees(terminal) => Ok(Event::TermSees(*terminal)),
+            Deed::RestartTerm(terminal) => Ok(Event::RestartTerm(*terminal)),
+            Deed::RestartHost => Ok(Event::RestartHost),
+        }
+    }
+
+    /// What is left of a delivery, once so many of its bytes came; else the same.
+    pub(crate) fn less(&self, taken: usize) -> Deed<'_> {
+        match self {
+            Deed::Up(conn, count) => Deed::Up(*conn, count.saturating_sub(taken)),
+            Deed::Down(conn, count) => Deed::Down(*conn, count.saturating_sub(taken)),
+            deed => *deed,
+        }
+    }
+}
+
+fn wanting(terminal: usize, name: &str) -> Result<Event, Fault> {
+    if name.is_empty() {
+        return Ok(Event::Connect(terminal, None));
+    }
+    match Lu::read(name.as_bytes()) {
+        Some(lu) => Ok(Event::Connect(terminal, Some(lu))),
+        None => Err(Fault::Needs("an LU's name")),
+    }
+}
+
+fn pressing(terminal: usize, name: &str) -> Result<Event, Fault> {
+    match key_named(name) {
+        Some(key) => Ok(Event::Key(terminal, key)),
+        None => Err(Fault::Needs("a key")),
+    }
+}
+
+/// Puts the codes of a text's characters into a row, and answers how many these are. None where one has no code, or there are too
+/// many.
+fn put_codes(codes: &mut [u8], text: &str) -> Option<usize> {
+    let mut count = 0usize;
+    for letter in text.chars() {
+        *codes.get_mut(count)? = from_latin1(letter)?;
+        count = count.saturating_add(1);
+    }
+    Some(count)
+}
+
+fn note_text(text: &str) -> Option<NoteText> {
+    let mut codes = [0; LONGEST_NOTE];
+    let count = put_codes(&mut codes, text)?;
+    NoteText::new(codes.get(..count)?)
+}
+
+fn noting(conn: usize, text: &str) -> Result<Event, Fault> {
+    match note_text(text) {
+        Some(text) => Ok(Event::Note(conn, text)),
+        None => Err(Fault::Needs("a text for a note")),
+    }
+}

@@ -1,0 +1,82 @@
+//! The jobs where the program itself can't show them, check by check.
+use crate::jobs::sockets::refusals_are_told;
+use crate::jobs::streams::{
+    a_script_tells_of_its_writer, broken_input_is_refused, input_is_limited,
+    output_that_fails_is_told,
+};
+use crate::jobs::terminals::{an_operator_signs_on, runs_end_early, waits_end};
+use jobs3270::typed_text;
+use std::io;
+
+#[derive(Clone, Copy)]
+enum Check {
+    BrokenInput,
+    LongInput,
+    FailingOutput,
+    FailingOutputOfAScript,
+    Session,
+    Waits,
+    EarlyEnds,
+    Refusals,
+    NoText,
+}
+
+static CHECKS: [Check; 9] = [
+    Check::BrokenInput,
+    Check::LongInput,
+    Check::FailingOutput,
+    Check::FailingOutputOfAScript,
+    Check::Session,
+    Check::Waits,
+    Check::EarlyEnds,
+    Check::Refusals,
+    Check::NoText,
+];
+
+impl Check {
+    /// What it shows, in words.
+    fn says(self) -> &'static str {
+        match self {
+            Check::BrokenInput => "input that breaks off is refused",
+            Check::LongInput => "input is read up to its limits of bytes and reads",
+            Check::FailingOutput => "output that fails ends a run, wherever it fails",
+            Check::FailingOutputOfAScript => "a script tells of output that fails, not of its line",
+            Check::Session => "an operator signs on over a wire that gives a byte at a time",
+            Check::Waits => "a wait ends where the host or the wire ends it",
+            Check::EarlyEnds => "a terminal's script ends at a line, or where nothing is printed",
+            Check::Refusals =>
+                "a host tells each refusal over sockets, with the LU that was asked for",
+            Check::NoText => "a line without a second word has no typed text",
+        }
+    }
+
+    fn holds(self, rt: &HostRuntime) -> bool {
+        let alloc = rt.alloc();
+        match self {
+            Check::BrokenInput => broken_input_is_refused(alloc),
+            Check::LongInput => input_is_limited(alloc),
+            Check::FailingOutput => output_that_fails_is_told(alloc),
+            Check::FailingOutputOfAScript => a_script_tells_of_its_writer(alloc),
+            Check::Session => an_operator_signs_on(alloc),
+            Check::Waits => waits_end(alloc),
+            Check::EarlyEnds => runs_end_early(alloc),
+            Check::Refusals => refusals_are_told(rt, alloc),
+            Check::NoText => typed_text("type").is_empty(),
+        }
+    }
+}
+
+/// Makes the checks, and prints a line for each. Says whether all hold.
+pub fn try_jobs(rt: &HostRuntime) -> io::Result<bool> {
+    let mut all = true;
+    for check in &CHECKS {
+        let holds = check.holds(rt);
+        println!(rt;
+            "{}: {}",
+            check.says(),
+            if holds { "so" } else { "otherwise" }
+        )?;
+        all = all && holds;
+    }
+    Ok(all)
+}

@@ -1,0 +1,180 @@
+//! A terminal on a wire in memory, which gives a byte at a time: what is printed, and what is sent.
+use crate::jobs::memory::{Pieces, paper_with};
+use jobs3270::{CountedReader, Fault, Wire, operate};
+use std::alloc::{AllocError, Global};
+use tn3270e_msg::Lu;
+
+// ---- a wire in memory
+
+/// What a run printed and sent, and how it ended.
+#[derive(Drop)]
+struct Outcome {
+    ending: Result<(), Fault>,
+    out: Vec<u8>,
+    sent: Vec<u8>,
+}
+
+/// How many bytes there is room for: of those that are sent, and of those that are printed.
+type Room = (usize, usize);
+
+const ROOM: Room = (usize::MAX, usize::MAX);
+
+const NO_WIRE: Room = (0, usize::MAX);
+
+const NO_PAPER: Room = (usize::MAX, 0);
+
+/// What becomes of a script where these bytes come.
+fn operated(alloc: Global, script: &str, came: Pieces<'_>, room: Room) -> Outcome {
+    let (sent_room, out_room) = room;
+    let mut wire = Wire {
+        down: CountedReader::new(came),
+        up: paper_with(alloc, sent_room),
+    };
+    let mut out = paper_with(alloc, out_room);
+    let ending = operate(alloc, Lu::read(b"PNL01"), script, &mut wire, &mut out);
+    let Wire { up, .. } = wire;
+    Outcome {
+        ending,
+        out: out.into_inner().text,
+        sent: up.into_inner().text,
+    }
+}
+
+/// Whether a script ends well where these bytes come, a byte at a time, and prints this.
+fn prints(alloc: Global, script: &str, came: &[u8], out: &str) -> bool {
+    let outcome = operated(alloc, script, Pieces::of_size(came, 1), ROOM);
+    outcome.ending == Ok(()) && outcome.out.as_slice() == out.as_bytes()
+}
+
+/// TN3270E is offered, the device type asked for, PNL01 granted, and RESPONSES.
+const GRANTS: &[u8] =
+    b"\xff\xfd\x28\xff\xfa\x28\x08\x02\xff\xf0\xff\xfa\x28\x02\x04IBM-3278-2\x01PNL01\xff\xf0\xff\xfa\x28\x03\x04\x02\xff\xf0";
+
+/// What the terminal says to that.
+const ASKS: &[u8] =
+    b"\xff\xfb\x28\xff\xfa\x28\x02\x07IBM-3278-2\x01PNL01\xff\xf0\xff\xfa\x28\x03\x07\x02\xff\xf0";
+
+/// Erase/Write, number 0: `HI` in a protected field from 0 on, and an unprotected one from 3 on with the cursor in it.
+const HI: &[u8] = b"\x00\x00\x02\x00\x00\xf5\xc3\x11\x40\x40\x1d\x60\xc8\xc9\x1d\x40\x13\xff\xef";
+
+/// Erase All Unprotected, number 1.
+const ERASE: &[u8] = b"\x00\x00\x02\x00\x01\x6f\xff\xef";
+
+/// The host is done with number 0, Enter comes with an `A` behind 3, and the host is done with number 1.
+const ENTERS: &[u8] =
+    b"\x02\x00\x00\x00\x00\x00\xff\xef\x00\x00\x00\x00\x00\x7d\x40\xc5\x11\x40\xc4\xc1\xff\xef\x02\x00\x00\x00\x01\x00\xff\xef";
+
+fn joined(alloc: Global, parts: &[&[u8]]) -> Result<Vec<u8>, AllocError> {
+    let mut all = Vec::new(alloc);
+    for part in parts {
+        all.extend_from_slice(part)?;
+    }
+    Ok(all)
+}
+
+// ---- sessions
+
+/// Before and after the panel comes, which is shown then: a row, 23 blank ones, and the line below them.
+const SHOWN: &str =
+    "talking\nbound PNL01\n HI\n\n\n\n\n\n\n\n\n\n\n\n\n\n\n\n\n\n\n\n\n\n\n\ncursor 4 lock free aid 60\n";
+
+fn shows_what_comes(alloc: Global, came: &[u8]) -> bool {
+    prints(alloc, "status\nwait\nstatus\n\nshow", came, SHOWN)
+}
+
+/// After the field is erased that was sent.
+const ERASED: &str =
+    " HI\n\n\n\n\n\n\n\n\n\n\n\n\n\n\n\n\n\n\n\n\n\n\n\ncursor 4 lock free aid 60\n";
+
+/// A wait ends with the write that frees the keyboard, and what comes behind it waits for the next.
+fn waits_for_each_write(alloc: Global, came: &[u8], sent: &[u8]) -> bool {
+    let script = "wait\ntype A\nkey enter\nwait\nshow\n";
+    let outcome = operated(alloc, script, Pieces::of_size(came, 1), ROOM);
+    outcome.ending == Ok(())
+        && outcome.out.as_slice() == ERASED.as_bytes()
+        && outcome.sent.as_slice() == sent
+}
+
+/// Behind three refusals, and a character that is typed.
+const TYPED: &str =
+    "refused 1\nrefused 2\nrefused 1\n HI A\n\n\n\n\n\n\n\n\n\n\n\n\n\n\n\n\n\n\n\n\n\n\n\ncursor 5 lock free aid 60\n";
+
+/// At a lock that waits one character is tried; on an attribute one.
+fn tells_refusals(alloc: Global, came: &[u8]) -> bool {
+    let script = "type AB\nwait\nkey left\ntype AB\nkey tab\nkey reset\nkey tab\ntype A\nshow\n";
+    prints(alloc, script, came, TYPED)
+}
+
+fn sessions_go_so(alloc: Global) -> Result<bool, AllocError> {
+    let shown = joined(alloc, &[GRANTS, HI])?;
+    let erased = joined(alloc, &[GRANTS, HI, ERASE])?;
+    let sent = joined(alloc, &[ASKS, ENTERS])?;
+    Ok(
+        shows_what_comes(alloc, shown.as_slice())
+            && waits_for_each_write(alloc, erased.as_slice(), sent.as_slice())
+            && tells_refusals(alloc, shown.as_slice()),
+    )
+}
+
+pub(crate) fn an_operator_signs_on(alloc: Global) -> bool {
+    sessions_go_so(alloc) == Ok(true)
+}
+
+// ---- ends of waits
+
+const WAIT: &str = "wait\nstatus\n";
+
+/// So many bytes of commands that say nothing (RFC 854: IAC NOP).
+fn idling(alloc: Global, count: usize) -> Result<Vec<u8>, AllocError> {
+    let mut bytes = Vec::new(alloc);
+    for _ in 0..count / 2 {
+        bytes.extend_from_slice(b"\xff\xf1")?;
+    }
+    Ok(bytes)
+}
+
+/// After 1,000 reads a wait gives up; the next goes on from there, and finds the end.
+fn gives_up(alloc: Global) -> Result<bool, AllocError> {
+    let bytes = idling(alloc, 1000)?;
+    let script = "wait\nstatus\nwait\nstatus\n";
+    Ok(prints(alloc, script, bytes.as_slice(), "talking\nidle\n"))
+}
+
+/// The host rejects the device type (DEVICE-IN-USE), takes back its offer, or ends the connection.
+fn hosts_end_waits(alloc: Global) -> bool {
+    let rejected = b"\xff\xfd\x28\xff\xfa\x28\x08\x02\xff\xf0\xff\xfa\x28\x02\x06\x05\x01\xff\xf0";
+    prints(alloc, WAIT, rejected, "refused 1\n")
+        && prints(alloc, WAIT, b"\xff\xfe\x28", "closed 1\n")
+        && prints(alloc, WAIT, b"\xff\xfd\x28", "idle\n")
+}
+
+/// A read or a write that fails is the end of the connection.
+fn failures_end_waits(alloc: Global) -> bool {
+    let breaks = Pieces::breaking(GRANTS, 1, 5);
+    let unread = operated(alloc, WAIT, breaks, ROOM);
+    let unsent = operated(alloc, WAIT, Pieces::of_size(GRANTS, 1), NO_WIRE);
+    unread.out.as_slice() == b"idle\n".as_slice() && unsent.out.as_slice() == b"idle\n".as_slice()
+}
+
+pub(crate) fn waits_end(alloc: Global) -> bool {
+    gives_up(alloc) == Ok(true) && hosts_end_waits(alloc) && failures_end_waits(alloc)
+}
+
+// ---- ends of runs
+
+/// The lines before one that isn't understood are done.
+fn stops_at_the_line(alloc: Global) -> bool {
+    let script = "status\n\nwait 0\nstatus\n";
+    let outcome = operated(alloc, script, Pieces::whole(b""), ROOM);
+    outcome.ending == Err(Fault::NotUnderstood(3))
+        && outcome.out.as_slice() == b"talking\n".as_slice()
+}
+
+fn ends_where_nothing_is_printed(alloc: Global) -> bool {
+    let outcome = operated(alloc, "status\n", Pieces::whole(b""), NO_PAPER);
+    outcome.ending == Err(Fault::OutputFailed)
+}
+
+pub(crate) fn runs_end_early(alloc: Global) -> bool {
+    stops_at_the_line(alloc) && ends_where_nothing_is_printed(alloc)
+}
