@@ -21,35 +21,44 @@ enum Check {
     NoText,
 }
 
-static CHECKS: [Check; 9] = [
-    Check::BrokenInput,
-    Check::LongInput,
-    Check::FailingOutput,
-    Check::FailingOutputOfAScript,
-    Check::Session,
-    Check::Waits,
-    Check::EarlyEnds,
-    Check::Refusals,
-    Check::NoText,
+/// Each check, and what it shows, in words.
+static CHECKS: [(Check, &str); 9] = [
+    (Check::BrokenInput, "input that breaks off is refused"),
+    (
+        Check::LongInput,
+        "input is read up to its limits of bytes and reads",
+    ),
+    (
+        Check::FailingOutput,
+        "output that fails ends a run, wherever it fails",
+    ),
+    (
+        Check::FailingOutputOfAScript,
+        "a script tells of output that fails, not of its line",
+    ),
+    (
+        Check::Session,
+        "an operator signs on over a wire that gives a byte at a time",
+    ),
+    (
+        Check::Waits,
+        "a wait ends where the host or the wire ends it",
+    ),
+    (
+        Check::EarlyEnds,
+        "a terminal's script ends at a line, or where nothing is printed",
+    ),
+    (
+        Check::Refusals,
+        "a host tells each refusal over sockets, with the LU that was asked for",
+    ),
+    (
+        Check::NoText,
+        "a line without a second word has no typed text",
+    ),
 ];
 
 impl Check {
-    /// What it shows, in words.
-    fn says(self) -> &'static str {
-        match self {
-            Check::BrokenInput => "input that breaks off is refused",
-            Check::LongInput => "input is read up to its limits of bytes and reads",
-            Check::FailingOutput => "output that fails ends a run, wherever it fails",
-            Check::FailingOutputOfAScript => "a script tells of output that fails, not of its line",
-            Check::Session => "an operator signs on over a wire that gives a byte at a time",
-            Check::Waits => "a wait ends where the host or the wire ends it",
-            Check::EarlyEnds => "a terminal's script ends at a line, or where nothing is printed",
-            Check::Refusals =>
-                "a host tells each refusal over sockets, with the LU that was asked for",
-            Check::NoText => "a line without a second word has no typed text",
-        }
-    }
-
     fn holds(self, rt: &HostRuntime) -> bool {
         let alloc = rt.alloc();
         match self {
@@ -69,13 +78,9 @@ impl Check {
 /// Makes the checks, and prints a line for each. Says whether all hold.
 pub fn try_jobs(rt: &HostRuntime) -> io::Result<bool> {
     let mut all = true;
-    for check in &CHECKS {
+    for (check, shows) in &CHECKS {
         let holds = check.holds(rt);
-        println!(rt;
-            "{}: {}",
-            check.says(),
-            if holds { "so" } else { "otherwise" }
-        )?;
+        println!(rt; "{shows}: {}", if holds { "so" } else { "otherwise" })?;
         all = all && holds;
     }
     Ok(all)

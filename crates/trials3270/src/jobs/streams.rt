@@ -10,7 +10,8 @@ struct Outcome {
     faults: Vec<u8>,
 }
 
-fn run_by(alloc: Global, task: Task, input: Pieces<'_>, room: usize) -> Outcome {
+/// What becomes of a task with this input, and room for so many bytes of output.
+fn run_with(alloc: Global, task: Task, input: Pieces<'_>, room: usize) -> Outcome {
     let mut input = CountedReader::new(input);
     let mut out = paper_with(alloc, room);
     let mut faults = paper_with(alloc, usize::MAX);
@@ -22,13 +23,9 @@ fn run_by(alloc: Global, task: Task, input: Pieces<'_>, room: usize) -> Outcome 
     }
 }
 
-fn run_with(alloc: Global, input: Pieces<'_>, room: usize) -> Outcome {
-    run_by(alloc, Task::Show, input, room)
-}
-
 /// Whether an input isn't read: nothing is printed, and one fault is told.
 fn is_not_read(alloc: Global, input: Pieces<'_>) -> bool {
-    let outcome = run_with(alloc, input, usize::MAX);
+    let outcome = run_with(alloc, Task::Show, input, usize::MAX);
     outcome.status == 1
         && outcome.out.is_empty()
         && outcome.faults.as_slice() == b"input not read\n".as_slice()
@@ -46,7 +43,7 @@ fn front(bytes: &[u8], count: usize) -> &[u8] {
 }
 
 fn status_of(alloc: Global, input: Pieces<'_>) -> u8 {
-    run_with(alloc, input, usize::MAX).status
+    run_with(alloc, Task::Show, input, usize::MAX).status
 }
 
 /// One byte more than may be read isn't; and of one byte a read, the last read that is allowed finds the end.
@@ -74,25 +71,26 @@ const REFUSED_AND_SHOWN: &[u8; 39] = b"F5\nF5 C3 11 40 40 1D 60 C8 C9 1D 40 13\n
 
 /// Whether a run ends by its writer, which has room for so much.
 fn fails_with_room(alloc: Global, room: usize) -> bool {
-    let outcome = run_with(alloc, Pieces::whole(REFUSED_AND_SHOWN), room);
+    let outcome = run_with(alloc, Task::Show, Pieces::whole(REFUSED_AND_SHOWN), room);
     outcome.status == 6 && outcome.faults.as_slice() == b"output failed\n".as_slice()
-}
-
-fn length_of_page(alloc: Global) -> usize {
-    run_with(alloc, Pieces::whole(REFUSED_AND_SHOWN), usize::MAX)
-        .out
-        .len()
 }
 
 /// Whatever room there is, a run ends by its writer, but where the whole page has room.
 pub(crate) fn output_that_fails_is_told(alloc: Global) -> bool {
-    let whole = length_of_page(alloc);
+    let whole = run_with(
+        alloc,
+        Task::Show,
+        Pieces::whole(REFUSED_AND_SHOWN),
+        usize::MAX,
+    )
+    .out
+    .len();
     for room in 0..whole {
         if !fails_with_room(alloc, room) {
             return false;
         }
     }
-    run_with(alloc, Pieces::whole(REFUSED_AND_SHOWN), whole).status == 0
+    run_with(alloc, Task::Show, Pieces::whole(REFUSED_AND_SHOWN), whole).status == 0
 }
 
 /// Two lines of a script, of which the first prints `idle`, and the second isn't understood.
@@ -101,7 +99,7 @@ const TELLS_AND_STOPS: &[u8] =
 
 /// Whether it ends so where its writer has room for so much.
 fn script_ends(alloc: Global, room: usize, status: u8, faults: &[u8]) -> bool {
-    let outcome = run_by(alloc, Task::Script, Pieces::whole(TELLS_AND_STOPS), room);
+    let outcome = run_with(alloc, Task::Script, Pieces::whole(TELLS_AND_STOPS), room);
     outcome.status == status && outcome.faults.as_slice() == faults
 }
 

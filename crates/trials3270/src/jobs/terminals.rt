@@ -78,9 +78,7 @@ fn joined(alloc: Global, parts: &[&[u8]]) -> Result<Vec<u8>, AllocError> {
 const SHOWN: &str =
     "talking\nbound PNL01\n HI\n\n\n\n\n\n\n\n\n\n\n\n\n\n\n\n\n\n\n\n\n\n\n\ncursor 4 lock free aid 60\n";
 
-fn shows_what_comes(alloc: Global, came: &[u8]) -> bool {
-    prints(alloc, "status\nwait\nstatus\n\nshow", came, SHOWN)
-}
+const SHOWS: &str = "status\nwait\nstatus\n\nshow";
 
 /// After the field is erased that was sent.
 const ERASED: &str =
@@ -100,19 +98,16 @@ const TYPED: &str =
     "refused 1\nrefused 2\nrefused 1\n HI A\n\n\n\n\n\n\n\n\n\n\n\n\n\n\n\n\n\n\n\n\n\n\n\ncursor 5 lock free aid 60\n";
 
 /// At a lock that waits one character is tried; on an attribute one.
-fn tells_refusals(alloc: Global, came: &[u8]) -> bool {
-    let script = "type AB\nwait\nkey left\ntype AB\nkey tab\nkey reset\nkey tab\ntype A\nshow\n";
-    prints(alloc, script, came, TYPED)
-}
+const TYPES: &str = "type AB\nwait\nkey left\ntype AB\nkey tab\nkey reset\nkey tab\ntype A\nshow\n";
 
 fn sessions_go_so(alloc: Global) -> Result<bool, AllocError> {
     let shown = joined(alloc, &[GRANTS, HI])?;
     let erased = joined(alloc, &[GRANTS, HI, ERASE])?;
     let sent = joined(alloc, &[ASKS, ENTERS])?;
     Ok(
-        shows_what_comes(alloc, shown.as_slice())
+        prints(alloc, SHOWS, shown.as_slice(), SHOWN)
             && waits_for_each_write(alloc, erased.as_slice(), sent.as_slice())
-            && tells_refusals(alloc, shown.as_slice()),
+            && prints(alloc, TYPES, shown.as_slice(), TYPED),
     )
 }
 
@@ -162,19 +157,16 @@ pub(crate) fn waits_end(alloc: Global) -> bool {
 
 // ---- ends of runs
 
-/// The lines before one that isn't understood are done.
-fn stops_at_the_line(alloc: Global) -> bool {
-    let script = "status\n\nwait 0\nstatus\n";
-    let outcome = operated(alloc, script, Pieces::whole(b""), ROOM);
-    outcome.ending == Err(Fault::NotUnderstood(3))
-        && outcome.out.as_slice() == b"talking\n".as_slice()
-}
-
-fn ends_where_nothing_is_printed(alloc: Global) -> bool {
-    let outcome = operated(alloc, "status\n", Pieces::whole(b""), NO_PAPER);
-    outcome.ending == Err(Fault::OutputFailed)
-}
-
+/// The lines before one that isn't understood are done; and a run ends where nothing can be printed.
 pub(crate) fn runs_end_early(alloc: Global) -> bool {
-    stops_at_the_line(alloc) && ends_where_nothing_is_printed(alloc)
+    let stopped = operated(
+        alloc,
+        "status\n\nwait 0\nstatus\n",
+        Pieces::whole(b""),
+        ROOM,
+    );
+    let unprinted = operated(alloc, "status\n", Pieces::whole(b""), NO_PAPER);
+    stopped.ending == Err(Fault::NotUnderstood(3))
+        && stopped.out.as_slice() == b"talking\n".as_slice()
+        && unprinted.ending == Err(Fault::OutputFailed)
 }
