@@ -63,24 +63,77 @@ fn command_of(alloc: Global, fields: u16) -> Result<Vec<u8>, Memory> {
     Ok(bytes)
 }
 
-fn hears(
+/// What is measured, formerly and now.
+#[derive(Clone, Copy)]
+enum Act<'a> {
+    Hear(&'a Inbound<'a>),
+    Apply(&'a Command<'a>),
+    Walk(Walk),
+}
+
+/// A walk over all cells: which are known, in a field, or printed and no blanks.
+#[derive(Clone, Copy)]
+enum Walk {
+    Known,
+    Fields,
+    Printed,
+}
+
+/// Does it once as it was done. Answers how many cells a walk counts.
+fn once_formerly(subjects: &mut Subjects, act: Act<'_>) -> usize {
+    match act {
+        Act::Hear(inbound) => {
+            let _heard = subjects.former_shadow.heard(inbound);
+            0
+        }
+        Act::Apply(command) => {
+            let _applied = subjects.former_screen.apply(command);
+            0
+        }
+        Act::Walk(walk) => walk_formerly(subjects, walk),
+    }
+}
+
+/// Does it once as it is done now.
+fn once_now(subjects: &mut Subjects, act: Act<'_>) -> usize {
+    match act {
+        Act::Hear(inbound) => {
+            let _heard = subjects.shadow.heard(inbound);
+            0
+        }
+        Act::Apply(command) => {
+            let _applied = subjects.screen.apply(command);
+            0
+        }
+        Act::Walk(walk) => walk_now(subjects, walk),
+    }
+}
+
+/// Measures so many rounds of it, and tells where walks don't count the same.
+fn measure(
     rt: &HostRuntime,
     what: &str,
-    fields: u16,
+    size: u16,
+    rounds: u32,
     subjects: &mut Subjects,
-    inbound: &Inbound<'_>,
+    act: Act<'_>,
 ) -> io::Result<()> {
+    let mut counted = 0usize;
+    let mut counted_now = 0usize;
     let start = Instant::now(rt)?;
-    for _ in 0..ROUNDS {
-        let _heard = subjects.former_shadow.heard(inbound);
+    for _ in 0..rounds {
+        counted = once_formerly(subjects, act);
     }
     let former = start.elapsed(rt)?;
     let start = Instant::now(rt)?;
-    for _ in 0..ROUNDS {
-        let _heard = subjects.shadow.heard(inbound);
+    for _ in 0..rounds {
+        counted_now = once_now(subjects, act);
     }
     let present = start.elapsed(rt)?;
-    tell(rt, what, fields, ROUNDS, former, present)
+    if counted != counted_now {
+        println!(rt; "{what}: {counted} formerly, {counted_now} now")?;
+    }
+    tell(rt, what, size, rounds, former, present)
 }
 
 /// Hears what the screen answers.
@@ -94,7 +147,7 @@ fn hears_form(
     let mut bytes = Vec::new(rt.alloc());
     subjects.put_answer(&mut bytes, form)?;
     match read_inbound(bytes.as_slice(), form) {
-        Ok(inbound) => hears(rt, what, fields, subjects, &inbound),
+        Ok(inbound) => measure(rt, what, fields, ROUNDS, subjects, Act::Hear(&inbound)),
         Err(_) => Ok(()),
     }
 }
@@ -123,25 +176,6 @@ fn takes(
     }
     let present = start.elapsed(rt)?;
     tell(rt, what, fields, ROUNDS, former, present)
-}
-
-fn applies(
-    rt: &HostRuntime,
-    fields: u16,
-    subjects: &mut Subjects,
-    command: &Command<'_>,
-) -> io::Result<()> {
-    let start = Instant::now(rt)?;
-    for _ in 0..ROUNDS {
-        let _applied = subjects.former_screen.apply(command);
-    }
-    let former = start.elapsed(rt)?;
-    let start = Instant::now(rt)?;
-    for _ in 0..ROUNDS {
-        let _applied = subjects.screen.apply(command);
-    }
-    let present = start.elapsed(rt)?;
-    tell(rt, "apply, fields", fields, ROUNDS, former, present)
 }
 
 /// What is believed, where the first cells are to be others.
@@ -182,102 +216,52 @@ fn paints(rt: &HostRuntime, subjects: &Subjects, cells: u16) -> io::Result<()> {
     )
 }
 
-/// How many cells are known, in so many walks over them.
-fn known_formerly(subjects: &Subjects) -> u32 {
-    let mut count = 0u32;
+/// Whether a walk counts a cell, by former bodies.
+fn counts_formerly(subjects: &Subjects, walk: Walk, at: Addr) -> bool {
+    match walk {
+        Walk::Known => subjects.former_shadow.known(at).is_some(),
+        Walk::Fields => subjects.former_screen.field_at(at.get()).is_some(),
+        Walk::Printed => subjects.former_screen.glyph_at(at.get()) != ' ',
+    }
+}
+
+fn walk_formerly(subjects: &Subjects, walk: Walk) -> usize {
+    let mut count = 0usize;
     for place in 0..CELLS {
-        let known = subjects.former_shadow.known(Addr::first().forward(place));
-        count = count.saturating_add(u32::from(known.is_some()));
+        let counts = counts_formerly(subjects, walk, Addr::first().forward(place));
+        count = count.saturating_add(usize::from(counts));
     }
     count
 }
 
-fn known_now(subjects: &Subjects) -> u32 {
-    let mut count = 0u32;
-    for place in 0..CELLS {
-        let known = subjects.shadow.known(Addr::first().forward(place));
-        count = count.saturating_add(u32::from(known.is_some()));
+/// Whether a walk counts a cell.
+fn counts_now(subjects: &Subjects, walk: Walk, at: Addr) -> bool {
+    match walk {
+        Walk::Known => subjects.shadow.known(at).is_some(),
+        Walk::Fields => subjects.screen.field_at(at).is_some(),
+        Walk::Printed => subjects.screen.glyph_at(at) != ' ',
     }
-    count
 }
 
-fn fields_formerly(subjects: &Subjects) -> u32 {
-    let mut count = 0u32;
-    for place in 0..CELLS {
-        let field = subjects.former_screen.field_at(place);
-        count = count.saturating_add(u32::from(field.is_some()));
-    }
-    count
-}
-
-fn fields_now(subjects: &Subjects) -> u32 {
-    let mut count = 0u32;
-    for place in 0..CELLS {
-        let field = subjects.screen.field_at(Addr::first().forward(place));
-        count = count.saturating_add(u32::from(field.is_some()));
-    }
-    count
-}
-
-/// How many characters are printed that aren't blanks.
-fn printed_formerly(subjects: &Subjects) -> u32 {
-    let mut count = 0u32;
-    for place in 0..CELLS {
-        let glyph = subjects.former_screen.glyph_at(place);
-        count = count.saturating_add(u32::from(glyph != ' '));
-    }
-    count
-}
-
-fn printed_now(subjects: &Subjects) -> u32 {
-    let mut count = 0u32;
+/// What is printed now is what the glyphs are, one after another.
+fn printed_now(subjects: &Subjects) -> usize {
+    let mut count = 0usize;
     for glyph in subjects.screen.glyphs() {
-        count = count.saturating_add(u32::from(glyph != ' '));
+        count = count.saturating_add(usize::from(glyph != ' '));
     }
     count
 }
 
-/// Which walk over all cells is measured.
-#[derive(Clone, Copy)]
-enum Walk {
-    Known,
-    Fields,
-    Printed,
-}
-
-fn walk_formerly(subjects: &Subjects, walk: Walk) -> u32 {
-    match walk {
-        Walk::Known => known_formerly(subjects),
-        Walk::Fields => fields_formerly(subjects),
-        Walk::Printed => printed_formerly(subjects),
+fn walk_now(subjects: &Subjects, walk: Walk) -> usize {
+    if matches!(walk, Walk::Printed) {
+        return printed_now(subjects);
     }
-}
-
-fn walk_now(subjects: &Subjects, walk: Walk) -> u32 {
-    match walk {
-        Walk::Known => known_now(subjects),
-        Walk::Fields => fields_now(subjects),
-        Walk::Printed => printed_now(subjects),
+    let mut count = 0usize;
+    for place in 0..CELLS {
+        let counts = counts_now(subjects, walk, Addr::first().forward(place));
+        count = count.saturating_add(usize::from(counts));
     }
-}
-
-fn walks(rt: &HostRuntime, what: &str, subjects: &Subjects, walk: Walk) -> io::Result<()> {
-    let mut counted = 0u32;
-    let start = Instant::now(rt)?;
-    for _ in 0..WALKS {
-        counted = walk_formerly(subjects, walk);
-    }
-    let former = start.elapsed(rt)?;
-    let mut present_counted = 0u32;
-    let start = Instant::now(rt)?;
-    for _ in 0..WALKS {
-        present_counted = walk_now(subjects, walk);
-    }
-    let present = start.elapsed(rt)?;
-    if counted != present_counted {
-        println!(rt; "{what}: {counted} formerly, {present_counted} now")?;
-    }
-    tell(rt, what, 96, WALKS, former, present)
+    count
 }
 
 /// One character that a Write stores.
@@ -289,7 +273,14 @@ fn figures_of(rt: &HostRuntime, subjects: &mut Subjects, fields: u16) -> io::Res
     subjects.begin();
     let _alike = subjects.write(bytes.as_slice());
     if let Ok(command) = read_command(bytes.as_slice()) {
-        applies(rt, fields, subjects, &command)?;
+        measure(
+            rt,
+            "apply, fields",
+            fields,
+            ROUNDS,
+            subjects,
+            Act::Apply(&command),
+        )?;
     }
     takes(
         rt,
@@ -345,7 +336,28 @@ pub fn print_figures(rt: &HostRuntime) -> io::Result<()> {
     for cells in [0, 1, 80] {
         paints(rt, &subjects, cells)?;
     }
-    walks(rt, "known of all cells, fields", &subjects, Walk::Known)?;
-    walks(rt, "field_at of all cells, fields", &subjects, Walk::Fields)?;
-    walks(rt, "printed screen, fields", &subjects, Walk::Printed)
+    measure(
+        rt,
+        "known of all cells, fields",
+        96,
+        WALKS,
+        &mut subjects,
+        Act::Walk(Walk::Known),
+    )?;
+    measure(
+        rt,
+        "field_at of all cells, fields",
+        96,
+        WALKS,
+        &mut subjects,
+        Act::Walk(Walk::Fields),
+    )?;
+    measure(
+        rt,
+        "printed screen, fields",
+        96,
+        WALKS,
+        &mut subjects,
+        Act::Walk(Walk::Printed),
+    )
 }

@@ -61,18 +61,31 @@ fn texts_alike(former: &FormerShadow, shadow: &Shadow, at: Addr) -> Alike {
     Ok(())
 }
 
+/// What is believed otherwise of a cell, or of the field whose attribute is there.
+fn otherwise_at(
+    former: &FormerShadow,
+    cells: &[Known],
+    shadow: &Shadow,
+    at: Addr,
+) -> Option<&'static str> {
+    if known_in(cells, usize::from(at.get())) != shadow.known(at) {
+        Some("known")
+    } else if former.fact(at) != shadow.fact(at) {
+        Some("fact")
+    } else if former.value(at, 0) != shadow.value(at, 0) {
+        Some("value")
+    } else {
+        None
+    }
+}
+
 /// What is believed of a cell, and of the field whose attribute is there. The characters of an exact field are known, cell by cell.
 fn facts_alike_at(former: &FormerShadow, cells: &[Known], shadow: &Shadow, at: Addr) -> Alike {
-    let place = at.get();
-    let known = known_in(cells, usize::from(place));
-    alike_at(known == shadow.known(at), "known", place)?;
-    let fact = former.fact(at);
-    alike_at(fact == shadow.fact(at), "fact", place)?;
-    alike_at(former.value(at, 0) == shadow.value(at, 0), "value", place)?;
-    if fact.is_some() && fact != Some(Fact::Exact) {
-        texts_alike(former, shadow, at)?;
+    match (otherwise_at(former, cells, shadow, at), shadow.fact(at)) {
+        (Some(what), _) => alike_at(false, what, at.get()),
+        (None, None | Some(Fact::Exact)) => Ok(()),
+        (None, Some(_)) => texts_alike(former, shadow, at),
     }
-    Ok(())
 }
 
 fn facts_alike(former: &FormerShadow, cells: &[Known], shadow: &Shadow) -> Alike {
