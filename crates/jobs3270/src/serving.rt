@@ -13,6 +13,16 @@ use std::alloc::Global;
 use std::net::Net;
 use std::sync::Wait;
 
+/// Begins to serve the host of a panel text at a port, at any that is free where that is 0.
+pub(crate) fn server_of(
+    net: &impl Net,
+    alloc: Global,
+    panels: &str,
+    port: u16,
+) -> Result<Server, Fault> {
+    Server::new(net, alloc, host_of(alloc, panels)?, port)
+}
+
 /// Reads panels, and begins to serve them at a port.
 fn begin<N: Net, I: Source>(
     net: &N,
@@ -21,8 +31,7 @@ fn begin<N: Net, I: Source>(
     input: &mut I,
 ) -> Result<Server, Fault> {
     let text = read_whole(alloc, input)?;
-    let host = host_of(alloc, text.as_str())?;
-    Server::new(net, alloc, host, port.get())
+    server_of(net, alloc, text.as_str(), port.get())
 }
 
 /// Serves so many turns, and answers what ended them.
