@@ -1,6 +1,5 @@
 -- A world settles, one connection and one round more at a time.
 use Rattle.std.proofs.Common.{◌≡◌, ◌∙◌, ◌<◌, ◌≤◌, ◌+◌, ◌-◌, ◌&&◌, ℕ, Bool, true, false, List, [], ◌∷◌, ◌++◌, None, refl, sym, ap, subst, suc, arith, append_assoc, append-nil, add-one}
-use Rattle.std.specs.List.{list_all}
 use Rattle.std.proofs.lemmas.List.{map-append}
 use Rattle.std.proofs.lemmas.List.Folds.{list_all-append}
 use Rattle.host_core.specs.State.{most_connections}
@@ -15,16 +14,23 @@ use Rattle.jobs3270.proofs.Happenings.{then_take_place}
 
 -- ---- a round
 
-pub settled : (number : ℕ) (old first second new : ByteWorld) (up act down : Stepped) (quiet : Bool)
+all_three : (a b c : Bool) → ((a && b) && c) ≡ (a && (b && (c && true)))
+all_three false b c = refl
+all_three true false c = refl
+all_three true true false = refl
+all_three true true true = refl
+
+pub settled : (number : ℕ) (old first second new : ByteWorld) (up act down : Stepped) (first_quiet second_quiet third_quiet : Bool)
     → Steps (event.Up number all_bytes) old up first → refused_at up ≡ None → Steps (event.Act number) first act second → refused_at act ≡ None
-    → Steps (event.Down number all_bytes) second down new → refused_at down ≡ None → quiet ≡ list_all is_skipped (up ∷ act ∷ down ∷ [])
-    → SettlesSo (settling number) old quiet new
-settled number old first second new up act down quiet comes_up up_whole acts act_whole comes_down down_whole is = record {
+    → Steps (event.Down number all_bytes) second down new → refused_at down ≡ None
+    → first_quiet ≡ is_skipped up → second_quiet ≡ is_skipped act → third_quiet ≡ is_skipped down
+    → SettlesSo (settling number) old ((first_quiet && second_quiet) && third_quiet) new
+settled number old first second new up act down first_quiet second_quiet third_quiet comes_up up_whole acts act_whole comes_down down_whole one two three = record {
   happenings = record { event = event.Up number all_bytes; answer = up } ∷ record { event = event.Act number; answer = act }
       ∷ record { event = event.Down number all_bytes; answer = down } ∷ [];
   are = refl;
   take_place = (first, comes_up, up_whole, (second, acts, act_whole, (new, comes_down, down_whole, refl)));
-  quiet_is = is;
+  quiet_is = rw (one, two, three) (all_three (is_skipped up) (is_skipped act) (is_skipped down));
 }
 
 pub nothing_settled : (old : ByteWorld) → SettlesSo (round_below 0) old true old

@@ -1,5 +1,6 @@
 -- What clap's values hold of the command line (specs/JobWords).
 use Rattle.std.specs.Prelude.{◌≡◌, ⊤, ℕ, List, [], ◌∷◌, true, false}
+use Rattle.clap.specs.Built.{AddsArg, AddsSubcommand}
 use Rattle.clap.specs.Walk.{Rule, rule_of}
 use Rattle.clap.specs.Simple.{App, Shape, app_of, subcommand_of, subcommand_rows_of}
 use Rattle.clap.specs.declared.builder.arg.Arg.{Arg}
@@ -22,6 +23,16 @@ pub record IsCommand (app : App) (command : Command) : Type 0 where
 
 abbrev pub IsJob : Shape → Command → Type 0
 IsJob shape command = IsCommand (record { top = shape; subs = [] }) command
+
+-- a job gains options by these rules, in turn
+abbrev pub AddsOptions : List Rule → Command → Command → Type 0
+AddsOptions [] old new = old ≡ new
+AddsOptions (rule ∷ rules) old new = (option : Arg) × (mid : Command) × IsOption rule option × AddsArg old option mid × AddsOptions rules mid new
+
+-- a command gains jobs of these shapes, in turn
+abbrev pub AddsJobs : List Shape → Command → Command → Type 0
+AddsJobs [] old new = old ≡ new
+AddsJobs (shape ∷ shapes) old new = (job mid : Command) × IsJob shape job × AddsSubcommand old job mid × AddsJobs shapes mid new
 
 -- the command line takes the words, and these are what it makes of them
 pub record IsMatch (words : List (List ℕ)) (matches : ArgMatches) : Type 0 where

@@ -1,11 +1,11 @@
 //! The words behind the program's name.
-ghost use Rattle.std.specs.Prelude.{◌≡◌, ◌∷◌, [], false, IfOk, IfErr, Some, map, option_map, string_bytes};
+ghost use Rattle.std.specs.Prelude.{◌≡◌, IfOk, IfErr, Some, map, option_map, string_bytes};
 ghost use Rattle.clap.specs.Walk.{first_of, rows_of};
-ghost use Rattle.clap.specs.Simple.{App, Shape, subcommand_rows_of, with_subcommand};
+ghost use Rattle.clap.specs.Simple.{subcommand_rows_of};
 ghost use Rattle.clap.specs.Matches.{found_of};
 ghost use Rattle.clap.specs.Values.{kind_of};
-ghost use Rattle.jobs3270.specs.Words.{HasNoJob, program, job_of, job_by, job_named, given_port, given_turns, given_lu, option_rule, port_rule, job_shape, selfrun_shape};
-ghost use Rattle.jobs3270.specs.ClapCommands.{IsOption, IsJob, IsCommand, IsMatch, HasNoMatch, fault_by};
+ghost use Rattle.jobs3270.specs.Words.{HasNoJob, program, job_of, job_by, job_named, given_port, given_turns, given_lu, job_shape, option_rule};
+ghost use Rattle.jobs3270.specs.ClapCommands.{AddsJobs, IsCommand, IsJob, IsOption, IsMatch, HasNoMatch, fault_by};
 
 use crate::job::{Job, Port, Turns, WordFault};
 use clap::error::ErrorKind;
@@ -15,56 +15,62 @@ use tn3270e_msg::Lu;
 
 // ---- the command line
 
-/// An option with a name, which may be left out.
-fn option<'a>(alloc: Global, name: &'a str) -> Arg<'a>
-    ensures { IsOption (option_rule name.now false) result }
+/// An option with a name; whether it has to be given.
+fn option<'a>(alloc: Global, name: &'a str, required: bool) -> Arg<'a>
+    ensures { IsOption (option_rule name.now required) result }
 {
-    Arg::new(alloc, name).long(name)
+    Arg::new(alloc, name).long(name).required(required)
 }
 
-/// `selfrun [--turns N]`.
-fn selfrun<'a>(alloc: Global) -> Result<Command<'a>, AllocError>
-    ensures { IfOk result (IsJob selfrun_shape) }
-{
-    Command::new(alloc, "selfrun").arg(option(alloc, "turns"))
-}
+/// A job by its words: its name, and the names of its options, of which each may have to be given.
+type JobWords<'a> = (&'a str, &'a [(&'a str, bool)]);
 
-/// A job with `--port P`, which has to be given.
-fn at_port<'a>(alloc: Global, name: &'a str) -> Result<Command<'a>, AllocError>
-    ensures { IfOk result (IsJob (job_shape name.now (port_rule ∷ []))) }
-{
-    Command::new(alloc, name).arg(option(alloc, "port").required(true))
-}
+/// The jobs, in the order in which help names them.
+static JOBS: [JobWords<'static>; 6] = [
+    ("script", &[]),
+    ("show", &[]),
+    ("selfrun", &[("turns", false)]),
+    ("host", &[("port", true), ("turns", false)]),
+    ("serve", &[("port", true)]),
+    ("term", &[("port", true), ("lu", false)]),
+];
 
-/// A job with `--port P` and an option more, which may be left out.
-fn at_port_with<'a>(alloc: Global, name: &'a str, other: &'a str) -> Result<Command<'a>, AllocError>
-    ensures { IfOk result (IsJob (job_shape name.now (port_rule ∷ option_rule other.now false ∷ []))) }
-{
-    at_port(alloc, name)?.arg(option(alloc, other))
-}
-
-/// A command with one job more, if both could be made.
-fn with_job<'a>(
-    command: Result<Command<'a>, AllocError>,
-    job: Result<Command<'a>, AllocError>,
+/// A job with its options.
+fn job<'a>(
+    alloc: Global,
+    name: &'a str,
+    options: &[(&'a str, bool)],
 ) -> Result<Command<'a>, AllocError>
-    ensures { (app : App) (shape : Shape) → IfOk command.entry (IsCommand app) → IfOk job.entry (IsJob shape) → IfOk result (IsCommand (with_subcommand app shape)) }
+    ensures { IfOk result (IsJob (job_shape name.now (map (λ given. option_rule given.0.now given.1) options.now))) }
 {
-    command?.subcommand(job?)
+    let mut job = Command::new(alloc, name);
+    for (name, required) in options {
+        job = job.arg(option(alloc, name, *required))?;
+    }
+    Ok(job)
+}
+
+/// A command with these jobs as subcommands.
+fn with_jobs<'a>(
+    alloc: Global,
+    command: Command<'a>,
+    jobs: &[JobWords<'a>],
+) -> Result<Command<'a>, AllocError>
+    ensures { IfOk result (AddsJobs (map (λ job. job_shape job.0.now (map (λ given. option_rule given.0.now given.1) job.1.now)) jobs.now) command.entry) }
+{
+    let mut command = command;
+    for (name, options) in jobs {
+        command = command.subcommand(job(alloc, name, options)?)?;
+    }
+    Ok(command)
 }
 
 /// The program, with its jobs as subcommands.
 fn program<'a>(alloc: Global) -> Result<Command<'a>, AllocError>
     ensures { IfOk result (IsCommand program) }
 {
-    let bare = Ok(Command::new(alloc, "panel3270").no_binary_name(true));
-    let one = with_job(bare, Ok(Command::new(alloc, "script")));
-    let two = with_job(one, Ok(Command::new(alloc, "show")));
-    let three = with_job(two, selfrun(alloc));
-    // `host --port P [--turns N]`, `serve --port P` and `term --port P [--lu NAME]`.
-    let four = with_job(three, at_port_with(alloc, "host", "turns"));
-    let five = with_job(four, at_port(alloc, "serve"));
-    with_job(five, at_port_with(alloc, "term", "lu"))
+    let bare = Command::new(alloc, "panel3270").no_binary_name(true);
+    with_jobs(alloc, bare, &JOBS)
 }
 
 // ---- what was given

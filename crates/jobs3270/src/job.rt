@@ -7,7 +7,7 @@ use std::marker::Model;
 use tn3270e_msg::Lu;
 
 /// The number of a port, 1024 to 65535: one that needs no privilege. Contracts see it as a number.
-#[derive(Clone, Copy, Debug, PartialEq, Eq)]
+#[derive(Clone, Copy)]
 pub struct Port {
     number: u16,
 }
@@ -54,7 +54,7 @@ impl Port {
 }
 
 /// How many turns are taken, 1 to 1,000,000. Contracts see it as a number.
-#[derive(Clone, Copy, Debug, PartialEq, Eq)]
+#[derive(Clone, Copy)]
 pub struct Turns {
     number: u32,
 }
@@ -108,7 +108,7 @@ impl Turns {
 }
 
 /// What the program does.
-#[derive(Clone, Copy, Debug, PartialEq, Eq)]
+#[derive(Clone, Copy)]
 pub enum Job {
     /// Serves panels to the terminals of a script.
     Script,
@@ -125,7 +125,7 @@ pub enum Job {
 }
 
 /// Why words give no job.
-#[derive(Clone, Copy, Debug, PartialEq, Eq)]
+#[derive(Clone, Copy)]
 pub enum WordFault {
     /// The command line doesn't take them.
     Refused,

@@ -8,7 +8,7 @@
 //! let mut input = CountedReader::new(rt.stdin());
 //! let mut out = CountedWriter::new(rt.stdout());
 //! let mut faults = CountedWriter::new(rt.stderr());
-//! let status = run_show(rt.alloc(), &mut input, &mut out, &mut faults);
+//! let status = run(rt.alloc(), Task::Show, &mut input, &mut out, &mut faults);
 //! ```
 //!
 //! [`words`] reads a command line. `specs/Runs` says how a run of show or script ends, `Pages` and `Scripts` what it prints, `Words` which words ask
@@ -50,13 +50,12 @@ pub use job::{Job, Port, Turns, WordFault};
 pub use notice::Notice;
 pub use page::{Page, page_of};
 pub use refusals::Refusal;
-pub use script::{a_script_has_one_page, host_of, run_script};
+pub use script::{a_script_has_one_page, host_of};
 pub use script_line::{Asks, asks_of, typed_text};
 pub use selfrun::run_selfrun;
 pub use server::{Server, Watcher, patience};
 pub use serving::{Log, run_host, run_serve};
-pub use show::{end_by, run_show};
 pub use streams::{Answer, CountedReader, CountedWriter, Sink, Source, WriteFailed};
-pub use task::{Task, run};
+pub use task::{Task, end_by, run};
 pub use term::{Wire, operate, run_term};
 pub use term_line::{TermAsks, term_asks_of};

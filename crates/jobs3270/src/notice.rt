@@ -1,5 +1,6 @@
 //! What is told of the connections of a host.
-ghost use Rattle.std.specs.Prelude.{◌≡◌, ◌++◌, OnOk, string_bytes};
+ghost use Rattle.std.specs.Prelude.{◌≡◌, ◌++◌, MatchOption, OnOk, string_bytes};
+ghost use Rattle.std.specs.Fmt.{decimal};
 ghost use Rattle.jobs3270.specs.Notices.{cause_name, lu_part, notice_line, notice_of, notice_text, reason_text};
 
 use crate::phase_text::{cause_number, put_letters};
@@ -42,24 +43,36 @@ fn cause_name(cause: Cause) -> &'static str
     }
 }
 
-/// Adds why a terminal was refused: the name of RFC 1647, section 3, or the code of a reason that a host here doesn't give.
+/// The name of a reason in RFC 1647, section 3, if it is one that a host here gives.
+fn reason_name(reason: Reason) -> Option<&'static str>
+    ensures { MatchOption result (reason_text reason ≡ decimal reason.0) (λ name. name.now ≡ reason_text reason) }
+{
+    if reason == Reason::DEVICE_IN_USE {
+        return Some("DEVICE-IN-USE");
+    }
+    if reason == Reason::INV_NAME {
+        return Some("INV-NAME");
+    }
+    if reason == Reason::INV_DEVICE_TYPE {
+        return Some("INV-DEVICE-TYPE");
+    }
+    if reason == Reason::UNSUPPORTED_REQ {
+        return Some("UNSUPPORTED-REQ");
+    }
+    None
+}
+
+/// Adds why a terminal was refused: the name of a reason, or its code where it has none here.
 fn put_reason(text: &mut String, reason: Reason) -> Result<(), AllocError>
     ensures { OnOk result (string_bytes text.new ≡ string_bytes text.old ++ reason_text reason) }
 {
-    if reason == Reason::DEVICE_IN_USE {
-        return text.push_str("DEVICE-IN-USE");
+    match reason_name(reason) {
+        Some(name) => text.push_str(name),
+        None => {
+            let code = reason.0;
+            write!(text, "{code}")
+        }
     }
-    if reason == Reason::INV_NAME {
-        return text.push_str("INV-NAME");
-    }
-    if reason == Reason::INV_DEVICE_TYPE {
-        return text.push_str("INV-DEVICE-TYPE");
-    }
-    if reason == Reason::UNSUPPORTED_REQ {
-        return text.push_str("UNSUPPORTED-REQ");
-    }
-    let code = reason.0;
-    write!(text, "{code}")
 }
 
 /// Adds the LU that was asked for, if one was.

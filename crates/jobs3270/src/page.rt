@@ -9,7 +9,7 @@ use presentation::Screen;
 use std::alloc::{AllocError, Global};
 
 /// What is printed of an input.
-#[derive(Debug, Drop, PartialEq, Eq)]
+#[derive(Drop)]
 pub struct Page {
     /// A line for each command that was refused; then, where all lines were hexadecimal, the screen and its cursor.
     pub text: String,

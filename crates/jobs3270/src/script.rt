@@ -5,54 +5,21 @@ ghost use Rattle.lu_pool.specs.Reading.{IsFirstFault};
 ghost use Rattle.panels.specs.Defines.{IsReadFrom};
 ghost use Rattle.panels.specs.Panel.{Panels};
 ghost use Rattle.panels.specs.Passes.{IsReason};
-ghost use Rattle.jobs3270.specs.Runs.{EndsPrinting, HasCause, IsEnd, ending_of};
+ghost use Rattle.jobs3270.specs.Runs.{EndsPrinting, ending_of};
 ghost use Rattle.jobs3270.specs.Scripts.{HasNoWorld, IsApplicationOf, IsHostOf, IsScriptPage, IsWorldOf, ScriptsHaveOnePage, behind_line, is_at_mark, lus_of, mark_place, panel_text, script_text};
 ghost use Rattle.jobs3270.specs.declared.task.Task.TheVariants.{Script};
 
 use crate::fault::Fault;
-use crate::input::read_whole;
 use crate::player::{TERMINALS, play};
-use crate::show::end_by;
-use crate::streams::{Sink, Source};
+use crate::streams::Sink;
 use host_core::Host;
 use lu_pool::{Pool, PoolFault};
 use panels::{PanelFault, PanelSet};
 use std::alloc::Global;
 use world3270::World;
 
-/// Serves the panels of a text to four terminals, and does the commands of a script, one a line: the terminals connect, and
-/// type; bytes come, and are lost; screens are printed where the script asks for them. The input is the panel text, a line `%%`,
-/// and the script; the page is printed when the script has ended. What ends the run early is told in one line of `faults`.
-///
-/// Answers the exit status: 0 where all went well; 1 where the input can't be read (as with [`run_show`](crate::run_show)),
-/// where its panel text defines no panels, where their LUs are no pool, or where a line isn't understood, behind what the lines
-/// before it print; 3 where a growth was refused; 6 where the output failed.
-pub fn run_script<I: Source, O: Sink, E: Sink>(
-    alloc: Global,
-    input: &mut I,
-    out: &mut O,
-    faults: &mut E,
-) -> u8
-    ensures { IsEnd Script (I.seen input.old) (I.seen input.new) (O.seen out.old) (O.seen out.new) (E.seen faults.old) (E.seen faults.new) result }
-{
-    match script(alloc, input, out) {
-        Ok(()) => 0,
-        Err(fault) => end_by(fault, faults),
-    }
-}
-
-/// Reads the input, and prints its page.
-fn script<I: Source, O: Sink>(alloc: Global, input: &mut I, out: &mut O) -> Result<(), Fault>
-    ensures { HasCause Script (ending_of result) (I.seen input.old) (I.seen input.new) (O.seen out.old) (O.seen out.new) }
-{
-    match read_whole(alloc, input) {
-        Ok(text) => print_script(alloc, text.as_str(), out),
-        Err(fault) => Err(fault),
-    }
-}
-
 /// Prints the page of a text.
-fn print_script<O: Sink>(alloc: Global, text: &str, out: &mut O) -> Result<(), Fault>
+pub(crate) fn print_script<O: Sink>(alloc: Global, text: &str, out: &mut O) -> Result<(), Fault>
     ensures { EndsPrinting Script (ending_of result) text.now (O.seen out.old) (O.seen out.new) }
 {
     let page = match page_of_script(alloc, text) {

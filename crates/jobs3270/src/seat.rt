@@ -30,23 +30,11 @@ fn pressed_as(pressed: Pressed) -> Stepped
 /// A terminal, and the socket of its connection if it has one.
 #[derive(Drop)]
 pub(crate) struct Seat {
-    terminal: Terminal,
-    socket: Option<TcpStream>,
+    pub(crate) terminal: Terminal,
+    pub(crate) socket: Option<TcpStream>,
 }
 
 impl Seat {
-    /// A terminal without a connection.
-    pub(crate) fn new(terminal: Terminal) -> Seat {
-        Seat {
-            terminal,
-            socket: None,
-        }
-    }
-
-    pub(crate) fn terminal(&self) -> &Terminal {
-        &self.terminal
-    }
-
     /// Whether it is at no connection.
     pub(crate) fn is_idle(&self) -> bool {
         matches!(self.terminal.phase(), TermPhase::Idle)

@@ -7,12 +7,13 @@ use crate::input::read_whole;
 use crate::job::Turns;
 use crate::phase_text::put_phase;
 use crate::player::{TERMINALS, asked, put_answer};
-use crate::script::{host_of, parted};
+use crate::script::parted;
 use crate::script_line::{Asks, typed_text};
 use crate::seat::Seat;
 use crate::server::{Server, Unwatched, patience};
-use crate::show::end_by;
+use crate::serving::server_of;
 use crate::streams::{Sink, Source};
+use crate::task::end_by;
 use crate::term;
 use host_core::MOST_CONNECTIONS;
 use keyboard::Key;
@@ -58,7 +59,10 @@ struct Household {
 fn seats_of(alloc: Global) -> Result<Vec<Seat>, AllocError> {
     let mut seats = Vec::with_capacity(alloc, TERMINALS)?;
     for _ in 0..TERMINALS {
-        seats.push(Seat::new(Terminal::new(alloc)?))?;
+        seats.push(Seat {
+            terminal: Terminal::new(alloc)?,
+            socket: None,
+        })?;
     }
     Ok(seats)
 }
@@ -66,11 +70,9 @@ fn seats_of(alloc: Global) -> Result<Vec<Seat>, AllocError> {
 impl Household {
     /// The host of a panel text, at any port that is free, and terminals.
     fn new(net: &impl Net, alloc: Global, panels: &str, turns: u32) -> Result<Household, Fault> {
-        let host = host_of(alloc, panels)?;
-        let seats = seats_of(alloc)?;
         Ok(Household {
-            server: Server::new(net, alloc, host, 0)?,
-            seats,
+            seats: seats_of(alloc)?,
+            server: server_of(net, alloc, panels, 0)?,
             turns,
         })
     }
@@ -172,7 +174,7 @@ impl Household {
     /// Adds a terminal's screen.
     fn show(&self, alloc: Global, terminal: usize, text: &mut String) -> Result<(), Fault> {
         if let Some(seat) = self.seats.get(terminal) {
-            term::show(alloc, seat.terminal(), text)?;
+            term::show(alloc, &seat.terminal, text)?;
         }
         Ok(())
     }
@@ -180,7 +182,7 @@ impl Household {
     /// Adds a terminal's phase.
     fn tell(&self, terminal: usize, text: &mut String) -> Result<(), Fault> {
         if let Some(seat) = self.seats.get(terminal) {
-            put_phase(text, &seat.terminal().phase())?;
+            put_phase(text, &seat.terminal.phase())?;
         }
         Ok(())
     }
@@ -259,13 +261,13 @@ fn selfrun<N: Net, I: Source, O: Sink>(
     play_and_write(net, alloc, &mut household, script, out)
 }
 
-/// Does the commands of a script as [`run_script`](crate::run_script) does, but at terminals that are joined to the host by sockets of this
+/// Does the commands of a script as [`run`](crate::run) does, but at terminals that are joined to the host by sockets of this
 /// machine. The script may have the commands `connect`, `type`, `key`, `lose`, `settle`, `show` and `status`. `lose` closes the
 /// terminal's socket, which the host sees in a later turn. `settle` takes turns, each a turn of the host in which each terminal is read
 /// and written once too, until one in which no byte crossed and the host didn't act. What ends the run early is told in one line of
 /// `faults`.
 ///
-/// Answers the exit status: 0 where all went well; 1, 3 and 6 as `run_script` does; 4 where the system refused a socket; 5 where so
+/// Answers the exit status: 0 where all went well; 1, 3 and 6 as `run` does; 4 where the system refused a socket; 5 where so
 /// many turns were used up, behind what was printed before.
 pub fn run_selfrun<N: Net, I: Source, O: Sink, E: Sink>(
     net: &N,

@@ -137,7 +137,7 @@ impl Server {
                 acted |= self.serve(conn, watcher)?;
             }
         }
-        Ok(self.sockets.take_moved() || acted)
+        Ok(self.sockets.take_moved() | acted)
     }
 
     /// Takes all connections that wait. One that the system refuses to hand over waits on.
@@ -199,9 +199,9 @@ impl Server {
         self.sockets.set_waiting(conn, waiting);
         let served = serve_turn(&mut self.host, &mut self.sockets, conn);
         let acted = self.host.out(conn).len() != waiting;
-        let notice = notice_of(conn, &before, &self.host.phase(conn), served);
         self.settle_if_bound(conn);
         self.tell_refusals(conn, watcher)?;
+        let notice = notice_of(conn, &before, &self.host.phase(conn), served);
         match served {
             Served::Going => {}
             Served::Lost => {

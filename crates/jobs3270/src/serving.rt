@@ -7,11 +7,21 @@ use crate::job::{Port, Turns};
 use crate::notice::{Notice, put_notice};
 use crate::script::host_of;
 use crate::server::{Server, Unwatched, Watcher, patience};
-use crate::show::end_by;
 use crate::streams::{Sink, Source};
+use crate::task::end_by;
 use std::alloc::Global;
 use std::net::Net;
 use std::sync::Wait;
+
+/// Begins to serve the host of a panel text at a port, at any that is free where that is 0.
+pub(crate) fn server_of(
+    net: &impl Net,
+    alloc: Global,
+    panels: &str,
+    port: u16,
+) -> Result<Server, Fault> {
+    Server::new(net, alloc, host_of(alloc, panels)?, port)
+}
 
 /// Reads panels, and begins to serve them at a port.
 fn begin<N: Net, I: Source>(
@@ -21,8 +31,7 @@ fn begin<N: Net, I: Source>(
     input: &mut I,
 ) -> Result<Server, Fault> {
     let text = read_whole(alloc, input)?;
-    let host = host_of(alloc, text.as_str())?;
-    Server::new(net, alloc, host, port.get())
+    server_of(net, alloc, text.as_str(), port.get())
 }
 
 /// Serves so many turns, and answers what ended them.
@@ -54,7 +63,7 @@ fn host<N: Net, I: Source>(
 /// Serves the panels of an input at a port of this machine (127.0.0.1), 1024 to 65535, to the terminals that connect there, for so many
 /// turns, of at most 10 milliseconds each where nothing is to be done. What ends the run is told in one line of `faults`.
 ///
-/// Answers the exit status: 5 where the turns are over; 1 where the input can't be read (as with [`run_show`](crate::run_show)), where
+/// Answers the exit status: 5 where the turns are over; 1 where the input can't be read (as with [`run`](crate::run)), where
 /// it defines no panels, or where their LUs are no pool; 3 where a growth was refused; 4 where the system refused a socket, as where the
 /// port is taken.
 pub fn run_host<N: Net, I: Source, E: Sink>(

@@ -1,6 +1,5 @@
 //! A world settles: all that is under way comes, and the host acts, until nothing is left to do.
 ghost use Rattle.std.specs.Prelude.{◌≡◌, ◌<◌, ℕ, List, None, IfOk, OnOk};
-ghost use Rattle.std.specs.List.{list_all};
 ghost use Rattle.host_core.specs.State.{most_connections};
 ghost use Rattle.world3270.specs.ByteRuns.{refused_at};
 ghost use Rattle.world3270.specs.ByteSteps.{Steps};
@@ -35,18 +34,6 @@ fn is_skipped(answer: Stepped) -> bool
     matches!(answer, Stepped::Skipped)
 }
 
-/// Whether all were skipped.
-fn are_skipped(answers: &[Stepped]) -> bool
-    ensures { result ≡ list_all is_skipped answers.now }
-{
-    for answer in answers {
-        if !is_skipped(*answer) {
-            return false;
-        }
-    }
-    true
-}
-
 /// On one connection all that is under way comes up, the host acts, and all that is then under way comes down. Answers whether all
 /// three were skipped.
 fn settle_connection(world: &mut World, number: usize) -> Result<bool, AllocError>
@@ -55,7 +42,7 @@ fn settle_connection(world: &mut World, number: usize) -> Result<bool, AllocErro
     let up = step_whole(world, Event::Up(number, ALL_BYTES))?;
     let act = step_whole(world, Event::Act(number))?;
     let down = step_whole(world, Event::Down(number, ALL_BYTES))?;
-    Ok(are_skipped(&[up, act, down]))
+    Ok(is_skipped(up) & is_skipped(act) & is_skipped(down))
 }
 
 /// A round over all connections. Answers whether all was skipped.

@@ -7,7 +7,7 @@ use std::fmt::Display;
 use std::io::{ErrorKind, Read, Write};
 
 /// What a read gave.
-#[derive(Clone, Copy, Debug, PartialEq, Eq)]
+#[derive(Clone, Copy)]
 pub enum Answer {
     /// So many bytes, at least one, at the front of the buffer.
     Gave(usize),
@@ -20,7 +20,7 @@ pub enum Answer {
 }
 
 /// A write that failed.
-#[derive(Clone, Copy, Debug, PartialEq, Eq)]
+#[derive(Clone, Copy)]
 pub struct WriteFailed;
 
 /// What a run reads from.

@@ -1,21 +1,33 @@
 //! What the program does that reads its whole input, and opens no socket.
-ghost use Rattle.jobs3270.specs.Runs.{IsEnd};
+ghost use Rattle.std.specs.Prelude.{◌≡◌};
+ghost use Rattle.jobs3270.specs.Faults.{status_of, fault_text};
+ghost use Rattle.jobs3270.specs.Runs.{EndsPrinting, HasCause, IsEnd, IsToldIn, ending_of};
 
-use crate::script::run_script;
-use crate::show::run_show;
+use crate::fault::Fault;
+use crate::input::read_whole;
+use crate::script::print_script;
+use crate::show::print_page;
 use crate::streams::{Sink, Source};
 use std::alloc::Global;
 
 /// A task of a run that opens no socket.
-#[derive(Clone, Copy, Debug, PartialEq, Eq)]
+#[derive(Clone, Copy)]
 pub enum Task {
-    /// Serves panels to the terminals of a script.
+    /// Serves the panels of a text to four terminals, and does the commands of a script, one a line: the terminals connect, and
+    /// type; bytes come, and are lost; screens are printed where the script asks for them. The input is the panel text, a line `%%`,
+    /// and the script; the page is printed when the script has ended.
     Script,
-    /// Applies commands to a screen.
+    /// Applies the commands of an input, one a line in hexadecimal, in order to one blank screen, and prints that screen and
+    /// the cursor. A command that is refused is told and changes nothing.
     Show,
 }
 
-/// Does a task, and answers the exit status: that of [`run_script`] or of [`run_show`].
+/// Does a task. What ends the run early is told in one line of `faults`.
+///
+/// Answers the exit status: 0 where all went well; 1 where the input can't be read, has more than `MOST_BYTES` bytes, takes
+/// more than `MOST_READS` reads, or isn't UTF-8; 3 where a growth was refused; 6 where the output failed. It is 1, too, where a
+/// line of `Show` isn't hexadecimal, where the panel text of `Script` defines no panels, where their LUs are no pool, or where a
+/// line of its script isn't understood, behind what the lines before it print.
 pub fn run<I: Source, O: Sink, E: Sink>(
     alloc: Global,
     task: Task,
@@ -25,8 +37,43 @@ pub fn run<I: Source, O: Sink, E: Sink>(
 ) -> u8
     ensures { IsEnd task (I.seen input.old) (I.seen input.new) (O.seen out.old) (O.seen out.new) (E.seen faults.old) (E.seen faults.new) result }
 {
+    match read_and_print(alloc, task, input, out) {
+        Ok(()) => 0,
+        Err(fault) => end_by(fault, faults),
+    }
+}
+
+/// Tells a fault in one line and answers its exit status. What can't be told is told by the status alone.
+pub fn end_by<E: Sink>(fault: Fault, faults: &mut E) -> u8
+    ensures status { result ≡ status_of fault }
+    ensures told { IsToldIn (E.seen faults.old) (E.seen faults.new) (fault_text fault) }
+{
+    let status = fault.status();
+    let _ = faults.write_line(fault);
+    status
+}
+
+/// Reads the input, and prints its page.
+fn read_and_print<I: Source, O: Sink>(
+    alloc: Global,
+    task: Task,
+    input: &mut I,
+    out: &mut O,
+) -> Result<(), Fault>
+    ensures { HasCause task (ending_of result) (I.seen input.old) (I.seen input.new) (O.seen out.old) (O.seen out.new) }
+{
+    match read_whole(alloc, input) {
+        Ok(text) => print(alloc, task, text.as_str(), out),
+        Err(fault) => Err(fault),
+    }
+}
+
+/// Prints the page of a text.
+fn print<O: Sink>(alloc: Global, task: Task, text: &str, out: &mut O) -> Result<(), Fault>
+    ensures { EndsPrinting task (ending_of result) text.now (O.seen out.old) (O.seen out.new) }
+{
     match task {
-        Task::Script => run_script(alloc, input, out, faults),
-        Task::Show => run_show(alloc, input, out, faults),
+        Task::Script => print_script(alloc, text, out),
+        Task::Show => print_page(alloc, text, out),
     }
 }

@@ -11,8 +11,8 @@ use crate::job::Port;
 use crate::operator::{press, type_text, wait};
 use crate::phase_text::put_phase;
 use crate::script_line::behind;
-use crate::show::end_by;
 use crate::streams::{CountedReader, CountedWriter, Sink, Source};
+use crate::task::end_by;
 use crate::term_line::{TermAsks, term_asks_of};
 use std::alloc::{AllocError, Global};
 use std::net::{Ipv4Addr, TcpStream};
@@ -129,7 +129,7 @@ fn term<I: Source, O: Sink>(
 /// What ends the run early is told in one line of `faults`.
 ///
 /// Answers the exit status: 0 where all went well, whatever the host did; 1 where the input can't be read (as with
-/// [`run_show`](crate::run_show)), or where a line isn't understood, behind what the lines before it print; 3 where a growth was
+/// [`run`](crate::run)), or where a line isn't understood, behind what the lines before it print; 3 where a growth was
 /// refused; 4 where nothing listens on the port; 6 where the output failed.
 pub fn run_term<I: Source, O: Sink, E: Sink>(
     rt: &HostRuntime,

@@ -6,7 +6,7 @@ use crate::script_line::key_named;
 use keyboard::Key;
 
 /// What a line asks of a terminal.
-#[derive(Clone, Copy, Debug, PartialEq, Eq)]
+#[derive(Clone, Copy)]
 pub enum TermAsks {
     /// Nothing: it is empty.
     Nothing,
