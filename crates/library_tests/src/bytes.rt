@@ -1,4 +1,4 @@
-//! Long bytes, as runs, and vectors that are full.
+//! Long bytes, as runs, and what is added to vectors, of which some are full.
 use std::alloc::{AllocError, Global};
 
 /// Bytes, and how often they come, one behind the other.
@@ -38,9 +38,64 @@ pub(crate) fn are_all(bytes: &[u8], byte: u8, count: usize) -> bool {
 static SEVENS: [u8; 64] = [7; 64];
 
 /// Fills the room that a new vector has with sevens. Says whether there were enough.
-pub(crate) fn fill_room(out: &mut Vec<u8>) -> bool {
+fn fill_room(out: &mut Vec<u8>) -> bool {
     match SEVENS.get(..out.capacity()) {
         Some(sevens) => out.extend_from_slice(sevens).is_ok(),
         None => false,
+    }
+}
+
+/// What adds bytes to a vector.
+pub(crate) trait Adds {
+    /// Says whether it added them; where it doesn't, the vector is as it was.
+    fn add(&self, out: &mut Vec<u8>) -> bool;
+}
+
+/// The room of the vector that bytes are added to.
+pub(crate) enum Room {
+    /// As it comes.
+    New,
+    /// None.
+    Full,
+    /// As much as is wanted: no more is taken.
+    Enough,
+}
+
+/// Says whether these bytes are added behind what is there.
+fn is_added_to<A: Adds>(out: &mut Vec<u8>, value: &A, bytes: &[u8]) -> bool {
+    let start = out.len();
+    value.add(out) && out.get(start..) == Some(bytes)
+}
+
+/// Says whether these bytes are added behind sevens, and, where a growth was refused, nothing at first and all of them then.
+fn is_added_at_last<A: Adds>(out: &mut Vec<u8>, value: &A, bytes: &[u8]) -> bool {
+    if !fill_room(out) {
+        return false;
+    }
+    let start = out.len();
+    if !value.add(out) && !(are_all(out, 7, start) && value.add(out)) {
+        return false;
+    }
+    out.get(start..) == Some(bytes)
+}
+
+/// Says whether these bytes are added, and the vector stays where it is.
+fn is_added_in_place<A: Adds>(out: &mut Vec<u8>, value: &A, bytes: &[u8]) -> bool {
+    let room = out.capacity();
+    is_added_to(out, value, bytes) && out.capacity() == room
+}
+
+/// Says whether these bytes, and no others, are added to a vector with such room, where one is had. A refused growth changes nothing.
+pub(crate) fn is_added<A: Adds>(alloc: Global, value: &A, bytes: &[u8], room: &Room) -> bool {
+    match room {
+        Room::New => is_added_to(&mut Vec::new(alloc), value, bytes),
+        Room::Full => match Vec::with_capacity(alloc, 2) {
+            Ok(mut out) => is_added_at_last(&mut out, value, bytes),
+            Err(_) => true,
+        },
+        Room::Enough => match Vec::with_capacity(alloc, bytes.len()) {
+            Ok(mut out) => is_added_in_place(&mut out, value, bytes),
+            Err(_) => true,
+        },
     }
 }

@@ -1,14 +1,87 @@
 //! The published tables of codes, byte by byte, and each call once on its happy path.
 //!
 //! A helper says of a table whether all of it is right.
-use crate::{Tried, prints};
+use crate::{Tried, all_so, at, prints};
 use codes3270::{
     Addr, AddrFault, Aid, Attr, CELL_COUNT, CELLS, COLUMNS, Cell, Display, PaNo, PfNo, ROWS, Wcc,
     addr_from_bytes, addr_to_bytes, aid_byte, aid_from_byte, attr_code, code_laws, from_latin1,
     size_laws, storable, to_latin1,
 };
 use std::alloc::Global;
-use std::ops::RangeInclusive;
+
+// ---- rows
+
+/// A key that has an attention identifier, by its number where there are several.
+enum Named {
+    NoAid,
+    Enter,
+    Clear,
+    Pf(u8),
+    Pa(u8),
+}
+
+/// A row of a table: a value and its code.
+enum Row {
+    /// Bytes are read as the address with this number, and are those that are written or others.
+    Address(u16, [u8; 2], bool),
+    NoAddress([u8; 2]),
+    /// An attribute's code: protected, numeric, display, modified data tag.
+    Attribute(u8, bool, bool, Display, bool),
+    /// The attribute of a code is written as another once its modified data tag is set so.
+    Mdt(u8, bool, u8),
+    /// Other bits of an attribute are dropped: it is written as another code.
+    Bits(u8, u8),
+    /// A write control character's byte: alarm, restore, reset.
+    WriteControl(u8, bool, bool, bool),
+    /// Its other bits are dropped.
+    ControlBits(u8, u8),
+    /// A key's identifier, and whether it comes alone.
+    Identifier(u8, Named, bool),
+    /// Numbers that no key has.
+    NoPf(u8),
+    NoPa(u8),
+    /// A character that no code has.
+    NoCode(char),
+}
+
+impl Tried for Row {
+    fn is_so(&self, _: Global) -> bool {
+        match self {
+            Row::Address(number, bytes, is_written) => {
+                is_read_as(*bytes, *number) && is_written_as(*number, *bytes) == *is_written
+            }
+            Row::NoAddress(bytes) => addr_from_bytes(*bytes) == Err(AddrFault::TooLarge),
+            Row::Attribute(code, protected, numeric, display, mdt) => {
+                let attr = Attr {
+                    protected: *protected,
+                    numeric: *numeric,
+                    display: *display,
+                    mdt: *mdt,
+                };
+                attribute_agrees(*code, attr)
+            }
+            Row::Mdt(code, mdt, written) => {
+                attr_code(Attr::from_code(*code).with_mdt(*mdt)) == *written
+            }
+            Row::Bits(byte, written) => attr_code(Attr::from_code(*byte)) == *written,
+            Row::WriteControl(byte, alarm, restore, reset) => {
+                let wcc = Wcc {
+                    alarm: *alarm,
+                    restore: *restore,
+                    reset: *reset,
+                };
+                write_control_agrees(*byte, wcc)
+            }
+            Row::ControlBits(byte, written) => Wcc::from_byte(*byte).byte() == *written,
+            Row::Identifier(byte, named, is_short) => key_agrees(*byte, named, *is_short),
+            Row::NoPf(number) => PfNo::new(*number).is_none(),
+            Row::NoPa(number) => PaNo::new(*number).is_none(),
+            Row::NoCode(character) => from_latin1(*character).is_none(),
+        }
+    }
+}
+
+// ---- addresses
 
 /// The runs of six-bit codes, in the order of their values: the first and the last code of each.
 static SIX_BIT_RUNS: [(u8, u8); 11] = [
@@ -24,33 +97,6 @@ static SIX_BIT_RUNS: [(u8, u8); 11] = [
     (0xF0, 0xF9),
     (0x7A, 0x7F),
 ];
-
-/// The runs of program function keys: the number of the first, its code, and the code of the last.
-static PF_RUNS: [(u8, u8, u8); 4] = [
-    (1, 0xF1, 0xF9),
-    (10, 0x7A, 0x7C),
-    (13, 0xC1, 0xC9),
-    (22, 0x4A, 0x4C),
-];
-
-/// Code page 037 from 40 on, sixteen codes to a row. Python's codec cp037 has the same, and a control at FF.
-static CODE_PAGE_037: [&str; 12] = [
-    " \u{A0}âäàáãåçñ¢.<(+|",
-    "&éêëèíîïìß!$*);¬",
-    "-/ÂÄÀÁÃÅÇÑ¦,%_>?",
-    "øÉÊËÈÍÎÏÌ`:#@'=\"",
-    "Øabcdefghi«»ðýþ±",
-    "°jklmnopqrªºæ¸Æ¤",
-    "µ~stuvwxyz¡¿ÐÝÞ®",
-    "^£¥·©§¶¼½¾[]¯¨´×",
-    "{ABCDEFGHI\u{AD}ôöòóõ",
-    "}JKLMNOPQR¹ûüùúÿ",
-    "\\÷STUVWXYZ²ÔÖÒÓÕ",
-    "0123456789³ÛÜÙÚ",
-];
-
-/// The control codes that a cell can hold.
-static STORED_CONTROLS: [u8; 9] = [0x00, 0x0C, 0x0D, 0x15, 0x19, 0x1C, 0x1E, 0x3F, 0xFF];
 
 /// Says whether the address with this number is written as these bytes.
 fn is_written_as(number: u16, bytes: [u8; 2]) -> bool {
@@ -91,43 +137,27 @@ fn each_six_bit_value_has_its_code() -> bool {
     values.next().is_none()
 }
 
-/// Bytes that are read, and whether they are those that are written. Others have fourteen bits, or other codes.
-static ADDRESSES: [(u16, [u8; 2], bool); 10] = [
-    (0, [0x40, 0x40], true),
-    (79, [0xC1, 0x4F], true),
-    (80, [0xC1, 0x50], true),
-    (1919, [0x5D, 0x7F], true),
-    (1919, [0x07, 0x7F], false),
-    (0, [0x00, 0x00], false),
-    (320, [0x01, 0x40], false),
-    (1, [0x80, 0x81], false),
-    (1, [0xC0, 0xC1], false),
-    (1919, [0xDD, 0xFF], false),
+/// Those that aren't written have fourteen bits, or other codes. Then come bytes beyond the screen.
+static ADDRESSES: [Row; 14] = [
+    Row::Address(0, [0x40, 0x40], true),
+    Row::Address(79, [0xC1, 0x4F], true),
+    Row::Address(80, [0xC1, 0x50], true),
+    Row::Address(1919, [0x5D, 0x7F], true),
+    Row::Address(1919, [0x07, 0x7F], false),
+    Row::Address(0, [0x00, 0x00], false),
+    Row::Address(320, [0x01, 0x40], false),
+    Row::Address(1, [0x80, 0x81], false),
+    Row::Address(1, [0xC0, 0xC1], false),
+    Row::Address(1919, [0xDD, 0xFF], false),
+    Row::NoAddress([0x5E, 0x40]),
+    Row::NoAddress([0x07, 0x80]),
+    Row::NoAddress([0x3F, 0xFF]),
+    Row::NoAddress([0x7F, 0x7F]),
 ];
 
-static NO_ADDRESSES: [[u8; 2]; 4] = [[0x5E, 0x40], [0x07, 0x80], [0x3F, 0xFF], [0x7F, 0x7F]];
-
-fn addresses_agree() -> bool {
-    for (number, bytes, is_written) in &ADDRESSES {
-        if !is_read_as(*bytes, *number) || is_written_as(*number, *bytes) != *is_written {
-            return false;
-        }
-    }
-    true
-}
-
-fn no_addresses_are_refused() -> bool {
-    for bytes in &NO_ADDRESSES {
-        if addr_from_bytes(*bytes) != Err(AddrFault::TooLarge) {
-            return false;
-        }
-    }
-    Addr::new(1920).is_none()
-}
-
 fn addresses_are_written_and_read(alloc: Global) -> bool {
-    addresses_agree()
-        && no_addresses_are_refused()
+    all_so(alloc, &ADDRESSES)
+        && Addr::new(1920).is_none()
         && prints(alloc, &AddrFault::TooLarge, "address beyond the screen")
 }
 
@@ -157,38 +187,22 @@ fn all_are_in_order() -> bool {
 fn addresses_go_round_the_screen() -> bool {
     size_laws();
     code_laws();
-    let Some(last) = Addr::new(1919) else {
-        return false;
-    };
     ROWS == 24
         && COLUMNS == 80
         && CELLS == 1920
-        && goes_round(last)
+        && goes_round(at(1919))
         && CELL_COUNT == 1920
         && all_are_in_order()
 }
 
-/// Attributes by their codes: protected, numeric, display, modified data tag.
-static ATTRIBUTES: [(u8, bool, bool, Display, bool); 10] = [
-    (0x40, false, false, Display::Normal, false),
-    (0xC1, false, false, Display::Normal, true),
-    (0xC4, false, false, Display::Detectable, false),
-    (0xC8, false, false, Display::Bright, false),
-    (0x4C, false, false, Display::Hidden, false),
-    (0x50, false, true, Display::Normal, false),
-    (0x60, true, false, Display::Normal, false),
-    (0xF0, true, true, Display::Normal, false),
-    (0xF8, true, true, Display::Bright, false),
-    (0x7D, true, true, Display::Hidden, true),
-];
+// ---- attributes and write control characters
 
+/// Says whether the code is the attribute's, and each question is answered by the fields.
 fn attribute_agrees(code: u8, attr: Attr) -> bool {
-    attr_code(attr) == code && Attr::from_code(code) == attr && attr.with_mdt(attr.mdt) == attr
-}
-
-/// Says whether each question is answered by the fields.
-fn answers_agree(attr: Attr) -> bool {
-    attr.protected() == attr.protected
+    attr_code(attr) == code
+        && Attr::from_code(code) == attr
+        && attr.with_mdt(attr.mdt) == attr
+        && attr.protected() == attr.protected
         && attr.numeric() == attr.numeric
         && attr.mdt() == attr.mdt
         && attr.autoskip() == (attr.protected && attr.numeric)
@@ -196,50 +210,29 @@ fn answers_agree(attr: Attr) -> bool {
         && attr.hidden() == (attr.display == Display::Hidden)
 }
 
-fn attributes_have_their_codes() -> bool {
-    for (code, protected, numeric, display, mdt) in &ATTRIBUTES {
-        let attr = Attr {
-            protected: *protected,
-            numeric: *numeric,
-            display: *display,
-            mdt: *mdt,
-        };
-        if !(attribute_agrees(*code, attr) && answers_agree(attr)) {
-            return false;
-        }
-    }
-    attr_code(Attr::from_code(0x40).with_mdt(true)) == 0xC1
-        && attr_code(Attr::from_code(0xC1).with_mdt(false)) == 0x40
-}
-
-/// Bytes that are read as an attribute, and the code that it is written as.
-static OTHER_BITS: [(u8, u8); 7] = [
-    (0xE0, 0x60),
-    (0x20, 0x60),
-    (0xA2, 0x60),
-    (0x00, 0x40),
-    (0xC2, 0x40),
-    (0x1D, 0x5D),
-    (0xFF, 0x7D),
+static ATTRIBUTES: [Row; 12] = [
+    Row::Attribute(0x40, false, false, Display::Normal, false),
+    Row::Attribute(0xC1, false, false, Display::Normal, true),
+    Row::Attribute(0xC4, false, false, Display::Detectable, false),
+    Row::Attribute(0xC8, false, false, Display::Bright, false),
+    Row::Attribute(0x4C, false, false, Display::Hidden, false),
+    Row::Attribute(0x50, false, true, Display::Normal, false),
+    Row::Attribute(0x60, true, false, Display::Normal, false),
+    Row::Attribute(0xF0, true, true, Display::Normal, false),
+    Row::Attribute(0xF8, true, true, Display::Bright, false),
+    Row::Attribute(0x7D, true, true, Display::Hidden, true),
+    Row::Mdt(0x40, true, 0xC1),
+    Row::Mdt(0xC1, false, 0x40),
 ];
 
-fn other_bits_of_an_attribute_are_dropped() -> bool {
-    for (byte, written) in &OTHER_BITS {
-        if attr_code(Attr::from_code(*byte)) != *written {
-            return false;
-        }
-    }
-    true
-}
-
-/// Write control characters by their bytes: alarm, restore, reset.
-static WRITE_CONTROLS: [(u8, bool, bool, bool); 6] = [
-    (0x40, false, false, false),
-    (0xC1, false, false, true),
-    (0xC2, false, true, false),
-    (0xC3, false, true, true),
-    (0xC4, true, false, false),
-    (0xC7, true, true, true),
+static OTHER_BITS: [Row; 7] = [
+    Row::Bits(0xE0, 0x60),
+    Row::Bits(0x20, 0x60),
+    Row::Bits(0xA2, 0x60),
+    Row::Bits(0x00, 0x40),
+    Row::Bits(0xC2, 0x40),
+    Row::Bits(0x1D, 0x5D),
+    Row::Bits(0xFF, 0x7D),
 ];
 
 fn write_control_agrees(byte: u8, wcc: Wcc) -> bool {
@@ -250,70 +243,81 @@ fn write_control_agrees(byte: u8, wcc: Wcc) -> bool {
         && wcc.reset() == wcc.reset
 }
 
-fn write_control_characters_have_their_codes() -> bool {
-    for (byte, alarm, restore, reset) in &WRITE_CONTROLS {
-        let wcc = Wcc {
-            alarm: *alarm,
-            restore: *restore,
-            reset: *reset,
-        };
-        if !write_control_agrees(*byte, wcc) {
-            return false;
-        }
-    }
-    // Other bits are dropped.
-    Wcc::from_byte(0xF8).byte() == 0x40
-        && Wcc::from_byte(0x03).byte() == 0xC3
-        && Wcc::from_byte(0xFF).byte() == 0xC7
-}
+static WRITE_CONTROLS: [Row; 9] = [
+    Row::WriteControl(0x40, false, false, false),
+    Row::WriteControl(0xC1, false, false, true),
+    Row::WriteControl(0xC2, false, true, false),
+    Row::WriteControl(0xC3, false, true, true),
+    Row::WriteControl(0xC4, true, false, false),
+    Row::WriteControl(0xC7, true, true, true),
+    Row::ControlBits(0xF8, 0x40),
+    Row::ControlBits(0x03, 0xC3),
+    Row::ControlBits(0xFF, 0xC7),
+];
 
-fn is_read_as_aid(byte: u8, aid: &Aid) -> bool {
-    match aid_from_byte(byte) {
-        Some(read) => read == *aid,
-        None => false,
-    }
-}
+// ---- attention identifiers
 
 fn aid_agrees(byte: u8, aid: &Aid, is_short: bool) -> bool {
-    is_read_as_aid(byte, aid) && aid_byte(*aid) == byte && (*aid).is_short() == is_short
-}
-
-fn pf_agrees(number: u8, byte: u8) -> bool {
-    match PfNo::new(number) {
-        Some(key) => key.get() == number && aid_agrees(byte, &Aid::Pf(key), false),
+    match aid_from_byte(byte) {
+        Some(read) => read == *aid && aid_byte(*aid) == byte && (*aid).is_short() == is_short,
         None => false,
     }
 }
 
-fn pa_agrees(number: u8, byte: u8) -> bool {
-    match PaNo::new(number) {
-        Some(key) => key.get() == number && aid_agrees(byte, &Aid::Pa(key), true),
-        None => false,
+fn key_agrees(byte: u8, named: &Named, is_short: bool) -> bool {
+    match named {
+        Named::NoAid => aid_agrees(byte, &Aid::NoAid, is_short),
+        Named::Enter => aid_agrees(byte, &Aid::Enter, is_short),
+        Named::Clear => aid_agrees(byte, &Aid::Clear, is_short),
+        Named::Pf(number) => match PfNo::new(*number) {
+            Some(key) => key.get() == *number && aid_agrees(byte, &Aid::Pf(key), is_short),
+            None => false,
+        },
+        Named::Pa(number) => match PaNo::new(*number) {
+            Some(key) => key.get() == *number && aid_agrees(byte, &Aid::Pa(key), is_short),
+            None => false,
+        },
     }
 }
 
-/// Says whether the codes are those of the keys with the next numbers.
-fn pf_run_agrees(numbers: RangeInclusive<u8>, low: u8, high: u8) -> bool {
-    let mut numbers = numbers;
-    for byte in low..=high {
-        let Some(number) = numbers.next() else {
-            return false;
-        };
-        if !pf_agrees(number, byte) {
-            return false;
-        }
-    }
-    true
-}
-
-fn pf_runs_agree() -> bool {
-    for (first, low, high) in &PF_RUNS {
-        if !pf_run_agrees(*first..=24, *low, *high) {
-            return false;
-        }
-    }
-    true
-}
+static IDENTIFIERS: [Row; 36] = [
+    Row::Identifier(0x60, Named::NoAid, false),
+    Row::Identifier(0x7D, Named::Enter, false),
+    Row::Identifier(0x6D, Named::Clear, true),
+    Row::Identifier(0xF1, Named::Pf(1), false),
+    Row::Identifier(0xF2, Named::Pf(2), false),
+    Row::Identifier(0xF3, Named::Pf(3), false),
+    Row::Identifier(0xF4, Named::Pf(4), false),
+    Row::Identifier(0xF5, Named::Pf(5), false),
+    Row::Identifier(0xF6, Named::Pf(6), false),
+    Row::Identifier(0xF7, Named::Pf(7), false),
+    Row::Identifier(0xF8, Named::Pf(8), false),
+    Row::Identifier(0xF9, Named::Pf(9), false),
+    Row::Identifier(0x7A, Named::Pf(10), false),
+    Row::Identifier(0x7B, Named::Pf(11), false),
+    Row::Identifier(0x7C, Named::Pf(12), false),
+    Row::Identifier(0xC1, Named::Pf(13), false),
+    Row::Identifier(0xC2, Named::Pf(14), false),
+    Row::Identifier(0xC3, Named::Pf(15), false),
+    Row::Identifier(0xC4, Named::Pf(16), false),
+    Row::Identifier(0xC5, Named::Pf(17), false),
+    Row::Identifier(0xC6, Named::Pf(18), false),
+    Row::Identifier(0xC7, Named::Pf(19), false),
+    Row::Identifier(0xC8, Named::Pf(20), false),
+    Row::Identifier(0xC9, Named::Pf(21), false),
+    Row::Identifier(0x4A, Named::Pf(22), false),
+    Row::Identifier(0x4B, Named::Pf(23), false),
+    Row::Identifier(0x4C, Named::Pf(24), false),
+    Row::Identifier(0x6C, Named::Pa(1), true),
+    Row::Identifier(0x6E, Named::Pa(2), true),
+    Row::Identifier(0x6B, Named::Pa(3), true),
+    Row::NoPf(0),
+    Row::NoPf(25),
+    Row::NoPf(255),
+    Row::NoPa(0),
+    Row::NoPa(4),
+    Row::NoPa(255),
+];
 
 /// Says whether as many bytes as this are identifiers.
 fn identifiers_number(count: u8) -> bool {
@@ -326,30 +330,10 @@ fn identifiers_number(count: u8) -> bool {
     numbers.next().is_none()
 }
 
-fn other_numbers_have_no_key() -> bool {
-    PfNo::new(0).is_none()
-        && PfNo::new(25).is_none()
-        && PfNo::new(255).is_none()
-        && PaNo::new(0).is_none()
-        && PaNo::new(4).is_none()
-        && PaNo::new(255).is_none()
-}
+// ---- characters
 
-fn keys_without_number_agree() -> bool {
-    aid_agrees(0x60, &Aid::NoAid, false)
-        && aid_agrees(0x7D, &Aid::Enter, false)
-        && aid_agrees(0x6D, &Aid::Clear, true)
-}
-
-fn attention_identifiers_have_their_bytes() -> bool {
-    keys_without_number_agree()
-        && pf_runs_agree()
-        && pa_agrees(1, 0x6C)
-        && pa_agrees(2, 0x6E)
-        && pa_agrees(3, 0x6B)
-        && identifiers_number(30)
-        && other_numbers_have_no_key()
-}
+/// The control codes that a cell can hold.
+static STORED_CONTROLS: [u8; 9] = [0x00, 0x0C, 0x0D, 0x15, 0x19, 0x1C, 0x1E, 0x3F, 0xFF];
 
 /// Says whether a cell holds the listed bytes, as many as this.
 fn cells_hold_the_listed_bytes(count: u8) -> bool {
@@ -363,9 +347,21 @@ fn cells_hold_the_listed_bytes(count: u8) -> bool {
     numbers.next().is_none()
 }
 
-fn character_agrees(code: u8, character: char) -> bool {
-    to_latin1(code) == Some(character) && from_latin1(character) == Some(code)
-}
+/// Code page 037 from 40 on, sixteen codes to a row. Python's codec cp037 has the same, and a control at FF.
+static CODE_PAGE_037: [&str; 12] = [
+    " \u{A0}âäàáãåçñ¢.<(+|",
+    "&éêëèíîïìß!$*);¬",
+    "-/ÂÄÀÁÃÅÇÑ¦,%_>?",
+    "øÉÊËÈÍÎÏÌ`:#@'=\"",
+    "Øabcdefghi«»ðýþ±",
+    "°jklmnopqrªºæ¸Æ¤",
+    "µ~stuvwxyz¡¿ÐÝÞ®",
+    "^£¥·©§¶¼½¾[]¯¨´×",
+    "{ABCDEFGHI\u{AD}ôöòóõ",
+    "}JKLMNOPQR¹ûüùúÿ",
+    "\\÷STUVWXYZ²ÔÖÒÓÕ",
+    "0123456789³ÛÜÙÚ",
+];
 
 /// Says whether the rows are the characters of the codes from 40 to FE.
 fn rows_agree() -> bool {
@@ -375,7 +371,7 @@ fn rows_agree() -> bool {
             let Some(code) = codes.next() else {
                 return false;
             };
-            if !character_agrees(code, character) {
+            if to_latin1(code) != Some(character) || from_latin1(character) != Some(code) {
                 return false;
             }
         }
@@ -383,9 +379,14 @@ fn rows_agree() -> bool {
     codes.next().is_none()
 }
 
-/// Characters that no code has.
-static OTHER_CHARACTERS: [char; 7] = [
-    '\0', '\n', '\u{7F}', '\u{85}', '\u{9F}', '\u{100}', '\u{20AC}',
+static OTHER_CHARACTERS: [Row; 7] = [
+    Row::NoCode('\0'),
+    Row::NoCode('\n'),
+    Row::NoCode('\u{7F}'),
+    Row::NoCode('\u{85}'),
+    Row::NoCode('\u{9F}'),
+    Row::NoCode('\u{100}'),
+    Row::NoCode('\u{20AC}'),
 ];
 
 fn controls_have_no_character() -> bool {
@@ -397,33 +398,19 @@ fn controls_have_no_character() -> bool {
     to_latin1(0xFF).is_none()
 }
 
-fn other_characters_have_no_code() -> bool {
-    for character in &OTHER_CHARACTERS {
-        if from_latin1(*character).is_some() {
-            return false;
-        }
-    }
-    true
-}
-
-fn the_code_page_is_the_published_one() -> bool {
-    rows_agree() && controls_have_no_character() && other_characters_have_no_code()
-}
-
-fn a_character_is_one(cell: Cell) -> bool {
-    cell.is_character() && !cell.is_open() && cell.attribute().is_none()
-}
-
-/// Whether an attribute is one, of an unprotected field or not.
-fn an_attribute_is_one(attr: Attr, is_open: bool) -> bool {
-    let cell = Cell::Attr(attr);
-    !cell.is_character() && cell.is_open() == is_open && cell.attribute() == Some(attr)
+/// Whether a cell holds a character, or this attribute, which is of an unprotected field or not.
+fn cell_agrees(cell: Cell, attribute: Option<Attr>, is_open: bool) -> bool {
+    cell.is_character() == attribute.is_none()
+        && cell.is_open() == is_open
+        && cell.attribute() == attribute
 }
 
 fn cells_hold_characters_or_attributes() -> bool {
-    a_character_is_one(Cell::Char(0x00))
-        && an_attribute_is_one(Attr::from_code(0x40), true)
-        && an_attribute_is_one(Attr::from_code(0xF0), false)
+    let open = Attr::from_code(0x40);
+    let protected = Attr::from_code(0xF0);
+    cell_agrees(Cell::Char(0x00), None, false)
+        && cell_agrees(Cell::Attr(open), Some(open), true)
+        && cell_agrees(Cell::Attr(protected), Some(protected), false)
 }
 
 /// What is tried here.
@@ -462,12 +449,14 @@ impl Tried for Check {
             Check::SixBits => each_six_bit_value_has_its_code(),
             Check::Addresses => addresses_are_written_and_read(alloc),
             Check::RoundTheScreen => addresses_go_round_the_screen(),
-            Check::Attributes => attributes_have_their_codes(),
-            Check::OtherBits => other_bits_of_an_attribute_are_dropped(),
-            Check::WriteControls => write_control_characters_have_their_codes(),
-            Check::Identifiers => attention_identifiers_have_their_bytes(),
+            Check::Attributes => all_so(alloc, &ATTRIBUTES),
+            Check::OtherBits => all_so(alloc, &OTHER_BITS),
+            Check::WriteControls => all_so(alloc, &WRITE_CONTROLS),
+            Check::Identifiers => all_so(alloc, &IDENTIFIERS) && identifiers_number(30),
             Check::ListedBytes => cells_hold_the_listed_bytes(200),
-            Check::CodePage => the_code_page_is_the_published_one(),
+            Check::CodePage => rows_agree()
+                && controls_have_no_character()
+                && all_so(alloc, &OTHER_CHARACTERS),
             Check::Cells => cells_hold_characters_or_attributes(),
         }
     }

@@ -1,7 +1,8 @@
 //! Commands read and written, byte for byte, and wanted screens. What is owned lives in helpers that answer whether all is as
 //! it should be, so that a check has few ways out.
 
-use crate::{Tried, at, prints};
+use crate::bytes::{Adds, Room, is_added};
+use crate::{Tried, all_so, at, prints};
 use codes3270::{Addr, Attr, CELL_COUNT, CELLS, COLUMNS, Wcc};
 use datastream::{
     Command, CommandCode, CommandFault, CommandWriter, Memory, Order, Want, Wanted,
@@ -9,8 +10,6 @@ use datastream::{
     tabs_by_place, what_a_note_keeps, written_is_read,
 };
 use std::alloc::Global;
-
-const CHARS: [u8; 2] = [0xC8, 0xC9];
 
 const CLEARED_WCC: Wcc = Wcc {
     alarm: false,
@@ -68,130 +67,187 @@ fn reads(bytes: &[u8], code: CommandCode, wcc: Option<Wcc>, orders: &[Shown]) ->
     }
 }
 
-/// Whether a command begins with just these bytes.
-fn begins_as(alloc: Global, code: CommandCode, bytes: &[u8]) -> bool {
-    let mut out = Vec::new(alloc);
-    appends(&mut out, Call::Begin(code), bytes)
+// ---- commands written
+
+/// A call of the writer.
+enum Call {
+    Begin(CommandCode),
+    Sba,
+    Sf(u8),
+    Chars,
+    Ra,
+    Ic,
 }
 
-/// Whether a write is read by both its codes, and written with the second.
-fn is_write(alloc: Global, code: CommandCode, first: u8, second: u8) -> bool {
-    let wcc = Some(CLEARED_WCC);
-    reads(&[first, 0xC3], code, wcc, &[])
-        && reads(&[second, 0xC3], code, wcc, &[])
-        && code.has_orders()
-        && begins_as(alloc, code, &[second, 0xC3])
+fn put(writer: &mut CommandWriter, call: &Call) -> Result<(), Memory> {
+    let addr = Addr::first();
+    match call {
+        Call::Begin(code) => writer.begin(*code, CLEARED_WCC),
+        Call::Sba => writer.sba(addr),
+        Call::Sf(code) => writer.sf(Attr::from_code(*code)),
+        Call::Chars => writer.chars(&[0xC8, 0xC9]),
+        Call::Ra => writer.ra(addr, 0x5C),
+        Call::Ic => writer.ic(),
+    }
 }
 
-static WRITES: [(u8, u8, CommandCode); 3] = [
-    (0x01, 0xF1, CommandCode::Write),
-    (0x05, 0xF5, CommandCode::EraseWrite),
-    (0x0D, 0x7E, CommandCode::EraseWriteAlternate),
-];
+/// Calls of one writer. Where one of several is refused, what the others added stays.
+struct Calls(&'static [Call]);
 
-fn each_write_has_two_codes_and_a_write_control_character(alloc: Global) -> bool {
-    for (first, second, code) in &WRITES {
-        if !is_write(alloc, *code, *first, *second) {
-            return false;
+impl Adds for Calls {
+    fn add(&self, out: &mut Vec<u8>) -> bool {
+        let mut writer = CommandWriter::new(out);
+        for call in self.0 {
+            if put(&mut writer, call).is_err() {
+                return false;
+            }
+        }
+        true
+    }
+}
+
+// ---- tables
+
+/// A row of a table: bytes, and what they are.
+enum Row {
+    /// They are read as a command with a write control character and these orders.
+    Write(&'static [u8], CommandCode, &'static [Shown]),
+    /// They are read as a command without.
+    Other(&'static [u8], CommandCode),
+    /// They are what these calls write.
+    Written(&'static [u8], Calls),
+    /// They are no command, and this is the first fault.
+    Fault(&'static [u8], CommandFault),
+    /// A fault is printed so.
+    Text(CommandFault, &'static str),
+}
+
+impl Tried for Row {
+    fn is_so(&self, alloc: Global) -> bool {
+        match self {
+            Row::Write(bytes, code, orders) => {
+                (*code).has_orders() && reads(bytes, *code, Some(CLEARED_WCC), orders)
+            }
+            Row::Other(bytes, code) => !(*code).has_orders() && reads(bytes, *code, None, &[]),
+            Row::Written(bytes, calls) => is_added(alloc, calls, bytes, &Room::New),
+            Row::Fault(bytes, fault) => read_command(bytes).err() == Some(*fault),
+            Row::Text(fault, text) => prints(alloc, fault, text),
         }
     }
-    true
 }
 
-/// Whether another command is read by both its codes, whatever follows, and written with the second.
-fn is_other(alloc: Global, code: CommandCode, first: u8, second: u8) -> bool {
-    reads(&[first, 0xC3], code, None, &[])
-        && reads(&[second, 0xC3], code, None, &[])
-        && reads(&[second], code, None, &[])
-        && reads(&[second, 0x11, 0x5E, 0x40, 0x02, 0xC1], code, None, &[])
-        && !code.has_orders()
-        && begins_as(alloc, code, &[second])
-}
-
-static OTHERS: [(u8, u8, CommandCode); 4] = [
-    (0x02, 0xF2, CommandCode::ReadBuffer),
-    (0x06, 0xF6, CommandCode::ReadModified),
-    (0x0E, 0x6E, CommandCode::ReadModifiedAll),
-    (0x0F, 0x6F, CommandCode::EraseAllUnprotected),
+/// Each write is read by both its codes, and begun with the second.
+static WRITES: [Row; 9] = [
+    Row::Write(&[0x01, 0xC3], CommandCode::Write, &[]),
+    Row::Write(&[0xF1, 0xC3], CommandCode::Write, &[]),
+    Row::Written(&[0xF1, 0xC3], Calls(&[Call::Begin(CommandCode::Write)])),
+    Row::Write(&[0x05, 0xC3], CommandCode::EraseWrite, &[]),
+    Row::Write(&[0xF5, 0xC3], CommandCode::EraseWrite, &[]),
+    Row::Written(
+        &[0xF5, 0xC3],
+        Calls(&[Call::Begin(CommandCode::EraseWrite)]),
+    ),
+    Row::Write(&[0x0D, 0xC3], CommandCode::EraseWriteAlternate, &[]),
+    Row::Write(&[0x7E, 0xC3], CommandCode::EraseWriteAlternate, &[]),
+    Row::Written(
+        &[0x7E, 0xC3],
+        Calls(&[Call::Begin(CommandCode::EraseWriteAlternate)]),
+    ),
 ];
 
-fn each_other_command_has_two_codes_alone(alloc: Global) -> bool {
-    for (first, second, code) in &OTHERS {
-        if !is_other(alloc, *code, *first, *second) {
-            return false;
-        }
-    }
-    true
-}
+/// Each other command is read by both its codes, whatever follows, and is the second alone.
+static OTHERS: [Row; 20] = [
+    Row::Other(&[0x02, 0xC3], CommandCode::ReadBuffer),
+    Row::Other(&[0xF2, 0xC3], CommandCode::ReadBuffer),
+    Row::Other(&[0xF2], CommandCode::ReadBuffer),
+    Row::Other(
+        &[0xF2, 0x11, 0x5E, 0x40, 0x02, 0xC1],
+        CommandCode::ReadBuffer,
+    ),
+    Row::Written(&[0xF2], Calls(&[Call::Begin(CommandCode::ReadBuffer)])),
+    Row::Other(&[0x06, 0xC3], CommandCode::ReadModified),
+    Row::Other(&[0xF6, 0xC3], CommandCode::ReadModified),
+    Row::Other(&[0xF6], CommandCode::ReadModified),
+    Row::Other(
+        &[0xF6, 0x11, 0x5E, 0x40, 0x02, 0xC1],
+        CommandCode::ReadModified,
+    ),
+    Row::Written(&[0xF6], Calls(&[Call::Begin(CommandCode::ReadModified)])),
+    Row::Other(&[0x0E, 0xC3], CommandCode::ReadModifiedAll),
+    Row::Other(&[0x6E, 0xC3], CommandCode::ReadModifiedAll),
+    Row::Other(&[0x6E], CommandCode::ReadModifiedAll),
+    Row::Other(
+        &[0x6E, 0x11, 0x5E, 0x40, 0x02, 0xC1],
+        CommandCode::ReadModifiedAll,
+    ),
+    Row::Written(&[0x6E], Calls(&[Call::Begin(CommandCode::ReadModifiedAll)])),
+    Row::Other(&[0x0F, 0xC3], CommandCode::EraseAllUnprotected),
+    Row::Other(&[0x6F, 0xC3], CommandCode::EraseAllUnprotected),
+    Row::Other(&[0x6F], CommandCode::EraseAllUnprotected),
+    Row::Other(
+        &[0x6F, 0x11, 0x5E, 0x40, 0x02, 0xC1],
+        CommandCode::EraseAllUnprotected,
+    ),
+    Row::Written(
+        &[0x6F],
+        Calls(&[Call::Begin(CommandCode::EraseAllUnprotected)]),
+    ),
+];
 
-/// The fault of bytes that spell no command.
-fn fault_of(bytes: &[u8]) -> Option<CommandFault> {
-    read_command(bytes).err()
-}
-
-static FAULTS: [(&[u8], CommandFault); 24] = [
-    (&[], CommandFault::Truncated),
+static FAULTS: [Row; 24] = [
+    Row::Fault(&[], CommandFault::Truncated),
     // No write control character.
-    (&[0xF5], CommandFault::Truncated),
-    (&[0x01], CommandFault::Truncated),
-    (&[0x7E], CommandFault::Truncated),
+    Row::Fault(&[0xF5], CommandFault::Truncated),
+    Row::Fault(&[0x01], CommandFault::Truncated),
+    Row::Fault(&[0x7E], CommandFault::Truncated),
     // Write Structured Field, and codes that are none.
-    (&[0xF3, 0x00], CommandFault::BadCommand),
-    (&[0x11], CommandFault::BadCommand),
-    (&[0x00], CommandFault::BadCommand),
-    (&[0xC1, 0xC3, 0x02], CommandFault::BadCommand),
+    Row::Fault(&[0xF3, 0x00], CommandFault::BadCommand),
+    Row::Fault(&[0x11], CommandFault::BadCommand),
+    Row::Fault(&[0x00], CommandFault::BadCommand),
+    Row::Fault(&[0xC1, 0xC3, 0x02], CommandFault::BadCommand),
     // Orders cut short.
-    (&[0xF5, 0xC3, 0x11, 0x40], CommandFault::Truncated),
-    (&[0xF1, 0xC3, 0x11], CommandFault::Truncated),
-    (&[0xF1, 0xC3, 0x1D], CommandFault::Truncated),
-    (&[0xF1, 0xC3, 0x12, 0x40], CommandFault::Truncated),
-    (&[0xF1, 0xC3, 0x3C, 0x40], CommandFault::Truncated),
-    (&[0xF1, 0xC3, 0x3C, 0x40, 0x40], CommandFault::Truncated),
+    Row::Fault(&[0xF5, 0xC3, 0x11, 0x40], CommandFault::Truncated),
+    Row::Fault(&[0xF1, 0xC3, 0x11], CommandFault::Truncated),
+    Row::Fault(&[0xF1, 0xC3, 0x1D], CommandFault::Truncated),
+    Row::Fault(&[0xF1, 0xC3, 0x12, 0x40], CommandFault::Truncated),
+    Row::Fault(&[0xF1, 0xC3, 0x3C, 0x40], CommandFault::Truncated),
+    Row::Fault(&[0xF1, 0xC3, 0x3C, 0x40, 0x40], CommandFault::Truncated),
     // Neither orders nor storable.
-    (&[0xF1, 0xC3, 0x02], CommandFault::BadOrder),
-    (
+    Row::Fault(&[0xF1, 0xC3, 0x02], CommandFault::BadOrder),
+    Row::Fault(
         &[0xF1, 0xC3, 0x3C, 0x40, 0x40, 0x08],
         CommandFault::BadOrder,
     ),
     // The first address beyond the screen, in both forms.
-    (
+    Row::Fault(
         &[0xF1, 0xC3, 0xC1, 0x11, 0x5E, 0x40],
         CommandFault::BadAddress,
     ),
-    (&[0xF1, 0xC3, 0x12, 0x07, 0x80], CommandFault::BadAddress),
+    Row::Fault(&[0xF1, 0xC3, 0x12, 0x07, 0x80], CommandFault::BadAddress),
     // An address is judged before what follows it.
-    (
+    Row::Fault(
         &[0xF1, 0xC3, 0x3C, 0x5E, 0x40, 0x08],
         CommandFault::BadAddress,
     ),
-    (&[0xF1, 0xC3, 0x3C, 0x5E, 0x40], CommandFault::BadAddress),
+    Row::Fault(&[0xF1, 0xC3, 0x3C, 0x5E, 0x40], CommandFault::BadAddress),
     // Of several faults the first.
-    (
+    Row::Fault(
         &[0xF1, 0xC3, 0x02, 0x11, 0x5E, 0x40],
         CommandFault::BadOrder,
     ),
-    (
+    Row::Fault(
         &[0xF1, 0xC3, 0x11, 0x5E, 0x40, 0x02],
         CommandFault::BadAddress,
     ),
-    (&[0xF1, 0xC3, 0x02, 0x1D], CommandFault::BadOrder),
-    (
+    Row::Fault(&[0xF1, 0xC3, 0x02, 0x1D], CommandFault::BadOrder),
+    Row::Fault(
         &[0xF1, 0xC3, 0xC1, 0x13, 0x00, 0x08, 0x11],
         CommandFault::BadOrder,
     ),
 ];
 
-fn the_first_fault_is_answered() -> bool {
-    for (bytes, fault) in &FAULTS {
-        if fault_of(bytes) != Some(*fault) {
-            return false;
-        }
-    }
-    true
-}
-
-static COMMANDS: [(&[u8], CommandCode, &[Shown]); 6] = [
-    (
+static COMMANDS: [Row; 6] = [
+    Row::Write(
         TWO_FIELDS,
         CommandCode::EraseWrite,
         &[
@@ -203,12 +259,12 @@ static COMMANDS: [(&[u8], CommandCode, &[Shown]); 6] = [
             Shown::Ic,
         ],
     ),
-    (
+    Row::Write(
         FILLED,
         CommandCode::Write,
         &[Shown::Sba(0), Shown::Ra(0, 0x5C)],
     ),
-    (
+    Row::Write(
         &[
             0xF5, 0xC3, 0x3C, 0x40, 0x40, 0x5C, 0x11, 0x40, 0xC3, 0x1D, 0x60, 0x11, 0x5D, 0x7A,
             0x1D, 0x40, 0xC1, 0x05, 0x05, 0xC2, 0x13,
@@ -227,13 +283,13 @@ static COMMANDS: [(&[u8], CommandCode, &[Shown]); 6] = [
             Shown::Ic,
         ],
     ),
-    (
+    Row::Write(
         &[0xF1, 0xC3, 0x11, 0x40, 0xC2, 0x12, 0x40, 0xC6],
         CommandCode::Write,
         &[Shown::Sba(2), Shown::Eua(6)],
     ),
     // The ends of the first row, and the last cell in both forms.
-    (
+    Row::Write(
         &[
             0xF1, 0xC3, 0x11, 0xC1, 0x4F, 0x11, 0xC1, 0x50, 0x11, 0x5D, 0x7F, 0x11, 0x07, 0x7F,
         ],
@@ -246,7 +302,7 @@ static COMMANDS: [(&[u8], CommandCode, &[Shown]); 6] = [
         ],
     ),
     // The characters that look like controls are stored too.
-    (
+    Row::Write(
         &[0xF1, 0xC3, 0x00, 0x0C, 0x15, 0x3F, 0xFF],
         CommandCode::Write,
         &[
@@ -259,117 +315,48 @@ static COMMANDS: [(&[u8], CommandCode, &[Shown]); 6] = [
     ),
 ];
 
-fn orders_are_read_one_by_one() -> bool {
-    for (bytes, code, orders) in &COMMANDS {
-        if !reads(bytes, *code, Some(CLEARED_WCC), orders) {
-            return false;
-        }
-    }
-    true
-}
+static TEXTS: [Row; 4] = [
+    Row::Text(CommandFault::BadCommand, "unknown command"),
+    Row::Text(CommandFault::BadOrder, "neither an order nor a character"),
+    Row::Text(CommandFault::BadAddress, "address beyond the screen"),
+    Row::Text(CommandFault::Truncated, "command cut short"),
+];
 
-// ---- commands written
-
-/// A call of the writer.
-#[derive(Clone, Copy)]
-enum Call {
-    Begin(CommandCode),
-    Sba,
-    Sf(u8),
-    Chars,
-    Ra,
-    Ic,
-}
-
-fn put(writer: &mut CommandWriter, call: Call) -> Result<(), Memory> {
-    let addr = Addr::first();
-    match call {
-        Call::Begin(code) => writer.begin(code, CLEARED_WCC),
-        Call::Sba => writer.sba(addr),
-        Call::Sf(code) => writer.sf(Attr::from_code(code)),
-        Call::Chars => writer.chars(&CHARS),
-        Call::Ra => writer.ra(addr, 0x5C),
-        Call::Ic => writer.ic(),
-    }
-}
-
-/// Whether all calls of one writer are carried out.
-fn put_all(out: &mut Vec<u8>, calls: &[Call]) -> bool {
-    let mut writer = CommandWriter::new(out);
-    for call in calls {
-        if put(&mut writer, *call).is_err() {
-            return false;
-        }
-    }
-    true
-}
-
-static TWO_FIELDS_CALLS: [Call; 6] = [
+static TWO_FIELDS_CALLS: Calls = Calls(&[
     Call::Begin(CommandCode::EraseWrite),
     Call::Sba,
     Call::Sf(0x60),
     Call::Chars,
     Call::Sf(0x40),
     Call::Ic,
-];
+]);
 
-static FILLED_CALLS: [Call; 3] = [Call::Begin(CommandCode::Write), Call::Sba, Call::Ra];
+static FILLED_CALLS: Calls = Calls(&[Call::Begin(CommandCode::Write), Call::Sba, Call::Ra]);
 
 /// Whether one command is written, and then the other behind it: what stands in the vector stays.
-fn writes_both(out: &mut Vec<u8>) -> bool {
-    put_all(out, &TWO_FIELDS_CALLS)
+fn commands_are_written(out: &mut Vec<u8>) -> bool {
+    TWO_FIELDS_CALLS.add(out)
         && out.as_slice() == TWO_FIELDS
-        && put_all(out, &FILLED_CALLS)
+        && FILLED_CALLS.add(out)
         && out.strip_prefix(TWO_FIELDS) == Some(FILLED)
 }
 
-fn commands_are_written(alloc: Global) -> bool {
-    writes_both(&mut Vec::new(alloc))
-}
-
-/// Whether a call appends these bytes to an empty vector, or is refused and appends nothing.
-fn appends_or_not(out: &mut Vec<u8>, call: Call, bytes: &[u8]) -> bool {
-    match put(&mut CommandWriter::new(out), call) {
-        Ok(()) => out.as_slice() == bytes,
-        Err(_) => out.is_empty(),
-    }
-}
-
-/// Whether a call appends these bytes to an empty vector.
-fn appends(out: &mut Vec<u8>, call: Call, bytes: &[u8]) -> bool {
-    put(&mut CommandWriter::new(out), call).is_ok() && out.as_slice() == bytes
-}
-
-/// Where a vector with no room can be made: a call appends to it or changes nothing.
-fn appends_to_full(alloc: Global, call: Call, bytes: &[u8]) -> bool {
-    match Vec::with_capacity(alloc, 0) {
-        Ok(mut out) => appends_or_not(&mut out, call, bytes),
-        Err(_) => true,
-    }
-}
-
-/// Where a vector with room can be made: a call appends to it.
-fn appends_to_roomy(alloc: Global, call: Call, bytes: &[u8]) -> bool {
-    match Vec::with_capacity(alloc, bytes.len()) {
-        Ok(mut out) => appends(&mut out, call, bytes),
-        Err(_) => true,
-    }
-}
-
-static CALLS: [(Call, &[u8]); 7] = [
-    (Call::Begin(CommandCode::Write), &[0xF1, 0xC3]),
-    (Call::Begin(CommandCode::ReadBuffer), &[0xF2]),
-    (Call::Sba, &[0x11, 0x40, 0x40]),
-    (Call::Sf(0x60), &[0x1D, 0x60]),
-    (Call::Chars, &[0xC8, 0xC9]),
-    (Call::Ra, &[0x3C, 0x40, 0x40, 0x5C]),
-    (Call::Ic, &[0x13]),
+static CALLS: [(Calls, &[u8]); 7] = [
+    (Calls(&[Call::Begin(CommandCode::Write)]), &[0xF1, 0xC3]),
+    (Calls(&[Call::Begin(CommandCode::ReadBuffer)]), &[0xF2]),
+    (Calls(&[Call::Sba]), &[0x11, 0x40, 0x40]),
+    (Calls(&[Call::Sf(0x60)]), &[0x1D, 0x60]),
+    (Calls(&[Call::Chars]), &[0xC8, 0xC9]),
+    (Calls(&[Call::Ra]), &[0x3C, 0x40, 0x40, 0x5C]),
+    (Calls(&[Call::Ic]), &[0x13]),
 ];
 
 // Run it with each allocation failing in turn: a call is then refused at some time, and the vector stays as it was.
 fn a_call_appends_its_bytes_or_changes_nothing(alloc: Global) -> bool {
-    for (call, bytes) in &CALLS {
-        if !appends_to_full(alloc, *call, bytes) || !appends_to_roomy(alloc, *call, bytes) {
+    for (calls, bytes) in &CALLS {
+        if !is_added(alloc, calls, bytes, &Room::Full)
+            || !is_added(alloc, calls, bytes, &Room::Enough)
+        {
             return false;
         }
     }
@@ -397,27 +384,6 @@ fn names_each_cell(wanted: &Wanted) -> bool {
         && wanted.ahead(CELL_COUNT - 1).next() == Some(attr)
         && wanted.cursor().get() == 7
         && wanted.reset()
-}
-
-fn a_wanted_screen_names_each_cell() -> bool {
-    let wanted = example(true);
-    names_each_cell(&wanted) && !example(false).reset()
-}
-
-static TEXTS: [(CommandFault, &str); 4] = [
-    (CommandFault::BadCommand, "unknown command"),
-    (CommandFault::BadOrder, "neither an order nor a character"),
-    (CommandFault::BadAddress, "address beyond the screen"),
-    (CommandFault::Truncated, "command cut short"),
-];
-
-fn faults_have_texts(alloc: Global) -> bool {
-    for (fault, text) in &TEXTS {
-        if !prints(alloc, fault, text) {
-            return false;
-        }
-    }
-    true
 }
 
 fn laws_do_nothing() -> bool {
@@ -468,14 +434,14 @@ pub(crate) static CHECKS: [(&str, Check); 9] = [
 impl Tried for Check {
     fn is_so(&self, alloc: Global) -> bool {
         match self {
-            Check::Writes => each_write_has_two_codes_and_a_write_control_character(alloc),
-            Check::OtherCommands => each_other_command_has_two_codes_alone(alloc),
-            Check::FirstFault => the_first_fault_is_answered(),
-            Check::Orders => orders_are_read_one_by_one(),
-            Check::Written => commands_are_written(alloc),
+            Check::Writes => all_so(alloc, &WRITES),
+            Check::OtherCommands => all_so(alloc, &OTHERS),
+            Check::FirstFault => all_so(alloc, &FAULTS),
+            Check::Orders => all_so(alloc, &COMMANDS),
+            Check::Written => commands_are_written(&mut Vec::new(alloc)),
             Check::Appends => a_call_appends_its_bytes_or_changes_nothing(alloc),
-            Check::Wanted => a_wanted_screen_names_each_cell(),
-            Check::Texts => faults_have_texts(alloc),
+            Check::Wanted => names_each_cell(&example(true)) && !example(false).reset(),
+            Check::Texts => all_so(alloc, &TEXTS),
             Check::Laws => laws_do_nothing(),
         }
     }

@@ -1,12 +1,15 @@
 //! Inbound data as bytes: what a 3278 sends in worked dialogues, whole buffers, and what isn't inbound data.
 use crate::bytes::{Run, spelt};
-use crate::{Tried, prints};
-use codes3270::{Addr, Aid, Attr, CELL_COUNT, CELLS, Cell, PaNo};
+use crate::{Tried, all_so, at, prints};
+use codes3270::{Addr, Attr, CELL_COUNT, Cell, aid_byte};
 use datastream::{Form, Inbound, InboundFault, Part, parts_are_fields, read_inbound, sent_is_read};
 use std::alloc::Global;
 
-/// Whether these are the fields that came, each by its first address and its text.
-fn has_fields(inbound: &Inbound<'_>, wanted: &[(u16, &[u8])]) -> bool {
+/// A field that came: its first address and its text.
+type Returned = (u16, &'static [u8]);
+
+/// Whether these are the fields that came.
+fn has_fields(inbound: &Inbound<'_>, wanted: &[Returned]) -> bool {
     let mut fields = inbound.returned();
     for (first, text) in wanted {
         match fields.next() {
@@ -21,301 +24,353 @@ fn has_fields(inbound: &Inbound<'_>, wanted: &[(u16, &[u8])]) -> bool {
     fields.next().is_none()
 }
 
-/// Whether these are the parts.
-fn has_parts(inbound: &Inbound<'_>, wanted: &[Part]) -> bool {
+/// A part, its address as a number and its attribute as a code.
+enum Shown {
+    At(u16),
+    Attr(u8),
+    Char(u8),
+}
+
+fn part_of(shown: &Shown) -> Part {
+    match shown {
+        Shown::At(place) => Part::At(at(*place)),
+        Shown::Attr(code) => Part::Attr(Attr::from_code(*code)),
+        Shown::Char(byte) => Part::Char(*byte),
+    }
+}
+
+/// Whether these are the parts, each as often as is said.
+fn has_parts(inbound: &Inbound<'_>, wanted: &[(Shown, usize)]) -> bool {
     let mut parts = inbound.parts();
-    for part in wanted {
-        if parts.next() != Some(*part) {
-            return false;
+    for (shown, count) in wanted {
+        for _ in 0..*count {
+            if parts.next() != Some(part_of(shown)) {
+                return false;
+            }
         }
     }
     parts.next().is_none()
 }
 
-/// The data of Enter and one or two fields, as Read Modified sends it.
-fn sends_fields(bytes: &[u8], cursor: u16, fields: &[(u16, &[u8])]) -> bool {
-    match read_inbound(bytes, Form::Modified) {
-        Ok(inbound) => {
-            inbound.form() == Form::Modified
-                && inbound.aid() == Aid::Enter
-                && inbound.cursor() == Addr::new(cursor)
-                && inbound.lead().is_empty()
-                && has_fields(&inbound, fields)
-        }
-        Err(_) => false,
-    }
-}
-
-static ENTERED: [(&[u8], u16, &[(u16, &[u8])]); 7] = [
-    // One field.
-    (
-        &[0x7D, 0x40, 0xC5, 0x11, 0x40, 0xC4, 0xC1],
-        5,
-        &[(4, &[0xC1])],
-    ),
-    // An emptied field.
-    (&[0x7D, 0x40, 0xC4, 0x11, 0x40, 0xC4], 4, &[(4, &[])]),
-    // Nothing modified.
-    (&[0x7D, 0x40, 0xC1], 1, &[]),
-    // The cursor elsewhere.
-    (
-        &[0x7D, 0x40, 0x40, 0x11, 0x40, 0xC4, 0xC4],
-        0,
-        &[(4, &[0xC4])],
-    ),
-    // Two characters.
-    (
-        &[0x7D, 0x40, 0xC4, 0x11, 0x40, 0xC1, 0xC1, 0xC2],
-        4,
-        &[(1, &[0xC1, 0xC2])],
-    ),
-    // Two fields.
-    (
-        &[
-            0x7D, 0x40, 0xC7, 0x11, 0x40, 0xC1, 0xC1, 0x11, 0x40, 0xC5, 0xC2,
-        ],
-        7,
-        &[(1, &[0xC1]), (5, &[0xC2])],
-    ),
-    // A character deleted.
-    (
-        &[
-            0x7D, 0xC1, 0x4D, 0x11, 0xC1, 0x4C, 0xC1, 0xC3, 0xC4, 0xC5, 0xC6,
-        ],
-        77,
-        &[(76, &[0xC1, 0xC3, 0xC4, 0xC5, 0xC6])],
-    ),
-];
-
-fn enter_sends_the_modified_fields() -> bool {
-    for (bytes, cursor, fields) in &ENTERED {
-        if !sends_fields(bytes, *cursor, fields) {
-            return false;
-        }
-    }
-    true
-}
-
-fn a_field_that_wraps_comes_last() -> bool {
-    let bytes = [
-        0x7D, 0x40, 0xC8, 0x11, 0x40, 0xC7, 0xE9, 0x11, 0x5D, 0xF6, 0xC1, 0xC2, 0xC3, 0xC4, 0xC5,
-        0xC6, 0xC7, 0xC8, 0xC9, 0xD1, 0xD2,
-    ];
-    let wrapped = [
-        0xC1, 0xC2, 0xC3, 0xC4, 0xC5, 0xC6, 0xC7, 0xC8, 0xC9, 0xD1, 0xD2,
-    ];
-    sends_fields(&bytes, 8, &[(7, &[0xE9]), (1910, &wrapped)])
-}
-
-fn parts_are_in_the_order_of_the_bytes() -> bool {
-    let Some(first) = Addr::new(1) else {
-        return false;
-    };
-    let bytes = [0x7D, 0x40, 0xC4, 0xC9, 0x11, 0x40, 0xC1, 0xC1, 0xC2];
-    let parts = [
-        Part::Char(0xC9),
-        Part::At(first),
-        Part::Char(0xC1),
-        Part::Char(0xC2),
-    ];
-    let Ok(inbound) = read_inbound(&bytes, Form::Modified) else {
-        return false;
-    };
-    has_parts(&inbound, &parts)
-        && inbound.lead() == [0xC9].as_slice()
-        && has_fields(&inbound, &[(1, &[0xC1, 0xC2])])
-}
-
-/// Whether bytes are inbound data of a form with this AID and cursor.
-fn has_lead(bytes: &[u8], form: Form, aid: Aid, cursor: Option<Addr>) -> bool {
-    match read_inbound(bytes, form) {
-        Ok(inbound) => inbound.aid() == aid && inbound.cursor() == cursor,
-        Err(_) => false,
-    }
-}
-
-/// Whether bytes are Read Modified's data of an AID that stands alone.
-fn is_alone(bytes: &[u8], aid: Aid) -> bool {
-    match read_inbound(bytes, Form::Modified) {
-        Ok(inbound) => {
-            inbound.aid() == aid && inbound.cursor().is_none() && has_parts(&inbound, &[])
-        }
-        Err(_) => false,
-    }
-}
-
-fn a_short_aid_stands_alone_only_for_read_modified() -> bool {
-    let Some(first) = PaNo::new(1) else {
-        return false;
-    };
-    is_alone(&[0x6C], Aid::Pa(first))
-        && is_alone(&[0x6D], Aid::Clear)
-        && has_lead(&[0x6C, 0x40, 0x40], Form::All, Aid::Pa(first), Addr::new(0))
-}
-
-/// The fault of bytes that are no inbound data of a form.
-fn fault_of(bytes: &[u8], form: Form) -> Option<InboundFault> {
-    read_inbound(bytes, form).err()
-}
-
-static FAULTS: [(&[u8], InboundFault); 11] = [
-    (&[], InboundFault::Short),
-    (&[0x7D], InboundFault::Short),
-    (&[0x7D, 0x40], InboundFault::Short),
-    (&[0x01, 0x40, 0x40], InboundFault::BadAid),
-    (&[0x7D, 0x5E, 0x40], InboundFault::BadAddress),
-    (
-        &[0x7D, 0x40, 0x40, 0x11, 0x5E, 0x40, 0x00],
-        InboundFault::BadAddress,
-    ),
-    (
-        &[0x7D, 0x40, 0x40, 0x11, 0x40, 0xC1, 0xC1, 0x00],
-        InboundFault::BadForm,
-    ),
-    (&[0x7D, 0x40, 0x40, 0x00], InboundFault::BadForm),
-    (&[0x6C, 0x40, 0x40], InboundFault::BadForm),
-    (&[0x7D, 0x40, 0x40, 0x11, 0x40], InboundFault::BadForm),
-    (&[0x7D, 0x40, 0x40, 0x1D, 0x40], InboundFault::BadForm),
-];
-
-fn the_first_fault_is_answered() -> bool {
-    for (bytes, fault) in &FAULTS {
-        if fault_of(bytes, Form::Modified) != Some(*fault) {
-            return false;
-        }
-    }
-    fault_of(&[0x6C], Form::All) == Some(InboundFault::Short)
-}
-
-/// Whether the parts are an attribute, characters, and a null in the last cell.
-fn has_every_part(inbound: &Inbound<'_>) -> bool {
-    let mut parts = inbound.parts();
-    if parts.next() != Some(Part::Attr(Attr::from_code(0xF0))) {
-        return false;
-    }
-    for _ in 0..CELLS - 2 {
-        if parts.next() != Some(Part::Char(0xC1)) {
-            return false;
-        }
-    }
-    parts.next() == Some(Part::Char(0x00)) && parts.next().is_none()
-}
-
-/// Whether the cells are the same.
-fn has_every_cell(inbound: &Inbound<'_>) -> bool {
+/// Whether these are the cells.
+fn has_cells(inbound: &Inbound<'_>, wanted: &[(Shown, usize)]) -> bool {
     if inbound.form() != Form::Buffer {
         return false;
     }
     let mut cells = inbound.cells();
-    if cells.next() != Some(Cell::Attr(Attr::from_code(0xF0))) {
-        return false;
-    }
-    for _ in 0..CELLS - 2 {
-        if cells.next() != Some(Cell::Char(0xC1)) {
-            return false;
+    for (shown, count) in wanted {
+        for _ in 0..*count {
+            if cells.next() != part_of(shown).cell() {
+                return false;
+            }
         }
     }
-    cells.next() == Some(Cell::Char(0x00)) && cells.next().is_none()
+    cells.next().is_none()
 }
 
-/// Whether bytes are a buffer of these parts and cells, with the cursor at 169 and no fields.
-fn is_whole_buffer(bytes: &[u8]) -> bool {
-    match read_inbound(bytes, Form::Buffer) {
-        Ok(inbound) => {
-            inbound.cursor() == Addr::new(169)
-                && has_every_part(&inbound)
-                && has_every_cell(&inbound)
-                && has_fields(&inbound, &[])
+// ---- rows
+
+/// What bytes come to as inbound data.
+enum Outcome {
+    /// The byte of its AID, its cursor, the characters before any field, and its fields.
+    Fields(u8, Option<u16>, &'static [u8], &'static [Returned]),
+    /// Its parts, each with how often it comes.
+    Parts(&'static [(Shown, usize)]),
+    /// Its cursor, and its cells, which are its parts; it has no fields.
+    Cells(u16, &'static [(Shown, usize)]),
+    /// It is none.
+    Fault(InboundFault),
+}
+
+fn has(inbound: &Inbound<'_>, form: Form, outcome: &Outcome) -> bool {
+    let cursor = match inbound.cursor() {
+        Some(addr) => Some(addr.get()),
+        None => None,
+    };
+    let is_so = match outcome {
+        Outcome::Fields(aid, place, lead, fields) => {
+            aid_byte(inbound.aid()) == *aid
+                && cursor == *place
+                && inbound.lead() == *lead
+                && has_fields(inbound, fields)
         }
-        Err(_) => false,
+        Outcome::Parts(parts) => has_parts(inbound, parts),
+        Outcome::Cells(place, cells) => {
+            cursor == Some(*place)
+                && has_parts(inbound, cells)
+                && has_cells(inbound, cells)
+                && has_fields(inbound, &[])
+        }
+        Outcome::Fault(_) => false,
+    };
+    is_so && inbound.form() == form
+}
+
+fn comes_to(bytes: &[u8], form: Form, outcome: &Outcome) -> bool {
+    match (read_inbound(bytes, form), outcome) {
+        (Ok(inbound), _) => has(&inbound, form, outcome),
+        (Err(fault), Outcome::Fault(wanted)) => fault == *wanted,
+        (Err(_), _) => false,
     }
 }
+
+/// A row of a table.
+enum Row {
+    /// What bytes of a form come to.
+    Data(&'static [u8], Form, Outcome),
+    /// What a buffer of these runs comes to.
+    Buffer(&'static [Run], Outcome),
+    /// A fault is printed so.
+    Text(InboundFault, &'static str),
+}
+
+impl Tried for Row {
+    fn is_so(&self, alloc: Global) -> bool {
+        match self {
+            Row::Data(bytes, form, outcome) => comes_to(bytes, *form, outcome),
+            Row::Buffer(runs, outcome) => match spelt(alloc, runs) {
+                Ok(bytes) => comes_to(bytes.as_slice(), Form::Buffer, outcome),
+                Err(_) => false,
+            },
+            Row::Text(fault, text) => prints(alloc, fault, text),
+        }
+    }
+}
+
+// ---- tables
+
+/// The data of Enter and one or two fields, as Read Modified sends it.
+static ENTERED: [Row; 7] = [
+    // One field.
+    Row::Data(
+        &[0x7D, 0x40, 0xC5, 0x11, 0x40, 0xC4, 0xC1],
+        Form::Modified,
+        Outcome::Fields(0x7D, Some(5), b"", &[(4, &[0xC1])]),
+    ),
+    // An emptied field.
+    Row::Data(
+        &[0x7D, 0x40, 0xC4, 0x11, 0x40, 0xC4],
+        Form::Modified,
+        Outcome::Fields(0x7D, Some(4), b"", &[(4, &[])]),
+    ),
+    // Nothing modified.
+    Row::Data(
+        &[0x7D, 0x40, 0xC1],
+        Form::Modified,
+        Outcome::Fields(0x7D, Some(1), b"", &[]),
+    ),
+    // The cursor elsewhere.
+    Row::Data(
+        &[0x7D, 0x40, 0x40, 0x11, 0x40, 0xC4, 0xC4],
+        Form::Modified,
+        Outcome::Fields(0x7D, Some(0), b"", &[(4, &[0xC4])]),
+    ),
+    // Two characters.
+    Row::Data(
+        &[0x7D, 0x40, 0xC4, 0x11, 0x40, 0xC1, 0xC1, 0xC2],
+        Form::Modified,
+        Outcome::Fields(0x7D, Some(4), b"", &[(1, &[0xC1, 0xC2])]),
+    ),
+    // Two fields.
+    Row::Data(
+        &[
+            0x7D, 0x40, 0xC7, 0x11, 0x40, 0xC1, 0xC1, 0x11, 0x40, 0xC5, 0xC2,
+        ],
+        Form::Modified,
+        Outcome::Fields(0x7D, Some(7), b"", &[(1, &[0xC1]), (5, &[0xC2])]),
+    ),
+    // A character deleted.
+    Row::Data(
+        &[
+            0x7D, 0xC1, 0x4D, 0x11, 0xC1, 0x4C, 0xC1, 0xC3, 0xC4, 0xC5, 0xC6,
+        ],
+        Form::Modified,
+        Outcome::Fields(
+            0x7D,
+            Some(77),
+            b"",
+            &[(76, &[0xC1, 0xC3, 0xC4, 0xC5, 0xC6])],
+        ),
+    ),
+];
+
+static WRAPPED: [Row; 1] = [Row::Data(
+    &[
+        0x7D, 0x40, 0xC8, 0x11, 0x40, 0xC7, 0xE9, 0x11, 0x5D, 0xF6, 0xC1, 0xC2, 0xC3, 0xC4, 0xC5,
+        0xC6, 0xC7, 0xC8, 0xC9, 0xD1, 0xD2,
+    ],
+    Form::Modified,
+    Outcome::Fields(
+        0x7D,
+        Some(8),
+        b"",
+        &[
+            (7, &[0xE9]),
+            (
+                1910,
+                &[
+                    0xC1, 0xC2, 0xC3, 0xC4, 0xC5, 0xC6, 0xC7, 0xC8, 0xC9, 0xD1, 0xD2,
+                ],
+            ),
+        ],
+    ),
+)];
+
+/// Characters before a field.
+const LED: &[u8] = &[0x7D, 0x40, 0xC4, 0xC9, 0x11, 0x40, 0xC1, 0xC1, 0xC2];
+
+static IN_ORDER: [Row; 2] = [
+    Row::Data(
+        LED,
+        Form::Modified,
+        Outcome::Parts(&[
+            (Shown::Char(0xC9), 1),
+            (Shown::At(1), 1),
+            (Shown::Char(0xC1), 1),
+            (Shown::Char(0xC2), 1),
+        ]),
+    ),
+    Row::Data(
+        LED,
+        Form::Modified,
+        Outcome::Fields(0x7D, Some(4), &[0xC9], &[(1, &[0xC1, 0xC2])]),
+    ),
+];
+
+/// Alone, or with a cursor.
+static SHORT_AIDS: [Row; 5] = [
+    Row::Data(
+        &[0x6C],
+        Form::Modified,
+        Outcome::Fields(0x6C, None, b"", &[]),
+    ),
+    Row::Data(&[0x6C], Form::Modified, Outcome::Parts(&[])),
+    Row::Data(
+        &[0x6D],
+        Form::Modified,
+        Outcome::Fields(0x6D, None, b"", &[]),
+    ),
+    Row::Data(&[0x6D], Form::Modified, Outcome::Parts(&[])),
+    Row::Data(
+        &[0x6C, 0x40, 0x40],
+        Form::All,
+        Outcome::Fields(0x6C, Some(0), b"", &[]),
+    ),
+];
+
+static FAULTS: [Row; 12] = [
+    Row::Data(&[], Form::Modified, Outcome::Fault(InboundFault::Short)),
+    Row::Data(&[0x7D], Form::Modified, Outcome::Fault(InboundFault::Short)),
+    Row::Data(
+        &[0x7D, 0x40],
+        Form::Modified,
+        Outcome::Fault(InboundFault::Short),
+    ),
+    Row::Data(
+        &[0x01, 0x40, 0x40],
+        Form::Modified,
+        Outcome::Fault(InboundFault::BadAid),
+    ),
+    Row::Data(
+        &[0x7D, 0x5E, 0x40],
+        Form::Modified,
+        Outcome::Fault(InboundFault::BadAddress),
+    ),
+    Row::Data(
+        &[0x7D, 0x40, 0x40, 0x11, 0x5E, 0x40, 0x00],
+        Form::Modified,
+        Outcome::Fault(InboundFault::BadAddress),
+    ),
+    Row::Data(
+        &[0x7D, 0x40, 0x40, 0x11, 0x40, 0xC1, 0xC1, 0x00],
+        Form::Modified,
+        Outcome::Fault(InboundFault::BadForm),
+    ),
+    Row::Data(
+        &[0x7D, 0x40, 0x40, 0x00],
+        Form::Modified,
+        Outcome::Fault(InboundFault::BadForm),
+    ),
+    Row::Data(
+        &[0x6C, 0x40, 0x40],
+        Form::Modified,
+        Outcome::Fault(InboundFault::BadForm),
+    ),
+    Row::Data(
+        &[0x7D, 0x40, 0x40, 0x11, 0x40],
+        Form::Modified,
+        Outcome::Fault(InboundFault::BadForm),
+    ),
+    Row::Data(
+        &[0x7D, 0x40, 0x40, 0x1D, 0x40],
+        Form::Modified,
+        Outcome::Fault(InboundFault::BadForm),
+    ),
+    Row::Data(&[0x6C], Form::All, Outcome::Fault(InboundFault::Short)),
+];
 
 /// Read Buffer's data after PA1 begins so, with the cursor at 169 and an attribute; cells of `A` follow.
 const BEGUN: Run = (b"\x6C\xC2\xE9\x1D\xF0", 1);
 
 /// A whole buffer. The last cell is null.
-static WHOLE_BUFFER: [Run; 3] = [BEGUN, (b"\xC1", CELL_COUNT - 2), (b"\x00", 1)];
+static WHOLE_BUFFER: [Row; 1] = [Row::Buffer(
+    &[BEGUN, (b"\xC1", CELL_COUNT - 2), (b"\x00", 1)],
+    Outcome::Cells(
+        169,
+        &[
+            (Shown::Attr(0xF0), 1),
+            (Shown::Char(0xC1), CELL_COUNT - 2),
+            (Shown::Char(0x00), 1),
+        ],
+    ),
+)];
 
-fn a_buffer_has_every_cell(alloc: Global) -> bool {
-    match spelt(alloc, &WHOLE_BUFFER) {
-        Ok(bytes) => is_whole_buffer(bytes.as_slice()),
-        Err(_) => false,
-    }
-}
-
-/// Whether a buffer of these runs has this fault.
-fn has_fault(alloc: Global, runs: &[Run], fault: InboundFault) -> bool {
-    match spelt(alloc, runs) {
-        Ok(bytes) => fault_of(bytes.as_slice(), Form::Buffer) == Some(fault),
-        Err(_) => false,
-    }
-}
-
-static OTHER_BUFFERS: [(&[Run], InboundFault); 5] = [
+static OTHER_BUFFERS: [Row; 5] = [
     // Too many.
-    (&[BEGUN, (b"\xC1", CELL_COUNT)], InboundFault::BadForm),
+    Row::Buffer(
+        &[BEGUN, (b"\xC1", CELL_COUNT)],
+        Outcome::Fault(InboundFault::BadForm),
+    ),
     // Too few.
-    (&[BEGUN, (b"\xC1", CELL_COUNT - 2)], InboundFault::Short),
+    Row::Buffer(
+        &[BEGUN, (b"\xC1", CELL_COUNT - 2)],
+        Outcome::Fault(InboundFault::Short),
+    ),
     // An attribute cut.
-    (
+    Row::Buffer(
         &[BEGUN, (b"\xC1", CELL_COUNT - 2), (b"\x1D", 1)],
-        InboundFault::Short,
+        Outcome::Fault(InboundFault::Short),
     ),
     // One cut behind the last.
-    (
+    Row::Buffer(
         &[BEGUN, (b"\xC1", CELL_COUNT - 1), (b"\x1D", 1)],
-        InboundFault::BadForm,
+        Outcome::Fault(InboundFault::BadForm),
     ),
     // Unstorable.
-    (
+    Row::Buffer(
         &[BEGUN, (b"\xC1", CELL_COUNT - 2), (b"\x11", 1)],
-        InboundFault::BadForm,
+        Outcome::Fault(InboundFault::BadForm),
     ),
 ];
 
-fn a_buffer_has_no_other_number_of_cells(alloc: Global) -> bool {
-    for (runs, fault) in &OTHER_BUFFERS {
-        if !has_fault(alloc, runs, *fault) {
-            return false;
-        }
-    }
-    true
-}
+static TEXTS: [Row; 4] = [
+    Row::Text(InboundFault::Short, "the inbound data ends too early"),
+    Row::Text(InboundFault::BadAid, "the inbound data begins with no AID"),
+    Row::Text(
+        InboundFault::BadAddress,
+        "the inbound data has an address beyond the screen",
+    ),
+    Row::Text(
+        InboundFault::BadForm,
+        "the inbound data has something out of place",
+    ),
+];
 
 fn an_address_is_no_cell() -> bool {
     let attr = Attr::from_code(0xF0);
     Part::Attr(attr).cell() == Some(Cell::Attr(attr))
         && Part::Char(0xC1).cell() == Some(Cell::Char(0xC1))
         && Part::At(Addr::first()).cell().is_none()
-}
-
-fn laws_do_nothing() -> bool {
-    parts_are_fields();
-    sent_is_read();
-    true
-}
-
-static TEXTS: [(InboundFault, &str); 4] = [
-    (InboundFault::Short, "the inbound data ends too early"),
-    (InboundFault::BadAid, "the inbound data begins with no AID"),
-    (
-        InboundFault::BadAddress,
-        "the inbound data has an address beyond the screen",
-    ),
-    (
-        InboundFault::BadForm,
-        "the inbound data has something out of place",
-    ),
-];
-
-fn faults_are_printed(alloc: Global) -> bool {
-    for (fault, text) in &TEXTS {
-        if !prints(alloc, fault, text) {
-            return false;
-        }
-    }
-    true
 }
 
 /// What is tried here.
@@ -351,16 +406,20 @@ pub(crate) static CHECKS: [(&str, Check); 10] = [
 impl Tried for Check {
     fn is_so(&self, alloc: Global) -> bool {
         match self {
-            Check::Fields => enter_sends_the_modified_fields(),
-            Check::Wrapped => a_field_that_wraps_comes_last(),
-            Check::InOrder => parts_are_in_the_order_of_the_bytes(),
-            Check::ShortAids => a_short_aid_stands_alone_only_for_read_modified(),
-            Check::FirstFault => the_first_fault_is_answered(),
-            Check::EveryCell => a_buffer_has_every_cell(alloc),
-            Check::OtherBuffers => a_buffer_has_no_other_number_of_cells(alloc),
+            Check::Fields => all_so(alloc, &ENTERED),
+            Check::Wrapped => all_so(alloc, &WRAPPED),
+            Check::InOrder => all_so(alloc, &IN_ORDER),
+            Check::ShortAids => all_so(alloc, &SHORT_AIDS),
+            Check::FirstFault => all_so(alloc, &FAULTS),
+            Check::EveryCell => all_so(alloc, &WHOLE_BUFFER),
+            Check::OtherBuffers => all_so(alloc, &OTHER_BUFFERS),
             Check::NoCell => an_address_is_no_cell(),
-            Check::Laws => laws_do_nothing(),
-            Check::Texts => faults_are_printed(alloc),
+            Check::Laws => {
+                parts_are_fields();
+                sent_is_read();
+                true
+            }
+            Check::Texts => all_so(alloc, &TEXTS),
         }
     }
 }

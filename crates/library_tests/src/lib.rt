@@ -48,6 +48,16 @@ fn prints<D: Display>(alloc: Global, value: &D, text: &str) -> bool {
     }
 }
 
+/// Whether each row of a table is so.
+fn all_so<T: Tried>(alloc: Global, rows: &[T]) -> bool {
+    for row in rows {
+        if !row.is_so(alloc) {
+            return false;
+        }
+    }
+    true
+}
+
 /// Prints whether a check is so.
 fn tell(rt: &impl Print, library: &str, what: &str, is_so: bool) -> io::Result<()> {
     let word = if is_so { "so" } else { "otherwise" };

@@ -143,13 +143,13 @@ impl Tried for Check {
             Check::RefusedGrowth => a_value_without_room_changes_nothing(alloc),
             Check::Large => many::a_large_text_is_read(alloc),
             Check::Examples => many::the_examples_are_read(alloc),
-            Check::SignOn => screens::a_sign_on_is_shown(alloc),
-            Check::Again => screens::a_panel_is_shown_again(alloc),
-            Check::Keys => screens::keys_lead_where_the_table_says(alloc),
-            Check::KindsOfKey => screens::each_kind_of_key_leads(alloc),
-            Check::Attributes => screens::fields_have_their_attributes_and_fills(alloc),
-            Check::LastCells => screens::a_field_may_end_before_the_message(alloc),
-            Check::Values => screens::fields_are_written_from_their_values(alloc),
+            Check::SignOn => screens::SIGN_ON_SHOWN.is_so(alloc),
+            Check::Again => screens::SHOWN_AGAIN.is_so(alloc),
+            Check::Keys => screens::TABLE_OF_KEYS.is_so(alloc),
+            Check::KindsOfKey => screens::KINDS_OF_KEY.is_so(alloc),
+            Check::Attributes => screens::FIELDS_SHOWN.is_so(alloc),
+            Check::LastCells => screens::LAST_CELLS_SHOWN.is_so(alloc),
+            Check::Values => screens::VALUES_SHOWN.is_so(alloc),
         }
     }
 }

@@ -1,16 +1,19 @@
 //! What a screen answers that isn't seen at a terminal: what commands ask for, the alarm among it, where fields are, and reads
 //! for which there may be no memory. What is shown after commands and keys, and what reads answer, stands in trials3270's
-//! dialogues.
+//! dialogues. Checks are tables of steps, which one function takes in turn.
 
 mod by_search;
 
+use crate::beliefs::SIGN_ON;
+use crate::bytes::{Adds, Room, is_added};
 use crate::{Tried, at};
-use codes3270::Addr;
+use by_search::is_as_searched;
+use codes3270::{CELL_COUNT, storable};
 use datastream::read_command;
 use presentation::{Applied, Field, Screen};
 use std::alloc::Global;
 
-// ---- helpers
+// ---- what is asked of a screen
 
 /// What a command asks for; None where the bytes spell none.
 fn obey(screen: &mut Screen, command: &[u8]) -> Option<Applied> {
@@ -20,9 +23,9 @@ fn obey(screen: &mut Screen, command: &[u8]) -> Option<Applied> {
     }
 }
 
-/// Whether a screen obeys all commands.
-fn obeys(screen: &mut Screen, commands: &[&[u8]]) -> bool {
-    for command in commands {
+/// Whether a screen obeys a command so many times.
+fn obeys(screen: &mut Screen, command: &[u8], count: usize) -> bool {
+    for _ in 0..count {
         if obey(screen, command).is_none() {
             return false;
         }
@@ -31,28 +34,147 @@ fn obeys(screen: &mut Screen, commands: &[&[u8]]) -> bool {
 }
 
 /// Types characters as keys would: stores them from a place on, and sets MDT in their field.
-fn type_at(screen: &mut Screen, place: Addr, codes: &[u8]) {
-    store(screen, place, codes);
-    if let Some(field) = screen.field_at(place) {
-        screen.set_mdt(field.attr);
-    }
-}
-
-/// Stores characters from a place on.
-fn store(screen: &mut Screen, place: Addr, codes: &[u8]) {
-    let mut next = place;
+fn type_at(screen: &mut Screen, place: u16, codes: &[u8]) {
+    let first = at(place);
+    let mut next = first;
     for code in codes {
-        if screen.cell(next).is_character() && codes3270::storable(*code) {
+        if screen.cell(next).is_character() && storable(*code) {
             screen.set_char(next, *code);
         }
         next = next.next();
     }
+    if let Some(field) = screen.field_at(first) {
+        screen.set_mdt(field.attr);
+    }
+}
+
+/// The address of a field's attribute, and how many cells it has.
+type Extent = (u16, u16);
+
+fn field(extent: &Extent) -> Field {
+    Field {
+        attr: at(extent.0),
+        length: extent.1,
+    }
+}
+
+/// Whether these are its fields.
+fn lists(screen: &Screen, extents: &[Extent]) -> bool {
+    let mut fields = screen.fields();
+    for extent in extents {
+        if fields.next() != Some(field(extent)) {
+            return false;
+        }
+    }
+    fields.next().is_none()
+}
+
+/// Whether a copy, where there is memory for one, is the same as the screen.
+fn is_copied(screen: &Screen) -> bool {
+    match screen.clone() {
+        Ok(copy) => copy == *screen,
+        Err(_) => true,
+    }
+}
+
+/// It adds what Read Modified All is answered.
+impl Adds for Screen {
+    fn add(&self, out: &mut Vec<u8>) -> bool {
+        self.put_read_modified(out, true).is_ok()
+    }
+}
+
+/// Whether so many bytes are appended for Read Buffer, behind what is there, where there is memory, and nothing where there isn't.
+fn appends_cells(screen: &Screen, out: &mut Vec<u8>, count: usize) -> bool {
+    let _ = screen.add(out);
+    let start = out.len();
+    let is_written = screen.put_read_buffer(out).is_ok();
+    let wanted = if is_written { count } else { 0 };
+    out.len().checked_sub(start) == Some(wanted)
+}
+
+// ---- steps
+
+/// A step of a dialogue: what a screen does, and what is to be seen of it.
+enum Step {
+    /// It obeys a command.
+    Obey(&'static [u8]),
+    /// It obeys a command so many times.
+    ObeyTimes(&'static [u8], usize),
+    /// A command asks for this.
+    Ask(&'static [u8], Applied),
+    /// Characters are typed from a place on.
+    Type(u16, &'static [u8]),
+    /// The keys Erase Input and Clear.
+    EraseInput,
+    Clear,
+    /// These are its fields.
+    Fields(&'static [Extent]),
+    /// A place is in this field.
+    Field(u16, Extent),
+    /// A place is in no field.
+    NoField(u16),
+    /// What is looked up by the index of attributes is as a search finds.
+    Searched,
+    /// A copy is the same.
+    Copied,
+    /// Read Modified All is answered so, with room and without.
+    Modified(&'static [u8]),
+    /// Read Buffer is answered with so many bytes.
+    Buffer(usize),
+}
+
+fn is_so(alloc: Global, screen: &mut Screen, step: &Step) -> bool {
+    match step {
+        Step::Obey(command) => obey(screen, command).is_some(),
+        Step::ObeyTimes(command, count) => obeys(screen, command, *count),
+        Step::Ask(command, asked) => obey(screen, command) == Some(*asked),
+        Step::Type(place, codes) => {
+            type_at(screen, *place, codes);
+            true
+        }
+        Step::EraseInput => {
+            screen.erase_unprotected();
+            true
+        }
+        Step::Clear => {
+            screen.clear();
+            true
+        }
+        Step::Fields(extents) => lists(screen, extents),
+        Step::Field(place, extent) => screen.field_at(at(*place)) == Some(field(extent)),
+        Step::NoField(place) => screen.field_at(at(*place)).is_none(),
+        Step::Searched => is_as_searched(screen),
+        Step::Copied => is_copied(screen),
+        Step::Modified(bytes) => {
+            is_added(alloc, screen, bytes, &Room::Full)
+                && is_added(alloc, screen, bytes, &Room::Enough)
+        }
+        Step::Buffer(count) => appends_cells(screen, &mut Vec::new(alloc), *count),
+    }
+}
+
+/// Whether each step is so, in turn.
+fn follows(alloc: Global, screen: &mut Screen, steps: &[Step]) -> bool {
+    for step in steps {
+        if !is_so(alloc, screen, step) {
+            return false;
+        }
+    }
+    true
+}
+
+/// Whether each dialogue is so, with a blank screen.
+fn begin(alloc: Global, dialogues: &[&[Step]]) -> bool {
+    for steps in dialogues {
+        if !follows(alloc, &mut Screen::blank(), steps) {
+            return false;
+        }
+    }
+    true
 }
 
 // ---- commands
-
-/// Commands in turn.
-type Commands = &'static [&'static [u8]];
 
 const GREETING: &[u8] = b"\xF5\xC3\x11\x40\x40\x1D\x60\xC8\xC9\x1D\x40\x13";
 
@@ -62,36 +184,111 @@ const FIELDS: &[u8] = b"\xF5\xC3\x11\x40\x40\x1D\x40\xC1\xC2\x1D\x60\xC3\x1D\xC1
 const ERASE: &[u8] = b"\xF1\xC3\x11\x40\xC2\x12\x40\xC6";
 
 /// Commands for a blank screen each.
-static SHOWN: [Commands; 14] = [
+static SHOWN: [&[Step]; 14] = [
     // A hidden field, text round the end, and a greeting.
-    &[b"\xF5\xC3\x11\x40\x40\x1D\x4C\xC1\xC2\x1D\x60\xC3\x13"],
-    &[b"\xF5\xC3\x11\x5D\x7F\xC1\xC2\x13"],
-    &[GREETING],
+    &[
+        Step::Obey(b"\xF5\xC3\x11\x40\x40\x1D\x4C\xC1\xC2\x1D\x60\xC3\x13"),
+        Step::Searched,
+    ],
+    &[
+        Step::Obey(b"\xF5\xC3\x11\x5D\x7F\xC1\xC2\x13"),
+        Step::Searched,
+    ],
+    &[Step::Obey(GREETING), Step::Searched],
     // DUP and FM, other controls, and code 41, a no-break space.
-    &[b"\x7E\xC3\x1C\x1E\x0C\x15\xFF\x3F\xC1\x41\x4B"],
+    &[
+        Step::Obey(b"\x7E\xC3\x1C\x1E\x0C\x15\xFF\x3F\xC1\x41\x4B"),
+        Step::Searched,
+    ],
     // Unprotected fields erased up to an address, and in all of the screen.
-    &[FIELDS, ERASE],
-    &[FIELDS, ERASE, b"\x6F"],
+    &[Step::Obey(FIELDS), Step::Obey(ERASE), Step::Searched],
+    &[
+        Step::Obey(FIELDS),
+        Step::Obey(ERASE),
+        Step::Obey(b"\x6F"),
+        Step::Searched,
+    ],
     // A character repeated from the last but one cell up to address 2.
-    &[b"\xF5\xC3\x11\x5D\x7E\x3C\x40\xC2\x5C\x13"],
+    &[
+        Step::Obey(b"\xF5\xC3\x11\x5D\x7E\x3C\x40\xC2\x5C\x13"),
+        Step::Searched,
+    ],
     // The field at 1918 is protected and goes on to 1; that at 2 isn't.
     &[
-        b"\xF5\xC3\x11\x5D\x7D\xC1\x1D\x60\xC2\xC3\xC4\x1D\x40\xC5\xC6\x13",
-        b"\xF1\xC2\x11\x5D\x7D\x12\x40\xC5",
+        Step::Obey(b"\xF5\xC3\x11\x5D\x7D\xC1\x1D\x60\xC2\xC3\xC4\x1D\x40\xC5\xC6\x13"),
+        Step::Obey(b"\xF1\xC2\x11\x5D\x7D\x12\x40\xC5"),
+        Step::Searched,
     ],
     // Tabs: to the next unprotected field.
-    &[b"\xF5\xC3\x11\x40\x40\x1D\x40\x1D\x60\x11\x40\x40\x05\xC1\x13"],
+    &[
+        Step::Obey(b"\xF5\xC3\x11\x40\x40\x1D\x40\x1D\x60\x11\x40\x40\x05\xC1\x13"),
+        Step::Searched,
+    ],
     // Without data nothing is nulled: after SBA, after IC, after RA, and after SF.
-    &[b"\xF5\xC3\x3C\x40\xC6\x5C\x1D\x40\x11\x40\xC1\x05\x13"],
-    &[b"\xF5\xC3\x3C\x40\xC6\x5C\x1D\x40\x11\x40\xC1\x13\x05\x13"],
-    &[b"\xF5\xC3\x3C\x40\xC6\x5C\x1D\x40\x11\x40\xC1\x3C\x40\xC2\x5C\x05\x13"],
-    &[b"\xF5\xC3\x3C\x40\xC6\x5C\x1D\x40\x11\x40\xC1\x1D\x60\x05\x13"],
+    &[
+        Step::Obey(b"\xF5\xC3\x3C\x40\xC6\x5C\x1D\x40\x11\x40\xC1\x05\x13"),
+        Step::Searched,
+    ],
+    &[
+        Step::Obey(b"\xF5\xC3\x3C\x40\xC6\x5C\x1D\x40\x11\x40\xC1\x13\x05\x13"),
+        Step::Searched,
+    ],
+    &[
+        Step::Obey(b"\xF5\xC3\x3C\x40\xC6\x5C\x1D\x40\x11\x40\xC1\x3C\x40\xC2\x5C\x05\x13"),
+        Step::Searched,
+    ],
+    &[
+        Step::Obey(b"\xF5\xC3\x3C\x40\xC6\x5C\x1D\x40\x11\x40\xC1\x1D\x60\x05\x13"),
+        Step::Searched,
+    ],
     // After data, up to the attribute.
-    &[b"\xF5\xC3\x3C\x40\xC6\x5C\x1D\x40\x11\x40\xC1\xC1\x05\x13"],
+    &[
+        Step::Obey(b"\xF5\xC3\x3C\x40\xC6\x5C\x1D\x40\x11\x40\xC1\xC1\x05\x13"),
+        Step::Searched,
+    ],
 ];
 
 const NULLED_ROUND_THE_END: &[u8] =
     b"\xF5\xC3\x3C\x40\x40\x5C\x11\x40\xC3\x1D\x60\x11\x5D\x7A\x1D\x40\xC1\x05\x05\xC2\x13";
+
+/// A write of an attribute at the cursor, which goes on to the next cell.
+const ONE_ATTRIBUTE_MORE: &[u8] = b"\xF1\xC3\x1D\x40\x13";
+
+static ANY: [&[Step]; 4] = [
+    &[Step::Searched],
+    // Several commands, one after the other.
+    &[
+        Step::Obey(THREE_FIELDS),
+        Step::Searched,
+        Step::Obey(FIELDS),
+        Step::Obey(ERASE),
+        Step::Searched,
+        Step::Obey(b"\x6F"),
+        Step::Searched,
+        Step::Obey(NULLED_ROUND_THE_END),
+        Step::Searched,
+        // The last cell holds the only attribute, and then a character takes its place.
+        Step::Obey(b"\xF5\xC3\x11\x5D\x7F\x1D\x60"),
+        Step::Searched,
+        Step::Obey(b"\xF1\xC3\x11\x5D\x7F\xC1"),
+        Step::Searched,
+    ],
+    // All cells are attributes.
+    &[
+        Step::ObeyTimes(ONE_ATTRIBUTE_MORE, CELL_COUNT),
+        Step::Searched,
+    ],
+    // Keys.
+    &[
+        Step::Obey(SIGN_ON),
+        Step::Type(167, b"\xC1\xC2"),
+        Step::Searched,
+        Step::EraseInput,
+        Step::Searched,
+        Step::Clear,
+        Step::Searched,
+    ],
+];
 
 // ---- what commands ask for
 
@@ -112,144 +309,53 @@ const RESTORE: Applied = Applied {
 
 /// Commands in turn, and what each asks for: writes what their control characters say, Erase All Unprotected to restore, and reads
 /// nothing.
-static ASKED: [(&[u8], Applied); 9] = [
-    (b"\xF1\xC5", ALARM),
-    (b"\xF1\xC2", RESTORE),
-    (b"\x6F", RESTORE),
-    (b"\xF2", NOTHING),
-    (b"\xF6", NOTHING),
-    (b"\x6E", NOTHING),
-    (b"\x02", NOTHING),
-    (b"\x06", NOTHING),
-    (b"\x0E\xC1", NOTHING),
-];
+static ASKED: [&[Step]; 1] = [&[
+    Step::Ask(b"\xF1\xC5", ALARM),
+    Step::Ask(b"\xF1\xC2", RESTORE),
+    Step::Ask(b"\x6F", RESTORE),
+    Step::Ask(b"\xF2", NOTHING),
+    Step::Ask(b"\xF6", NOTHING),
+    Step::Ask(b"\x6E", NOTHING),
+    Step::Ask(b"\x02", NOTHING),
+    Step::Ask(b"\x06", NOTHING),
+    Step::Ask(b"\x0E\xC1", NOTHING),
+]];
 
-fn commands_ask_for_the_alarm_or_to_restore() -> bool {
-    let mut screen = Screen::blank();
-    for (command, asked) in &ASKED {
-        if obey(&mut screen, command) != Some(*asked) {
-            return false;
-        }
-    }
-    true
-}
-
-// ---- fields
-
-/// A field by the address of its attribute.
-fn field(attr: u16, length: u16) -> Field {
-    Field {
-        attr: at(attr),
-        length,
-    }
-}
-
-/// Three fields, by the addresses of their attributes and how many cells they have; the last goes round the end up to 2.
-static THREE: [(u16, u16); 3] = [(3, 1), (5, 1904), (1910, 12)];
-
-fn lists_three(screen: &Screen) -> bool {
-    let mut fields = screen.fields();
-    for (attr, length) in &THREE {
-        if fields.next() != Some(field(*attr, *length)) {
-            return false;
-        }
-    }
-    fields.next().is_none()
-}
-
-/// Their first and last addresses, and those of their attributes.
-static FOUND: [(u16, u16, u16); 7] = [
-    (3, 3, 1),
-    (4, 3, 1),
-    (5, 5, 1904),
-    (1909, 5, 1904),
-    (1910, 1910, 12),
-    (0, 1910, 12),
-    (2, 1910, 12),
-];
-
-fn finds_three(screen: &Screen) -> bool {
-    for (place, attr, length) in &FOUND {
-        if screen.field_at(at(*place)) != Some(field(*attr, *length)) {
-            return false;
-        }
-    }
-    true
-}
+// ---- fields and copies
 
 const THREE_FIELDS: &[u8] = b"\xF5\xC3\x11\x5D\xF6\x1D\x40\xC1\x11\x40\xC3\x1D\x60\xC2\x1D\x40\xC3";
 
-fn has_three_fields(screen: &mut Screen) -> bool {
-    obey(screen, THREE_FIELDS).is_some() && lists_three(screen) && finds_three(screen)
-}
+static LISTED: [&[Step]; 2] = [
+    // Three fields; the last goes round the end up to 2. Their first and last places, and those of their attributes, are in them.
+    &[
+        Step::Obey(THREE_FIELDS),
+        Step::Fields(&[(3, 1), (5, 1904), (1910, 12)]),
+        Step::Field(3, (3, 1)),
+        Step::Field(4, (3, 1)),
+        Step::Field(5, (5, 1904)),
+        Step::Field(1909, (5, 1904)),
+        Step::Field(1910, (1910, 12)),
+        Step::Field(0, (1910, 12)),
+        Step::Field(2, (1910, 12)),
+    ],
+    // A character repeated over the whole screen leaves no field.
+    &[
+        Step::Obey(GREETING),
+        Step::Obey(b"\xF1\xC3\x11\x40\x40\x3C\x40\x40\x5C"),
+        Step::Fields(&[]),
+        Step::NoField(0),
+    ],
+];
 
-fn has_no_field(screen: &Screen) -> bool {
-    screen.fields().next().is_none() && screen.field_at(at(0)).is_none()
-}
-
-/// Whether a character repeated over the whole screen leaves no field.
-fn loses_its_fields(screen: &mut Screen) -> bool {
-    obeys(screen, &[GREETING, b"\xF1\xC3\x11\x40\x40\x3C\x40\x40\x5C"]) && has_no_field(screen)
-}
-
-/// Whether a copy, where there is memory for one, is the same as the screen.
-fn is_copied(screen: &Screen) -> bool {
-    match screen.clone() {
-        Ok(copy) => copy == *screen,
-        Err(_) => true,
-    }
-}
-
-fn a_copy_is_the_same() -> bool {
-    let mut screen = Screen::blank();
-    obeys(&mut screen, &[FIELDS]) && is_copied(&screen)
-}
-
-fn lists_and_finds_fields() -> bool {
-    has_three_fields(&mut Screen::blank()) && loses_its_fields(&mut Screen::blank())
-}
-
-// ---- memory
-
-/// Whether Read Modified All is appended where there is memory, and nothing where there isn't.
-fn appends_fields(screen: &Screen, out: &mut Vec<u8>) -> bool {
-    let is_written = screen.put_read_modified(out, true).is_ok();
-    let wanted = if is_written {
-        b"\x60\x40\x40\x11\x40\xC1\xC1".as_slice()
-    } else {
-        b"".as_slice()
-    };
-    out.as_slice() == wanted
-}
-
-/// The same of Read Buffer, behind what is there; it is taken away again.
-fn appends_cells(screen: &Screen, out: &mut Vec<u8>) -> bool {
-    let before = out.len();
-    let is_written = screen.put_read_buffer(out).is_ok();
-    let wanted = if is_written { before + 1924 } else { before };
-    let is_appended = out.len() == wanted;
-    out.truncate(before);
-    is_appended
-}
-
-/// Whether, where there is room behind what is there, no memory is asked for.
-fn appends_where_there_is_room(screen: &Screen, out: &mut Vec<u8>) -> bool {
-    let before = out.len();
-    out.capacity() < before + 7 || screen.put_read_modified(out, true).is_ok()
-}
-
-fn appends(screen: &mut Screen, out: &mut Vec<u8>) -> bool {
-    obey(screen, b"\xF5\xC3\x11\x40\x40\x1D\xC1\xC1").is_some()
-        && appends_fields(screen, out)
-        && appends_cells(screen, out)
-        && appends_where_there_is_room(screen, out)
-}
+static COPIED: [&[Step]; 1] = [&[Step::Obey(FIELDS), Step::Copied]];
 
 // With room for all of it an answer is appended; where memory is refused nothing is. Each growth is refused in turn by
 // running `rt try --fail-alloc N -- libraries` in crates/trials3270 with one N after another.
-fn appends_all_or_nothing(alloc: Global) -> bool {
-    appends(&mut Screen::blank(), &mut Vec::new(alloc))
-}
+static APPENDED: [&[Step]; 1] = [&[
+    Step::Obey(b"\xF5\xC3\x11\x40\x40\x1D\xC1\xC1"),
+    Step::Modified(b"\x60\x40\x40\x11\x40\xC1\xC1"),
+    Step::Buffer(1924),
+]];
 
 /// What is tried here.
 pub(crate) enum Check {
@@ -273,12 +379,12 @@ pub(crate) static CHECKS: [(&str, Check); 6] = [
 impl Tried for Check {
     fn is_so(&self, alloc: Global) -> bool {
         match self {
-            Check::Asked => commands_ask_for_the_alarm_or_to_restore(),
-            Check::Copy => a_copy_is_the_same(),
-            Check::Fields => lists_and_finds_fields(),
-            Check::Appends => appends_all_or_nothing(alloc),
-            Check::Shown => by_search::what_is_shown_is_as_searched(),
-            Check::Any => by_search::any_screen_is_as_searched(),
+            Check::Asked => begin(alloc, &ASKED),
+            Check::Copy => begin(alloc, &COPIED),
+            Check::Fields => begin(alloc, &LISTED),
+            Check::Appends => begin(alloc, &APPENDED),
+            Check::Shown => begin(alloc, &SHOWN),
+            Check::Any => begin(alloc, &ANY),
         }
     }
 }

@@ -1,6 +1,8 @@
-//! Screens that panels ask for, with cells and addresses from outside.
+//! Screens that panels ask for, with cells and addresses from outside: tables of what is asked of the panels of a text, which one function
+//! takes in turn.
 use super::texts::SIGN_ON;
-use codes3270::{Aid, Attr, PaNo, PfNo};
+use crate::Tried;
+use codes3270::{Aid, Attr, PfNo, aid_from_byte};
 use datastream::{Want, Wants};
 use panels::{Field, Message, Next, Panel, PanelSet, Values};
 use std::alloc::Global;
@@ -59,17 +61,135 @@ fn asks_for(panel: &Panel, values: &Values, message: Message, items: &[Item], cu
         && screen.reset() == (message == Message::Fresh)
 }
 
-/// The same of the panel at an index, where it is shown anew.
-fn shows(set: &PanelSet, index: usize, values: &Values, items: &[Item], cursor: u16) -> bool {
-    match set.panel(index) {
-        Some(panel) => asks_for(panel, values, Message::Fresh, items, cursor),
-        None => false,
+/// Whether keys, by the bytes of their identifiers, lead from a panel as is said.
+fn lead(panel: &Panel, keys: &[u8], next: Next) -> bool {
+    for key in keys {
+        match aid_from_byte(*key) {
+            Some(aid) => {
+                if panel.next(aid) != next {
+                    return false;
+                }
+            }
+            None => return false,
+        }
+    }
+    true
+}
+
+/// A field: its number, the address of its attribute, its length, and whether it is required.
+type Extent = (usize, u16, u16, bool);
+
+fn has_fields(fields: &[Field], extents: &[Extent]) -> bool {
+    for (field, (number, attr, length, required)) in fields.iter().zip(extents) {
+        if field.number != *number
+            || field.extent.attr().get() != *attr
+            || field.extent.length != *length
+            || field.required != *required
+        {
+            return false;
+        }
+    }
+    fields.len() == extents.len()
+}
+
+// ---- steps
+
+/// What is asked of a panel.
+enum Asked {
+    /// With a message it is shown with these items and a cursor.
+    Shown(Message, &'static [Item], u16),
+    /// With a message the cursor is there.
+    Cursor(Message, u16),
+    /// Shown again without a text, or after a key that leads nowhere, it keeps these cells, and has these items elsewhere.
+    Kept(&'static [Kept], &'static [Item]),
+    KeptNotActive(&'static [Kept], &'static [Item]),
+    /// Keys, by the bytes of their identifiers, lead there.
+    Leads(&'static [u8], Next),
+    Fields(&'static [Extent]),
+}
+
+fn is_asked(panel: &Panel, values: &Values, asked: &Asked) -> bool {
+    match asked {
+        Asked::Shown(message, items, cursor) => {
+            asks_for(panel, values, *message, items, *cursor)
+        }
+        Asked::Cursor(message, cursor) => {
+            panel.wanted(values, *message, false).cursor().get() == *cursor
+        }
+        Asked::Kept(kept, items) => {
+            let screen = panel.wanted(values, Message::Plain, true);
+            keeps(screen.cells(), kept, items)
+        }
+        Asked::KeptNotActive(kept, items) => {
+            let screen = panel.wanted(values, Message::KeyNotActive, true);
+            keeps(screen.cells(), kept, items)
+        }
+        Asked::Leads(keys, next) => lead(panel, keys, *next),
+        Asked::Fields(extents) => has_fields(panel.fields(), extents),
+    }
+}
+
+/// A step with the panels of a text and the values of fields.
+enum Step {
+    /// The user of the sign-on is ANN from here on, or the department D7.
+    User,
+    Department,
+    /// The first field has four letters from here on, and the second an empty value.
+    Letters,
+    /// What is asked of the panel at an index.
+    Panel(usize, Asked),
+    /// Where it starts, and how many panels and LUs there are.
+    Has(usize, usize, usize),
+}
+
+fn is_so(set: &PanelSet, values: &mut Values, step: &Step) -> bool {
+    match step {
+        Step::User => values.set(0, &[0xC1, 0xD5, 0xD5]).is_ok(),
+        Step::Department => values.set(1, &[0xC4, 0xF7]).is_ok(),
+        Step::Letters => {
+            values.set(0, &[0xC1, 0xC2, 0xC3, 0xC4]).is_ok() && values.set(1, &[]).is_ok()
+        }
+        Step::Panel(index, asked) => match set.panel(*index) {
+            Some(panel) => is_asked(panel, values, asked),
+            None => false,
+        },
+        Step::Has(start, count, lus) => {
+            set.start() == *start
+                && set.len() == *count
+                && set.lus().len() == *lus
+                && set.panel(*count).is_none()
+        }
+    }
+}
+
+/// Whether each step is so, in turn.
+fn follows(set: &PanelSet, values: &mut Values, steps: &[Step]) -> bool {
+    for step in steps {
+        if !is_so(set, values, step) {
+            return false;
+        }
+    }
+    true
+}
+
+/// What is tried of the panels of a text.
+pub(super) struct Dialogue {
+    text: &'static str,
+    steps: &'static [Step],
+}
+
+impl Tried for Dialogue {
+    fn is_so(&self, alloc: Global) -> bool {
+        match PanelSet::read(alloc, self.text) {
+            Ok(set) => follows(&set, &mut Values::new(alloc), self.steps),
+            Err(_) => false,
+        }
     }
 }
 
 // ---- the sign-on
 
-static FIRST_SCREEN: [Item; 8] = [
+const FIRST_SCREEN: &[Item] = &[
     (0, 0xF0, &[0xE2, 0xC9, 0xC7, 0xD5, 0x40, 0xD6, 0xD5]),
     (160, 0xF0, &[0xE4, 0xE2, 0xC5, 0xD9]),
     (166, 0x40, &[]),
@@ -81,7 +201,7 @@ static FIRST_SCREEN: [Item; 8] = [
 ];
 
 /// After the user was left empty, and the department typed in.
-static REQUIRED_SCREEN: [Item; 8] = [
+const REQUIRED_SCREEN: &[Item] = &[
     (0, 0xF0, &[0xE2, 0xC9, 0xC7, 0xD5, 0x40, 0xD6, 0xD5]),
     (160, 0xF0, &[0xE4, 0xE2, 0xC5, 0xD9]),
     (166, 0x40, &[]),
@@ -99,7 +219,7 @@ static REQUIRED_SCREEN: [Item; 8] = [
 ];
 
 /// After a key that leads nowhere; both fields are kept.
-static NOT_ACTIVE_SCREEN: [Item; 8] = [
+const NOT_ACTIVE_SCREEN: &[Item] = &[
     (0, 0xF0, &[0xE2, 0xC9, 0xC7, 0xD5, 0x40, 0xD6, 0xD5]),
     (160, 0xF0, &[0xE4, 0xE2, 0xC5, 0xD9]),
     (166, 0x40, &[]),
@@ -116,93 +236,40 @@ static NOT_ACTIVE_SCREEN: [Item; 8] = [
     ),
 ];
 
-static HELLO_SCREEN: [Item; 3] = [
+const HELLO_SCREEN: &[Item] = &[
     (0, 0xF0, &[0xC8, 0xC5, 0xD3, 0xD3, 0xD6]),
     (7, 0xF0, &[0xC1, 0xD5, 0xD5]),
     (1840, 0xF8, &[]),
 ];
 
-fn is_field(field: &Field, number: usize, attr: u16, length: u16, required: bool) -> bool {
-    field.number == number
-        && field.extent.attr().get() == attr
-        && field.extent.length == length
-        && field.required == required
-}
-
-fn has_user_and_department(fields: &[Field]) -> bool {
-    match fields {
-        [user, department] => {
-            is_field(user, 0, 166, 8, true) && is_field(department, 1, 246, 4, false)
-        }
-        _ => false,
-    }
-}
-
-fn is_sign_on(panel: &Panel, values: &Values) -> bool {
-    asks_for(panel, values, Message::Fresh, &FIRST_SCREEN, 167)
-        && panel.next(Aid::Enter) == Next::Go(1)
-        && panel.next(Aid::Clear) == Next::Again
-        && has_user_and_department(panel.fields())
-}
-
-fn begins_with_the_sign_on(set: &PanelSet, values: &Values) -> bool {
-    match set.panel(0) {
-        Some(panel) => {
-            set.start() == 0
-                && is_sign_on(panel, values)
-                && set.len() == 2
-                && set.lus().len() == 2
-                && set.panel(2).is_none()
-        }
-        None => false,
-    }
-}
-
-pub(super) fn a_sign_on_is_shown(alloc: Global) -> bool {
-    match PanelSet::read(alloc, SIGN_ON) {
-        Ok(set) => begins_with_the_sign_on(&set, &Values::new(alloc)),
-        Err(_) => false,
-    }
-}
-
-fn keeps_both_fields(sign_on: &Panel, values: &Values) -> bool {
-    let screen = sign_on.wanted(values, Message::KeyNotActive, true);
-    keeps(
-        screen.cells(),
-        &[(167, 175), (247, 251)],
-        &NOT_ACTIVE_SCREEN,
-    )
-}
-
-/// Whether it asks for the user, for the department, and for another key.
-fn is_shown_again(sign_on: &Panel, values: &Values) -> bool {
-    let asks_for_department = sign_on.wanted(values, Message::Required(1), false);
-    asks_for(sign_on, values, Message::Required(0), &REQUIRED_SCREEN, 167)
-        && asks_for_department.cursor().get() == 247
-        && keeps_both_fields(sign_on, values)
-}
-
-fn sign_on_is_shown_again(set: &PanelSet, values: &Values) -> bool {
-    match set.panel(0) {
-        Some(sign_on) => is_shown_again(sign_on, values),
-        None => false,
-    }
-}
+pub(super) static SIGN_ON_SHOWN: Dialogue = Dialogue {
+    text: SIGN_ON,
+    steps: &[
+        Step::Has(0, 2, 2),
+        Step::Panel(0, Asked::Shown(Message::Fresh, FIRST_SCREEN, 167)),
+        // Enter and Clear.
+        Step::Panel(0, Asked::Leads(&[0x7D], Next::Go(1))),
+        Step::Panel(0, Asked::Leads(&[0x6D], Next::Again)),
+        Step::Panel(0, Asked::Fields(&[(0, 166, 8, true), (1, 246, 4, false)])),
+    ],
+};
 
 /// The department is set first, and then the user.
-fn both_are_shown(set: &PanelSet, values: &mut Values) -> bool {
-    values.set(1, &[0xC4, 0xF7]).is_ok()
-        && sign_on_is_shown_again(set, values)
-        && values.set(0, &[0xC1, 0xD5, 0xD5]).is_ok()
-        && shows(set, 1, values, &HELLO_SCREEN, 0)
-}
-
-pub(super) fn a_panel_is_shown_again(alloc: Global) -> bool {
-    match PanelSet::read(alloc, SIGN_ON) {
-        Ok(set) => both_are_shown(&set, &mut Values::new(alloc)),
-        Err(_) => false,
-    }
-}
+pub(super) static SHOWN_AGAIN: Dialogue = Dialogue {
+    text: SIGN_ON,
+    steps: &[
+        Step::Department,
+        // It asks for the user, for the department, and for another key.
+        Step::Panel(0, Asked::Shown(Message::Required(0), REQUIRED_SCREEN, 167)),
+        Step::Panel(0, Asked::Cursor(Message::Required(1), 247)),
+        Step::Panel(
+            0,
+            Asked::KeptNotActive(&[(167, 175), (247, 251)], NOT_ACTIVE_SCREEN),
+        ),
+        Step::User,
+        Step::Panel(1, Asked::Shown(Message::Fresh, HELLO_SCREEN, 0)),
+    ],
+};
 
 // ---- keys
 
@@ -213,68 +280,40 @@ pub(super) fn pf(number: u8) -> Aid {
     }
 }
 
-fn pa(number: u8) -> Aid {
-    match PaNo::new(number) {
-        Some(key) => Aid::Pa(key),
-        None => Aid::NoAid,
-    }
-}
-
-/// Whether keys lead from the panel at an index as is said.
-fn lead(set: &PanelSet, index: usize, aids: &[Aid], next: Next) -> bool {
-    let Some(panel) = set.panel(index) else {
-        return false;
-    };
-    for aid in aids {
-        if panel.next(*aid) != next {
-            return false;
-        }
-    }
-    true
-}
-
-fn sign_on_leads(set: &PanelSet) -> bool {
-    lead(set, 1, &[pf(3)], Next::Go(0)) && lead(set, 1, &[Aid::Enter, pf(15)], Next::Again)
-}
-
-pub(super) fn keys_lead_where_the_table_says(alloc: Global) -> bool {
-    match PanelSet::read(alloc, SIGN_ON) {
-        Ok(set) => sign_on_leads(&set),
-        Err(_) => false,
-    }
-}
+pub(super) static TABLE_OF_KEYS: Dialogue = Dialogue {
+    text: SIGN_ON,
+    steps: &[
+        // PF3; Enter and PF15.
+        Step::Panel(1, Asked::Leads(&[0xF3], Next::Go(0))),
+        Step::Panel(1, Asked::Leads(&[0x7D, 0xC3], Next::Again)),
+    ],
+};
 
 const KEYS: &str =
     "start = \"A\"\nlus = []\npanel = [{name = \"A\", keys = {pf1 = \"B\", pf24 = \"B\", pa1 = \"B\", pa3 = \"B\", clear = \"B\", pf10 = \"A\"}}, {name = \"B\"}]";
 
-fn all_lead(set: &PanelSet) -> bool {
-    lead(
-        set,
-        0,
-        &[pf(1), pf(24), pa(1), pa(3), Aid::Clear],
-        Next::Go(1),
-    ) && lead(set, 0, &[pf(10)], Next::Go(0))
-        && lead(
-            set,
+pub(super) static KINDS_OF_KEY: Dialogue = Dialogue {
+    text: KEYS,
+    steps: &[
+        // PF1, PF24, PA1, PA3 and Clear; PF10; and PF2, PF23, PA2, Enter and no key.
+        Step::Panel(
             0,
-            &[pf(2), pf(23), pa(2), Aid::Enter, Aid::NoAid],
-            Next::Again,
-        )
-}
-
-pub(super) fn each_kind_of_key_leads(alloc: Global) -> bool {
-    match PanelSet::read(alloc, KEYS) {
-        Ok(set) => all_lead(&set),
-        Err(_) => false,
-    }
-}
+            Asked::Leads(&[0xF1, 0x4C, 0x6C, 0x6B, 0x6D], Next::Go(1)),
+        ),
+        Step::Panel(0, Asked::Leads(&[0x7A], Next::Go(0))),
+        Step::Panel(
+            0,
+            Asked::Leads(&[0xF2, 0x4B, 0x6E, 0x7D, 0x60], Next::Again),
+        ),
+    ],
+};
 
 // ---- fields
 
 const ATTRIBUTES: &str =
     "start = \"A\"\nlus = []\npanel = [{name = \"A\", cursor = \"g\", text = [{row = 23, col = 80, text = \"X\", bright = true}], field = [{name = \"f\", row = 1, col = 2, length = 3, fill = \"7\", numeric = true, hidden = true, marked = true}, {name = \"g\", row = 1, col = 6, length = 2, fill = \"AB\"}, {name = \"h\", row = 23, col = 60, length = 18}]}]";
 
-static ATTRIBUTES_SCREEN: [Item; 7] = [
+const ATTRIBUTES_SCREEN: &[Item] = &[
     (0, 0x5D, &[0xF7, 0x00, 0x00]),
     (4, 0x40, &[0xC1, 0xC2]),
     (7, 0xF0, &[]),
@@ -284,36 +323,31 @@ static ATTRIBUTES_SCREEN: [Item; 7] = [
     (1840, 0xF8, &[]),
 ];
 
-pub(super) fn fields_have_their_attributes_and_fills(alloc: Global) -> bool {
-    match PanelSet::read(alloc, ATTRIBUTES) {
-        Ok(set) => shows(&set, 0, &Values::new(alloc), &ATTRIBUTES_SCREEN, 5),
-        Err(_) => false,
-    }
-}
+pub(super) static FIELDS_SHOWN: Dialogue = Dialogue {
+    text: ATTRIBUTES,
+    steps: &[Step::Panel(0, Asked::Shown(Message::Fresh, ATTRIBUTES_SCREEN, 5))],
+};
 
 const LAST_CELLS: &str =
     "start = \"A\"\nlus = []\npanel = [{name = \"A\", cursor = \"g\", field = [{name = \"f\", row = 1, col = 2, length = 1837}, {name = \"g\", row = 23, col = 80, length = 1, fill = \"9\"}]}, {name = \"B\", field = [{name = \"h\", row = 1, col = 2, length = 1839}]}]";
 
-static TWO_FIELDS_SCREEN: [Item; 3] = [(0, 0x40, &[]), (1838, 0x40, &[0xF9]), (1840, 0xF8, &[])];
+const TWO_FIELDS_SCREEN: &[Item] = &[(0, 0x40, &[]), (1838, 0x40, &[0xF9]), (1840, 0xF8, &[])];
 
-static ONE_FIELD_SCREEN: [Item; 2] = [(0, 0x40, &[]), (1840, 0xF8, &[])];
+const ONE_FIELD_SCREEN: &[Item] = &[(0, 0x40, &[]), (1840, 0xF8, &[])];
 
-fn both_end_there(set: &PanelSet, values: &Values) -> bool {
-    shows(set, 0, values, &TWO_FIELDS_SCREEN, 1839) && shows(set, 1, values, &ONE_FIELD_SCREEN, 1)
-}
-
-pub(super) fn a_field_may_end_before_the_message(alloc: Global) -> bool {
-    match PanelSet::read(alloc, LAST_CELLS) {
-        Ok(set) => both_end_there(&set, &Values::new(alloc)),
-        Err(_) => false,
-    }
-}
+pub(super) static LAST_CELLS_SHOWN: Dialogue = Dialogue {
+    text: LAST_CELLS,
+    steps: &[
+        Step::Panel(0, Asked::Shown(Message::Fresh, TWO_FIELDS_SCREEN, 1839)),
+        Step::Panel(1, Asked::Shown(Message::Fresh, ONE_FIELD_SCREEN, 1)),
+    ],
+};
 
 const VALUES: &str =
     "start = \"A\"\nlus = []\npanel = [{name = \"A\", text = [{row = 2, col = 2, show = \"f\", length = 2}], field = [{name = \"f\", row = 1, col = 2, length = 3, fill = \"7\"}, {name = \"g\", row = 1, col = 6, length = 2, fill = \"AB\"}, {name = \"h\", row = 1, col = 9, length = 2, fill = \"9\", marked = true}]}]";
 
 /// A value is cut to the field's length, an empty one isn't the fill, and a field without one has its fill.
-static VALUES_SCREEN: [Item; 6] = [
+const VALUES_SCREEN: &[Item] = &[
     (0, 0xC1, &[0xC1, 0xC2, 0xC3]),
     (4, 0x40, &[]),
     (7, 0xC1, &[0xF9]),
@@ -323,7 +357,7 @@ static VALUES_SCREEN: [Item; 6] = [
 ];
 
 /// What is kept is marked only where the panel says so.
-static KEPT_SCREEN: [Item; 6] = [
+const KEPT_SCREEN: &[Item] = &[
     (0, 0x40, &[]),
     (4, 0x40, &[]),
     (7, 0xC1, &[]),
@@ -332,30 +366,11 @@ static KEPT_SCREEN: [Item; 6] = [
     (1840, 0xF8, &[]),
 ];
 
-fn keeps_the_values(panel: &Panel, values: &Values) -> bool {
-    let screen = panel.wanted(values, Message::Plain, true);
-    keeps(screen.cells(), &[(1, 4), (5, 7), (8, 10)], &KEPT_SCREEN)
-}
-
-fn is_written(set: &PanelSet, values: &Values) -> bool {
-    match set.panel(0) {
-        Some(panel) => {
-            asks_for(panel, values, Message::Plain, &VALUES_SCREEN, 1)
-                && keeps_the_values(panel, values)
-        }
-        None => false,
-    }
-}
-
-fn is_written_from(set: &PanelSet, values: &mut Values) -> bool {
-    values.set(0, &[0xC1, 0xC2, 0xC3, 0xC4]).is_ok()
-        && values.set(1, &[]).is_ok()
-        && is_written(set, values)
-}
-
-pub(super) fn fields_are_written_from_their_values(alloc: Global) -> bool {
-    match PanelSet::read(alloc, VALUES) {
-        Ok(set) => is_written_from(&set, &mut Values::new(alloc)),
-        Err(_) => false,
-    }
-}
+pub(super) static VALUES_SHOWN: Dialogue = Dialogue {
+    text: VALUES,
+    steps: &[
+        Step::Letters,
+        Step::Panel(0, Asked::Shown(Message::Plain, VALUES_SCREEN, 1)),
+        Step::Panel(0, Asked::Kept(&[(1, 4), (5, 7), (8, 10)], KEPT_SCREEN)),
+    ],
+};
