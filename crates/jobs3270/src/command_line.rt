@@ -113,27 +113,26 @@ fn lu_in(options: &ArgMatches<'_>) -> Option<Option<Lu>>
 fn job_named(name: &str, options: &ArgMatches<'_>) -> Option<Job>
     ensures { result ≡ job_named name.now (rows_of (found_of options.now)) }
 {
-    match name {
-        "script" => Some(Job::Script),
-        "show" => Some(Job::Show),
-        "selfrun" => Some(Job::Selfrun {
+    let job = match name {
+        "script" => Job::Script,
+        "show" => Job::Show,
+        "selfrun" => Job::Selfrun {
             turns: turns_in(options)?,
-        }),
-        "host" => {
-            let port = port_in(options)?;
-            let turns = turns_in(options)?;
-            Some(Job::Host { port, turns })
-        }
-        "serve" => Some(Job::Serve {
+        },
+        "host" => Job::Host {
             port: port_in(options)?,
-        }),
-        "term" => {
-            let port = port_in(options)?;
-            let lu = lu_in(options)?;
-            Some(Job::Term { port, lu })
-        }
-        _ => None,
-    }
+            turns: turns_in(options)?,
+        },
+        "serve" => Job::Serve {
+            port: port_in(options)?,
+        },
+        "term" => Job::Term {
+            port: port_in(options)?,
+            lu: lu_in(options)?,
+        },
+        _ => return None,
+    };
+    Some(job)
 }
 
 /// The job that was asked for: `script` where there is no word.

@@ -6,9 +6,9 @@ ghost use Rattle.tn3270e_msg.specs.declared.reply.Reason.{Reason as Why};
 ghost use Rattle.jobs3270.specs.Refusals.{Finds, HearsHost, HearsTerminal, HostSays, Listens, Rejects, Requests, TerminalSays, asked_after, begun, first_of, kept_with, lu_named, next_refusal, reason_of, refused_after, request_of, rest_of, settled, told, unheard, with_request};
 
 use arrayvec::ArrayVec;
-use std::alloc::Global;
+use std::alloc::{AllocError, Global};
 use std::marker::Model;
-use telnet_wire::{Decoder, Item, Step, WireFault};
+use telnet_wire::{Decoder, Item, Step};
 use tn3270e_msg::{Lu, Name, Reason, SubMessage, read_sub};
 
 /// The most requests and refusals that are kept: a host sends no more rejections on a connection.
@@ -239,14 +239,20 @@ impl Model for Refusals {
 }
 
 impl Refusals {
-    /// Where no connection began yet. It makes all the room that it needs, and answers [`WireFault::Memory`] where that can't be had.
-    pub(crate) fn new(alloc: Global) -> Result<Refusals, WireFault>
+    /// Where no connection began yet. It makes all the room that it needs, and answers an error where that can't be had.
+    pub(crate) fn new(alloc: Global) -> Result<Refusals, AllocError>
         ensures { IfOk result (λ heard. heard ≡ unheard) }
     {
+        let Ok(terminal) = Decoder::new(alloc, 0) else {
+            return Err(AllocError);
+        };
+        let Ok(host) = Decoder::new(alloc, 0) else {
+            return Err(AllocError);
+        };
         Ok(Refusals {
             listens: false,
-            terminal: Decoder::new(alloc, 0)?,
-            host: Decoder::new(alloc, 0)?,
+            terminal,
+            host,
             asked: ArrayVec::new(),
             refused: ArrayVec::new(),
         })

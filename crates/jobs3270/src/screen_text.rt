@@ -1,18 +1,10 @@
 //! A screen as text.
 ghost use Rattle.std.specs.Prelude.{◌≡◌, ◌++◌, OnOk, string_bytes};
-ghost use Rattle.jobs3270.specs.ScreenText.{cursor_line, screen_text};
+ghost use Rattle.jobs3270.specs.ScreenText.{screen_text};
 
 use presentation::Screen;
 use std::alloc::{AllocError, Global};
 use term_core::screen_lines;
-
-/// Adds the line on the cursor.
-fn put_cursor(text: &mut String, screen: &Screen) -> Result<(), AllocError>
-    ensures { OnOk result (string_bytes text.new ≡ string_bytes text.old ++ cursor_line screen.now) }
-{
-    let cursor = screen.cursor().get();
-    write!(text, "cursor {cursor}\n")
-}
 
 /// Adds the screen: a line for each row, without the blanks at its end, and the line `cursor N`.
 pub(crate) fn put_screen(
@@ -24,5 +16,6 @@ pub(crate) fn put_screen(
 {
     let rows = screen_lines(alloc, screen)?;
     text.push_str(rows.as_str())?;
-    put_cursor(text, screen)
+    let cursor = screen.cursor().get();
+    write!(text, "cursor {cursor}\n")
 }

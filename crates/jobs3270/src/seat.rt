@@ -113,6 +113,6 @@ impl Seat {
             Stop::Closed(_) => self.leave(),
             Stop::Memory => return Err(Fault::NoMemory),
         }
-        Ok(came > 0 || sent)
+        Ok((came > 0) | sent)
     }
 }

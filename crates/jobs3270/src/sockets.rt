@@ -12,7 +12,6 @@ use mio::net::TcpStream;
 use std::alloc::{AllocError, Global};
 use std::marker::Model;
 use std::net::SocketAddr;
-use telnet_wire::WireFault;
 
 /// The connections of a host over sockets, what is heard of each, and whether a byte crossed since that was asked last.
 ///
@@ -49,14 +48,12 @@ fn unused_places(alloc: Global) -> Result<Vec<Place>, AllocError>
 }
 
 /// As much room for what is heard of connections.
-fn unheard_numbers(alloc: Global) -> Result<Vec<Refusals>, WireFault>
+fn unheard_numbers(alloc: Global) -> Result<Vec<Refusals>, AllocError>
     ensures { IfOk result (λ heard. heard.items ≡ replicate most_connections unheard) }
 {
     let mut heard = Vec::with_capacity(alloc, MOST_CONNECTIONS)?;
     for _ in 0..MOST_CONNECTIONS {
-        if heard.push(Refusals::new(alloc)?).is_err() {
-            return Err(WireFault::Memory);
-        }
+        heard.push(Refusals::new(alloc)?)?;
     }
     Ok(heard)
 }
@@ -87,8 +84,8 @@ fn taken(answer: LinkWrite, bytes: &[u8]) -> &[u8]
 }
 
 impl Sockets {
-    /// No connection yet. [`WireFault::Memory`] where memory was refused.
-    pub(crate) fn new(alloc: Global) -> Result<Sockets, WireFault>
+    /// No connection yet. An error where memory was refused.
+    pub(crate) fn new(alloc: Global) -> Result<Sockets, AllocError>
         ensures { IfOk result (λ sockets. sockets ≡ new_sockets) }
     {
         Ok(Sockets {
