@@ -15,11 +15,11 @@ mod making;
 mod story;
 mod terminals;
 mod trial;
-mod values;
 mod wire;
 mod worlds;
 
-use calls::{CALLS, Call, call_named};
+use crate::named::named;
+use calls::{CALLS, Call};
 use std::io::{self, ErrorKind};
 
 fn print_names(rt: &impl Print) -> io::Result<()> {
@@ -48,7 +48,7 @@ pub fn try_named(rt: &(impl Print + Eprint + AllocGlobal), name: Option<&str>) -
         print_names(rt)?;
         return Ok(true);
     };
-    match call_named(name) {
+    match named(&CALLS, name) {
         Some(call) => tell(rt, call),
         None => Err(io::Error::from(ErrorKind::InvalidInput)),
     }

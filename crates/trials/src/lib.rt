@@ -9,6 +9,7 @@ mod fault;
 mod growths;
 mod keys;
 mod likeness;
+mod named;
 mod readers;
 mod serving;
 mod speed;

@@ -23,9 +23,15 @@ pub fn read_pool(alloc: Global, names: &[String]) -> Result<Pool, Fault> {
     }
 }
 
-/// A host that shows the panels of a text.
-pub fn read_host(alloc: Global, panel_text: &str) -> Result<Host, Fault> {
+/// The panels of a text, and the pool of the LUs that they name.
+pub fn read_parts(alloc: Global, panel_text: &str) -> Result<(PanelSet, Pool), Fault> {
     let panels = read_panels(alloc, panel_text)?;
     let pool = read_pool(alloc, panels.lus())?;
+    Ok((panels, pool))
+}
+
+/// A host that shows the panels of a text.
+pub fn read_host(alloc: Global, panel_text: &str) -> Result<Host, Fault> {
+    let (panels, pool) = read_parts(alloc, panel_text)?;
     Ok(Host::new(alloc, panels, pool)?)
 }

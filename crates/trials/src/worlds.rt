@@ -12,46 +12,33 @@ mod case;
 mod command;
 mod deed;
 mod likeness;
-mod lister;
 mod script;
 mod sights;
-mod teller;
+mod telling;
 mod town;
 mod watch;
 
+use crate::bytes::first_of;
 use crate::fault::{Failure, Fault};
 use case::{Outcome, tell};
-use script::{Line, Numbered, body_of, panel_text, read_script};
+use command::Word;
+pub(crate) use deed::Deed;
+pub(crate) use likeness::look_same_on;
+use script::{Line, body_of, panels_named, read_script};
 use std::alloc::Global;
-use std::io::{self, ErrorKind};
-
-/// Tells a case with panels of a name.
-fn tell_with(
-    alloc: Global,
-    script: &[Numbered<'_>],
-    panels: &str,
-    body: &[Numbered<'_>],
-) -> Result<Outcome, Failure> {
-    match panel_text(alloc, script, panels) {
-        Ok(text) => tell(alloc, text.as_str(), body),
-        Err(fault) => Err(Failure { line: 0, fault }),
-    }
-}
+use std::io;
+pub(crate) use telling::step;
+pub(crate) use town::Town;
 
 /// Tells a case, and where memory is refused again.
-fn tell_again(
-    alloc: Global,
-    script: &[Numbered<'_>],
-    panels: &str,
-    body: &[Numbered<'_>],
-) -> Result<Outcome, Failure> {
-    match tell_with(alloc, script, panels, body) {
+fn tell_again(alloc: Global, panels: &[Line<'_>], body: &[Line<'_>]) -> Result<Outcome, Failure> {
+    match tell(alloc, panels, body) {
         Err(
             Failure {
                 fault: Fault::NoMemory(_),
                 ..
             },
-        ) => tell_with(alloc, script, panels, body),
+        ) => tell(alloc, panels, body),
         outcome => outcome,
     }
 }
@@ -76,43 +63,22 @@ fn print_outcome(
     }
 }
 
-/// Tells a case, and prints what it came to. Says whether all of it was right.
-fn tell_case(
-    rt: &(impl Print + AllocGlobal),
-    script: &[Numbered<'_>],
-    panels: &str,
-    name: &str,
-    body: &[Numbered<'_>],
-) -> io::Result<bool> {
-    let outcome = tell_again(rt.alloc(), script, panels, body);
-    print_outcome(rt, name, &outcome)
-}
-
 /// Tells the cases of a script one after another. Says whether all were right.
-fn tell_all(rt: &(impl Print + AllocGlobal), script: &[Numbered<'_>]) -> io::Result<bool> {
+fn tell_all(rt: &(impl Print + AllocGlobal), script: &[Line<'_>]) -> io::Result<bool> {
     let mut all = true;
-    for (index, numbered) in script.iter().enumerate() {
-        if let Line::World(panels, name) = numbered.line {
+    for (index, line) in script.iter().enumerate() {
+        if let Word::World = line.word {
+            let (panels, name) = first_of(line.words);
             let body = body_of(&script[index + 1..]);
-            all = tell_case(rt, script, panels, name, body)? && all;
+            let outcome = tell_again(rt.alloc(), panels_named(&*script, panels), body);
+            all = print_outcome(rt, name, &outcome)? && all;
         }
     }
     Ok(all)
 }
 
-/// Prints what is wrong with a script; where that is want of memory, it is the error.
-fn tell_failure(rt: &impl Print, failure: &Failure) -> io::Result<bool> {
-    if let Fault::NoMemory(_) = &failure.fault {
-        return Err(io::Error::from(ErrorKind::OutOfMemory));
-    }
-    println!(rt; "{failure}")?;
-    Ok(false)
-}
-
 /// Tells the cases of a script. Says whether all were right; where memory for the script itself is refused, that is the error.
 pub fn tell_script(rt: &(impl Print + AllocGlobal), text: &str) -> io::Result<bool> {
-    match read_script(rt.alloc(), text) {
-        Ok(script) => tell_all(rt, script.as_slice()),
-        Err(failure) => tell_failure(rt, &failure),
-    }
+    let script = read_script(rt.alloc(), text)?;
+    tell_all(rt, script.as_slice())
 }

@@ -1,13 +1,11 @@
 //! Calls that append to a vector: refused memory, they leave it as it was.
 
 use crate::growths::story::{FIELDS, MIXED, NOTE};
-use crate::growths::trial::{Answer, Trial};
 use codes3270::{Addr, Attr, Wcc};
 use datastream::{CommandCode, CommandWriter, Want, Wanted, read_command};
 use presentation::Screen;
 use shadow::Shadow;
 use std::alloc::{AllocError, Global};
-use std::io;
 use telnet_wire::{Verb, put_option, put_record, put_sub, put_sub_parts};
 use tn3270e_msg::{Sending, put_sub_message};
 
@@ -30,11 +28,10 @@ pub(crate) enum Appends {
     Paint,
 }
 
-/// A vector without room, behind the bytes in it.
+/// A vector without room, behind the bytes in it, and a screen that is read.
 #[derive(Drop)]
-pub(crate) struct Appending {
-    appends: Appends,
-    out: Vec<u8>,
+pub(crate) struct Appended {
+    pub(crate) out: Vec<u8>,
     screen: Screen,
 }
 
@@ -59,71 +56,37 @@ fn put_paint(out: &mut Vec<u8>, cursor: Addr) -> Result<(), AllocError> {
     }
 }
 
-/// Appends by a call of the wire, or of messages.
-fn put_on_wire(out: &mut Vec<u8>, appends: Appends) -> Result<(), AllocError> {
-    match appends {
-        Appends::Record => put_record(out, MIXED),
-        Appends::Option => put_option(out, Verb::Do, 40),
-        Appends::Sub => put_sub(out, MIXED),
-        Appends::SubParts => put_sub_parts(out, &[MIXED, MIXED]),
-        _ => put_sub_message(out, &Sending::FunRequest.message()),
-    }
-}
-
-/// Appends by a call on a screen, or on a belief.
-fn put_screen(out: &mut Vec<u8>, screen: &Screen, appends: Appends) -> Result<(), AllocError> {
-    match appends {
-        Appends::ReadBuffer => screen.put_read_buffer(out),
-        Appends::ReadModified => screen.put_read_modified(out, false),
-        _ => put_paint(out, screen.cursor()),
-    }
-}
-
-/// Appends by a call on a command's writer.
-fn put_part(mut writer: CommandWriter<'_>, appends: Appends, at: Addr) -> Result<(), AllocError> {
-    match appends {
-        Appends::Begin => writer.begin(CommandCode::EraseWrite, Wcc::from_byte(0xC3)),
-        Appends::SetAddress => writer.sba(at),
-        Appends::StartField => writer.sf(Attr::from_code(0x40)),
-        Appends::Chars => writer.chars(&NOTE),
-        Appends::Repeat => writer.ra(at, 0x40),
-        _ => writer.ic(),
-    }
-}
-
-impl Trial for Appending {
-    type Call = Appends;
-
-    fn before(alloc: Global, appends: Appends) -> io::Result<Appending> {
+impl Appended {
+    pub(crate) fn new(alloc: Global) -> Result<Appended, AllocError> {
         let mut out = Vec::with_capacity(alloc, NOTE.len())?;
         out.extend_from_slice(&NOTE)?;
-        Ok(Appending {
-            appends,
+        Ok(Appended {
             out,
             screen: screen_of_fields(),
         })
     }
 
-    fn call(&mut self) -> Answer {
+    /// Appends by a call: of the wire and of messages, on a command's writer, on a screen, or on a belief.
+    pub(crate) fn append(&mut self, appends: Appends) -> Result<(), AllocError> {
         let out = &mut self.out;
-        let appended = match self.appends {
-            Appends::Record
-            | Appends::Option
-            | Appends::Sub
-            | Appends::SubParts
-            | Appends::SubMessage => put_on_wire(out, self.appends),
-            Appends::ReadBuffer | Appends::ReadModified | Appends::Paint => {
-                put_screen(out, &self.screen, self.appends)
+        let at = self.screen.cursor();
+        match appends {
+            Appends::Record => put_record(out, MIXED),
+            Appends::Option => put_option(out, Verb::Do, 40),
+            Appends::Sub => put_sub(out, MIXED),
+            Appends::SubParts => put_sub_parts(out, &[MIXED, MIXED]),
+            Appends::SubMessage => put_sub_message(out, &Sending::FunRequest.message()),
+            Appends::Begin => {
+                CommandWriter::new(out).begin(CommandCode::EraseWrite, Wcc::from_byte(0xC3))
             }
-            _ => put_part(CommandWriter::new(out), self.appends, self.screen.cursor()),
-        };
-        match appended {
-            Ok(()) => Answer::Done,
-            Err(_) => Answer::Memory,
+            Appends::SetAddress => CommandWriter::new(out).sba(at),
+            Appends::StartField => CommandWriter::new(out).sf(Attr::from_code(0x40)),
+            Appends::Chars => CommandWriter::new(out).chars(&NOTE),
+            Appends::Repeat => CommandWriter::new(out).ra(at, 0x40),
+            Appends::InsertCursor => CommandWriter::new(out).ic(),
+            Appends::ReadBuffer => self.screen.put_read_buffer(out),
+            Appends::ReadModified => self.screen.put_read_modified(out, false),
+            Appends::Paint => put_paint(out, at),
         }
-    }
-
-    fn looks_same(&self, twin: &Appending) -> bool {
-        self.out.as_slice() == twin.out.as_slice()
     }
 }

@@ -1,11 +1,14 @@
 //! The calls that can answer want of memory, by name.
-use crate::growths::appending::{Appending, Appends};
-use crate::growths::hosts::{Asks, Hosting};
-use crate::growths::making::{Founder, Founds, Maker, Makes};
+use crate::growths::appending::Appends;
+use crate::growths::hosts::{
+    AGREED, Asked, Asks, Hosting, NO_ROOM_FOR_A_REPLY, OPENED, READY, Step,
+};
+use crate::growths::making::{Maker, Makes};
+use crate::growths::story::{CLEAR, ENTER, PA1};
 use crate::growths::terminals::{Attached, Does};
 use crate::growths::trial::{Came, try_on};
-use crate::growths::values::{Filled, Sets};
-use crate::growths::worlds::{Happens, Lets, Small};
+use crate::growths::worlds::{Lets, Small};
+use crate::worlds::Deed;
 use std::io;
 
 /// A call, by what it is made on.
@@ -13,9 +16,8 @@ use std::io;
 pub(crate) enum Call {
     Append(Appends),
     Make(Makes),
-    Found(Founds),
-    Set(Sets),
-    Host(Asks),
+    /// A call, behind so many steps of a story, and further ones.
+    Host(Asks, usize, &'static [Step]),
     Terminal(Does),
     World(Lets),
 }
@@ -72,19 +74,37 @@ pub(crate) static CALLS: [(&str, Call); 46] = [
         Call::Make(Makes::CharactersAgain),
     ),
     ("panels:Values::clone", Call::Make(Makes::ValuesAgain)),
-    ("panels:Values::set,new", Call::Set(Sets::New)),
-    ("panels:Values::set,again", Call::Set(Sets::Again)),
-    ("panels:Values::set_if", Call::Set(Sets::Known)),
-    ("host_core:Host::new", Call::Found(Founds::Host)),
-    ("host_core:Host::open", Call::Host(Asks::Open)),
-    ("host_core:Host::feed,many", Call::Host(Asks::Feed)),
-    ("host_core:Host::feed,full", Call::Host(Asks::FeedFull)),
-    ("host_core:Host::act,agreed", Call::Host(Asks::ActAgreed)),
-    ("host_core:Host::act,enter", Call::Host(Asks::ActEnter)),
-    ("host_core:Host::act,pa", Call::Host(Asks::ActPa)),
-    ("host_core:Host::act,clear", Call::Host(Asks::ActClear)),
-    ("host_core:Host::note", Call::Host(Asks::Note)),
-    ("host_core:serve_turn", Call::Host(Asks::Serve)),
+    ("panels:Values::set,new", Call::Make(Makes::ValueNew)),
+    ("panels:Values::set,again", Call::Make(Makes::ValueAgain)),
+    ("panels:Values::set_if", Call::Make(Makes::ValueIfKnown)),
+    ("host_core:Host::new", Call::Make(Makes::Host)),
+    ("host_core:Host::open", Call::Host(Asks::Open, 0, &[])),
+    (
+        "host_core:Host::feed,many",
+        Call::Host(Asks::Feed, OPENED, &[]),
+    ),
+    (
+        "host_core:Host::feed,full",
+        Call::Host(Asks::Feed, OPENED, &[Step::Fills(NO_ROOM_FOR_A_REPLY)]),
+    ),
+    (
+        "host_core:Host::act,agreed",
+        Call::Host(Asks::Act, AGREED, &[]),
+    ),
+    (
+        "host_core:Host::act,enter",
+        Call::Host(Asks::Act, READY, &[Step::Fed(ENTER)]),
+    ),
+    (
+        "host_core:Host::act,pa",
+        Call::Host(Asks::Act, READY, &[Step::Fed(PA1)]),
+    ),
+    (
+        "host_core:Host::act,clear",
+        Call::Host(Asks::Act, READY, &[Step::Fed(CLEAR)]),
+    ),
+    ("host_core:Host::note", Call::Host(Asks::Note, READY, &[])),
+    ("host_core:serve_turn", Call::Host(Asks::Serve, READY, &[])),
     ("term_core:screen_lines", Call::Make(Makes::ScreenLines)),
     (
         "term_core:Terminal::screen_text",
@@ -100,49 +120,37 @@ pub(crate) static CALLS: [(&str, Call); 46] = [
         "term_core:Terminal::press,enter",
         Call::Terminal(Does::PressEnter),
     ),
-    ("world3270:World::new", Call::Found(Founds::World)),
+    ("world3270:World::new", Call::Make(Makes::World)),
     (
         "world3270:World::step,connect",
-        Call::World(Lets::Step(0, Happens::Connects)),
+        Call::World(Lets::Step(0, Deed::Connect(0, ""))),
     ),
     (
         "world3270:World::step,down",
-        Call::World(Lets::Step(1, Happens::Down)),
+        Call::World(Lets::Step(1, Deed::Down(0, usize::MAX))),
     ),
     (
         "world3270:World::step,act",
-        Call::World(Lets::Step(7, Happens::Acts)),
+        Call::World(Lets::Step(7, Deed::Act(0))),
     ),
     (
         "world3270:World::step,key",
-        Call::World(Lets::Step(9, Happens::Types)),
+        Call::World(Lets::Step(9, Deed::Letter(0, 'A'))),
     ),
     (
         "world3270:World::step,note-down",
-        Call::World(Lets::Step(13, Happens::Down)),
+        Call::World(Lets::Step(13, Deed::Down(0, usize::MAX))),
     ),
     ("world3270:World::run", Call::World(Lets::Run)),
 ];
-
-/// The call with a name.
-pub(crate) fn call_named(name: &str) -> Option<Call> {
-    for (known, call) in &CALLS {
-        if *known == name {
-            return Some(*call);
-        }
-    }
-    None
-}
 
 impl Call {
     /// Tries it.
     pub(crate) fn attempt<R: Eprint + AllocGlobal>(self, rt: &R) -> io::Result<Came> {
         match self {
-            Call::Append(appends) => try_on::<Appending, _>(rt, appends),
+            Call::Append(appends) => try_on::<Maker, _>(rt, Makes::Append(appends)),
             Call::Make(makes) => try_on::<Maker, _>(rt, makes),
-            Call::Found(founds) => try_on::<Founder, _>(rt, founds),
-            Call::Set(sets) => try_on::<Filled, _>(rt, sets),
-            Call::Host(asks) => try_on::<Hosting, _>(rt, asks),
+            Call::Host(asks, told, last) => try_on::<Hosting, _>(rt, Asked { asks, told, last }),
             Call::Terminal(does) => try_on::<Attached, _>(rt, does),
             Call::World(lets) => try_on::<Small, _>(rt, lets),
         }

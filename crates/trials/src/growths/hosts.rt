@@ -3,14 +3,15 @@ ghost use Rattle.std.specs.Prelude.{◌<◌};
 ghost use Rattle.host_core.specs.State.{most_connections};
 
 use crate::growths::story::{
-    CLEAR, DO_OTHER, DONE_0, ENTER, NOTE, PA1, PANELS, WANTS_LU, WANTS_RESPONSES, WILL_TN3270E,
+    DO_OTHER, DONE_0, ENTER, MANY, NOTE, PANELS, WANTS_LU, WANTS_RESPONSES, WILL_TN3270E,
+    with_options,
 };
 use crate::growths::trial::{Answer, Trial};
 use crate::growths::wire::Wire;
 use crate::likeness::hosts_look_same;
 use crate::readers::read_host;
 use host_core::{Acted, Host, Phase, Served, serve_turn};
-use std::alloc::{AllocError, Global};
+use std::alloc::Global;
 use std::io;
 use tn3270e_msg::{Fed, Stop};
 
@@ -23,18 +24,9 @@ const OTHER: usize = 1;
 #[derive(Clone, Copy)]
 pub(crate) enum Asks {
     Open,
-    /// Many bytes, with the room that a connection begins with.
+    /// Many bytes are fed.
     Feed,
-    /// Bytes for whose first there is no room.
-    FeedFull,
-    /// An act at agreement.
-    ActAgreed,
-    /// On Enter, with fields.
-    ActEnter,
-    /// On a PA key.
-    ActPa,
-    /// On Clear.
-    ActClear,
+    Act,
     Note,
     /// A turn of serving, in which Enter comes.
     Serve,
@@ -42,62 +34,46 @@ pub(crate) enum Asks {
 
 /// What happens on a connection before the call.
 #[derive(Clone, Copy)]
-enum Step {
+pub(crate) enum Step {
+    Opens,
     Fed(&'static [u8]),
     Acts,
+    /// The host answers options until so many bytes are surpassed by those that wait to be sent.
+    Fills(usize),
 }
 
-/// From the offer to the panel to sign on with.
-static STORY: [Step; 5] = [
+/// A call, and what comes before it: so many steps of the story, and further ones.
+#[derive(Clone, Copy)]
+pub(crate) struct Asked {
+    pub(crate) asks: Asks,
+    pub(crate) told: usize,
+    pub(crate) last: &'static [Step],
+}
+
+/// From the offer to the panel to sign on with, and no room for a further command.
+static STORY: [Step; 7] = [
+    Step::Opens,
     Step::Fed(WILL_TN3270E),
     Step::Fed(WANTS_LU),
     Step::Fed(WANTS_RESPONSES),
     Step::Acts,
     Step::Fed(DONE_0),
+    Step::Fills(NO_ROOM_FOR_A_COMMAND),
 ];
 
-/// How many steps of the story there are up to agreement.
-const AGREED: usize = 3;
+/// How many steps of the story there are up to the connection's begin, up to agreement, and in all.
+pub(crate) const OPENED: usize = 1;
+
+pub(crate) const AGREED: usize = 4;
+
+pub(crate) const READY: usize = 7;
 
 /// A connection begins with room for 19,224 bytes, in which the largest command fits, and no byte is taken without room for the
 /// largest reply, 516. With as many unsent bytes as these there is no room any more: for a reply in the first room, and for
 /// a command in the second, which is twice the first.
-const NO_ROOM_FOR_A_REPLY: usize = 19_224 - 516;
+pub(crate) const NO_ROOM_FOR_A_REPLY: usize = 19_224 - 516;
 
 const NO_ROOM_FOR_A_COMMAND: usize = 19_224;
-
-/// How often an option is negotiated where many bytes are fed. The answers outgrow the first room and the second.
-const MANY: usize = 14_000;
-
-impl Asks {
-    /// How many steps of the story come before the call.
-    fn told(self) -> usize {
-        match self {
-            Asks::Open | Asks::Feed | Asks::FeedFull => 0,
-            Asks::ActAgreed => AGREED,
-            _ => STORY.len(),
-        }
-    }
-
-    /// How many bytes are surpassed by those that wait to be sent.
-    fn unsent(self) -> usize {
-        match self {
-            Asks::Open | Asks::Feed | Asks::ActAgreed => 0,
-            Asks::FeedFull => NO_ROOM_FOR_A_REPLY,
-            _ => NO_ROOM_FOR_A_COMMAND,
-        }
-    }
-
-    /// What comes last before the call.
-    fn heard(self) -> &'static [u8] {
-        match self {
-            Asks::ActEnter => ENTER,
-            Asks::ActPa => PA1,
-            Asks::ActClear => CLEAR,
-            _ => &[],
-        }
-    }
-}
 
 /// A host before the call, and the bytes that it is to be fed.
 #[derive(Drop)]
@@ -121,19 +97,6 @@ fn open(host: &mut Host, conn: usize) -> Answer
     }
 }
 
-fn tell(host: &mut Host, steps: &[Step]) {
-    for step in steps {
-        match step {
-            Step::Fed(bytes) => {
-                host.feed(CONN, bytes);
-            }
-            Step::Acts => {
-                host.act(CONN);
-            }
-        }
-    }
-}
-
 /// Has the host answer options until so many bytes are surpassed.
 fn fill(host: &mut Host, unsent: usize) {
     for _ in 0..MANY {
@@ -144,32 +107,24 @@ fn fill(host: &mut Host, unsent: usize) {
     }
 }
 
-/// What happens before the call.
-fn prepare(host: &mut Host, asks: Asks) {
-    open(host, OTHER);
-    if let Asks::Open = asks {
-        return;
+fn tell(host: &mut Host, steps: &[Step]) {
+    for step in steps {
+        match step {
+            Step::Opens => {
+                open(host, CONN);
+            }
+            Step::Fed(bytes) => {
+                host.feed(CONN, bytes);
+            }
+            Step::Acts => {
+                host.act(CONN);
+            }
+            Step::Fills(unsent) => fill(host, *unsent),
+        }
     }
-    open(host, CONN);
-    tell(host, STORY.get(..asks.told()).unwrap_or(&[]));
-    fill(host, asks.unsent());
-    host.feed(CONN, asks.heard());
 }
 
-fn put_options(bytes: &mut Vec<u8>) -> Result<(), AllocError> {
-    for _ in 0..MANY {
-        bytes.extend_from_slice(DO_OTHER)?;
-    }
-    Ok(())
-}
-
-fn options(alloc: Global) -> Result<Vec<u8>, AllocError> {
-    let mut bytes = Vec::new(alloc);
-    put_options(&mut bytes)?;
-    Ok(bytes)
-}
-
-/// Feeds so many bytes of these, or all behind a place.
+/// Feeds so many of these bytes from a place on, or all behind it.
 fn feed_part(host: &mut Host, bytes: &[u8], from: usize, count: usize) -> Fed {
     let rest = bytes.get(from..).unwrap_or(&[]);
     host.feed(CONN, rest.get(..count).unwrap_or(rest))
@@ -205,16 +160,18 @@ impl Hosting {
 }
 
 impl Trial for Hosting {
-    type Call = Asks;
+    type Call = Asked;
 
-    fn before(alloc: Global, asks: Asks) -> io::Result<Hosting> {
-        let bytes = options(alloc)?;
+    fn before(alloc: Global, asked: Asked) -> io::Result<Hosting> {
+        let bytes = with_options(alloc, &[])?;
         let mut host = read_host(alloc, PANELS)?;
-        prepare(&mut host, asks);
+        open(&mut host, OTHER);
+        tell(&mut host, STORY.get(..asked.told).unwrap_or(&[]));
+        tell(&mut host, asked.last);
         Ok(Hosting {
-            asks,
+            asks: asked.asks,
             host,
-            wire: Wire::new(ENTER),
+            wire: Wire { rest: ENTER },
             bytes,
             taken: 0,
         })
@@ -223,17 +180,18 @@ impl Trial for Hosting {
     fn call(&mut self) -> Answer {
         match self.asks {
             Asks::Open => open(&mut self.host, CONN),
-            Asks::Feed | Asks::FeedFull => self.feed(),
+            Asks::Feed => self.feed(),
+            Asks::Act => answer_of(self.host.act(CONN)),
             Asks::Note => answer_of(self.host.note(CONN, &NOTE)),
             Asks::Serve => self.serve(),
-            _ => answer_of(self.host.act(CONN)),
         }
     }
 
+    /// A turn of serving takes all that comes.
     fn take(&mut self, count: usize) {
         if let Asks::Serve = self.asks {
-            feed_part(&mut self.host, self.wire.rest(), 0, count);
-            self.wire.pass(count);
+            self.host.feed(CONN, ENTER);
+            self.wire.rest = &[];
         } else {
             feed_part(&mut self.host, &self.bytes, 0, count);
             self.taken = count;

@@ -1,10 +1,12 @@
-//! Calls that make something: refused memory, they make nothing, and leave what they read as it was.
+//! Calls that make something, set a value, or append: refused memory, they make nothing, and leave all that they were handed as it was.
+use crate::fault::Fault;
+use crate::growths::appending::{Appended, Appends};
 use crate::growths::story::{NOTE, PANELS};
-use crate::growths::trial::{Answer, Trial};
-use crate::readers::{read_panels, read_pool};
+use crate::growths::trial::{Answer, Trial, made};
+use crate::readers::{read_panels, read_parts, read_pool};
 use host_core::Host;
-use lu_pool::{Pool, PoolFault};
-use panels::{Characters, Message, Panel, PanelFault, PanelSet, Values};
+use lu_pool::Pool;
+use panels::{Characters, Message, PanelSet, Values};
 use std::alloc::{AllocError, Global};
 use std::io;
 use telnet_wire::Decoder;
@@ -12,78 +14,78 @@ use term_core::{Terminal, screen_lines};
 use tn3270e_msg::RECORD_LIMIT;
 use world3270::World;
 
-/// A call that makes something.
+/// A call, by what it makes, sets, or appends.
 #[derive(Clone, Copy)]
 pub(crate) enum Makes {
+    Append(Appends),
     Decoder,
     Panels,
     Pool,
+    /// Of panels and a pool, which it takes.
+    Host,
+    /// The same.
+    World,
     Characters,
     CharactersAgain,
     ValuesAgain,
+    /// The value of a field that has none yet.
+    ValueNew,
+    /// Of a field that has one.
+    ValueAgain,
+    /// By `set_if`, of a field that has none yet.
+    ValueIfKnown,
     Terminal,
     ScreenLines,
     ScreenText,
 }
 
-/// What the calls read.
+/// How many fields have a value.
+const FIELDS: usize = 12;
+
+/// What the calls read, take, set or append to.
 #[derive(Drop)]
 pub(crate) struct Maker {
     alloc: Global,
     makes: Makes,
-    panels: PanelSet,
+    parts: Option<(PanelSet, Pool)>,
     texts: Texts,
     terminal: Terminal,
 }
 
-/// The text of a note, and as the value of a field.
+/// The text of a note, values of fields, and what is appended to.
 #[derive(Drop)]
 struct Texts {
     characters: Characters,
     values: Values,
-}
-
-fn noted_values(alloc: Global) -> Result<Values, AllocError> {
-    let mut values = Values::new(alloc);
-    values.set(0, &NOTE)?;
-    Ok(values)
+    appended: Appended,
 }
 
 fn noted(alloc: Global) -> Result<Texts, AllocError> {
-    let characters = Characters::copy(alloc, &NOTE)?;
+    let mut values = Values::new(alloc);
+    for field in 0..FIELDS {
+        values.set(field, &NOTE[..2])?;
+    }
     Ok(Texts {
-        characters,
-        values: noted_values(alloc)?,
+        characters: Characters::copy(alloc, &NOTE)?,
+        values,
+        appended: Appended::new(alloc)?,
     })
 }
 
-/// What is read beside the panels.
-fn read_beside(alloc: Global) -> Result<(Texts, Terminal), AllocError> {
+/// What is there beside the panels.
+fn beside(alloc: Global) -> Result<(Texts, Terminal), AllocError> {
     let texts = noted(alloc)?;
     Ok((texts, Terminal::new(alloc)?))
 }
 
-/// Done where something is made.
-fn made<T: Drop>(made: Result<T, AllocError>) -> Answer {
-    match made {
-        Ok(_) => Answer::Done,
-        Err(_) => Answer::Memory,
-    }
-}
-
-/// Whether two panels want the same screen.
-fn want_same(one: &Panel, other: &Panel, values: &Values) -> bool {
+/// Whether the panels with a number want the same screen.
+fn are_same_at(one: &PanelSet, other: &PanelSet, values: &Values, number: usize) -> bool {
+    let (Some(one), Some(other)) = (one.panel(number), other.panel(number)) else {
+        return false;
+    };
     let one = one.wanted(values, Message::Fresh, false);
     let other = other.wanted(values, Message::Fresh, false);
     one.cells().eq(other.cells())
-}
-
-/// Whether the panels with a number are the same.
-fn are_same_at(one: &PanelSet, other: &PanelSet, values: &Values, number: usize) -> bool {
-    match (one.panel(number), other.panel(number)) {
-        (Some(one), Some(other)) => want_same(one, other, values),
-        _ => false,
-    }
 }
 
 fn are_same(one: &PanelSet, other: &PanelSet, values: &Values) -> bool {
@@ -96,8 +98,8 @@ fn are_same(one: &PanelSet, other: &PanelSet, values: &Values) -> bool {
 }
 
 /// Done where the panels are those that are known: a growth that was refused may be got over.
-fn made_panels(alloc: Global, known: &PanelSet, values: &Values) -> Answer {
-    match PanelSet::read(alloc, PANELS) {
+fn read_known(alloc: Global, known: &PanelSet, values: &Values) -> Answer {
+    match read_panels(alloc, PANELS) {
         Ok(panels) => {
             if are_same(&panels, known, values) {
                 Answer::Done
@@ -105,23 +107,45 @@ fn made_panels(alloc: Global, known: &PanelSet, values: &Values) -> Answer {
                 Answer::Otherwise
             }
         }
-        Err(PanelFault::Memory) => Answer::Memory,
+        Err(Fault::NoMemory(_)) => Answer::Memory,
         Err(_) => Answer::Otherwise,
     }
 }
 
-fn made_pool(alloc: Global, names: &[String]) -> Answer {
-    match Pool::read(alloc, names) {
+/// Done where the pool is read.
+fn read_names(alloc: Global, names: &[String]) -> Answer {
+    match read_pool(alloc, names) {
         Ok(_) => Answer::Done,
-        Err(PoolFault::Memory) => Answer::Memory,
+        Err(Fault::NoMemory(_)) => Answer::Memory,
         Err(_) => Answer::Otherwise,
     }
 }
 
-fn made_decoder(alloc: Global) -> Answer {
-    match Decoder::new(alloc, RECORD_LIMIT) {
-        Ok(_) => Answer::Done,
-        Err(_) => Answer::Memory,
+impl Maker {
+    /// Reads panels or a pool as they were read before.
+    fn read_again(&self) -> Answer {
+        let Some((panels, _)) = &self.parts else {
+            return Answer::Otherwise;
+        };
+        match self.makes {
+            Makes::Pool => read_names(self.alloc, panels.lus()),
+            _ => read_known(self.alloc, panels, &self.texts.values),
+        }
+    }
+
+    /// Makes a host or a world of what it takes. Where that was taken before, it is read anew.
+    fn found(&mut self) -> Answer {
+        let parts = match self.parts.take() {
+            Some(parts) => Ok(parts),
+            None => read_parts(self.alloc, PANELS),
+        };
+        let Ok((panels, pool)) = parts else {
+            return Answer::Otherwise;
+        };
+        match self.makes {
+            Makes::Host => made(Host::new(self.alloc, panels, pool)),
+            _ => made(World::new(self.alloc, panels, pool, 1)),
+        }
     }
 }
 
@@ -129,12 +153,12 @@ impl Trial for Maker {
     type Call = Makes;
 
     fn before(alloc: Global, makes: Makes) -> io::Result<Maker> {
-        let panels = read_panels(alloc, PANELS)?;
-        let (texts, terminal) = read_beside(alloc)?;
+        let parts = read_parts(alloc, PANELS)?;
+        let (texts, terminal) = beside(alloc)?;
         Ok(Maker {
             alloc,
             makes,
-            panels,
+            parts: Some(parts),
             texts,
             terminal,
         })
@@ -143,72 +167,35 @@ impl Trial for Maker {
     fn call(&mut self) -> Answer {
         let alloc = self.alloc;
         match self.makes {
-            Makes::Decoder => made_decoder(alloc),
-            Makes::Panels => made_panels(alloc, &self.panels, &self.texts.values),
-            Makes::Pool => made_pool(alloc, self.panels.lus()),
+            Makes::Append(appends) => made(self.texts.appended.append(appends)),
+            Makes::Decoder => made(Decoder::new(alloc, RECORD_LIMIT)),
+            Makes::Panels | Makes::Pool => self.read_again(),
+            Makes::Host | Makes::World => self.found(),
             Makes::Characters => made(Characters::copy(alloc, &NOTE)),
             Makes::CharactersAgain => made(self.texts.characters.clone()),
             Makes::ValuesAgain => made(self.texts.values.clone()),
+            Makes::ValueNew => made(self.texts.values.set(FIELDS, &NOTE)),
+            Makes::ValueAgain => made(self.texts.values.set(0, &NOTE)),
+            Makes::ValueIfKnown => made(self.texts.values.set_if(FIELDS, Some(&NOTE))),
             Makes::Terminal => made(Terminal::new(alloc)),
             Makes::ScreenLines => made(screen_lines(alloc, self.terminal.screen())),
             Makes::ScreenText => made(self.terminal.screen_text(alloc)),
         }
     }
 
+    /// Nothing is handed to it in parts.
+    fn take(&mut self, _count: usize) {}
+
+    /// All can be looked at.
+    fn go_on(&mut self) {}
+
     fn looks_same(&self, twin: &Maker) -> bool {
-        self.texts.characters.as_slice() == twin.texts.characters.as_slice()
-            && self.texts.values.get(0) == twin.texts.values.get(0)
-    }
-}
-
-/// A call that makes a host or a world of panels and a pool, which it takes.
-#[derive(Clone, Copy)]
-pub(crate) enum Founds {
-    Host,
-    World,
-}
-
-/// What it takes.
-#[derive(Drop)]
-pub(crate) struct Founder {
-    founds: Founds,
-    alloc: Global,
-    parts: Option<(PanelSet, Pool)>,
-}
-
-fn read_parts(alloc: Global) -> io::Result<(PanelSet, Pool)> {
-    let panels = read_panels(alloc, PANELS)?;
-    let pool = read_pool(alloc, panels.lus())?;
-    Ok((panels, pool))
-}
-
-impl Trial for Founder {
-    type Call = Founds;
-
-    fn before(alloc: Global, founds: Founds) -> io::Result<Founder> {
-        Ok(Founder {
-            founds,
-            alloc,
-            parts: Some(read_parts(alloc)?),
-        })
-    }
-
-    fn call(&mut self) -> Answer {
-        let parts = match self.parts.take() {
-            Some(parts) => Ok(parts),
-            None => read_parts(self.alloc),
-        };
-        let Ok((panels, pool)) = parts else {
-            return Answer::Otherwise;
-        };
-        match self.founds {
-            Founds::Host => made(Host::new(self.alloc, panels, pool)),
-            Founds::World => made(World::new(self.alloc, panels, pool, 1)),
+        for field in 0..2 * FIELDS {
+            if self.texts.values.get(field) != twin.texts.values.get(field) {
+                return false;
+            }
         }
-    }
-
-    /// What it takes is gone in any case.
-    fn looks_same(&self, _twin: &Founder) -> bool {
-        true
+        self.texts.characters.as_slice() == twin.texts.characters.as_slice()
+            && self.texts.appended.out.as_slice() == twin.texts.appended.out.as_slice()
     }
 }

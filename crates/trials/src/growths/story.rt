@@ -1,4 +1,5 @@
 //! What is fed, appended and read in the trials.
+use std::alloc::{AllocError, Global};
 
 /// A panel to sign on with, and one that greets.
 pub(crate) const PANELS: &str = r#"
@@ -91,3 +92,19 @@ pub(crate) const FIELDS: &[u8] =
 /// Bytes of which those that are 255 are doubled.
 pub(crate) const MIXED: &[u8] =
     b"\x28\x01\x02\xff\x03\xff\x04\x05\xff\xff\x06\x07\x08\x09\x0a\x0b\xff\x0c\x0d\x0e\x0f\x10\x11\x12";
+
+/// How often an option is negotiated where many bytes are fed. The answers outgrow the first room and the second of a host, and the
+/// first three of a terminal.
+pub(crate) const MANY: usize = 14_000;
+
+/// Lines, and behind them the negotiation of an option, many times.
+pub(crate) fn with_options(alloc: Global, lines: &[&'static [u8]]) -> Result<Vec<u8>, AllocError> {
+    let mut bytes = Vec::new(alloc);
+    for line in lines {
+        bytes.extend_from_slice(line)?;
+    }
+    for _ in 0..MANY {
+        bytes.extend_from_slice(DO_OTHER)?;
+    }
+    Ok(bytes)
+}

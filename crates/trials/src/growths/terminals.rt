@@ -1,11 +1,11 @@
 //! A terminal: refused memory it stands as before, or as after the bytes that it took.
 use crate::growths::story::{
-    DO_OTHER, DO_TN3270E, IS_LU, IS_RESPONSES, PAINT, READ_BUFFER, SEND_TYPE,
+    DO_OTHER, DO_TN3270E, IS_LU, IS_RESPONSES, MANY, PAINT, READ_BUFFER, SEND_TYPE, with_options,
 };
 use crate::growths::trial::{Answer, Trial};
 use crate::likeness::terminals_look_same;
 use keyboard::{Key, Pressed};
-use std::alloc::{AllocError, Global};
+use std::alloc::Global;
 use std::io;
 use term_core::{TermPhase, Terminal};
 use tn3270e_msg::{Lu, Stop};
@@ -19,15 +19,19 @@ pub(crate) enum Does {
     PressEnter,
 }
 
-/// From the offer to a panel.
-static STORY: [&[u8]; 5] = [DO_TN3270E, SEND_TYPE, IS_LU, IS_RESPONSES, PAINT];
+/// From the offer to a panel, and to its reading.
+static STORY: [&[u8]; 6] = [
+    DO_TN3270E,
+    SEND_TYPE,
+    IS_LU,
+    IS_RESPONSES,
+    PAINT,
+    READ_BUFFER,
+];
 
 /// The first room that a terminal makes is for one reply, the largest, 11,552 bytes; the second is twice that. With as many
 /// unsent bytes as this there is no room for a reply any more.
 const NO_ROOM: usize = 11_552;
-
-/// How often an option is negotiated where many bytes are fed. The answers outgrow the first three rooms.
-const MANY: usize = 14_000;
 
 /// A terminal before the call, and the bytes that it is to be fed.
 #[derive(Drop)]
@@ -38,26 +42,15 @@ pub(crate) struct Attached {
     taken: usize,
 }
 
-fn put_bytes(bytes: &mut Vec<u8>) -> Result<(), AllocError> {
-    for line in STORY {
-        bytes.extend_from_slice(line)?;
+/// What happens before the call: a key comes behind the story, and behind options until there is no room for a reply.
+fn prepare(terminal: &mut Terminal, does: Does) {
+    if terminal.phase() == TermPhase::Idle {
+        terminal.connected(Lu::read(b"PNL01"));
     }
-    bytes.extend_from_slice(READ_BUFFER)?;
-    for _ in 0..MANY {
-        bytes.extend_from_slice(DO_OTHER)?;
+    if let Does::Feed = does {
+        return;
     }
-    Ok(())
-}
-
-fn all_bytes(alloc: Global) -> Result<Vec<u8>, AllocError> {
-    let mut bytes = Vec::new(alloc);
-    put_bytes(&mut bytes)?;
-    Ok(bytes)
-}
-
-/// The story, and then options until there is no room for a reply.
-fn fill(terminal: &mut Terminal) {
-    for line in STORY {
+    for line in &STORY[..STORY.len() - 1] {
         terminal.feed(line);
     }
     for _ in 0..MANY {
@@ -65,17 +58,6 @@ fn fill(terminal: &mut Terminal) {
             return;
         }
         terminal.feed(DO_OTHER);
-    }
-}
-
-/// What happens before the call.
-fn prepare(terminal: &mut Terminal, does: Does) {
-    if terminal.phase() == TermPhase::Idle {
-        terminal.connected(Lu::read(b"PNL01"));
-    }
-    match does {
-        Does::Feed => {}
-        Does::PressChar | Does::PressEnter => fill(terminal),
     }
 }
 
@@ -104,7 +86,7 @@ impl Trial for Attached {
     type Call = Does;
 
     fn before(alloc: Global, does: Does) -> io::Result<Attached> {
-        let bytes = all_bytes(alloc)?;
+        let bytes = with_options(alloc, &STORY)?;
         let mut terminal = Terminal::new(alloc)?;
         prepare(&mut terminal, does);
         Ok(Attached {

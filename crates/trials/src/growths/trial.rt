@@ -4,7 +4,7 @@ use std::alloc::Global;
 use std::io;
 
 /// What a call answered.
-#[derive(Clone, Copy, PartialEq, Eq)]
+#[derive(Clone, Copy)]
 pub(crate) enum Answer {
     /// It did what it is for.
     Done,
@@ -14,6 +14,14 @@ pub(crate) enum Answer {
     Part(usize),
     /// Something else came, or the call couldn't be made.
     Otherwise,
+}
+
+/// Done where something is made; else memory was refused.
+pub(crate) fn made<T: Drop, E: Drop>(made: Result<T, E>) -> Answer {
+    match made {
+        Ok(_) => Answer::Done,
+        Err(_) => Answer::Memory,
+    }
 }
 
 /// A value, and the call on it that is tried.
@@ -30,10 +38,10 @@ pub(crate) trait Trial {
     fn call(&mut self) -> Answer;
 
     /// Hands it so many of the bytes or events; nothing where it is handed all at once.
-    fn take(&mut self, _count: usize) {}
+    fn take(&mut self, count: usize);
 
     /// Does further things, if some show what can't be looked at.
-    fn go_on(&mut self) {}
+    fn go_on(&mut self);
 
     /// Whether the value looks as the twin does.
     fn looks_same(&self, twin: &Self) -> bool;
@@ -63,8 +71,8 @@ fn stands<T: Trial>(answer: Answer, value: &T, twin: &mut T) -> bool {
 
 /// Whether the call is done on both, on the value again where it was refused memory, and both go on alike.
 fn goes_on<T: Trial>(answer: Answer, value: &mut T, twin: &mut T) -> bool {
-    let is_done = answer == Answer::Done || value.call() == Answer::Done;
-    let is_done_alike = is_done && twin.call() == Answer::Done && value.looks_same(twin);
+    let is_done = matches!(answer, Answer::Done) || matches!(value.call(), Answer::Done);
+    let is_done_alike = is_done && matches!(twin.call(), Answer::Done) && value.looks_same(twin);
     value.go_on();
     twin.go_on();
     is_done_alike && value.looks_same(twin)

@@ -7,32 +7,17 @@ use host_core::{LinkRead, LinkWrite, Links};
 /// The bytes that still come.
 #[derive(Drop)]
 pub(crate) struct Wire {
-    rest: &'static [u8],
+    pub(crate) rest: &'static [u8],
 }
 
 impl Wire {
-    /// A connection on which these bytes come.
-    pub(crate) fn new(bytes: &'static [u8]) -> Wire {
-        Wire { rest: bytes }
-    }
-
-    /// What still comes.
-    pub(crate) fn rest(&self) -> &'static [u8] {
-        self.rest
-    }
-
-    /// So many bytes came.
-    pub(crate) fn pass(&mut self, count: usize) {
-        self.rest = self.rest.get(count..).unwrap_or(&[]);
-    }
-
     /// Hands over as many as there is room for.
     fn hand(&mut self, buffer: &mut [u8]) -> usize
         ensures { result ≤ length buffer.new }
     {
         let count = self.rest.len().min(buffer.len());
         buffer[..count].copy_from_slice(&self.rest[..count]);
-        self.pass(count);
+        self.rest = self.rest.get(count..).unwrap_or(&[]);
         count
     }
 }

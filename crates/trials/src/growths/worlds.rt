@@ -1,79 +1,50 @@
-//! A world of one terminal: refused memory it stands as before, or as after the events that happened.
-use crate::growths::story::{NOTE, PANELS};
+//! A world, at one of whose terminals something happens: refused memory it stands as before, or as after the events that happened.
+use crate::fault::Fault;
+use crate::growths::story::PANELS;
 use crate::growths::trial::{Answer, Trial};
-use crate::likeness::hosts_look_same;
-use crate::readers::{read_panels, read_pool};
+use crate::worlds::{Deed, Town, look_same_on, step};
 use keyboard::Key;
-use std::alloc::{AllocError, Global};
+use std::alloc::Global;
 use std::io;
-use world3270::{Event, NoteText, Stepped, World};
+use world3270::{Event, Ran, Stepped};
 
 /// The connection, and the terminal.
 const CONN: usize = 0;
 
 const TERMINAL: usize = 0;
 
-/// What happens in a world.
-#[derive(Clone, Copy)]
-pub(crate) enum Happens {
-    Connects,
-    Up,
-    Down,
-    Acts,
-    Types,
-    Enters,
-    Note,
-}
+/// All that is under way comes up to the host, or down to the terminal.
+const UP: Deed<'static> = Deed::Up(CONN, usize::MAX);
 
-impl Happens {
-    fn event(self) -> Event {
-        match self {
-            Happens::Connects => Event::Connect(TERMINAL, None),
-            Happens::Up => Event::Up(CONN, usize::MAX),
-            Happens::Down => Event::Down(CONN, usize::MAX),
-            Happens::Acts => Event::Act(CONN),
-            Happens::Types => Event::Key(TERMINAL, Key::Char('A')),
-            Happens::Enters => Event::Key(TERMINAL, Key::Enter),
-            Happens::Note => note(),
-        }
-    }
-}
-
-/// A note, or an act in its place where this were no text of one.
-fn note() -> Event {
-    match NoteText::new(&NOTE) {
-        Some(text) => Event::Note(CONN, text),
-        None => Event::Act(CONN),
-    }
-}
+const DOWN: Deed<'static> = Deed::Down(CONN, usize::MAX);
 
 /// From the beginning to the greeting.
-static STORY: [Happens; 18] = [
-    Happens::Connects,
-    Happens::Down,
-    Happens::Up,
-    Happens::Down,
-    Happens::Up,
-    Happens::Down,
-    Happens::Up,
-    Happens::Acts,
-    Happens::Down,
-    Happens::Up,
-    Happens::Types,
-    Happens::Note,
-    Happens::Enters,
-    Happens::Down,
-    Happens::Up,
-    Happens::Acts,
-    Happens::Down,
-    Happens::Up,
+static STORY: [Deed<'static>; 18] = [
+    Deed::Connect(TERMINAL, ""),
+    DOWN,
+    UP,
+    DOWN,
+    UP,
+    DOWN,
+    UP,
+    Deed::Act(CONN),
+    DOWN,
+    UP,
+    Deed::Letter(TERMINAL, 'A'),
+    Deed::Note(CONN, "NOTE"),
+    Deed::Key(TERMINAL, "enter"),
+    DOWN,
+    UP,
+    Deed::Act(CONN),
+    DOWN,
+    UP,
 ];
 
 /// A call on a world.
 #[derive(Clone, Copy)]
 pub(crate) enum Lets {
     /// So many events of the story, and then this one.
-    Step(usize, Happens),
+    Step(usize, Deed<'static>),
     /// The whole story.
     Run,
 }
@@ -82,59 +53,57 @@ pub(crate) enum Lets {
 #[derive(Drop)]
 pub(crate) struct Small {
     lets: Lets,
-    world: Box<World>,
+    town: Box<Town>,
     events: Vec<Event>,
     taken: usize,
 }
 
-fn put_story(events: &mut Vec<Event>) -> Result<(), AllocError> {
-    for happens in STORY {
-        events.push(happens.event())?;
+fn story(alloc: Global) -> Result<Vec<Event>, Fault> {
+    let mut events = Vec::new(alloc);
+    for deed in &STORY {
+        events.push(deed.event()?)?;
+    }
+    Ok(events)
+}
+
+/// What happens before the call.
+fn prepare(town: &mut Town, lets: Lets) -> Result<(), Fault> {
+    if let Lets::Step(count, _) = lets {
+        for deed in STORY.get(..count).unwrap_or(&[]) {
+            step(town, deed)?;
+        }
     }
     Ok(())
 }
 
-fn story(alloc: Global) -> Result<Vec<Event>, AllocError> {
-    let mut events = Vec::new(alloc);
-    put_story(&mut events)?;
-    Ok(events)
-}
-
-fn new_world(alloc: Global) -> io::Result<Box<World>> {
-    let panels = read_panels(alloc, PANELS)?;
-    let pool = read_pool(alloc, panels.lus())?;
-    let world = World::new(alloc, panels, pool, 1)?;
-    Ok(Box::new(alloc, world)?)
-}
-
-/// What happens before the call.
-fn prepare(world: &mut World, lets: Lets) {
-    if let Lets::Step(count, _) = lets {
-        for happens in STORY.get(..count).unwrap_or(&[]) {
-            world.step(happens.event());
-        }
-    }
-}
-
-fn answer_of(stepped: Stepped) -> Answer {
-    match stepped {
+/// Something happens.
+fn step_once(town: &mut Town, deed: &Deed<'_>) -> Answer {
+    let Ok(event) = deed.event() else {
+        return Answer::Otherwise;
+    };
+    match town.step(event) {
         Stepped::Done => Answer::Done,
         Stepped::Part(_) | Stepped::Refused(_) | Stepped::Skipped => Answer::Otherwise,
         Stepped::Memory => Answer::Memory,
     }
 }
 
+/// Runs the events from a place up to another.
+fn run_part(town: &mut Town, events: &[Event], from: usize, to: usize) -> Ran {
+    town.run(events.get(from..to).unwrap_or(&[]))
+}
+
 impl Small {
     /// Runs what is left of the story. No delivery of it is refused in its midst.
     fn run(&mut self) -> Answer {
-        let rest = self.events.get(self.taken..).unwrap_or(&[]);
-        let ran = self.world.run(rest);
+        let all = self.events.len();
+        let ran = run_part(&mut self.town, &self.events, self.taken, all);
+        self.taken = self.taken.saturating_add(ran.whole);
         if ran.part > 0 {
             Answer::Otherwise
-        } else if ran.whole == rest.len() {
+        } else if self.taken == all {
             Answer::Done
         } else {
-            self.taken = self.taken.saturating_add(ran.whole);
             Answer::Part(ran.whole)
         }
     }
@@ -145,11 +114,11 @@ impl Trial for Small {
 
     fn before(alloc: Global, lets: Lets) -> io::Result<Small> {
         let events = story(alloc)?;
-        let mut world = new_world(alloc)?;
-        prepare(&mut world, lets);
+        let mut town = Town::new(alloc, PANELS)?;
+        prepare(&mut town, lets)?;
         Ok(Small {
             lets,
-            world,
+            town,
             events,
             taken: 0,
         })
@@ -157,27 +126,26 @@ impl Trial for Small {
 
     fn call(&mut self) -> Answer {
         match self.lets {
-            Lets::Step(_, happens) => answer_of(self.world.step(happens.event())),
+            Lets::Step(_, deed) => step_once(&mut self.town, &deed),
             Lets::Run => self.run(),
         }
     }
 
     fn take(&mut self, count: usize) {
-        let taken = self.events.get(..count).unwrap_or(&[]);
-        self.world.run(taken);
+        run_part(&mut self.town, &self.events, 0, count);
         self.taken = count;
     }
 
     /// What the terminal shows is told by what it sends.
     fn go_on(&mut self) {
-        for happens in [Happens::Down, Happens::Types, Happens::Enters] {
-            self.world.step(happens.event());
-        }
+        self.town.run(&[
+            Event::Down(CONN, usize::MAX),
+            Event::Key(TERMINAL, Key::Char('A')),
+            Event::Key(TERMINAL, Key::Enter),
+        ]);
     }
 
     fn looks_same(&self, twin: &Small) -> bool {
-        hosts_look_same(self.world.host(), twin.world.host(), CONN)
-            && self.world.queued_up(CONN) == twin.world.queued_up(CONN)
-            && self.world.queued_down(CONN) == twin.world.queued_down(CONN)
+        look_same_on(&self.town, &twin.town, CONN)
     }
 }

@@ -1,16 +1,18 @@
 //! Whether a screen is as a host believes it to be.
-use codes3270::{Addr, CELLS, Cell};
+use codes3270::{Addr, Cell};
 use presentation::Screen;
 use shadow::{Fact, Shadow};
 
 /// Whether the screen has just the fields that the host believes in, each with the attribute and the text that it believes; or no
 /// fields, and what is known of each cell.
 pub(crate) fn is_believed(shadow: &Shadow, screen: &Screen) -> bool {
-    if has_fields(shadow) {
-        are_fields_there(shadow, screen)
-    } else {
-        are_characters_there(shadow, screen)
+    let has_fields = has_fields(shadow);
+    for at in Addr::all() {
+        if !is_believed_at(shadow, screen, at, has_fields) {
+            return false;
+        }
     }
+    true
 }
 
 /// Whether the host believes in a field.
@@ -23,22 +25,15 @@ fn has_fields(shadow: &Shadow) -> bool {
     false
 }
 
-fn are_fields_there(shadow: &Shadow, screen: &Screen) -> bool {
-    for at in Addr::all() {
-        if !is_field_there(shadow, screen, at) {
-            return false;
-        }
+/// Whether a field is at an address exactly where one is believed to be, with its attribute and its text; or where no field is
+/// believed in, what is known of the cell.
+fn is_believed_at(shadow: &Shadow, screen: &Screen, at: Addr, has_fields: bool) -> bool {
+    match shadow.fact(at) {
+        None => screen.cell(at).is_character() && (has_fields || is_there(shadow, screen, at)),
+        Some(fact) => !screen.cell(at).is_character()
+            && is_there(shadow, screen, at)
+            && has_text(shadow, screen, at, fact),
     }
-    true
-}
-
-fn are_characters_there(shadow: &Shadow, screen: &Screen) -> bool {
-    for at in Addr::all() {
-        if !(is_there(shadow, screen, at) && screen.cell(at).is_character()) {
-            return false;
-        }
-    }
-    true
 }
 
 /// Whether what is known of a cell, if something is, is there. MDT may differ.
@@ -57,100 +52,38 @@ fn unmarked(cell: Cell) -> Cell {
     }
 }
 
-/// Whether a field is at an address exactly where one is believed to be, with its attribute and its text.
-fn is_field_there(shadow: &Shadow, screen: &Screen, at: Addr) -> bool {
-    match shadow.fact(at) {
-        None => screen.cell(at).is_character(),
-        Some(fact) => !screen.cell(at).is_character()
-            && is_there(shadow, screen, at)
-            && has_text(shadow, screen, at, fact),
-    }
-}
-
-/// Whether the field has the text that is believed.
+/// Whether the field whose attribute is at an address has the text that is believed.
 fn has_text(shadow: &Shadow, screen: &Screen, at: Addr, fact: Fact) -> bool {
-    match fact {
-        Fact::Exact => is_exact(shadow, screen, at),
-        Fact::ExactOrNulls => is_exact(shadow, screen, at) || is_null(screen, at),
-        Fact::Text => is_text(shadow, screen, at),
-        Fact::TextOrNulls => is_text(shadow, screen, at) || is_null(screen, at),
-        Fact::Any => are_known_there(shadow, screen, at),
-    }
-}
-
-/// The address of the character with an index in the field whose attribute is at an address.
-fn address(at: Addr, index: u16) -> Option<Addr> {
-    let place = (u32::from(at.get()) + 1 + u32::from(index)) % u32::from(CELLS);
-    match u16::try_from(place) {
-        Ok(place) => Addr::new(place),
-        Err(_) => None,
-    }
-}
-
-/// That character. None past the field's end.
-fn character(screen: &Screen, at: Addr, index: u16) -> Option<u8> {
-    match screen.cell(address(at, index)?) {
-        Cell::Char(code) => Some(code),
-        Cell::Attr(_) => None,
-    }
-}
-
-/// Whether the field's characters are those that are believed.
-fn is_exact(shadow: &Shadow, screen: &Screen, at: Addr) -> bool {
-    for index in 0..CELLS {
-        let there = character(screen, at, index);
-        if shadow.value(at, usize::from(index)) != there {
-            return false;
-        }
-        if there.is_none() {
-            return true;
-        }
-    }
-    true
-}
-
-/// Whether they are so where nulls are left out.
-fn is_text(shadow: &Shadow, screen: &Screen, at: Addr) -> bool {
+    let mut is_exact = true;
+    let mut is_text = true;
+    let mut is_null = true;
+    let mut are_known = true;
+    let mut size = 0usize;
     let mut count = 0usize;
-    for index in 0..CELLS {
-        match character(screen, at, index) {
-            None => return shadow.value(at, count).is_none(),
-            Some(0) => {}
-            Some(code) => {
-                if shadow.value(at, count) != Some(code) {
-                    return false;
-                }
-                count = count.saturating_add(1);
-            }
-        }
-    }
-    true
-}
-
-/// Whether they are nulls.
-fn is_null(screen: &Screen, at: Addr) -> bool {
-    for index in 0..CELLS {
-        match character(screen, at, index) {
-            None => return true,
-            Some(0) => {}
-            Some(_) => return false,
-        }
-    }
-    true
-}
-
-/// Whether those that are known are there.
-fn are_known_there(shadow: &Shadow, screen: &Screen, at: Addr) -> bool {
-    for index in 0..CELLS {
-        let Some(place) = address(at, index) else {
-            return false;
+    // Behind the last cell comes the first; the field ends at an attribute, at the latest at its own.
+    for place in Addr::all()
+        .chain(Addr::all())
+        .skip(usize::from(at.get()) + 1)
+    {
+        let Cell::Char(code) = screen.cell(place) else {
+            break;
         };
-        if !screen.cell(place).is_character() {
-            return true;
-        }
-        if !is_there(shadow, screen, place) {
-            return false;
+        is_exact = is_exact && shadow.value(at, size) == Some(code);
+        size = size.saturating_add(1);
+        are_known = are_known && is_there(shadow, screen, place);
+        if code != 0 {
+            is_text = is_text && shadow.value(at, count) == Some(code);
+            count = count.saturating_add(1);
+            is_null = false;
         }
     }
-    true
+    is_exact = is_exact && shadow.value(at, size).is_none();
+    is_text = is_text && shadow.value(at, count).is_none();
+    match fact {
+        Fact::Exact => is_exact,
+        Fact::ExactOrNulls => is_exact || is_null,
+        Fact::Text => is_text,
+        Fact::TextOrNulls => is_text || is_null,
+        Fact::Any => are_known,
+    }
 }

@@ -1,22 +1,36 @@
-//! A case, told three times side by side: event by event; by lists of events; and event by event, each delivery byte by byte.
+//! A case, told three times side by side: event by event; by lists of events; and event by event, each delivery byte by byte. What
+//! happens next, where that isn't said, is what the first telling leads to.
+use crate::bytes::{first_of, number_of};
 use crate::fault::{Failure, Fault};
-use crate::worlds::command::{Command, Question, read_command};
+use crate::worlds::command::{Command, Question, Word, deed_of};
 use crate::worlds::deed::Deed;
 use crate::worlds::likeness::look_same;
-use crate::worlds::lister::Lister;
-use crate::worlds::script::{Line, Numbered, put_expected};
+use crate::worlds::script::{Line, panel_text, put_text};
 use crate::worlds::sights::{put_answer, put_outcome};
-use crate::worlds::teller::{Pace, Teller};
+use crate::worlds::telling::{Telling, run};
+use crate::worlds::watch::Watch;
+use host_core::MOST_CONNECTIONS;
 use std::alloc::{AllocError, Global};
-use world3270::Stepped;
+use world3270::{Event, Stepped};
+
+/// More rounds than it takes until nothing is under way.
+const MOST_ROUNDS: usize = 64;
 
 /// A case that is told three times.
 #[derive(Drop)]
-pub(crate) struct Case {
+struct Case {
     alloc: Global,
-    by_event: Teller,
-    by_list: Lister,
-    by_byte: Teller,
+    by_event: Telling,
+    by_list: Telling,
+    by_byte: Telling,
+    /// What is to happen by list before the next question.
+    waiting: Vec<Event>,
+    /// Who is where in the first telling.
+    watch: Watch,
+    /// What the case has to print.
+    expected: String,
+    /// The number of the line that is obeyed.
+    line: usize,
     /// The number of the first line behind which the headline didn't hold.
     fails_at: Option<usize>,
 }
@@ -33,227 +47,223 @@ impl Case {
     fn new(alloc: Global, panel_text: &str) -> Result<Case, Fault> {
         Ok(Case {
             alloc,
-            by_event: Teller::new(alloc, panel_text, Pace::Whole)?,
-            by_list: Lister::new(alloc, panel_text)?,
-            by_byte: Teller::new(alloc, panel_text, Pace::ByteByByte)?,
+            by_event: Telling::new(alloc, panel_text)?,
+            by_list: Telling::new(alloc, panel_text)?,
+            by_byte: Telling::new(alloc, panel_text)?,
+            waiting: Vec::new(alloc),
+            watch: Watch::new(),
+            expected: String::new(alloc),
+            line: 0,
             fails_at: None,
         })
     }
 
-    fn happen(&mut self, deed: &Deed<'_>) -> Result<(), Fault> {
-        let stepped = self.by_event.happen(deed)?;
-        self.by_list.add(deed)?;
-        let by_byte = self.by_byte.happen(deed)?;
-        self.put_outcomes(stepped, by_byte)?;
-        Ok(())
+    /// A case at its begin, with the panels of these lines.
+    fn read(alloc: Global, panels: &[Line<'_>]) -> Result<Case, Fault> {
+        let text = panel_text(alloc, panels)?;
+        Case::new(alloc, text.as_str())
     }
 
-    fn type_text(&mut self, terminal: usize, text: &str) -> Result<(), Fault> {
-        let (pressed, stepped) = self.by_event.type_text(terminal, text)?;
-        self.by_list.add_letters(terminal, text, pressed)?;
-        let (_, by_byte) = self.by_byte.type_text(terminal, text)?;
-        self.put_outcomes(stepped, by_byte)?;
-        Ok(())
-    }
-
-    /// Adds what became of an event to each page. Lists of events don't say that: it is taken from the first telling.
-    fn put_outcomes(&mut self, stepped: Stepped, by_byte: Stepped) -> Result<(), AllocError> {
-        put_outcome(&mut self.by_event.page, stepped)?;
-        put_outcome(&mut self.by_list.page, stepped)?;
-        put_outcome(&mut self.by_byte.page, by_byte)
-    }
-
-    fn settle(&mut self) -> Result<(), Fault> {
-        let rounds = self.by_event.settle()?;
-        self.by_list.settle(rounds)?;
-        self.by_byte.settle()?;
-        Ok(())
-    }
-
-    fn ask(&mut self, question: Question) -> Result<(), Fault> {
-        self.by_list.run()?;
-        put_answer(
-            self.alloc,
-            &mut self.by_event.page,
-            &self.by_event.town,
-            question,
-        )?;
-        put_answer(
-            self.alloc,
-            &mut self.by_list.page,
-            &self.by_list.town,
-            question,
-        )?;
-        put_answer(
-            self.alloc,
-            &mut self.by_byte.page,
-            &self.by_byte.town,
-            question,
-        )
-    }
-
-    fn obey(&mut self, command: &Command<'_>) -> Result<(), Fault> {
-        match command {
-            Command::Do(deed) => self.happen(deed),
-            Command::Type(terminal, text) => self.type_text(*terminal, text),
-            Command::Settle => self.settle(),
-            Command::Ask(question) => self.ask(*question),
-        }
-    }
-
-    fn obey_line(&mut self, number: usize, line: &str) -> Result<(), Fault> {
-        self.obey(&read_command(line)?)?;
-        if self.fails_at.is_none() && !self.by_event.held {
-            self.fails_at = Some(number);
-        }
-        Ok(())
-    }
-
-    fn obey_all(&mut self, body: &[Numbered<'_>]) -> Result<(), Failure> {
-        for numbered in body {
-            if let Line::Command(text) = numbered.line {
-                if let Err(fault) = self.obey_line(numbered.number, text) {
-                    return Err(Failure {
-                        line: numbered.number,
-                        fault,
-                    });
-                }
+    /// Something happens event by event, and is watched.
+    fn step_watched(&mut self, deed: &Deed<'_>) -> Result<(), Fault> {
+        let begins = self.watch.free_number(&self.by_event.town);
+        self.by_event.step(deed)?;
+        if self.by_event.came != Stepped::Skipped {
+            self.watch.follow(deed, begins, &self.by_event.town);
+            if self.fails_at.is_none() && !self.watch.holds(&self.by_event.town) {
+                self.fails_at = Some(self.line);
             }
         }
         Ok(())
     }
 
-    /// Adds whether the page is the one that is wanted. Says whether it is.
-    fn put_judgement(&self, text: &mut String, wanted: &str) -> Result<bool, AllocError> {
-        let page = self.by_event.page.as_str();
-        let is_expected = put_difference(text, "OTHERWISE", wanted, page)?;
-        put_where(text, is_expected, "as expected\n")
+    /// Something happens in each telling. Lists of events don't say what became of it: that is taken from the first telling.
+    fn step(&mut self, deed: &Deed<'_>) -> Result<(), Fault> {
+        self.step_watched(deed)?;
+        self.by_list.came = self.by_event.came;
+        self.waiting.push(deed.event()?)?;
+        self.by_byte.step_in_bytes(deed)
     }
 
-    /// Adds whether the page is the one that the case has to print. Says whether it is.
-    fn put_expectation(
-        &self,
-        text: &mut String,
-        body: &[Numbered<'_>],
-    ) -> Result<bool, AllocError> {
-        let mut expected = String::new(self.alloc);
-        put_expected(&mut expected, body)?;
-        self.put_judgement(text, expected.as_str())
+    /// The same, and each page says what became of it.
+    fn happen(&mut self, deed: &Deed<'_>) -> Result<(), Fault> {
+        self.step(deed)?;
+        put_outcome(&mut self.by_event)?;
+        put_outcome(&mut self.by_list)?;
+        Ok(put_outcome(&mut self.by_byte)?)
     }
 
-    /// Adds whether the tellings printed the same, and their worlds look the same. Says whether.
-    fn put_likeness(&self, text: &mut String) -> Result<bool, AllocError> {
-        let is_same = self.put_differences(text)? && self.put_unlike(text)?;
-        put_where(text, is_same, "the same by run and byte by byte\n")
+    /// Keys of a text are pressed, up to the first that doesn't act.
+    fn type_text(&mut self, terminal: usize, text: &str) -> Result<(), Fault> {
+        for letter in text.chars() {
+            self.happen(&Deed::Letter(terminal, letter))?;
+            if self.by_event.came != Stepped::Done {
+                return Ok(());
+            }
+        }
+        Ok(())
     }
 
-    /// Adds where another telling printed otherwise. Says whether they printed the same.
-    fn put_differences(&self, text: &mut String) -> Result<bool, AllocError> {
+    /// All that is under way comes on a connection, and the host acts there. Says whether something happened.
+    fn go_round_on(&mut self, conn: usize) -> Result<bool, Fault> {
+        let mut happened = false;
+        for deed in [
+            Deed::Up(conn, usize::MAX),
+            Deed::Act(conn),
+            Deed::Down(conn, usize::MAX),
+        ] {
+            self.step(&deed)?;
+            happened = self.by_event.came != Stepped::Skipped || happened;
+        }
+        Ok(happened)
+    }
+
+    /// A round. Says whether something happened.
+    fn go_round(&mut self) -> Result<bool, Fault> {
+        let mut happened = false;
+        for conn in 0..MOST_CONNECTIONS {
+            if self.by_event.town.is_busy(conn) {
+                happened = self.go_round_on(conn)? || happened;
+            }
+        }
+        Ok(happened)
+    }
+
+    /// Rounds, up to one in which nothing happened.
+    fn settle(&mut self) -> Result<(), Fault> {
+        for _ in 0..MOST_ROUNDS {
+            if !self.go_round()? {
+                return Ok(());
+            }
+        }
+        Ok(())
+    }
+
+    /// All that is to happen by list does.
+    fn run_list(&mut self) -> Result<(), Fault> {
+        run(&mut self.by_list.town, self.waiting.as_slice())?;
+        self.waiting.clear();
+        Ok(())
+    }
+
+    fn ask(&mut self, question: Question, number: usize) -> Result<(), Fault> {
+        self.run_list()?;
+        put_answer(self.alloc, &mut self.by_event, question, number)?;
+        put_answer(self.alloc, &mut self.by_list, question, number)?;
+        Ok(put_answer(self.alloc, &mut self.by_byte, question, number)?)
+    }
+
+    /// Obeys a command with the number of a terminal or a connection.
+    fn obey_at(&mut self, command: Command, number: usize, rest: &str) -> Result<(), Fault> {
+        match command {
+            Command::Do(happening) => self.happen(&deed_of(happening, number, rest)?),
+            Command::Type => self.type_text(number, rest),
+            Command::Ask(question) => self.ask(question, number),
+        }
+    }
+
+    fn obey(&mut self, line: &Line<'_>) -> Result<(), Fault> {
+        match line.word {
+            Word::Text | Word::Blank => put_text(&mut self.expected, line),
+            Word::Settle => self.settle(),
+            Word::RestartHost => self.happen(&Deed::RestartHost),
+            Word::At(command) => {
+                let (number, rest) = first_of(line.words);
+                self.obey_at(command, usize::from(number_of(number)?), rest)
+            }
+            Word::Panels | Word::World | Word::Unknown => Err(Fault::Needs("a command")),
+        }
+    }
+
+    /// What is wrong with the page, and the one that it has to be.
+    fn unexpected(&self) -> Option<(&'static str, &str)> {
+        let expected = self.expected.as_str();
+        if self.by_event.page.as_str() == expected {
+            None
+        } else {
+            Some(("OTHERWISE, expected\n", expected))
+        }
+    }
+
+    /// Where another telling came to something else, and what it printed, if that differs.
+    fn unlike(&self) -> Option<(&'static str, &str)> {
         let page = self.by_event.page.as_str();
         let by_list = self.by_list.page.as_str();
         let by_byte = self.by_byte.page.as_str();
-        Ok(
-            put_difference(text, "DIFFERS by run", page, by_list)?
-                && put_difference(text, "DIFFERS byte by byte", page, by_byte)?,
-        )
-    }
-
-    /// Adds whether the worlds look otherwise at the end. Says whether they look the same.
-    fn put_unlike(&self, text: &mut String) -> Result<bool, AllocError> {
         let town = &self.by_event.town;
-        let is_like = look_same(town, &self.by_list.town) && look_same(town, &self.by_byte.town);
-        put_where(text, !is_like, "DIFFERS at the end\n")?;
-        Ok(is_like)
-    }
-
-    fn put_headline(&self, text: &mut String) -> Result<bool, AllocError> {
-        match self.fails_at {
-            Some(line) => {
-                write!(text, "headline fails at line {line}\n")?;
-                Ok(false)
-            }
-            None => Ok(true),
+        if by_list != page {
+            Some(("DIFFERS by run\n", by_list))
+        } else if by_byte != page {
+            Some(("DIFFERS byte by byte\n", by_byte))
+        } else if look_same(town, &self.by_list.town) && look_same(town, &self.by_byte.town) {
+            None
+        } else {
+            Some(("DIFFERS at the end\n", ""))
         }
     }
 
     /// Adds all that is to be said of the page. Says whether all was right.
-    fn put_verdict(&self, text: &mut String, body: &[Numbered<'_>]) -> Result<bool, AllocError> {
-        let is_expected = self.put_expectation(text, body)?;
-        let is_same = self.put_likeness(text)?;
-        let holds = self.put_headline(text)?;
-        Ok(is_expected && is_same && holds)
+    fn put_verdict(&self, text: &mut String) -> Result<bool, AllocError> {
+        let unexpected = self.unexpected();
+        let unlike = self.unlike();
+        put_judgement(text, unexpected, "as expected\n")?;
+        put_judgement(text, unlike, "the same by run and byte by byte\n")?;
+        if let Some(line) = self.fails_at {
+            write!(text, "headline fails at line {line}\n")?;
+        }
+        Ok(unexpected.is_none() && unlike.is_none() && self.fails_at.is_none())
     }
 
-    fn judge(&self, body: &[Numbered<'_>]) -> Result<Outcome, AllocError> {
+    fn judge(&self) -> Result<Outcome, AllocError> {
         let mut text = String::from_str(self.alloc, self.by_event.page.as_str())?;
-        let is_right = self.put_verdict(&mut text, body)?;
+        let is_right = self.put_verdict(&mut text)?;
         Ok(Outcome { text, is_right })
     }
 
-    fn tell(&mut self, body: &[Numbered<'_>]) -> Result<Outcome, Failure> {
-        self.obey_all(body)?;
-        match self.judge(body) {
-            Ok(outcome) => Ok(outcome),
-            Err(refused) => Err(of_no_line(Fault::NoMemory(refused))),
+    fn obey_all(&mut self, body: &[Line<'_>]) -> Result<Outcome, Fault> {
+        for line in body {
+            self.line = line.number;
+            self.obey(line)?;
         }
+        self.run_list()?;
+        Ok(self.judge()?)
     }
 }
 
-/// Adds a line where this holds. Says whether it does.
-fn put_where(text: &mut String, holds: bool, line: &str) -> Result<bool, AllocError> {
-    if holds {
-        text.push_str(line)?;
-    }
-    Ok(holds)
-}
-
-/// Adds the first line in which a page differs from the one that is wanted. Says whether they are the same.
-fn put_difference(
+/// Adds what is wrong and a page that shows it, or that all is right.
+fn put_judgement(
     text: &mut String,
-    what: &str,
-    wanted: &str,
-    page: &str,
-) -> Result<bool, AllocError> {
-    if page == wanted {
-        return Ok(true);
-    }
-    match first_difference(wanted, page) {
-        Some((number, line, came)) => {
-            write!(text, "{what} in line {number}: \"{line}\", \"{came}\"\n")?;
+    wrong: Option<(&'static str, &str)>,
+    right: &str,
+) -> Result<(), AllocError> {
+    match wrong {
+        Some((what, page)) => {
+            text.push_str(what)?;
+            text.push_str(page)
         }
-        None => {
-            let number = wanted.lines().count();
-            write!(text, "{what} behind line {number}\n")?;
-        }
+        None => text.push_str(right),
     }
-    Ok(false)
-}
-
-/// The number of the first line in which a page differs from the one that is wanted, the line, and what came.
-fn first_difference<'a>(wanted: &'a str, page: &'a str) -> Option<(usize, &'a str, &'a str)> {
-    let mut lines = page.lines();
-    let mut number = 0usize;
-    for line in wanted.lines() {
-        number = number.saturating_add(1);
-        let came = lines.next().unwrap_or("nothing");
-        if came != line {
-            return Some((number, line, came));
-        }
-    }
-    None
-}
-
-/// A fault of no line.
-fn of_no_line(fault: Fault) -> Failure {
-    Failure { line: 0, fault }
 }
 
 /// Tells a case.
+fn tell_in(case: &mut Case, body: &[Line<'_>]) -> Result<Outcome, Failure> {
+    match case.obey_all(body) {
+        Ok(outcome) => Ok(outcome),
+        Err(fault) => Err(Failure {
+            line: case.line,
+            fault,
+        }),
+    }
+}
+
+/// Tells a case with the panels of these lines.
 pub(crate) fn tell(
     alloc: Global,
-    panel_text: &str,
-    body: &[Numbered<'_>],
+    panels: &[Line<'_>],
+    body: &[Line<'_>],
 ) -> Result<Outcome, Failure> {
-    let mut case = Case::new(alloc, panel_text).map_err(of_no_line)?;
-    case.tell(body)
+    match Case::read(alloc, panels) {
+        Ok(mut case) => tell_in(&mut case, body),
+        Err(fault) => Err(Failure { line: 0, fault }),
+    }
 }

@@ -19,70 +19,106 @@
 //! up? C             the bytes under way to the host
 //! down? C           the bytes under way to the terminal
 //! ```
+use crate::bytes::number_of;
 use crate::fault::Fault;
 use crate::worlds::deed::Deed;
-use crate::worlds::script::{first_of, number_of};
 
 /// What may be asked.
 #[derive(Clone, Copy)]
 pub(crate) enum Question {
     /// What a terminal prints.
-    Show(usize),
+    Show,
     /// How far it is with its host.
-    Status(usize),
+    Status,
     /// What is under way to the host.
-    Up(usize),
+    Up,
     /// What is under way to the terminal.
-    Down(usize),
+    Down,
 }
 
-/// A command of a case.
+/// What may happen, at a terminal or on a connection.
 #[derive(Clone, Copy)]
-pub(crate) enum Command<'a> {
-    Do(Deed<'a>),
-    /// The keys of a text are pressed at a terminal.
-    Type(usize, &'a str),
-    Settle,
+pub(crate) enum Happening {
+    Connect,
+    Key,
+    Up,
+    Down,
+    Act,
+    Note,
+    Lose,
+    HostSees,
+    TermSees,
+    RestartTerm,
+}
+
+/// A command with the number of a terminal or a connection.
+#[derive(Clone, Copy)]
+pub(crate) enum Command {
+    Do(Happening),
+    /// The keys of a text are pressed.
+    Type,
     Ask(Question),
 }
 
-/// Reads a line.
-pub(crate) fn read_command<'a>(line: &'a str) -> Result<Command<'a>, Fault> {
-    match line {
-        "settle" => Ok(Command::Settle),
-        "restarthost" => Ok(Command::Do(Deed::RestartHost)),
-        _ => {
-            let (word, words) = first_of(line);
-            let (number, rest) = first_of(words);
-            read_numbered(word, number_of(number)?, rest)
-        }
-    }
+/// What a line is, by its first word.
+#[derive(Clone, Copy)]
+pub(crate) enum Word {
+    /// Begins a panel text.
+    Panels,
+    /// Begins a case.
+    World,
+    /// Is a line of a panel text, or printed by its case.
+    Text,
+    /// So many empty lines are printed.
+    Blank,
+    Settle,
+    RestartHost,
+    At(Command),
+    /// None of these.
+    Unknown,
 }
 
-/// Reads a line on a terminal, or a connection.
-fn read_numbered<'a>(word: &str, number: usize, rest: &'a str) -> Result<Command<'a>, Fault> {
-    match word {
-        "type" => Ok(Command::Type(number, rest)),
-        "show" => Ok(Command::Ask(Question::Show(number))),
-        "status" => Ok(Command::Ask(Question::Status(number))),
-        "up?" => Ok(Command::Ask(Question::Up(number))),
-        "down?" => Ok(Command::Ask(Question::Down(number))),
-        _ => Ok(Command::Do(read_deed(word, number, rest)?)),
-    }
-}
+pub(crate) static WORDS: [(&str, Word); 22] = [
+    ("panels", Word::Panels),
+    ("world", Word::World),
+    ("|", Word::Text),
+    (">", Word::Text),
+    ("blank", Word::Blank),
+    ("connect", Word::At(Command::Do(Happening::Connect))),
+    ("key", Word::At(Command::Do(Happening::Key))),
+    ("type", Word::At(Command::Type)),
+    ("up", Word::At(Command::Do(Happening::Up))),
+    ("down", Word::At(Command::Do(Happening::Down))),
+    ("act", Word::At(Command::Do(Happening::Act))),
+    ("note", Word::At(Command::Do(Happening::Note))),
+    ("lose", Word::At(Command::Do(Happening::Lose))),
+    ("hostsees", Word::At(Command::Do(Happening::HostSees))),
+    ("termsees", Word::At(Command::Do(Happening::TermSees))),
+    ("restartterm", Word::At(Command::Do(Happening::RestartTerm))),
+    ("restarthost", Word::RestartHost),
+    ("settle", Word::Settle),
+    ("show", Word::At(Command::Ask(Question::Show))),
+    ("status", Word::At(Command::Ask(Question::Status))),
+    ("up?", Word::At(Command::Ask(Question::Up))),
+    ("down?", Word::At(Command::Ask(Question::Down))),
+];
 
-fn read_deed<'a>(word: &str, number: usize, rest: &'a str) -> Result<Deed<'a>, Fault> {
-    match word {
-        "connect" => Ok(Deed::Connect(number, rest)),
-        "key" => Ok(Deed::Key(number, rest)),
-        "up" => Ok(Deed::Up(number, number_of(rest)?)),
-        "down" => Ok(Deed::Down(number, number_of(rest)?)),
-        "act" => Ok(Deed::Act(number)),
-        "note" => Ok(Deed::Note(number, rest)),
-        "lose" => Ok(Deed::Lose(number)),
-        "hostsees" => Ok(Deed::HostSees(number)),
-        "termsees" => Ok(Deed::TermSees(number)),
-        "restartterm" => Ok(Deed::RestartTerm(number)),
-        _ => Err(Fault::Needs("a command")),
-    }
+/// What happens with a number, by the rest of a line.
+pub(crate) fn deed_of<'a>(
+    happening: Happening,
+    number: usize,
+    rest: &'a str,
+) -> Result<Deed<'a>, Fault> {
+    Ok(match happening {
+        Happening::Connect => Deed::Connect(number, rest),
+        Happening::Key => Deed::Key(number, rest),
+        Happening::Up => Deed::Up(number, usize::from(number_of(rest)?)),
+        Happening::Down => Deed::Down(number, usize::from(number_of(rest)?)),
+        Happening::Act => Deed::Act(number),
+        Happening::Note => Deed::Note(number, rest),
+        Happening::Lose => Deed::Lose(number),
+        Happening::HostSees => Deed::HostSees(number),
+        Happening::TermSees => Deed::TermSees(number),
+        Happening::RestartTerm => Deed::RestartTerm(number),
+    })
 }

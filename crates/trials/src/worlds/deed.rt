@@ -47,15 +47,6 @@ impl Deed<'_> {
             Deed::RestartHost => Ok(Event::RestartHost),
         }
     }
-
-    /// What is left of a delivery, once so many of its bytes came; else the same.
-    pub(crate) fn less(&self, taken: usize) -> Deed<'_> {
-        match self {
-            Deed::Up(conn, count) => Deed::Up(*conn, count.saturating_sub(taken)),
-            Deed::Down(conn, count) => Deed::Down(*conn, count.saturating_sub(taken)),
-            deed => *deed,
-        }
-    }
 }
 
 fn wanting(terminal: usize, name: &str) -> Result<Event, Fault> {
@@ -75,20 +66,14 @@ fn pressing(terminal: usize, name: &str) -> Result<Event, Fault> {
     }
 }
 
-/// Puts the codes of a text's characters into a row, and answers how many these are. None where one has no code, or there are too
-/// many.
-fn put_codes(codes: &mut [u8], text: &str) -> Option<usize> {
+/// The text of a note. None where a character has no code, or there are too many.
+fn note_text(text: &str) -> Option<NoteText> {
+    let mut codes = [0; LONGEST_NOTE];
     let mut count = 0usize;
     for letter in text.chars() {
         *codes.get_mut(count)? = from_latin1(letter)?;
         count = count.saturating_add(1);
     }
-    Some(count)
-}
-
-fn note_text(text: &str) -> Option<NoteText> {
-    let mut codes = [0; LONGEST_NOTE];
-    let count = put_codes(&mut codes, text)?;
     NoteText::new(codes.get(..count)?)
 }
 

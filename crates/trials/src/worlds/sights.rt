@@ -1,20 +1,20 @@
 //! What is to be seen of a world, in words.
-use crate::fault::Fault;
 use crate::worlds::command::Question;
-use crate::worlds::town::Town;
+use crate::worlds::telling::Telling;
+use crate::worlds::town::{TERMINALS, Town};
 use std::alloc::{AllocError, Global};
-use term_core::{TermPhase, Terminal};
+use term_core::TermPhase;
 use tn3270e_msg::{Cause, Lu};
 use world3270::Stepped;
 
-/// Adds what became of an event, but where it just happened.
-pub(crate) fn put_outcome(page: &mut String, stepped: Stepped) -> Result<(), AllocError> {
-    match stepped {
+/// Adds what became of the last event, but where it just happened.
+pub(crate) fn put_outcome(telling: &mut Telling) -> Result<(), AllocError> {
+    match telling.came {
         Stepped::Refused(refusal) => {
             let number = refusal.number();
-            write!(page, "refused {number}\n")
+            write!(telling.page, "refused {number}\n")
         }
-        Stepped::Skipped => page.push_str("skipped\n"),
+        Stepped::Skipped => telling.page.push_str("skipped\n"),
         Stepped::Done | Stepped::Part(_) | Stepped::Memory => Ok(()),
     }
 }
@@ -22,33 +22,38 @@ pub(crate) fn put_outcome(page: &mut String, stepped: Stepped) -> Result<(), All
 /// Adds the answer to a question.
 pub(crate) fn put_answer(
     alloc: Global,
+    telling: &mut Telling,
+    question: Question,
+    number: usize,
+) -> Result<(), AllocError> {
+    let page = &mut telling.page;
+    let town = &telling.town;
+    match question {
+        Question::Show => put_screen(alloc, page, town, number),
+        Question::Status => put_status(page, town, number),
+        Question::Up => put_bytes(page, town.queued_up(number)),
+        Question::Down => put_bytes(page, town.queued_down(number)),
+    }
+}
+
+fn put_screen(
+    alloc: Global,
     page: &mut String,
     town: &Town,
-    question: Question,
-) -> Result<(), Fault> {
-    match question {
-        Question::Show(number) => put_screen(alloc, page, terminal(town, number)?)?,
-        Question::Status(number) => put_status(page, terminal(town, number)?.phase())?,
-        Question::Up(conn) => put_bytes(page, town.queued_up(conn))?,
-        Question::Down(conn) => put_bytes(page, town.queued_down(conn))?,
+    number: usize,
+) -> Result<(), AllocError> {
+    if number >= TERMINALS {
+        return page.push_str("no terminal\n");
     }
-    Ok(())
-}
-
-fn terminal(town: &Town, number: usize) -> Result<&Terminal, Fault> {
-    match town.terminal(number) {
-        Some(terminal) => Ok(terminal),
-        None => Err(Fault::Needs("a terminal's number")),
-    }
-}
-
-fn put_screen(alloc: Global, page: &mut String, terminal: &Terminal) -> Result<(), AllocError> {
-    let text = terminal.screen_text(alloc)?;
+    let text = town.terminal(number).screen_text(alloc)?;
     page.push_str(text.as_str())
 }
 
-fn put_status(page: &mut String, phase: TermPhase) -> Result<(), AllocError> {
-    match phase {
+fn put_status(page: &mut String, town: &Town, number: usize) -> Result<(), AllocError> {
+    if number >= TERMINALS {
+        return page.push_str("no terminal\n");
+    }
+    match town.terminal(number).phase() {
         TermPhase::Idle => page.push_str("idle\n"),
         TermPhase::Talking => page.push_str("talking\n"),
         TermPhase::Bound(lu) => put_bound(page, &lu),

@@ -1,11 +1,11 @@
 //! A world of four terminals.
-ghost use Rattle.std.specs.Prelude.{◌≡◌, ◌≤◌, length};
+ghost use Rattle.std.specs.Prelude.{◌≡◌, ◌<◌, ◌≤◌, length};
 
 use crate::fault::Fault;
-use crate::readers::{read_panels, read_pool};
+use crate::readers::read_parts;
 use host_core::{Host, MOST_CONNECTIONS, Phase};
 use std::alloc::Global;
-use term_core::{TermPhase, Terminal};
+use term_core::Terminal;
 use world3270::{Event, Ran, Stepped, World};
 
 /// How many terminals there are.
@@ -21,8 +21,7 @@ pub(crate) struct Town {
 impl Town {
     /// A world whose host serves the panels of a text.
     fn read(alloc: Global, panel_text: &str) -> Result<Town, Fault> {
-        let panels = read_panels(alloc, panel_text)?;
-        let pool = read_pool(alloc, panels.lus())?;
+        let (panels, pool) = read_parts(alloc, panel_text)?;
         let world = World::new(alloc, panels, pool, TERMINALS)?;
         Ok(Town { world })
     }
@@ -49,21 +48,11 @@ impl Town {
         self.world.host()
     }
 
-    /// A terminal, if there is one with this number.
-    pub(crate) fn terminal(&self, number: usize) -> Option<&Terminal> {
-        if number < TERMINALS {
-            Some(self.world.terminal(number))
-        } else {
-            None
-        }
-    }
-
-    /// How far a terminal is with its host: a number that none has is idle.
-    pub(crate) fn terminal_phase(&self, number: usize) -> TermPhase {
-        match self.terminal(number) {
-            Some(terminal) => terminal.phase(),
-            None => TermPhase::Idle,
-        }
+    /// A terminal.
+    pub(crate) fn terminal(&self, number: usize) -> &Terminal
+        requires { number < 4 }
+    {
+        self.world.terminal(number)
     }
 
     /// Whether the host holds an end of a connection.
