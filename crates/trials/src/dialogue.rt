@@ -17,7 +17,7 @@ mod words;
 use crate::fault::Failure;
 use anyhow::Result;
 use host::Switchboard;
-use script::{Line, Numbered, With, body_of, read_script};
+use script::{Kind, Line, With, body_of, read_script};
 use std::alloc::Global;
 use std::io;
 use subject::hold;
@@ -42,7 +42,7 @@ fn tell(
 }
 
 /// Holds a dialogue with its subject.
-fn hold_with(alloc: Global, with: With, body: &[Numbered<'_>]) -> std::result::Result<(), Failure> {
+fn hold_with(alloc: Global, with: With, body: &[Line<'_>]) -> std::result::Result<(), Failure> {
     match with {
         With::Terminal => hold::<Desk>(alloc, body),
         With::Host => hold::<Switchboard>(alloc, body),
@@ -50,14 +50,14 @@ fn hold_with(alloc: Global, with: With, body: &[Numbered<'_>]) -> std::result::R
 }
 
 /// Holds the dialogues of a script one after another, and prints how many there were where all came as expected. Answers whether they did.
-fn hold_all(rt: &(impl Print + AllocGlobal), script: &[Numbered<'_>]) -> io::Result<bool> {
+fn hold_all(rt: &(impl Print + AllocGlobal), script: &[Line<'_>]) -> io::Result<bool> {
     let mut all = true;
     let mut count = 0usize;
-    for (index, numbered) in script.iter().enumerate() {
-        if let Line::Dialogue(with, name) = numbered.line {
+    for (index, line) in script.iter().enumerate() {
+        if let Kind::Dialogue = line.kind {
             count = count.saturating_add(1);
-            let outcome = hold_with(rt.alloc(), with, body_of(&script[index + 1..]));
-            all = tell(rt, name, outcome)? && all;
+            let outcome = hold_with(rt.alloc(), line.with, body_of(&script[index + 1..]));
+            all = tell(rt, line.text, outcome)? && all;
         }
     }
     if all {

@@ -1,34 +1,23 @@
 //! What is believed of a screen, in words and in bytes.
 use codes3270::{Addr, CELL_COUNT, Cell, attr_code};
 use shadow::{Fact, Shadow};
-use std::alloc::AllocError;
+use std::alloc::{AllocError, Global};
 
 /// Whether anything is believed of a screen.
 pub(crate) fn belief_word(shadow: &Shadow) -> &'static str {
-    if knows_nothing(shadow) {
+    if is_known_as(shadow, None) {
         "nothing"
-    } else if knows_nulls(shadow) {
+    } else if is_known_as(shadow, Some(Cell::Char(0))) {
         "nulls"
     } else {
         "more"
     }
 }
 
-/// No cell is known, and no field.
-fn knows_nothing(shadow: &Shadow) -> bool {
+/// Whether this is known of each cell, and of no field anything.
+fn is_known_as(shadow: &Shadow, cell: Option<Cell>) -> bool {
     for at in Addr::all() {
-        if shadow.known(at).is_some() || shadow.fact(at).is_some() {
-            return false;
-        }
-    }
-    true
-}
-
-/// Each cell is known to be null, and no field is.
-fn knows_nulls(shadow: &Shadow) -> bool {
-    for at in Addr::all() {
-        let is_null = matches!(shadow.known(at), Some(Cell::Char(0)));
-        if !is_null || shadow.fact(at).is_some() {
+        if shadow.known(at) != cell || shadow.fact(at).is_some() {
             return false;
         }
     }
@@ -48,7 +37,7 @@ pub(crate) fn fact_word(shadow: &Shadow, at: Addr) -> &'static str {
 }
 
 /// Appends the characters that this fact speaks of.
-pub(crate) fn put_text(bytes: &mut Vec<u8>, shadow: &Shadow, at: Addr) -> Result<(), AllocError> {
+fn put_text(bytes: &mut Vec<u8>, shadow: &Shadow, at: Addr) -> Result<(), AllocError> {
     for index in 0..CELL_COUNT {
         match shadow.value(at, index) {
             Some(byte) => bytes.push(byte)?,
@@ -56,6 +45,13 @@ pub(crate) fn put_text(bytes: &mut Vec<u8>, shadow: &Shadow, at: Addr) -> Result
         }
     }
     Ok(())
+}
+
+/// The characters that this fact speaks of.
+pub(crate) fn text_of(alloc: Global, shadow: &Shadow, at: Addr) -> Result<Vec<u8>, AllocError> {
+    let mut bytes = Vec::new(alloc);
+    put_text(&mut bytes, shadow, at)?;
+    Ok(bytes)
 }
 
 /// Appends what is believed of each field: its attribute's address and code, the fact, and the characters.
