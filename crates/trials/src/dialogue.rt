@@ -18,7 +18,6 @@ use crate::fault::Failure;
 use anyhow::Result;
 use host::Switchboard;
 use script::{Kind, Line, With, body_of, read_script};
-use std::alloc::Global;
 use std::io;
 use subject::hold;
 use terminal::Desk;
@@ -41,12 +40,17 @@ fn tell(
     }
 }
 
-/// Holds a dialogue with its subject.
-fn hold_with(alloc: Global, with: With, body: &[Line<'_>]) -> std::result::Result<(), Failure> {
-    match with {
-        With::Terminal => hold::<Desk>(alloc, body),
-        With::Host => hold::<Switchboard>(alloc, body),
-    }
+/// Holds a dialogue with its subject, and prints how it came out. Answers whether all of it came as expected.
+fn hold_told(
+    rt: &(impl Print + AllocGlobal),
+    heading: &Line<'_>,
+    body: &[Line<'_>],
+) -> io::Result<bool> {
+    let outcome = match heading.with {
+        With::Terminal => hold::<Desk>(rt.alloc(), body),
+        With::Host => hold::<Switchboard>(rt.alloc(), body),
+    };
+    tell(rt, heading.text, outcome)
 }
 
 /// Holds the dialogues of a script one after another, and prints how many there were where all came as expected. Answers whether they did.
@@ -56,8 +60,7 @@ fn hold_all(rt: &(impl Print + AllocGlobal), script: &[Line<'_>]) -> io::Result<
     for (index, line) in script.iter().enumerate() {
         if let Kind::Dialogue = line.kind {
             count = count.saturating_add(1);
-            let outcome = hold_with(rt.alloc(), line.with, body_of(&script[index + 1..]));
-            all = tell(rt, line.text, outcome)? && all;
+            all = hold_told(rt, line, body_of(&script[index + 1..]))? && all;
         }
     }
     if all {

@@ -5,19 +5,30 @@ use std::alloc::{AllocError, Global};
 
 /// Whether anything is believed of a screen.
 pub(crate) fn belief_word(shadow: &Shadow) -> &'static str {
-    if is_known_as(shadow, None) {
+    if knows_nothing(shadow) {
         "nothing"
-    } else if is_known_as(shadow, Some(Cell::Char(0))) {
+    } else if knows_nulls(shadow) {
         "nulls"
     } else {
         "more"
     }
 }
 
-/// Whether this is known of each cell, and of no field anything.
-fn is_known_as(shadow: &Shadow, cell: Option<Cell>) -> bool {
+/// No cell is known, and no field.
+fn knows_nothing(shadow: &Shadow) -> bool {
     for at in Addr::all() {
-        if shadow.known(at) != cell || shadow.fact(at).is_some() {
+        if shadow.known(at).is_some() || shadow.fact(at).is_some() {
+            return false;
+        }
+    }
+    true
+}
+
+/// Each cell is known to be null, and no field is.
+fn knows_nulls(shadow: &Shadow) -> bool {
+    for at in Addr::all() {
+        let is_null = matches!(shadow.known(at), Some(Cell::Char(0)));
+        if !is_null || shadow.fact(at).is_some() {
             return false;
         }
     }
