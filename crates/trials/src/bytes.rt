@@ -46,8 +46,14 @@ fn quoted(word: &str) -> Option<&str> {
 
 fn put_pairs(alloc: Global, bytes: &mut Vec<u8>, pairs: &str, times: u16) -> Result<(), Fault> {
     let some = decoded(alloc, pairs)?;
+    put_often(bytes, some.as_slice(), usize::from(times))?;
+    Ok(())
+}
+
+/// Puts bytes as often as said.
+pub(crate) fn put_often(bytes: &mut Vec<u8>, some: &[u8], times: usize) -> Result<(), AllocError> {
     for _ in 0..times {
-        bytes.extend_from_slice(some.as_slice())?;
+        bytes.extend_from_slice(some)?;
     }
     Ok(())
 }

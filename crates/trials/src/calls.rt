@@ -12,22 +12,21 @@ use tn3270e_msg::{Fed, Stop};
 /// The characters that a note has at most.
 const LONGEST_NOTE: usize = 131;
 
-/// Begins a connection.
+/// Begins a connection on a number that is free; where memory is refused, it has to be free still.
 pub(crate) fn open(host: &mut Host, conn: usize) -> Result<(), Fault>
     requires { conn < most_connections }
 {
-    match host.phase(conn) {
-        Phase::Free => match host.open(conn) {
-            Ok(()) => Ok(()),
-            Err(_) => {
-                host.open(conn)?;
-                Ok(())
-            }
-        },
-        Phase::Talking | Phase::Bound(_) | Phase::Closed(_) => {
-            Err(Fault::Needs("a number that is free"))
-        }
+    if host.phase(conn) != Phase::Free {
+        return Err(Fault::Needs("a number that is free"));
     }
+    if host.open(conn).is_ok() {
+        return Ok(());
+    }
+    if host.phase(conn) != Phase::Free || !host.out(conn).is_empty() {
+        return Err(Fault::Wrong("a connection that was refused has begun"));
+    }
+    host.open(conn)?;
+    Ok(())
 }
 
 /// Feeds bytes in one piece, and where memory is refused the rest again.
@@ -93,12 +92,17 @@ pub(crate) fn note(alloc: Global, host: &mut Host, conn: usize, text: &str) -> R
 /// The codes of a text's characters; of those that have one.
 fn codes_of(alloc: Global, text: &str) -> Result<Vec<u8>, AllocError> {
     let mut codes = Vec::new(alloc);
+    put_codes(&mut codes, text)?;
+    Ok(codes)
+}
+
+fn put_codes(codes: &mut Vec<u8>, text: &str) -> Result<(), AllocError> {
     for letter in text.chars() {
         if let Some(code) = from_latin1(letter) {
             codes.push(code)?;
         }
     }
-    Ok(codes)
+    Ok(())
 }
 
 fn is_note_text(codes: &[u8]) -> bool

@@ -17,8 +17,7 @@ mod words;
 use crate::fault::Failure;
 use anyhow::Result;
 use host::Switchboard;
-use script::{Line, Numbered, With, body_of, read_script};
-use std::alloc::Global;
+use script::{Kind, Line, With, body_of, read_script};
 use std::io;
 use subject::hold;
 use terminal::Desk;
@@ -41,23 +40,27 @@ fn tell(
     }
 }
 
-/// Holds a dialogue with its subject.
-fn hold_with(alloc: Global, with: With, body: &[Numbered<'_>]) -> std::result::Result<(), Failure> {
-    match with {
-        With::Terminal => hold::<Desk>(alloc, body),
-        With::Host => hold::<Switchboard>(alloc, body),
-    }
+/// Holds a dialogue with its subject, and prints how it came out. Answers whether all of it came as expected.
+fn hold_told(
+    rt: &(impl Print + AllocGlobal),
+    heading: &Line<'_>,
+    body: &[Line<'_>],
+) -> io::Result<bool> {
+    let outcome = match heading.with {
+        With::Terminal => hold::<Desk>(rt.alloc(), body),
+        With::Host => hold::<Switchboard>(rt.alloc(), body),
+    };
+    tell(rt, heading.text, outcome)
 }
 
 /// Holds the dialogues of a script one after another, and prints how many there were where all came as expected. Answers whether they did.
-fn hold_all(rt: &(impl Print + AllocGlobal), script: &[Numbered<'_>]) -> io::Result<bool> {
+fn hold_all(rt: &(impl Print + AllocGlobal), script: &[Line<'_>]) -> io::Result<bool> {
     let mut all = true;
     let mut count = 0usize;
-    for (index, numbered) in script.iter().enumerate() {
-        if let Line::Dialogue(with, name) = numbered.line {
+    for (index, line) in script.iter().enumerate() {
+        if let Kind::Dialogue = line.kind {
             count = count.saturating_add(1);
-            let outcome = hold_with(rt.alloc(), with, body_of(&script[index + 1..]));
-            all = tell(rt, name, outcome)? && all;
+            all = hold_told(rt, line, body_of(&script[index + 1..]))? && all;
         }
     }
     if all {

@@ -8,7 +8,7 @@
 //!
 //! Run with each allocation refused in turn (in crates/trials3270, `rt try --fail-alloc N -- serving last`) it prints the same, but for
 //! numbers of reads and writes: a call that is refused memory leaves the host as it was and is made again, a turn of serving goes on with
-//! the next, and a case that the program has no memory for is tried again. With `last`, as here, only the last case of each kind is
+//! the next, and what the program has no memory for is tried again. With `last`, as here, only the last case of each kind is
 //! tried, since an interpreter runs it.
 
 mod cases;
@@ -19,11 +19,13 @@ mod refusals;
 mod seat;
 mod story;
 
-use cases::{Extent, break_off, tell_whole};
-use client::{Pace, Trouble, Way};
+use crate::fault::Fault;
+use cases::{is_broken_off, tell_whole};
+use client::{Extent, Pace, Place, Trouble, Way};
+use hall::Hall;
 use refusals::stay_alike;
 use seat::Seat;
-use std::alloc::Global;
+use std::alloc::{AllocError, Global};
 use std::io;
 
 /// As many bytes at once as there are.
@@ -33,7 +35,7 @@ const WHOLE: Pace = Pace {
 };
 
 /// The paces at which the story is told, and their names.
-static PACES: [(&str, Pace); 5] = [
+const PACES: [(&str, Pace); 5] = [
     ("whole", WHOLE),
     (
         "whole, with pauses",
@@ -65,79 +67,41 @@ static PACES: [(&str, Pace); 5] = [
     ),
 ];
 
-/// A kind of trouble.
+/// A kind of trouble: where it comes, of which there is a case for each, and how.
 #[derive(Clone, Copy)]
-enum Kind {
-    ReadEnds,
-    ReadFails,
-    WriteFails,
-    StreamEnds,
-    StreamFails,
+struct Kind {
+    name: &'static str,
+    place: Place,
+    way: Way,
 }
 
 const KINDS: [Kind; 5] = [
-    Kind::ReadEnds,
-    Kind::ReadFails,
-    Kind::WriteFails,
-    Kind::StreamEnds,
-    Kind::StreamFails,
+    Kind {
+        name: "a read ends",
+        place: Place::Read,
+        way: Way::Ends,
+    },
+    Kind {
+        name: "a read fails",
+        place: Place::Read,
+        way: Way::Fails,
+    },
+    Kind {
+        name: "a write fails",
+        place: Place::Write,
+        way: Way::Fails,
+    },
+    Kind {
+        name: "the stream ends behind a byte",
+        place: Place::Byte,
+        way: Way::Ends,
+    },
+    Kind {
+        name: "the stream fails behind a byte",
+        place: Place::Byte,
+        way: Way::Fails,
+    },
 ];
-
-impl Kind {
-    fn name(self) -> &'static str {
-        match self {
-            Kind::ReadEnds => "a read ends",
-            Kind::ReadFails => "a read fails",
-            Kind::WriteFails => "a write fails",
-            Kind::StreamEnds => "the stream ends behind a byte",
-            Kind::StreamFails => "the stream fails behind a byte",
-        }
-    }
-
-    /// How many cases there are.
-    fn count(self, extent: Extent) -> usize {
-        match self {
-            Kind::ReadEnds | Kind::ReadFails => extent.reads,
-            Kind::WriteFails => extent.writes,
-            Kind::StreamEnds | Kind::StreamFails => extent.said,
-        }
-    }
-
-    /// The trouble of a case, from 1 on.
-    fn trouble(self, number: usize) -> Trouble {
-        match self {
-            Kind::ReadEnds => Trouble::Read(Way::Ends, number),
-            Kind::ReadFails => Trouble::Read(Way::Fails, number),
-            Kind::WriteFails => Trouble::Write(number),
-            Kind::StreamEnds => Trouble::Behind(Way::Ends, number),
-            Kind::StreamFails => Trouble::Behind(Way::Fails, number),
-        }
-    }
-}
-
-/// A story that is told whole; once more, where memory is refused for it.
-fn whole(alloc: Global, pace: Pace) -> io::Result<Option<Extent>> {
-    match tell_whole(alloc, pace) {
-        Ok(extent) => Ok(extent),
-        Err(_) => tell_whole(alloc, pace),
-    }
-}
-
-/// A story that is broken off, in this way too.
-fn broken(alloc: Global, seat: Seat, trouble: Trouble) -> io::Result<bool> {
-    match break_off(alloc, WHOLE, seat, trouble) {
-        Ok(expected) => Ok(expected),
-        Err(_) => break_off(alloc, WHOLE, seat, trouble),
-    }
-}
-
-/// Growths that are refused, in this way too.
-fn alike(alloc: Global) -> io::Result<bool> {
-    match stay_alike(alloc) {
-        Ok(expected) => Ok(expected),
-        Err(_) => stay_alike(alloc),
-    }
-}
 
 /// Which cases of a kind are tried.
 #[derive(Clone, Copy)]
@@ -158,30 +122,35 @@ impl Range {
 
 /// The first case of a kind that comes otherwise, of those from one number to another.
 fn first_otherwise(
-    alloc: Global,
+    hall: &mut Hall,
+    twin: &mut Hall,
     seat: Seat,
     kind: Kind,
     from: usize,
     to: usize,
-) -> io::Result<Option<usize>> {
+) -> Option<usize> {
     for number in from..=to {
-        if !broken(alloc, seat, kind.trouble(number))? {
-            return Ok(Some(number));
+        let trouble = Trouble {
+            place: kind.place,
+            number,
+            way: kind.way,
+        };
+        if !is_broken_off(hall, twin, WHOLE, seat, trouble) {
+            return Some(number);
         }
     }
-    Ok(None)
+    None
 }
 
-/// Tries cases of a kind, and prints how they came. Says whether all came as expected.
-fn try_kind(
-    rt: &(impl Print + AllocGlobal),
-    seat: Seat,
-    kind: Kind,
+/// Prints how cases of a kind came. Says whether all came as expected.
+fn tell_kind(
+    rt: &impl Print,
+    place: &str,
+    what: &str,
     from: usize,
     to: usize,
+    otherwise: Option<usize>,
 ) -> io::Result<bool> {
-    let (place, what) = (seat.name(), kind.name());
-    let otherwise = first_otherwise(rt.alloc(), seat, kind, from, to)?;
     match otherwise {
         None => println!(rt; "{place}: {what}, {from} to {to}: as expected")?,
         Some(number) => println!(rt; "{place}: {what}, {number}: otherwise")?,
@@ -189,9 +158,30 @@ fn try_kind(
     Ok(otherwise.is_none())
 }
 
-/// Tells a story at a pace, and prints how long it was. Says whether all came as expected.
-fn try_pace(rt: &(impl Print + AllocGlobal), name: &str, pace: Pace) -> io::Result<bool> {
-    let told = whole(rt.alloc(), pace)?;
+/// Breaks stories off on a connection, in each kind of case. Says whether all came as expected.
+fn try_kinds(
+    rt: &impl Print,
+    hall: &mut Hall,
+    twin: &mut Hall,
+    range: Range,
+    seat: Seat,
+) -> io::Result<bool> {
+    let Some(extent) = tell_whole(hall, WHOLE) else {
+        return Ok(false);
+    };
+    let place = seat.guest().place;
+    let mut all = true;
+    for kind in KINDS {
+        let to = extent.count(kind.place);
+        let from = range.first(to);
+        let otherwise = first_otherwise(hall, twin, seat, kind, from, to);
+        all = tell_kind(rt, place, kind.name, from, to, otherwise)? && all;
+    }
+    Ok(all)
+}
+
+/// Prints how long a story is that was told at a pace. Says whether it came as expected.
+fn tell_pace(rt: &impl Print, name: &str, told: Option<Extent>) -> io::Result<bool> {
     match told {
         Some(
             Extent {
@@ -205,42 +195,65 @@ fn try_pace(rt: &(impl Print + AllocGlobal), name: &str, pace: Pace) -> io::Resu
     Ok(told.is_some())
 }
 
-/// Breaks stories off on a connection, in each kind of case.
-fn try_kinds(rt: &(impl Print + AllocGlobal), range: Range, seat: Seat) -> io::Result<bool> {
-    let Some(extent) = whole(rt.alloc(), WHOLE)? else {
-        return Ok(false);
-    };
-    let mut all = true;
-    for kind in KINDS {
-        let count = kind.count(extent);
-        all = try_kind(rt, seat, kind, range.first(count), count)? && all;
-    }
-    Ok(all)
-}
-
 /// Tells the story at each pace, up to one at which it comes otherwise.
-fn try_paces(rt: &(impl Print + AllocGlobal)) -> io::Result<bool> {
-    for (name, pace) in &PACES {
-        if !try_pace(rt, name, *pace)? {
+fn try_paces(rt: &impl Print, hall: &mut Hall) -> io::Result<bool> {
+    for (name, pace) in PACES {
+        if !tell_pace(rt, name, tell_whole(hall, pace))? {
             return Ok(false);
         }
     }
     Ok(true)
 }
 
-fn try_refusals(rt: &(impl Print + AllocGlobal)) -> io::Result<bool> {
-    let is_alike = alike(rt.alloc())?;
+/// Whether a host that is refused memory stays as its twin; once more, where the program has none for that.
+fn stays_alike(alloc: Global, hall: &mut Hall, twin: &mut Hall) -> Result<bool, AllocError> {
+    match stay_alike(alloc, &mut hall.host, &mut twin.host) {
+        Ok(is_alike) => Ok(is_alike),
+        Err(_) => stay_alike(alloc, &mut hall.host, &mut twin.host),
+    }
+}
+
+fn try_refusals(
+    rt: &(impl Print + AllocGlobal),
+    hall: &mut Hall,
+    twin: &mut Hall,
+) -> io::Result<bool> {
+    let is_alike = stays_alike(rt.alloc(), hall, twin)?;
     let came = if is_alike { "as expected" } else { "otherwise" };
     println!(rt; "calls that may be refused memory: {came}")?;
     Ok(is_alike)
 }
 
+/// Tells the story in a hall at each pace, and breaks it off beside a twin. Says whether all came as expected.
+fn serve_at(
+    rt: &(impl Print + AllocGlobal),
+    range: Range,
+    hall: &mut Hall,
+    twin: &mut Hall,
+) -> io::Result<bool> {
+    Ok(
+        try_refusals(rt, hall, twin)?
+            && try_paces(rt, hall)?
+            && try_kinds(rt, hall, twin, range, Seat::First)?
+            && try_kinds(rt, hall, twin, range, Seat::Second)?,
+    )
+}
+
+/// A hall; once more, where memory is refused for it.
+fn new_hall(alloc: Global) -> Result<Hall, Fault> {
+    match Hall::new(alloc, WHOLE) {
+        Ok(hall) => Ok(hall),
+        Err(_) => Hall::new(alloc, WHOLE),
+    }
+}
+
+fn serve_in(rt: &(impl Print + AllocGlobal), range: Range, hall: &mut Hall) -> io::Result<bool> {
+    let mut twin = new_hall(rt.alloc())?;
+    serve_at(rt, range, hall, &mut twin)
+}
+
 /// Tells the story at each pace, and breaks it off. Says whether all came as expected.
 pub fn serve(rt: &(impl Print + AllocGlobal), range: Range) -> io::Result<bool> {
-    Ok(
-        try_refusals(rt)?
-            && try_paces(rt)?
-            && try_kinds(rt, range, Seat::First)?
-            && try_kinds(rt, range, Seat::Second)?,
-    )
+    let mut hall = new_hall(rt.alloc())?;
+    serve_in(rt, range, &mut hall)
 }

@@ -10,6 +10,7 @@
 //! ```
 ghost use Rattle.std.specs.Prelude.{◌≤◌, IfOk, length};
 
+use crate::bytes::first_of;
 use crate::fault::{Failure, Fault};
 use std::alloc::Global;
 
@@ -20,112 +21,103 @@ pub(crate) enum With {
     Host,
 }
 
+/// What a line of a script is.
+#[derive(Clone, Copy)]
+pub(crate) enum Kind {
+    /// It begins a dialogue.
+    Dialogue,
+    /// It begins a passage.
+    Passage,
+    /// It is for the subject.
+    Command,
+}
+
 /// A line of a script, where `play` is replaced by what it stands for.
 #[derive(Clone, Copy)]
-pub(crate) enum Line<'a> {
-    /// Begins the dialogue with this name.
-    Dialogue(With, &'a str),
-    /// Begins the passage with this name.
-    Passage(With, &'a str),
-    /// Is for the subject.
-    Command(&'a str),
-}
-
-/// A line and its number, from 1 on, in the script.
-#[derive(Clone, Copy)]
-pub(crate) struct Numbered<'a> {
+pub(crate) struct Line<'a> {
+    /// Its number, from 1 on.
     pub(crate) number: usize,
-    pub(crate) line: Line<'a>,
+    pub(crate) kind: Kind,
+    pub(crate) with: With,
+    /// The name of what it begins, or the command.
+    pub(crate) text: &'a str,
 }
 
-impl Numbered<'_> {
-    /// With whom the lines behind this heading are.
-    fn begins(&self) -> Option<With> {
-        match self.line {
-            Line::Dialogue(with, _) | Line::Passage(with, _) => Some(with),
-            Line::Command(_) => None,
-        }
-    }
-
-    fn is_heading(&self) -> bool {
-        self.begins().is_some()
-    }
-
+impl Line<'_> {
     fn begins_passage(&self, with: With, name: &str) -> bool {
-        match self.line {
-            Line::Passage(own, own_name) => own == with && own_name == name,
-            Line::Dialogue(_, _) | Line::Command(_) => false,
-        }
+        matches!(self.kind, Kind::Passage) && self.with == with && self.text == name
     }
 }
 
 /// The lines up to the next heading.
-pub(crate) fn body_of<'a>(lines: &'a [Numbered<'a>]) -> &'a [Numbered<'a>]
+pub(crate) fn body_of<'a>(lines: &'a [Line<'a>]) -> &'a [Line<'a>]
     ensures { length result.now ≤ length lines.now }
 {
-    match lines.iter().position(|line| line.is_heading()) {
+    match lines
+        .iter()
+        .position(|line| !matches!(line.kind, Kind::Command))
+    {
         Some(end) => &lines[..end],
         None => lines,
     }
 }
 
 /// The lines of a script.
-pub(crate) fn read_script<'a>(alloc: Global, text: &'a str) -> Result<Vec<Numbered<'a>>, Failure> {
+pub(crate) fn read_script<'a>(alloc: Global, text: &'a str) -> Result<Vec<Line<'a>>, Failure> {
     let mut script = Vec::new(alloc);
+    put_lines(&mut script, text)?;
+    Ok(script)
+}
+
+fn put_lines<'a>(script: &mut Vec<Line<'a>>, text: &'a str) -> Result<(), Failure> {
     let mut number = 0usize;
     for line in text.lines() {
         number = number.saturating_add(1);
-        if let Err(fault) = put_line(&mut script, number, line.trim()) {
+        if let Err(fault) = put_line(script, number, line.trim()) {
             return Err(Failure {
                 line: number,
                 fault,
             });
         }
     }
-    Ok(script)
-}
-
-fn put_line<'a>(script: &mut Vec<Numbered<'a>>, number: usize, text: &'a str) -> Result<(), Fault> {
-    if text.is_empty() || text.starts_with('#') {
-        return Ok(());
-    }
-    if let Some(name) = text.strip_prefix("play ") {
-        return put_passage(script, name);
-    }
-    let line = Numbered {
-        number,
-        line: line_of(text),
-    };
-    if script.is_empty() && !line.is_heading() {
-        return Err(Fault::Needs("a heading above it"));
-    }
-    script.push(line)?;
     Ok(())
 }
 
-fn line_of<'a>(text: &'a str) -> Line<'a> {
-    let (word, name) = text.split_once(' ').unwrap_or((text, ""));
-    match word {
-        "terminal-dialogue" => Line::Dialogue(With::Terminal, name),
-        "host-dialogue" => Line::Dialogue(With::Host, name),
-        "terminal-passage" => Line::Passage(With::Terminal, name),
-        "host-passage" => Line::Passage(With::Host, name),
-        _ => Line::Command(text),
+fn put_line<'a>(script: &mut Vec<Line<'a>>, number: usize, text: &'a str) -> Result<(), Fault> {
+    if text.is_empty() || text.starts_with('#') {
+        return Ok(());
     }
+    let (word, name) = first_of(text);
+    let (kind, with, text) = match word {
+        "play" => return put_passage(script, name),
+        "terminal-dialogue" => (Kind::Dialogue, With::Terminal, name),
+        "host-dialogue" => (Kind::Dialogue, With::Host, name),
+        "terminal-passage" => (Kind::Passage, With::Terminal, name),
+        "host-passage" => (Kind::Passage, With::Host, name),
+        _ => (Kind::Command, present_subject(script.as_slice())?, text),
+    };
+    script.push(Line {
+        number,
+        kind,
+        with,
+        text,
+    })?;
+    Ok(())
 }
 
 /// With whom the last lines of a script are.
-fn present_subject(script: &[Numbered<'_>]) -> Option<With> {
-    script.iter().rev().find_map(|line| line.begins())
+fn present_subject(script: &[Line<'_>]) -> Result<With, Fault> {
+    match script.last() {
+        Some(line) => Ok(line.with),
+        None => Err(Fault::Needs("a heading above it")),
+    }
 }
 
 /// Where the lines begin of the passage with a name, for the present subject.
-fn passage_start(script: &[Numbered<'_>], name: &str) -> Result<usize, Fault>
+fn passage_start(script: &[Line<'_>], name: &str) -> Result<usize, Fault>
     ensures { IfOk result (λ start. start ≤ length script.now) }
 {
-    let Some(with) = present_subject(script) else {
-        return Err(Fault::Needs("a heading above it"));
-    };
+    let with = present_subject(script)?;
     for (index, line) in script.iter().enumerate() {
         if line.begins_passage(with, name) {
             return Ok(index + 1);
@@ -135,7 +127,7 @@ fn passage_start(script: &[Numbered<'_>], name: &str) -> Result<usize, Fault>
 }
 
 /// Adds the lines of a passage.
-fn put_passage(script: &mut Vec<Numbered<'_>>, name: &str) -> Result<(), Fault> {
+fn put_passage(script: &mut Vec<Line<'_>>, name: &str) -> Result<(), Fault> {
     let start = passage_start(script.as_slice(), name)?;
     let count = body_of(&script.as_slice()[start..]).len();
     script.extend_from_within(start..start + count)?;

@@ -1,5 +1,5 @@
 //! How a dialogue is held, whatever its subject is.
-use crate::dialogue::script::{Line, Numbered};
+use crate::dialogue::script::{Kind, Line};
 use crate::fault::{Failure, Fault};
 use std::alloc::{AllocError, Global};
 
@@ -16,7 +16,7 @@ pub(crate) trait Subject: Sized + Drop {
 }
 
 /// Holds a dialogue, as often as its subject wants.
-pub(crate) fn hold<S: Subject>(alloc: Global, body: &[Numbered<'_>]) -> Result<(), Failure> {
+pub(crate) fn hold<S: Subject>(alloc: Global, body: &[Line<'_>]) -> Result<(), Failure> {
     let holdings = hold_again::<S>(alloc, body, 1)?;
     for holding in 2..=holdings {
         hold_again::<S>(alloc, body, holding)?;
@@ -27,7 +27,7 @@ pub(crate) fn hold<S: Subject>(alloc: Global, body: &[Numbered<'_>]) -> Result<(
 /// Holds a dialogue, and again if memory is refused. Answers how often it is to be held.
 fn hold_again<S: Subject>(
     alloc: Global,
-    body: &[Numbered<'_>],
+    body: &[Line<'_>],
     holding: usize,
 ) -> Result<usize, Failure> {
     match hold_once::<S>(alloc, body, holding) {
@@ -43,7 +43,7 @@ fn hold_again<S: Subject>(
 
 fn hold_once<S: Subject>(
     alloc: Global,
-    body: &[Numbered<'_>],
+    body: &[Line<'_>],
     holding: usize,
 ) -> Result<usize, Failure> {
     match S::fresh(alloc, holding) {
@@ -56,12 +56,12 @@ fn hold_once<S: Subject>(
 }
 
 /// Has a subject obey all lines. Answers how often a dialogue with these is to be held.
-fn obey_all<S: Subject>(subject: &mut S, body: &[Numbered<'_>]) -> Result<usize, Failure> {
-    for numbered in body {
-        if let Line::Command(text) = numbered.line {
-            if let Err(fault) = subject.obey(text) {
+fn obey_all<S: Subject>(subject: &mut S, body: &[Line<'_>]) -> Result<usize, Failure> {
+    for line in body {
+        if let Kind::Command = line.kind {
+            if let Err(fault) = subject.obey(line.text) {
                 return Err(Failure {
-                    line: numbered.number,
+                    line: line.number,
                     fault,
                 });
             }

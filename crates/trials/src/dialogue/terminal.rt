@@ -29,7 +29,7 @@ mod sights;
 
 use crate::bytes::{bytes_of, expect_spelt, first_of};
 use crate::dialogue::subject::Subject;
-use crate::fault::{Fault, expect_text};
+use crate::fault::{Fault, expect, expect_text};
 use keyboard::Key;
 use keys::{key_or_character, press};
 use sights::{Sight, read_sight, seen};
@@ -90,8 +90,7 @@ impl Desk {
     fn hear_whole(&mut self, bytes: &[u8]) -> Result<(), Fault> {
         self.hear(bytes);
         self.expect(Sight::Stop, "going")?;
-        let count = bytes.len().to_string(self.alloc)?;
-        self.expect(Sight::Taken, count.as_str())
+        expect(self.fed.taken == bytes.len(), "fewer bytes were taken")
     }
 
     /// Takes all of these.

@@ -2,6 +2,7 @@
 ghost use Rattle.std.specs.Prelude.{◌≤◌, length};
 ghost use Rattle.host_core.specs.Serves.{GotWithin, TookWithin};
 
+use crate::serving::seat::Seat;
 use crate::serving::story::Line;
 use host_core::{LinkRead, LinkWrite};
 
@@ -14,6 +15,34 @@ pub(crate) struct Pace {
     pub(crate) pauses: bool,
 }
 
+/// What is counted of a client, from 1 on.
+#[derive(Clone, Copy)]
+pub(crate) enum Place {
+    Read,
+    Write,
+    /// A byte that it said.
+    Byte,
+}
+
+/// How often a client was read and written, and how many bytes it said.
+#[derive(Clone, Copy)]
+pub(crate) struct Extent {
+    pub(crate) reads: usize,
+    pub(crate) writes: usize,
+    pub(crate) said: usize,
+}
+
+impl Extent {
+    /// How many there were of these.
+    pub(crate) fn count(self, place: Place) -> usize {
+        match place {
+            Place::Read => self.reads,
+            Place::Write => self.writes,
+            Place::Byte => self.said,
+        }
+    }
+}
+
 /// How a connection is over.
 #[derive(Clone, Copy)]
 pub(crate) enum Way {
@@ -21,53 +50,61 @@ pub(crate) enum Way {
     Fails,
 }
 
-/// Where a connection is over.
+/// Where a connection is over, and how: at the read or the write with a number, or behind so many bytes that the client said.
 #[derive(Clone, Copy)]
-pub(crate) enum Trouble {
-    Nowhere,
-    /// At the read with this number, from 1 on.
-    Read(Way, usize),
-    /// At the write with this number.
-    Write(usize),
-    /// Behind so many bytes that the client said.
-    Behind(Way, usize),
+pub(crate) struct Trouble {
+    pub(crate) place: Place,
+    pub(crate) number: usize,
+    pub(crate) way: Way,
 }
 
+/// At a read that never comes.
+const NOWHERE: Trouble = Trouble {
+    place: Place::Read,
+    number: usize::MAX,
+    way: Way::Ends,
+};
+
 /// A client, and how far its story is told.
-#[derive(Drop)]
-pub(crate) struct Client<'a> {
-    story: &'a [Line<'a>],
+#[derive(Clone, Copy)]
+pub(crate) struct Client {
+    story: &'static [Line<'static>],
     pace: Pace,
-    trouble: Trouble,
+    pub(crate) trouble: Trouble,
     /// The lines that are told, and how many bytes of the next one are.
     told: usize,
     crossed: usize,
     /// It heard something else than its story has.
     is_astray: bool,
-    pub(crate) reads: usize,
-    pub(crate) writes: usize,
-    pub(crate) said: usize,
+    pub(crate) extent: Extent,
 }
 
-impl<'a> Client<'a> {
-    /// A client at the beginning of its story.
-    pub(crate) fn new(story: &'a [Line<'a>], pace: Pace, trouble: Trouble) -> Client<'a> {
+impl Client {
+    /// A client at the beginning of its story, that meets no trouble.
+    pub(crate) fn new(seat: Seat, pace: Pace) -> Client {
         Client {
-            story,
+            story: seat.guest().story,
             pace,
-            trouble,
+            trouble: NOWHERE,
             told: 0,
             crossed: 0,
             is_astray: false,
-            reads: 0,
-            writes: 0,
-            said: 0,
+            extent: Extent {
+                reads: 0,
+                writes: 0,
+                said: 0,
+            },
         }
     }
 
     /// Whether all of the story was told, and nothing else.
     pub(crate) fn is_done(&self) -> bool {
         self.told == self.story.len() && !self.is_astray
+    }
+
+    /// What is told next, if anything is.
+    fn line(&self) -> Option<&'static Line<'static>> {
+        self.story.get(self.told)
     }
 
     /// So many bytes of a line of this length crossed.
@@ -79,90 +116,47 @@ impl<'a> Client<'a> {
         }
     }
 
-    /// What is left of the line, where it is the client's.
-    fn left_to_say(&self) -> &'a [u8] {
-        match self.story.get(self.told) {
-            Some(Line::Client(bytes)) => bytes.get(self.crossed..).unwrap_or(&[]),
-            Some(Line::Host(_)) | None => &[],
+    fn hear(&mut self, byte: u8) {
+        if let Some(Line::Host(line)) = self.line() {
+            if line.get(self.crossed) == Some(&byte) {
+                self.pass(1, line.len());
+                return;
+            }
         }
-    }
-
-    /// The next byte of the line, where it is the host's.
-    fn next_to_hear(&self) -> Option<u8> {
-        match self.story.get(self.told) {
-            Some(Line::Host(bytes)) => bytes.get(self.crossed).copied(),
-            Some(Line::Client(_)) | None => None,
-        }
-    }
-
-    fn line_length(&self) -> usize {
-        match self.story.get(self.told) {
-            Some(line) => line.length(),
-            None => 0,
-        }
-    }
-
-    fn hear_byte(&mut self, byte: u8) {
-        if self.next_to_hear() == Some(byte) {
-            self.pass(1, self.line_length());
-        } else {
-            self.is_astray = true;
-        }
-    }
-
-    /// How many bytes may be said now.
-    fn most_to_say(&self) -> usize {
-        match self.trouble {
-            Trouble::Behind(_, count) => self.pace.piece.min(count.saturating_sub(self.said)),
-            Trouble::Nowhere | Trouble::Read(_, _) | Trouble::Write(_) => self.pace.piece,
-        }
+        self.is_astray = true;
     }
 
     /// Says what comes next of a line, and answers how many bytes that is.
     fn say(&mut self, buffer: &mut [u8]) -> usize
         ensures { result ≤ length buffer.new }
     {
-        let left = self.left_to_say();
-        let count = left.len().min(buffer.len()).min(self.most_to_say());
+        let Some(Line::Client(line)) = self.line() else {
+            return 0;
+        };
+        let left = line.get(self.crossed..).unwrap_or(&[]);
+        let most = match self.trouble.place {
+            Place::Byte => self.trouble.number.saturating_sub(self.extent.said),
+            Place::Read | Place::Write => usize::MAX,
+        };
+        let count = left.len().min(buffer.len()).min(self.pace.piece).min(most);
         buffer[..count].copy_from_slice(&left[..count]);
-        self.said = self.said.saturating_add(count);
-        if count > 0 {
-            self.pass(count, self.line_length());
-        }
+        self.extent.said = self.extent.said.saturating_add(count);
+        self.pass(count, line.len());
         count
-    }
-
-    /// How the connection is over at this read, if it is.
-    fn over_at_read(&self) -> Option<Way> {
-        match self.trouble {
-            Trouble::Read(way, number) => (number == self.reads).then_some(way),
-            Trouble::Behind(way, count) => (count == self.said).then_some(way),
-            Trouble::Nowhere | Trouble::Write(_) => None,
-        }
-    }
-
-    fn is_over_at_write(&self) -> bool {
-        match self.trouble {
-            Trouble::Write(number) => number == self.writes,
-            Trouble::Nowhere | Trouble::Read(_, _) | Trouble::Behind(_, _) => false,
-        }
-    }
-
-    fn is_pause(&self, number: usize) -> bool {
-        self.pace.pauses && number % 2 == 0
     }
 
     /// Is read once.
     pub(crate) fn read(&mut self, buffer: &mut [u8]) -> LinkRead
         ensures { GotWithin result (length buffer.new) }
     {
-        self.reads = self.reads.saturating_add(1);
-        match self.over_at_read() {
-            Some(Way::Ends) => return LinkRead::Ended,
-            Some(Way::Fails) => return LinkRead::Failed,
-            None => {}
+        self.extent.reads = self.extent.reads.saturating_add(1);
+        if self.extent.count(self.trouble.place) == self.trouble.number {
+            return match self.trouble.way {
+                Way::Ends => LinkRead::Ended,
+                Way::Fails => LinkRead::Failed,
+            };
         }
-        if self.is_pause(self.reads) {
+        if self.pace.pauses && self.extent.reads % 2 == 0 {
             return LinkRead::NotNow;
         }
         match self.say(buffer) {
@@ -175,16 +169,17 @@ impl<'a> Client<'a> {
     pub(crate) fn write(&mut self, bytes: &[u8]) -> LinkWrite
         ensures { TookWithin result (length bytes.now) }
     {
-        self.writes = self.writes.saturating_add(1);
-        if self.is_over_at_write() {
+        self.extent.writes = self.extent.writes.saturating_add(1);
+        let writes = self.extent.writes;
+        if matches!(self.trouble.place, Place::Write) && writes == self.trouble.number {
             return LinkWrite::Failed;
         }
-        if self.is_pause(self.writes) {
+        if self.pace.pauses && writes % 2 == 0 {
             return LinkWrite::NotNow;
         }
         let count = bytes.len().min(self.pace.piece);
         for byte in &bytes[..count] {
-            self.hear_byte(*byte);
+            self.hear(*byte);
         }
         LinkWrite::Took(count)
     }

@@ -4,15 +4,13 @@
 ghost use Rattle.std.specs.Prelude.{◌<◌};
 ghost use Rattle.host_core.specs.State.{most_connections};
 
-use crate::calls::{act, feed};
+use crate::bytes::put_often;
+use crate::calls::{act, feed, open};
 use crate::likeness::hosts_look_same;
-use crate::readers::read_host;
-use crate::serving::hall::open;
 use crate::serving::seat::Seat;
-use crate::serving::story::{Line, PANELS};
+use crate::serving::story::Line;
 use host_core::{Acted, Host};
 use std::alloc::{AllocError, Global};
-use std::io;
 use tn3270e_msg::Stop;
 
 /// DO 24, and WON'T 24.
@@ -75,50 +73,47 @@ fn note_twins(host: &mut Host, twin: &mut Host, conn: usize) -> bool
         && hosts_look_same(host, twin, conn)
 }
 
-/// Puts what the host says in a story behind one another.
-fn put_said(out: &mut Vec<u8>, story: &[Line<'_>]) -> Result<(), AllocError> {
+/// Whether this is all that a host has to send: what it says in a story.
+fn says(out: &[u8], story: &[Line<'_>]) -> bool {
+    let mut rest = out;
     for line in story {
         if let Line::Host(bytes) = line {
-            out.extend_from_slice(bytes)?;
+            match rest.strip_prefix(*bytes) {
+                Some(behind) => rest = behind,
+                None => return false,
+            }
         }
     }
-    Ok(())
-}
-
-/// Whether this is all that a host has to send.
-fn says(alloc: Global, host: &Host, seat: Seat) -> Result<bool, AllocError> {
-    let mut said = Vec::new(alloc);
-    put_said(&mut said, seat.story())?;
-    Ok(host.out(seat.number()) == said.as_slice())
+    rest.is_empty()
 }
 
 /// Says whether twins look the same through a story, and act the same after each of its client's lines.
-fn tell_twins(host: &mut Host, twin: &mut Host, seat: Seat) -> bool {
+fn tell_twins(host: &mut Host, twin: &mut Host, conn: usize, story: &[Line<'_>]) -> bool
+    requires { conn < most_connections }
+{
     let mut is_alike = true;
-    for line in seat.story() {
+    for line in story {
         if let Line::Client(bytes) = line {
-            is_alike = feed_twins(host, twin, seat.number(), bytes)
-                && act_twins(host, twin, seat.number())
+            is_alike = feed_twins(host, twin, conn, bytes)
+                && act_twins(host, twin, conn)
                 && is_alike;
         }
     }
     is_alike
 }
 
-fn put_options(bytes: &mut Vec<u8>) -> Result<(), AllocError> {
-    for _ in 0..OPTIONS {
-        bytes.extend_from_slice(OPTION)?;
-    }
-    Ok(())
-}
-
 /// Says whether twins look the same through many options, each of which is refused.
-fn refuse_twins(alloc: Global, host: &mut Host, twin: &mut Host, conn: usize) -> io::Result<bool>
+fn refuse_twins(
+    alloc: Global,
+    host: &mut Host,
+    twin: &mut Host,
+    conn: usize,
+) -> Result<bool, AllocError>
     requires { conn < most_connections }
 {
     let start = host.out(conn).len();
     let mut options = Vec::new(alloc);
-    put_options(&mut options)?;
+    put_often(&mut options, OPTION, OPTIONS)?;
     let is_alike = feed_twins(host, twin, conn, options.as_slice());
     let refusals = host.out(conn).get(start..).unwrap_or(&[]);
     Ok(
@@ -131,27 +126,22 @@ fn refuse_twins(alloc: Global, host: &mut Host, twin: &mut Host, conn: usize) ->
 }
 
 /// Says whether twins that begin a connection look the same through a story, a note and many options.
-fn are_alike(alloc: Global, host: &mut Host, twin: &mut Host, seat: Seat) -> io::Result<bool> {
-    let is_told = open(host, seat.number())?
-        && open(twin, seat.number())?
-        && hosts_look_same(host, twin, seat.number())
-        && tell_twins(host, twin, seat)
-        && says(alloc, host, seat)?;
+pub(crate) fn stay_alike(
+    alloc: Global,
+    host: &mut Host,
+    twin: &mut Host,
+) -> Result<bool, AllocError> {
+    let seat = Seat::First;
+    let (conn, story) = (seat.number(), seat.guest().story);
+    host.restart();
+    twin.restart();
     Ok(
-        is_told
-            && note_twins(host, twin, seat.number())
-            && refuse_twins(alloc, host, twin, seat.number())?,
+        open(host, conn).is_ok()
+            && open(twin, conn).is_ok()
+            && hosts_look_same(host, twin, conn)
+            && tell_twins(host, twin, conn, story)
+            && says(host.out(conn), story)
+            && note_twins(host, twin, conn)
+            && refuse_twins(alloc, host, twin, conn)?,
     )
-}
-
-/// Says whether a host that begins stays as its twin.
-fn stays_alike(alloc: Global, host: &mut Host) -> io::Result<bool> {
-    let mut twin = read_host(alloc, PANELS)?;
-    are_alike(alloc, host, &mut twin, Seat::First)
-}
-
-/// Says whether twins stay alike.
-pub(crate) fn stay_alike(alloc: Global) -> io::Result<bool> {
-    let mut host = read_host(alloc, PANELS)?;
-    stays_alike(alloc, &mut host)
 }

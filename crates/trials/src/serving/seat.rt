@@ -5,16 +5,31 @@ ghost use Rattle.host_core.specs.State.{most_connections};
 use crate::serving::story::{FIRST, Line, SECOND};
 
 /// One of two connections.
-#[derive(Clone, Copy, PartialEq, Eq)]
+#[derive(Clone, Copy)]
 pub(crate) enum Seat {
     First,
     Second,
 }
 
+/// Who comes on a connection.
+#[derive(Clone, Copy)]
+pub(crate) struct Guest {
+    /// The connection's name.
+    pub(crate) place: &'static str,
+    /// The LU that the client wants.
+    pub(crate) lu: &'static [u8],
+    /// What is said there.
+    pub(crate) story: &'static [Line<'static>],
+}
+
+/// Both.
+pub(crate) const SEATS: [Seat; 2] = [Seat::First, Seat::Second];
+
 impl Seat {
     /// Its number.
     pub(crate) fn number(self) -> usize
-        ensures { result < most_connections }
+        ensures served { result < most_connections }
+        ensures seated { result < 2 }
     {
         match self {
             Seat::First => 0,
@@ -29,26 +44,19 @@ impl Seat {
         }
     }
 
-    pub(crate) fn name(self) -> &'static str {
+    /// Who comes there.
+    pub(crate) fn guest(self) -> Guest {
         match self {
-            Seat::First => "the first",
-            Seat::Second => "the second",
-        }
-    }
-
-    /// What is said there.
-    pub(crate) fn story(self) -> &'static [Line<'static>] {
-        match self {
-            Seat::First => &FIRST,
-            Seat::Second => &SECOND,
-        }
-    }
-
-    /// The LU that its client wants.
-    pub(crate) fn lu(self) -> &'static [u8] {
-        match self {
-            Seat::First => b"PNL01",
-            Seat::Second => b"PNL02",
+            Seat::First => Guest {
+                place: "the first",
+                lu: b"PNL01",
+                story: &FIRST,
+            },
+            Seat::Second => Guest {
+                place: "the second",
+                lu: b"PNL02",
+                story: &SECOND,
+            },
         }
     }
 }

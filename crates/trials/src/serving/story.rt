@@ -7,16 +7,6 @@ pub(crate) enum Line<'a> {
     Client(&'a [u8]),
 }
 
-impl Line<'_> {
-    /// How many bytes it has.
-    pub(crate) fn length(&self) -> usize {
-        match self {
-            Line::Host(bytes) => bytes.len(),
-            Line::Client(bytes) => bytes.len(),
-        }
-    }
-}
-
 /// A panel to sign on with, and one that greets.
 pub(crate) const PANELS: &str = r#"
 start = "SIGNON"

@@ -1,73 +1,35 @@
 //! What it costs a host to hear a terminal, and to paint its screen.
 ghost use Rattle.datastream.specs.Wanted.{IsProper};
 
-use crate::speed::{Scale, apply, put_full_screen};
-use codes3270::{Attr, CELLS, Display, Wcc};
-use datastream::{Form, Memory, Want, Wanted, read_command, read_inbound};
+use crate::speed::screens::{FEW, Layout, MANY, USUAL, attribute, full_screen};
+use crate::speed::{Case, Done, NOTHING, Scale, Work, go_often, report};
+use codes3270::{CELLS, Display};
+use datastream::{Form, Inbound, Memory, Want, Wanted, read_command, read_inbound};
 use presentation::Screen;
 use shadow::{Shadow, plain};
-use std::alloc::Global;
 use std::io;
-use std::time::{Duration, Instant};
+use std::time::Instant;
 
 /// How often a case is run to be measured.
 const ROUNDS: u32 = 5_000;
 
-/// Fields that fill a screen, an attribute at every so many cells.
-#[derive(Clone, Copy)]
-struct Layout {
-    fields: u16,
-    every: u16,
-}
-
-const FEW: Layout = Layout {
-    fields: 2,
-    every: 960,
-};
-
-const USUAL: Layout = Layout {
-    fields: 96,
-    every: 20,
-};
-
-const MANY: Layout = Layout {
-    fields: 960,
-    every: 2,
-};
-
 /// What is painted: layouts, and of each how many cells are to be others.
-const PAINTS: [(Layout, u16); 6] = [
-    (USUAL, 0),
-    (USUAL, 1),
-    (USUAL, 80),
-    (USUAL, CELLS),
-    (FEW, 80),
-    (MANY, 80),
+static PAINTS: [(&str, Layout, u16); 6] = [
+    ("paint, no cell changed, fields", USUAL, 0),
+    ("paint, 1 cell changed, fields", USUAL, 1),
+    ("paint, 80 cells changed, fields", USUAL, 80),
+    ("paint, all cells changed, fields", USUAL, CELLS),
+    ("paint, 80 cells changed, fields", FEW, 80),
+    ("paint, 80 cells changed, fields", MANY, 80),
 ];
 
-/// An attribute that the operator may type behind, and did.
-fn attribute(display: Display) -> Attr {
-    Attr {
-        protected: false,
-        numeric: false,
-        display,
-        mdt: true,
-    }
-}
+/// What is heard.
+static FORMS: [(&str, Form); 2] = [
+    ("heard, Read Modified All, fields", Form::All),
+    ("heard, Read Buffer, fields", Form::Buffer),
+];
 
-/// An Erase/Write of a layout.
-fn command_of(alloc: Global, layout: Layout) -> Result<Vec<u8>, Memory> {
-    let wcc = Wcc {
-        alarm: false,
-        restore: true,
-        reset: false,
-    };
-    let mut bytes = Vec::new(alloc);
-    put_full_screen(&mut bytes, wcc, attribute(Display::Normal), layout.every)?;
-    Ok(bytes)
-}
-
-/// The belief once that command was carried out.
+/// The belief once a command was carried out.
 fn believed(bytes: &[u8]) -> Shadow {
     let mut shadow = Shadow::blank();
     if let Ok(command) = read_command(bytes) {
@@ -110,113 +72,128 @@ fn changed(layout: Layout, changed_cells: u16) -> Wanted {
     wanted
 }
 
-/// Paints a layout of which some cells are to be others.
-fn paints(rt: &HostRuntime, scale: Scale, layout: Layout, changed_cells: u16) -> io::Result<()> {
-    let shadow = believed(command_of(rt.alloc(), layout)?.as_slice());
-    let mut out = Vec::new(rt.alloc());
-    paint_often(rt, scale, layout, changed_cells, &shadow, &mut out)
-}
-
+/// Paints over what is believed, often. It isn't work of a kind with others, since it has to fit.
 fn paint_often(
     rt: &HostRuntime,
     scale: Scale,
-    layout: Layout,
-    changed_cells: u16,
+    case: Case,
     shadow: &Shadow,
+    wanted: &Wanted,
     out: &mut Vec<u8>,
 ) -> io::Result<()> {
-    let wanted = changed(layout, changed_cells);
-    if !shadow.fits(&wanted) {
+    if !shadow.fits(wanted) {
         return Ok(());
     }
-    let rounds = scale.rounds(ROUNDS);
+    let rounds = scale.rounds(case.rounds);
     let start = Instant::now(rt)?;
     for _ in 0..rounds {
         out.clear();
-        shadow.paint(out, &wanted)?;
+        shadow.paint(out, wanted)?;
     }
-    let each_second = rate(rounds, start.elapsed(rt)?);
-    if let Scale::Once = scale {
-        return Ok(());
-    }
-    let fields = layout.fields;
-    println!(rt;
-        "paint over {fields} fields, cells changed {changed_cells}: {each_second} a second, {} bytes",
-        out.len()
-    )
+    let done = Done {
+        count: rounds,
+        bytes: out.len().saturating_mul(rounds as usize),
+    };
+    report(rt, scale, case, done, start.elapsed(rt)?)
 }
 
-/// Puts what a terminal sends of a screen.
-fn put_read(sent: &mut Vec<u8>, screen: &Screen, form: Form) -> io::Result<()> {
-    match form {
-        Form::Buffer => screen.put_read_buffer(sent)?,
-        Form::All => screen.put_read_modified(sent, true)?,
-        Form::Modified => screen.put_read_modified(sent, false)?,
-    }
-    Ok(())
+/// Paints a layout of which some cells are to be others.
+fn paints(
+    rt: &HostRuntime,
+    scale: Scale,
+    name: &'static str,
+    layout: Layout,
+    changed_cells: u16,
+) -> io::Result<()> {
+    let case = Case {
+        name,
+        size: u32::from(layout.fields),
+        rounds: ROUNDS,
+    };
+    let shadow = believed(full_screen(rt.alloc(), layout)?.as_slice());
+    let wanted = changed(layout, changed_cells);
+    paint_often(rt, scale, case, &shadow, &wanted, &mut Vec::new(rt.alloc()))
 }
 
-/// What a terminal sends of a screen that a command wrote.
-fn read_behind(alloc: Global, command: &[u8], form: Form) -> io::Result<Vec<u8>> {
+/// Puts what a terminal sends of a screen that a command wrote.
+fn put_read(sent: &mut Vec<u8>, command: &[u8], form: Form) -> Result<(), Memory> {
     let mut screen = Screen::blank();
-    apply(&mut screen, command);
-    let mut sent = Vec::new(alloc);
-    put_read(&mut sent, &screen, form)?;
-    Ok(sent)
+    if let Ok(command) = read_command(command) {
+        screen.apply(&command);
+    }
+    match form {
+        Form::Buffer => screen.put_read_buffer(sent),
+        Form::All | Form::Modified => screen.put_read_modified(sent, true),
+    }
 }
 
-/// Hears what a terminal sends of a layout in which each field is modified.
-fn hears(rt: &HostRuntime, scale: Scale, layout: Layout, form: Form) -> io::Result<()> {
-    let command = command_of(rt.alloc(), layout)?;
-    let mut shadow = believed(command.as_slice());
-    let sent = read_behind(rt.alloc(), command.as_slice(), form)?;
-    hear_often(rt, scale, layout, form, &mut shadow, sent.as_slice())
+/// Hears what a terminal sent.
+#[derive(Drop)]
+struct Hearing<'a> {
+    shadow: Shadow,
+    inbound: Inbound<'a>,
+    length: usize,
+}
+
+impl Work for Hearing<'_> {
+    fn go(&mut self) -> io::Result<Done> {
+        match self.shadow.heard(&self.inbound) {
+            Ok(()) => Ok(Done {
+                count: 1,
+                bytes: self.length,
+            }),
+            Err(_) => Ok(NOTHING),
+        }
+    }
 }
 
 fn hear_often(
     rt: &HostRuntime,
     scale: Scale,
-    layout: Layout,
+    case: Case,
     form: Form,
-    shadow: &mut Shadow,
+    command: &[u8],
     sent: &[u8],
-) -> io::Result<()> {
+) -> io::Result<Done> {
     let Ok(inbound) = read_inbound(sent, form) else {
-        return Ok(());
+        return Ok(NOTHING);
     };
-    let rounds = scale.rounds(ROUNDS);
-    let mut heard = 0u32;
-    let start = Instant::now(rt)?;
-    for _ in 0..rounds {
-        if shadow.heard(&inbound).is_ok() {
-            heard = heard.saturating_add(1);
-        }
-    }
-    let each_second = rate(heard, start.elapsed(rt)?);
-    if let Scale::Once = scale {
-        return Ok(());
-    }
-    let fields = layout.fields;
-    println!(rt;
-        "heard {form:?}, fields {fields}: {each_second} a second, {} bytes",
-        sent.len()
-    )
+    let mut work = Hearing {
+        shadow: believed(command),
+        inbound,
+        length: sent.len(),
+    };
+    go_often(rt, scale, case, &mut work)
 }
 
-/// How many a second.
-pub(crate) fn rate(count: u32, took: Duration) -> u64 {
-    let millis = u64::try_from(took.as_millis()).unwrap_or(u64::MAX).max(1);
-    u64::from(count).saturating_mul(1000) / millis
+/// Hears what a terminal sends of a layout in which each field is modified.
+fn hears(
+    rt: &HostRuntime,
+    scale: Scale,
+    name: &'static str,
+    layout: Layout,
+    form: Form,
+) -> io::Result<Done> {
+    let case = Case {
+        name,
+        size: u32::from(layout.fields),
+        rounds: ROUNDS,
+    };
+    let command = full_screen(rt.alloc(), layout)?;
+    let mut sent = Vec::new(rt.alloc());
+    put_read(&mut sent, command.as_slice(), form)?;
+    hear_often(rt, scale, case, form, command.as_slice(), sent.as_slice())
 }
 
 /// Paints by the number of cells that change and of fields, and what is heard by the number of fields.
 pub(crate) fn beliefs(rt: &HostRuntime, scale: Scale) -> io::Result<()> {
-    for (layout, changed_cells) in PAINTS {
-        paints(rt, scale, layout, changed_cells)?;
+    for (name, layout, changed_cells) in &PAINTS {
+        paints(rt, scale, name, *layout, *changed_cells)?;
     }
     for layout in [FEW, USUAL, MANY] {
-        hears(rt, scale, layout, Form::All)?;
-        hears(rt, scale, layout, Form::Buffer)?;
+        for (name, form) in &FORMS {
+            hears(rt, scale, name, layout, *form)?;
+        }
     }
     Ok(())
 }

@@ -2,6 +2,7 @@
 ghost use Rattle.std.specs.Prelude.{◌<◌};
 ghost use Rattle.host_core.specs.State.{most_connections};
 
+use crate::calls::open;
 use crate::fault::{Fault, expect};
 use crate::likeness::hosts_look_same;
 use crate::readers::read_host;
@@ -35,13 +36,6 @@ struct Seated<'a> {
     deeds: Deeds,
 }
 
-/// Whether a command waits for its answer.
-fn is_waiting(host: &Host, conn: usize) -> bool
-    requires { conn < most_connections }
-{
-    host.pending(conn).is_some()
-}
-
 /// Whether no command waits on a connection that is bound, and nothing is known of its screen: a command was refused.
 fn is_refused(host: &Host, conn: usize) -> bool
     requires { conn < most_connections }
@@ -68,7 +62,7 @@ impl Seated<'_> {
 impl End for Seated<'_> {
     fn take(&mut self, bytes: &[u8]) -> Fed {
         let conn = self.seat.number();
-        let waits = is_waiting(self.host, conn);
+        let waits = self.host.pending(conn).is_some();
         let fed = self.host.feed(conn, bytes);
         if waits && is_refused(self.host, conn) {
             self.deeds.refused = self.deeds.refused.saturating_add(1);
@@ -118,20 +112,6 @@ fn tell_at(
     })
 }
 
-/// Begins a connection.
-fn open(host: &mut Host, seat: Seat) -> Result<(), Fault> {
-    let conn = seat.number();
-    match host.phase(conn) {
-        Phase::Free => {
-            host.open(conn)?;
-            Ok(())
-        }
-        Phase::Talking | Phase::Bound(_) | Phase::Closed(_) => {
-            Err(Fault::Wrong("a number isn't free"))
-        }
-    }
-}
-
 /// Tells a host what a client says, as that client means it.
 fn tell_plainly(host: &mut Host, seat: Seat, bytes: &[u8]) -> Result<(), Fault> {
     let tale = Tale {
@@ -139,7 +119,7 @@ fn tell_plainly(host: &mut Host, seat: Seat, bytes: &[u8]) -> Result<(), Fault> 
         cuts: 0,
         deeds: None,
     };
-    open(host, seat)?;
+    open(host, seat.number())?;
     tell_at(host, seat, Telling::Whole, tale)?;
     Ok(())
 }
@@ -167,7 +147,7 @@ fn begin(host: &mut Host, script: &Script) -> Result<(), Fault> {
     if !is_bound(host, Seat::First) || !is_bound(host, Seat::Second) {
         return Err(Fault::Needs("clients that are bound on the connections 1 and 2"));
     }
-    open(host, Seat::Struck)
+    open(host, Seat::Struck.number())
 }
 
 /// Expects the two connections beside the one that was struck to be as they are where none was.

@@ -26,10 +26,10 @@ impl Round {
         let Some(dialogue) = script.dialogues.get(place) else {
             return Err(Fault::Needs("a dialogue"));
         };
-        let bytes = changed(alloc, &mut chance, dialogue.speech.bytes.as_slice())?;
+        let bytes = changed(alloc, &mut chance, dialogue.bytes.as_slice())?;
         Ok(Round {
             with: dialogue.with,
-            name: dialogue.speech.name.clone()?,
+            name: dialogue.name.clone()?,
             bytes,
             cuts: chance.seed(),
             deeds: chance.seed(),

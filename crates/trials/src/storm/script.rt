@@ -19,24 +19,18 @@ use crate::fault::Fault;
 use std::alloc::{AllocError, Global};
 
 /// With whom a dialogue is.
-#[derive(Clone, Copy, PartialEq, Eq)]
+#[derive(Clone, Copy)]
 pub(crate) enum With {
     Host,
     Terminal,
 }
 
-/// What a client says, or a host: under a name, which of an heir is the LU's.
+/// What an end is told, under a name: a dialogue of which the storm is made; or what an heir says to a host, under its LU's name.
 #[derive(Drop)]
 pub(crate) struct Speech {
+    pub(crate) with: With,
     pub(crate) name: String,
     pub(crate) bytes: Vec<u8>,
-}
-
-/// A dialogue of which the storm is made.
-#[derive(Drop)]
-pub(crate) struct Dialogue {
-    pub(crate) with: With,
-    pub(crate) speech: Speech,
 }
 
 /// A script.
@@ -50,7 +44,7 @@ pub(crate) struct Script {
     pub(crate) first_client: Vec<u8>,
     pub(crate) second_client: Vec<u8>,
     pub(crate) heir: Speech,
-    pub(crate) dialogues: Vec<Dialogue>,
+    pub(crate) dialogues: Vec<Speech>,
 }
 
 fn number_of(digits: &str) -> Result<u64, Fault> {
@@ -61,8 +55,9 @@ fn number_of(digits: &str) -> Result<u64, Fault> {
 }
 
 impl Speech {
-    fn new(alloc: Global) -> Speech {
+    fn new(alloc: Global, with: With) -> Speech {
         Speech {
+            with,
             name: String::new(alloc),
             bytes: Vec::new(alloc),
         }
@@ -86,7 +81,7 @@ impl Script {
             tallies: false,
             first_client: Vec::new(alloc),
             second_client: Vec::new(alloc),
-            heir: Speech::new(alloc),
+            heir: Speech::new(alloc, With::Host),
             dialogues: Vec::new(alloc),
         }
     }
@@ -103,9 +98,9 @@ impl Script {
         name: &str,
         words: &str,
     ) -> Result<(), Fault> {
-        let mut speech = Speech::new(alloc);
+        let mut speech = Speech::new(alloc, with);
         speech.respell(alloc, name, words)?;
-        self.dialogues.push(Dialogue { with, speech })?;
+        self.dialogues.push(speech)?;
         Ok(())
     }
 

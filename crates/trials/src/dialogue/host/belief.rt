@@ -1,7 +1,7 @@
 //! What is believed of a screen, in words and in bytes.
 use codes3270::{Addr, CELL_COUNT, Cell, attr_code};
 use shadow::{Fact, Shadow};
-use std::alloc::AllocError;
+use std::alloc::{AllocError, Global};
 
 /// Whether anything is believed of a screen.
 pub(crate) fn belief_word(shadow: &Shadow) -> &'static str {
@@ -48,7 +48,7 @@ pub(crate) fn fact_word(shadow: &Shadow, at: Addr) -> &'static str {
 }
 
 /// Appends the characters that this fact speaks of.
-pub(crate) fn put_text(bytes: &mut Vec<u8>, shadow: &Shadow, at: Addr) -> Result<(), AllocError> {
+fn put_text(bytes: &mut Vec<u8>, shadow: &Shadow, at: Addr) -> Result<(), AllocError> {
     for index in 0..CELL_COUNT {
         match shadow.value(at, index) {
             Some(byte) => bytes.push(byte)?,
@@ -56,6 +56,13 @@ pub(crate) fn put_text(bytes: &mut Vec<u8>, shadow: &Shadow, at: Addr) -> Result
         }
     }
     Ok(())
+}
+
+/// The characters that this fact speaks of.
+pub(crate) fn text_of(alloc: Global, shadow: &Shadow, at: Addr) -> Result<Vec<u8>, AllocError> {
+    let mut bytes = Vec::new(alloc);
+    put_text(&mut bytes, shadow, at)?;
+    Ok(bytes)
 }
 
 /// Appends what is believed of each field: its attribute's address and code, the fact, and the characters.

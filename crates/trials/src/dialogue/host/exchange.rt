@@ -4,14 +4,15 @@ ghost use Rattle.host_core.specs.State.{most_connections};
 
 use crate::bytes::{bytes_of, expect_spelt, first_of, number_of};
 use crate::calls::{act, feed, feed_each, note, open};
-use crate::dialogue::host::belief::{fact_word, put_text};
+use crate::dialogue::host::belief::{fact_word, text_of};
 use crate::dialogue::host::sights::{Sight, acted_word, seen, sight_named};
 use crate::dialogue::host::view::View;
 use crate::dialogue::words::stop_seen;
-use crate::fault::{Fault, expect_bytes, expect_text};
+use crate::fault::{Fault, expect, expect_bytes, expect_text};
 use crate::readers::read_host;
 use codes3270::Addr;
 use host_core::{Host, MOST_CONNECTIONS};
+use shadow::Shadow;
 use std::alloc::Global;
 use tn3270e_msg::Fed;
 
@@ -46,13 +47,22 @@ pub(crate) struct Exchange {
     kept: Option<View>,
 }
 
-/// What an end that was fed bytes came to: how many it took, and what stopped it.
+/// What an end that was fed bytes came to: what stopped it, and how many it took.
 fn expect_fed(alloc: Global, taken: usize, stop: &str, came: Fed) -> Result<(), Fault> {
-    let expected = format!(in alloc; "{taken} taken, {stop}")?;
-    let taken = came.taken;
-    let stop = stop_seen(alloc, came.stop)?;
-    let came = format!(in alloc; "{taken} taken, {stop}")?;
-    expect_text(alloc, expected.as_str(), came.as_str())
+    expect_text(alloc, stop, stop_seen(alloc, came.stop)?.as_str())?;
+    expect(came.taken == taken, "more or fewer bytes were taken")
+}
+
+/// What is believed of the field at an address: how, and of which characters.
+fn expect_field(
+    alloc: Global,
+    shadow: &Shadow,
+    at: Addr,
+    fact: &str,
+    words: &str,
+) -> Result<(), Fault> {
+    expect_text(alloc, fact, fact_word(shadow, at))?;
+    expect_spelt(alloc, words, text_of(alloc, shadow, at)?.as_slice())
 }
 
 impl Exchange {
@@ -218,11 +228,7 @@ impl Exchange {
         let Some(at) = Addr::new(at) else {
             return Err(Fault::Needs("an address"));
         };
-        let shadow = self.host.shadow(conn);
-        expect_text(self.alloc, fact, fact_word(shadow, at))?;
-        let mut came = Vec::new(self.alloc);
-        put_text(&mut came, shadow, at)?;
-        expect_spelt(self.alloc, words, came.as_slice())
+        expect_field(self.alloc, self.host.shadow(conn), at, fact, words)
     }
 
     /// Expects to see this.

@@ -77,15 +77,16 @@ pub(crate) fn seen(
         Sight::Lock => terminal.lock().to_string(alloc),
         Sight::TookWrite => String::from_str(alloc, yes_or_no(terminal.took_write())),
         Sight::Cursor => terminal.screen().cursor().get().to_string(alloc),
-        Sight::Aid => {
-            let byte = aid_byte(terminal.screen().aid());
-            format!(in alloc; "{byte:02X}")
-        }
+        Sight::Aid => byte_seen(alloc, aid_byte(terminal.screen().aid())),
         Sight::Cell(at) => cell_seen(alloc, terminal, at),
         Sight::Row(number) => row_seen(alloc, terminal, number),
         Sight::Screen => rows_seen(alloc, terminal),
         Sight::Status => status_seen(alloc, terminal),
     }
+}
+
+fn byte_seen(alloc: Global, byte: u8) -> Result<String, AllocError> {
+    format!(in alloc; "{byte:02X}")
 }
 
 fn yes_or_no(answer: bool) -> &'static str {
@@ -110,7 +111,7 @@ fn cell_seen(alloc: Global, terminal: &Terminal, at: u16) -> Result<String, Allo
         return String::from_str(alloc, "no cell");
     };
     match terminal.screen().cell(at) {
-        Cell::Char(code) => format!(in alloc; "{code:02X}"),
+        Cell::Char(code) => byte_seen(alloc, code),
         Cell::Attr(attr) => {
             let code = attr_code(attr);
             format!(in alloc; "1D {code:02X}")
@@ -136,11 +137,16 @@ fn row_of<'a>(rows: &'a str, number: u16) -> &'a str {
 fn rows_seen(alloc: Global, terminal: &Terminal) -> Result<String, AllocError> {
     let rows = screen_lines(alloc, terminal.screen())?;
     let mut text = String::new(alloc);
-    for row in rows.as_str().lines() {
+    put_rows(&mut text, rows.as_str())?;
+    String::from_str(alloc, text.as_str().trim_end_matches('|'))
+}
+
+fn put_rows(text: &mut String, rows: &str) -> Result<(), AllocError> {
+    for row in rows.lines() {
         text.push('|')?;
         text.push_str(row)?;
     }
-    String::from_str(alloc, text.as_str().trim_end_matches('|'))
+    Ok(())
 }
 
 /// What the printed screen has behind its rows: one line.
