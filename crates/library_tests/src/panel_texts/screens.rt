@@ -131,7 +131,7 @@ fn is_asked(panel: &Panel, values: &Values, asked: &Asked) -> bool {
 
 /// A step with the panels of a text and the values of fields.
 enum Step {
-    /// The user of the sign-on is ANN from here on, or the department D7.
+    /// The sign-on's user is ANN from here on, or its department is given.
     User,
     Department,
     /// The first field has four letters from here on, and the second an empty value.
