@@ -32,6 +32,7 @@ use Rattle.world3270.specs.Terminal.{bound_to}
 use Rattle.world3270.specs.View.{View, view_of}
 use Rattle.world3270.specs.World.{World, new_world}
 use Rattle.world3270.proofs.Down.{none_open}
+use Rattle.world3270.proofs.AsLeft.{as_left}
 use Rattle.world3270.proofs.Worlds.{GoodWorld, run_good, new_good}
 
 -- ---- who is bound to what
@@ -134,7 +135,7 @@ agrees given app link k h =
     record {
       sees = record { meets = known.meets; lists = known.lists; protected = given.belief.seen v.host.shadow v.screen known.meets k.exact.protected };
       returned = λ sent. given.belief.told v.host.shadow v.screen known.meets k.exact.protected (known.told sent);
-      unreturned = k.unreturned;
+      unreturned = λ sent. as_left v.erased v.left.cells v.screen.cells (k.unreturned sent);
     }
 
 -- ---- nobody refuses

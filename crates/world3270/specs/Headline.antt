@@ -1,14 +1,14 @@
 -- The headline: what holds between a host and its terminals after every event, whatever is typed, delivered, lost, connected anew or
 -- restarted (our profile).
-use Rattle.std.specs.Prelude.{◌≡◌, ◌<◌, ⊤, ℕ, Bool, true, false, List, length, slice_index_or, Option, None, Some, if◌then◌else◌}
+use Rattle.std.specs.Prelude.{◌≡◌, ℕ, Bool, true, false, List, length, None, Some, if◌then◌else◌}
 use Rattle.codes3270.specs.declared.attention.Aid.{Aid}
 use Rattle.codes3270.specs.declared.attention.Aid.TheVariants.{NoAid, Enter, Clear, Pf, Pa}
 use Rattle.codes3270.specs.declared.attribute.Attr.{Attr as Attribute}
-use Rattle.codes3270.specs.declared.attribute.Cell.{Cell}
-use Rattle.codes3270.specs.declared.attribute.Cell.TheVariants.{Char, Attr}
-use Rattle.datastream.specs.Screen.{attribute_over}
+use Rattle.datastream.specs.Fields.{Field, fields}
+use Rattle.shadow.specs.Belief.{nulls}
 use Rattle.shadow.specs.Exactness.{EachField, ProtectedSeen, ReturnedTold}
 use Rattle.shadow.specs.Meets.{Meets, ListsFields}
+use Rattle.shadow.specs.Pairs.{Pairwise}
 use Rattle.lu_pool.specs.Holders.{holder}
 use Rattle.host_core.specs.declared.turn.Turn.TheVariants as whose
 use Rattle.world3270.specs.Seen.{SeenLink, Seen}
@@ -68,26 +68,20 @@ pub record SeesTheScreen (link : SeenLink) : Type 0 where
 abbrev pub KnowsTheReturned : SeenLink → Type 0
 KnowsTheReturned link = SentFields link.screen.aid → EachField ReturnedTold link.shadow link.screen
 
--- an unprotected field's attribute, with MDT off
-abbrev pub IsUnmodified : Option Attribute → Type 0
-IsUnmodified None = ⊥
-IsUnmodified (Some attribute) = (attribute.protected ≡ false) × (attribute.mdt ≡ false)
+-- the attribute of an unprotected field with MDT off
+abbrev pub IsUnmodified : Attribute → Type 0
+IsUnmodified attribute = (attribute.protected ≡ false) × (attribute.mdt ≡ false)
 
--- the character that was left, or a null once Erase Input was pressed; of an attribute's own cell nothing is said
-abbrev pub IsKept : Bool → Cell → Cell → Type 0
-IsKept erased left (Attr now) = ⊤
-IsKept erased (Attr left) (Char now) = ⊥
-IsKept erased (Char left) (Char now) = now ≡ (if erased then 0 else left)
+-- A field of the screen, and the field that the host left at the same address: while it is unprotected with MDT off it has the text
+-- that was left, or nulls if Erase Input was pressed since.
+pub record IsAsLeft (erased : Bool) (left now : Field) : Type 0 where
+  pub same_place : now.place ≡ left.place
+  pub text : IsUnmodified now.attr → now.text ≡ (if erased then nulls (length left.text) else left.text)
 
--- each cell of an unprotected field with MDT off
-abbrev pub UnmodifiedIsKept : Bool → List Cell → List Cell → Type 0
-UnmodifiedIsKept erased left now =
-    (place : ℕ) → place < length now → IsUnmodified (attribute_over now place)
-    → IsKept erased (slice_index_or left place (Char 0)) (slice_index_or now place (Char 0))
-
--- (d) Each unprotected field that wasn't returned has what the host left there, or nulls once Erase Input was pressed.
+-- (d) Each unprotected field that wasn't returned has the text that the host left there, or nulls if Erase Input was pressed since.
 abbrev pub KeptTheUnreturned : SeenLink → Type 0
-KeptTheUnreturned link = SentFields link.screen.aid → UnmodifiedIsKept link.erased link.left.cells link.screen.cells
+KeptTheUnreturned link =
+    SentFields link.screen.aid → Pairwise (IsAsLeft link.erased) (fields link.left.cells) (fields link.screen.cells)
 
 pub record Agrees (link : SeenLink) : Type 0 where
   pub sees : SeesTheScreen link
