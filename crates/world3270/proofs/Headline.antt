@@ -153,8 +153,8 @@ agrees given app link k h =
     let there = terminal_attached link.term_here link.term h.terminal h.terminal_is in
     let both : Agrees (conn_seen link.host) (end_seen there.0 link.term) =
     record {
-      sees = record { meets = known.meets; lists = known.lists; protected = given.belief.seen v.host.shadow v.screen known.meets k.exact.protected };
-      returned = λ sent. given.belief.told v.host.shadow v.screen known.meets k.exact.protected (known.told sent);
+      sees = record { meets = known.meets; protected = given.belief.seen v.host.shadow v.screen known.meets known.lists k.exact.protected };
+      returned = λ sent. given.belief.told v.host.shadow v.screen known.meets known.lists k.exact.protected (known.told sent);
       unreturned = λ sent. as_left v.erased v.left.cells v.screen.cells (k.unreturned sent);
     } in
     subst (λ (host : HostSeen). Agrees host h.terminal) (sym here.1)

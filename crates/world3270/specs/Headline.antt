@@ -8,7 +8,7 @@ use Rattle.datastream.specs.Fields.{Field, fields}
 use Rattle.datastream.specs.Screen.{Screen}
 use Rattle.shadow.specs.Belief.{Shadow, nulls}
 use Rattle.shadow.specs.Exactness.{EachField, ProtectedSeen, ReturnedTold}
-use Rattle.shadow.specs.Meets.{Meets, ListsFields}
+use Rattle.shadow.specs.Meets.{Meets}
 use Rattle.shadow.specs.Pairs.{Pairwise}
 use Rattle.lu_pool.specs.Holders.{holder}
 use Rattle.host_core.specs.declared.turn.Turn.TheVariants as whose
@@ -61,11 +61,9 @@ SentFields Clear = ⊥
 SentFields (Pa key) = ⊥
 
 -- (b) The screen is one that the host's belief allows: its attributes, but for MDT, are where the host believes them, and so is each
--- character that it believes to know. If the screen has fields the host believes in them, and of each protected field it knows the
--- very text.
+-- character that it believes to know. The host knows all fields of the screen, and the very text of each protected one.
 pub record SeesTheScreen (shadow : Shadow) (screen : Screen) : Type 0 where
   pub meets : Meets shadow screen
-  pub lists : ListsFields shadow screen
   pub protected : EachField ProtectedSeen shadow screen
 
 -- (c) Of each field that was returned, a protected one too, the host has the text that the field has, nulls apart.
