@@ -17,7 +17,7 @@ use Rattle.world3270.specs.Unreturned.{IsInUnmodified, IsKept, UnmodifiedIsKept}
 -- ---- from cells at their places to a walk
 
 -- cells after one another, the first ones in the field of this attribute, if one
-KeptFrom : Bool → Option Attribute → List Cell → List Cell → Type 0
+abbrev KeptFrom : Bool → Option Attribute → List Cell → List Cell → Type 0
 KeptFrom erased over [] [] = ⊤
 KeptFrom erased over [] (now ∷ nows) = ⊥
 KeptFrom erased over (left ∷ lefts) [] = ⊥

@@ -1,5 +1,5 @@
 -- What is seen of a world over bytes is what is seen of the world that it stands for, wherever the headline looks.
-use Rattle.std.proofs.Common.{◌≡◌, ℕ, Bool, true, Option, None, Some, List, refl, ap, sym, subst, ◌∙◌}
+use Rattle.std.proofs.Common.{◌≡◌, ℕ, Bool, true, false, Option, None, Some, List, refl, ap, sym, subst, ◌∙◌}
 use Rattle.datastream.specs.Screen.{Screen}
 use Rattle.lu_pool.specs.Holders.{holder}
 use Rattle.lu_pool.specs.declared.entry.Entry.{Entry}
