@@ -2,6 +2,7 @@ pub mod Queues
 pub mod OneOfMany
 pub mod Sent
 pub mod Unreturned
+pub mod AsLeft
 pub mod Down
 pub mod Up
 pub mod Acting

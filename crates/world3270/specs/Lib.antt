@@ -5,6 +5,7 @@ pub mod Placed
 pub mod Happens
 pub mod Seen
 pub mod Headline
+pub mod Unreturned
 pub mod Always
 pub mod History
 pub mod Occasions
