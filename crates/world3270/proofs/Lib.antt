@@ -40,10 +40,12 @@ pub mod Known
 pub mod UnderWay
 pub mod Frames
 pub mod SeenStands
+pub mod Completed
 pub mod Follows
 pub mod EventRuns
 pub mod ByteTerms
 pub mod ByteKeys
+pub mod Unbroken
 pub mod ByteDown
 pub mod BytePlaced
 pub mod ItemsSpelt
@@ -56,5 +58,5 @@ pub mod Partings
 pub mod Joinings
 pub mod HostAnew
 pub mod ByteEnds
-pub mod Unbroken
+pub mod Leaving
 pub mod OneWorld
