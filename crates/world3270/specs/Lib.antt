@@ -38,6 +38,7 @@ pub mod Flows
 pub mod NoteTexts
 pub mod ByteSteps
 pub mod Standing
+pub mod Deliveries
 pub mod Refines
 pub mod SeenBytes
 pub mod ByteRuns
