@@ -41,7 +41,7 @@ pub(crate) fn refuses(shadow: &mut Shadow, bytes: &[u8], form: Form, fault: Hear
     hear(shadow, bytes, form) == Some(Err(fault))
 }
 
-/// Whether long data of this form, and so many bytes, is heard.
+/// Whether long data of this form, of `length` bytes, is heard.
 fn hears_runs(alloc: Global, shadow: &mut Shadow, runs: &[Run], form: Form, length: usize) -> bool {
     match spelt(alloc, runs) {
         Ok(bytes) => bytes.len() == length && hears(shadow, bytes.as_slice(), form),
@@ -106,13 +106,13 @@ pub(crate) enum Step {
     Take(&'static [u8]),
     /// A key's data is heard.
     Hear(&'static [u8]),
-    /// Long data of this form is heard, of so many bytes.
+    /// Long data of this form and number of bytes is heard.
     HearRuns(&'static [Run], Form, usize),
     /// Data of this form is refused for this fault.
     Refuse(&'static [u8], Form, HeardFault),
     /// Long data of a key can't be.
     RefuseRuns(&'static [Run]),
-    /// This is the fact of the field whose attribute stands there, if there is one.
+    /// This is the fact of the field whose attribute is at this address, if there is one.
     Field(u16, Option<Fact>),
     /// It is this, and speaks of this text.
     Text(u16, Fact, &'static [u8]),
@@ -318,7 +318,7 @@ static NOTHING_IS_LEARNT: [Step; 9] = [
         Form::Modified,
         HeardFault::NoSuchField,
     ),
-    // Nor by a Write, since what stands beside it isn't known.
+    // Nor by a Write, since the cells next to it aren't known.
     Step::Take(b"\xF1\xC2\x11\x40\x40\x1D\x40"),
     Step::Field(0, None),
 ];

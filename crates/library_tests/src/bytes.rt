@@ -25,7 +25,7 @@ pub(crate) fn spelt(alloc: Global, runs: &[Run]) -> Result<Vec<u8>, AllocError> 
     Ok(out)
 }
 
-/// Says whether there are so many, all of them this byte.
+/// Whether there are `count` bytes, each of them this one.
 pub(crate) fn are_all(bytes: &[u8], byte: u8, count: usize) -> bool {
     for other in bytes {
         if *other != byte {

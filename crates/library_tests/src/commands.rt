@@ -17,7 +17,7 @@ const CLEARED_WCC: Wcc = Wcc {
     reset: true,
 };
 
-// A field with the text HI, a field behind it, and the cursor in that.
+// A field with the text HI, then a second field, with the cursor in it.
 const TWO_FIELDS: &[u8] = b"\xF5\xC3\x11\x40\x40\x1D\x60\xC8\xC9\x1D\x40\x13";
 
 // All cells filled with one character.
@@ -333,7 +333,7 @@ static TWO_FIELDS_CALLS: Calls = Calls(&[
 
 static FILLED_CALLS: Calls = Calls(&[Call::Begin(CommandCode::Write), Call::Sba, Call::Ra]);
 
-/// Whether one command is written, and then the other behind it: what stands in the vector stays.
+/// Whether one command is written, and then another one after it: the vector keeps what it had.
 fn commands_are_written(out: &mut Vec<u8>) -> bool {
     TWO_FIELDS_CALLS.add(out)
         && out.as_slice() == TWO_FIELDS

@@ -1,9 +1,9 @@
-//! What a belief and a screen were, beside what they are: a list of fields that was made anew by all that was heard and taken, and cells
-//! that were searched for attributes. It tries that both answer the same, and measures what both take, in nanoseconds (`figures`).
+//! Compares the belief and the screen with former ones: a belief that was a list of fields, made again whenever something was heard or
+//! taken, and a screen whose cells were searched for attributes. Tests that both answer the same, and measures both in nanoseconds (`figures`).
 //!
-//! A script has cases. After each line of a case both have to answer the same: what is known of each cell, each fact and its text, the
-//! writes that paint wanted screens; each cell, what is printed of it, the fields, the field of each cell, and what reads answer. For each
-//! case a line says so, or what is otherwise first.
+//! A script has cases. After each line of a case both must answer the same: what is known of each cell, each fact and its text, the
+//! writes that paint wanted screens; each cell and its printed character, the fields, the field of each cell, and the data of reads. For
+//! each case a line says so, or names the first difference.
 mod bodies;
 mod figures;
 mod likeness;

@@ -1,5 +1,5 @@
-//! What can't be seen at a terminal of its keys. What each key answers, where it leaves the cursor, the locks, and what is read afterwards
-//! stand in trials3270's dialogues.
+//! Checks of keys that no dialogue with a terminal can show. trials3270's dialogues have the answer of each key, the cursor, the locks, and
+//! what is read afterwards.
 mod by_search;
 
 use crate::Tried;

@@ -13,7 +13,7 @@ use tn3270e_msg::{
 
 /// A row of a table: what is read or called, and what it comes to.
 enum Row {
-    /// Bytes are a header, both read and written, and the body behind it.
+    /// Bytes are a header, both read and written, and the body after it.
     Read(&'static [u8], Header, &'static [u8]),
     /// A record is spelt so.
     Spelt(&'static [u8], &'static [u8]),

@@ -125,7 +125,7 @@ static CHARACTERS_ALONE: [Step; 4] = [
     Step::Char(1919, 0x5C),
 ];
 
-/// Without fields it is erased, and painted anew.
+/// An unformatted screen is erased, and painted again.
 static ERASED_AND_REPEATED: [Run; 3] = [
     (b"\xF5\xC2\x11\x40\x40", 1),
     (b"\x5C", CELL_COUNT),

@@ -1,5 +1,5 @@
-//! Pools of few LUs: who holds one, and refused memory. The talk of a host that asks its pool is told by trials3270's
-//! dialogues.
+//! Pools of few LUs: who holds one, and refused memory. trials3270's dialogues have the talk of a host that asks its
+//! pool.
 use crate::{Tried, prints};
 use lu_pool::{Pool, PoolFault};
 use std::alloc::{AllocError, Global};

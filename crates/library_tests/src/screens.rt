@@ -1,6 +1,6 @@
-//! What a screen answers that isn't seen at a terminal: what commands ask for, the alarm among it, where fields are, and reads
-//! for which there may be no memory. What is shown after commands and keys, and what reads answer, stands in trials3270's
-//! dialogues. Checks are tables of steps, which one function takes in turn.
+//! Checks of a screen that no dialogue with a terminal can show: what commands ask for, such as the alarm, where fields are, and
+//! reads that may be refused memory. trials3270's dialogues have what is shown after commands and keys, and the data of reads.
+//! Checks are tables of steps, which one function takes in turn.
 
 mod by_search;
 
@@ -23,7 +23,7 @@ fn obey(screen: &mut Screen, command: &[u8]) -> Option<Applied> {
     }
 }
 
-/// Whether a screen obeys a command so many times.
+/// Whether a screen executes a command `count` times.
 fn obeys(screen: &mut Screen, command: &[u8], count: usize) -> bool {
     for _ in 0..count {
         if obey(screen, command).is_none() {
@@ -84,7 +84,7 @@ impl Adds for Screen {
     }
 }
 
-/// Whether so many bytes are appended for Read Buffer, behind what is there, where there is memory, and nothing where there isn't.
+/// Whether Read Buffer appends `count` bytes to the vector, or nothing if memory is refused.
 fn appends_cells(screen: &Screen, out: &mut Vec<u8>, count: usize) -> bool {
     let _ = screen.add(out);
     let start = out.len();
@@ -99,7 +99,7 @@ fn appends_cells(screen: &Screen, out: &mut Vec<u8>, count: usize) -> bool {
 enum Step {
     /// It obeys a command.
     Obey(&'static [u8]),
-    /// It obeys a command so many times.
+    /// It executes a command this number of times.
     ObeyTimes(&'static [u8], usize),
     /// A command asks for this.
     Ask(&'static [u8], Applied),
@@ -120,7 +120,7 @@ enum Step {
     Copied,
     /// Read Modified All is answered so, with room and without.
     Modified(&'static [u8]),
-    /// Read Buffer is answered with so many bytes.
+    /// Read Buffer is answered with this number of bytes.
     Buffer(usize),
 }
 

@@ -1,5 +1,5 @@
-//! What no end shows of its talk: that the talks' law may be called, a host's device, the LU at either end, and that a closed talk answers
-//! its cause again. What is sent, the phase after it and why an end closes stand in trials3270's dialogues, byte for byte.
+//! Checks of talks that no dialogue can show: that the talks' law may be called, a host's device, the LU at either end, and that a closed
+//! talk answers its cause again. trials3270's dialogues have what is sent, the phase after it and why an end closes, byte for byte.
 use crate::Tried;
 use std::alloc::Global;
 use telnet_wire::{Item, Verb};

@@ -1,7 +1,7 @@
-//! Growths refused in turn. What a terminal shows and sends stands in the dialogues of `trials3270`, byte for byte.
+//! Growths refused in turn. The dialogues of `trials3270` have what a terminal shows and sends, byte for byte.
 //!
-//! In an ordinary run no growth is refused. `rt try --fail-alloc N -- libraries` in crates/trials3270 refuses the Nth one: the helpers then ask again,
-//! and all is so at every N, whichever growth it meets.
+//! In an ordinary run no growth is refused. `rt try --fail-alloc N -- libraries` in crates/trials3270 refuses the Nth one. The helpers then
+//! ask again, and the checks hold for each N.
 
 use crate::Tried;
 use codes3270::Aid;

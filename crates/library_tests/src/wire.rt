@@ -68,7 +68,7 @@ fn refuses(decoder: &mut Decoder, bytes: &[u8], fault: WireFault) -> bool {
         && is_as_new_after_reset(decoder)
 }
 
-/// Pushes the beginning, and then these bytes so many times. Says whether none of them completed an item.
+/// Pushes the beginning, and then these bytes `count` times. Whether none of them completed an item.
 fn goes_on(decoder: &mut Decoder, begun: &[u8], bytes: &[u8], count: usize) -> bool {
     if !all_answer(decoder, begun, MORE) {
         return false;
@@ -93,7 +93,7 @@ fn is_longest(item: Item, end: u8, byte: u8) -> bool {
 
 /// As many of one byte as an item may have.
 struct Limit {
-    /// What stands before them.
+    /// The bytes before them.
     begun: &'static [u8],
     byte: u8,
     spelling: &'static [u8],
@@ -138,7 +138,7 @@ impl Adds for Written {
 
 // ---- steps
 
-/// A step of a stream: what comes, and what it comes to.
+/// A step of a stream: bytes, and their outcome.
 enum Turn {
     /// The last byte, and no other, completes this item.
     Read(&'static [u8], Item<'static>),
@@ -148,7 +148,7 @@ enum Turn {
     Cut(&'static [u8], Item<'static>),
     /// A subnegotiation in these parts is written so.
     Parts(&'static [&'static [u8]], &'static [u8]),
-    /// The last byte is refused, and all behind it until a reset.
+    /// The last byte is refused, and every byte after it until a reset.
     Refused(&'static [u8], WireFault),
     Limited(Limit),
     /// What came is forgotten by a reset.

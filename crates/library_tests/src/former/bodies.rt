@@ -1,5 +1,5 @@
-//! What a belief and a screen were, before a belief was kept place by place and a screen kept a list of its attributes. A belief was
-//! a list of fields, made anew by all that was heard and taken; a screen was its cells, which were searched.
+//! The former belief and screen, from before a belief was kept cell by cell and a screen kept a list of its attributes. A belief was
+//! a list of fields, made again whenever something was heard or taken; a screen was its cells, which were searched.
 mod belief;
 mod cells;
 mod fields;

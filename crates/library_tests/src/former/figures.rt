@@ -35,7 +35,7 @@ fn tell(
     println!(rt; "{what}, {size}: former {former} ns, present {present} ns")
 }
 
-/// An Erase/Write of so many fields that are modified.
+/// An Erase/Write of this number of modified fields.
 fn command_of(alloc: Global, fields: u16) -> Result<Vec<u8>, Memory> {
     let mut bytes = Vec::new(alloc);
     let mut writer = CommandWriter::new(&mut bytes);
@@ -109,7 +109,7 @@ fn once_now(subjects: &mut Subjects, act: Act<'_>) -> usize {
     }
 }
 
-/// Measures so many rounds of it, and tells where walks don't count the same.
+/// Measures a number of rounds, and prints where the two counts differ.
 fn measure(
     rt: &HostRuntime,
     what: &str,
@@ -267,7 +267,7 @@ fn walk_now(subjects: &Subjects, walk: Walk) -> usize {
 /// One character that a Write stores.
 const ONE_CHARACTER: &[u8] = b"\xF1\xC2\x11\x40\xC1\xC1";
 
-/// What is heard and taken in on a screen of so many fields.
+/// Figures of hearing and taking on a screen with this number of fields.
 fn figures_of(rt: &HostRuntime, subjects: &mut Subjects, fields: u16) -> io::Result<()> {
     let bytes = command_of(rt.alloc(), fields)?;
     subjects.begin();

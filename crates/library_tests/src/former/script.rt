@@ -1,12 +1,12 @@
-//! The script of the cases. A case is a name and the lines below it, up to a blank line; a line of `#` is a comment. A line has a word, and bytes
-//! where the word wants some:
+//! The script of the cases. A case is a name and the lines below it, up to a blank line; a line that begins with `#` is a comment. A line
+//! has a word, and bytes if the word takes some:
 //!
 //! ```text
-//! write BYTES              a command: both screens obey it, and where it is a plain write, both beliefs take it in
-//! modified BYTES           what answers Read Modified: both beliefs hear it
-//! all BYTES                what answers Read Modified All
-//! buffer BYTES             what answers Read Buffer
-//! answer-modified          both beliefs hear what the screen answers
+//! write BYTES              a command: both screens execute it; if it is a plain write, both beliefs take it
+//! modified BYTES           an answer to Read Modified: both beliefs hear it
+//! all BYTES                an answer to Read Modified All
+//! buffer BYTES             an answer to Read Buffer
+//! answer-modified          both beliefs hear the screen's own answer
 //! answer-all
 //! answer-buffer
 //! type ADDRESS BYTES       characters are stored on both screens from an address on, and their field is modified
@@ -15,7 +15,7 @@
 //! erase-input              the Erase Input key
 //! ```
 //!
-//! Bytes are pairs of hexadecimal digits, or such pairs so many times: `F5 C3 1140C1 00*152`.
+//! Bytes are pairs of hexadecimal digits, or such pairs repeated N times (`*N`): `F5 C3 1140C1 00*152`.
 use datastream::Form;
 use std::alloc::Global;
 use std::io::{self, ErrorKind};
@@ -64,7 +64,7 @@ fn number_of(digits: &str) -> io::Result<u16> {
     }
 }
 
-/// Adds bytes so many times.
+/// Adds bytes `count` times.
 fn put_times(bytes: &mut Vec<u8>, some: &[u8], count: u16) -> io::Result<()> {
     for _ in 0..count {
         bytes.extend_from_slice(some)?;

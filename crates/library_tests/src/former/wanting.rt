@@ -29,7 +29,7 @@ pub(crate) const WANTINGS: [Wanting; 6] = [
     Wanting::AllKept,
 ];
 
-/// At every so many cells another character is wanted.
+/// The distance, in cells, between the cells in which another character is wanted.
 const CHANGED_EVERY: u16 = 7;
 
 pub(crate) fn put(wanted: &mut Wanted, place: u16, want: Want) {

@@ -57,7 +57,7 @@ pub(crate) fn distance_to(from: u16, stop: u16) -> u16 {
     }
 }
 
-/// Writes a cell into so many places, round the end.
+/// Writes a cell at `count` addresses from one on, round the end.
 pub(crate) fn fill(cells: &mut [Cell], from: u16, count: u16, new: Cell) {
     for step in 0..count {
         put(cells, from.wrapping_add(step) % CELLS, new);
@@ -80,7 +80,7 @@ pub(crate) fn attribute_over(cells: &[Cell], at: u16) -> Option<Attr> {
     attribute_of(cell_at(cells, attribute_place(cells, at)?))
 }
 
-/// Nulls the unprotected characters in so many places, round the end.
+/// Nulls the unprotected characters at `count` addresses from one on, round the end.
 pub(crate) fn erase_unprotected_in(cells: &mut [Cell], from: u16, count: u16) {
     let mut over = attribute_over(cells, from);
     for step in 0..count {
@@ -106,7 +106,7 @@ pub(crate) fn home_of(cells: &[Cell]) -> u16 {
     0
 }
 
-/// How many cells the field has whose attribute stands at a place.
+/// The number of cells of the field whose attribute is at an address.
 pub(crate) fn field_length(cells: &[Cell], at: u16) -> usize {
     let back = cells_from(cells, at.saturating_add(1));
     let count = count_characters(back);

@@ -134,7 +134,7 @@ impl Fields {
         });
     }
 
-    /// The field whose attribute stands at an address.
+    /// The field whose attribute is at an address.
     pub(crate) fn field_with(&self, place: usize) -> Option<Head> {
         self.heads()
             .iter()

@@ -147,7 +147,7 @@ fn or_nulls<'a>(length: usize, lent: Lent<'a>, blank: &'a Blank) -> Lent<'a> {
     }
 }
 
-/// What is known of a field after what came for it.
+/// What is known of a field after its data was heard.
 fn lent_after<'a>(
     head: Head,
     lent: Lent<'a>,

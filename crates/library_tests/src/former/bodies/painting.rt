@@ -10,7 +10,7 @@ fn is_attribute(want: &Want) -> bool {
     matches!(want, Want::Attr(_))
 }
 
-/// Whether Keep stands before the first attribute, in these and then in all wants.
+/// Whether there is a Keep before the first attribute, in these and then in all wants.
 fn keeps_round(behind: &[Want], whole: &[Want]) -> bool {
     let ends = |want: &&Want| !matches!(want, Want::Char(_));
     match behind.iter().chain(whole).find(ends) {
@@ -39,7 +39,7 @@ fn any_field(fields: &Fields, place: usize, attr: Attr, count: usize) -> bool {
     })
 }
 
-/// Whether Keep stands in fields alone, and each of these fits.
+/// Whether there is a Keep only in fields, and each of these fits.
 pub(crate) fn fits_fields(fields: &Fields, wants: &[Want]) -> bool {
     let mut keeps = false;
     let mut attributes = false;
@@ -69,7 +69,7 @@ fn is_there(known: Known, cell: Cell) -> bool {
     }
 }
 
-/// What a paint stores in a cell; `behind` is what is wanted behind it.
+/// What a paint stores in a cell; `behind` has the wants of the cells after it.
 fn cell_to_store(want: Want, known: Known, behind: &[Want], whole: &[Want]) -> Option<Cell> {
     let cell = match want {
         Want::Keep => return None,
