@@ -5,7 +5,7 @@ use std::alloc::{AllocError, Global};
 
 const BYTES: &str = "bytes: pairs of hexadecimal digits, PAIRS*N, or \"TEXT\"";
 
-/// The bytes that words spell, one after another: pairs of hexadecimal digits (`FF FD28`), pairs so many times (`00*152`),
+/// The bytes that words spell, one after another: pairs of hexadecimal digits (`FF FD28`), pairs repeated N times (`00*152`),
 /// or ASCII between quotes (`"IBM-3278-2"`).
 pub(crate) fn bytes_of(alloc: Global, words: &str) -> Result<Vec<u8>, Fault> {
     let mut bytes = Vec::new(alloc);
@@ -74,7 +74,7 @@ pub(crate) fn number_of(digits: &str) -> Result<u16, Fault> {
     }
 }
 
-/// The first word, and what is behind it.
+/// The first word, and the words after it.
 pub(crate) fn first_of<'a>(words: &'a str) -> (&'a str, &'a str) {
     words.split_once(' ').unwrap_or((words, ""))
 }

@@ -12,7 +12,7 @@ use tn3270e_msg::{Fed, Stop};
 /// The characters that a note has at most.
 const LONGEST_NOTE: usize = 131;
 
-/// Begins a connection on a number that is free; where memory is refused, it has to be free still.
+/// Begins a connection on a number that is free; if memory is refused, the number must still be free.
 pub(crate) fn open(host: &mut Host, conn: usize) -> Result<(), Fault>
     requires { conn < most_connections }
 {

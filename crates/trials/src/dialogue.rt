@@ -1,12 +1,12 @@
-//! Worked dialogues, byte for byte. A script has dialogues, each with a terminal or with a host: what the other end sends, what an operator presses, when a host acts, and what has to come of it.
-//! For each dialogue a line is printed: `ok`, or the first of its lines that came otherwise.
+//! Worked dialogues, byte for byte. A script has dialogues, each with a terminal or with a host: what the other end sends, which keys an
+//! operator presses, when a host acts, and the expected results. For each dialogue a line is printed: `ok`, or its first line that differs.
 //!
 //! `script` says how a script is read, `terminal` which lines a dialogue with a terminal has, and `host` which one with a
 //! host. What the script expects is taken from the standards, and never from what the program printed.
 //!
-//! Run with each allocation refused in turn (in crates/trials3270, `rt try --fail-alloc N -- dialogues`) it prints the same: a terminal
-//! or a host is asked again in the midst of its dialogue, so that it has to stand as before the refusal, and a dialogue that the program
-//! has no memory for is held again. Only memory for the script itself is asked for once; its want is told.
+//! Run with each allocation refused in turn (in crates/trials3270, `rt try --fail-alloc N -- dialogues`) it prints the same. A refused
+//! call of a terminal or a host is repeated in its dialogue, so its state must be the one before the refusal; and a dialogue for which
+//! the program has no memory is repeated. Only memory for the script itself is requested once: if that is refused, it is an error.
 
 mod host;
 mod script;

@@ -1,9 +1,9 @@
-//! What is wrong with a line of a script, or with what came.
+//! What is wrong with a line of a script, or with a result.
 use std::alloc::{AllocError, Global};
 use std::io::{self, ErrorKind};
 use thiserror::Error;
 
-/// What is wrong with a line of a script, or with what came.
+/// What is wrong with a line of a script, or with a result.
 #[derive(Debug, Drop, Error)]
 pub enum Fault {
     /// The line isn't one of the language: what it lacks.

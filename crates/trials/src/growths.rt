@@ -1,12 +1,11 @@
-//! Each call that can answer want of memory, alone. With a call's name, what the call needs is prepared,
-//! the call is made once between two marks on standard error (`begin` and `end`), and what came of it is printed: whether it
-//! was done or answered want of memory, and whether all stands as its contract promises and goes on so. Without a name the
-//! names are printed.
+//! Single calls that can answer want of memory. With the name of a call, a run prepares what the call needs, makes the call once
+//! between two marks on standard error (`begin` and `end`), and prints the result: whether the call was done or answered want of
+//! memory, and whether the value is as the contract promises and goes on so. Without a name it prints the names.
 //!
 //! In an ordinary run no growth is refused. `growths/check` makes the runs in which one is: the first between the marks, the
 //! second, and so on.
 //!
-//! `trial` says what is looked at.
+//! `trial` says what is compared.
 
 mod appending;
 mod calls;
@@ -29,7 +28,7 @@ fn print_names(rt: &impl Print) -> io::Result<()> {
     Ok(())
 }
 
-/// Tries a call, and prints what came of it. Says whether that is as promised.
+/// Tries a call, and prints the result. Whether that is as promised.
 fn tell(rt: &(impl Print + Eprint + AllocGlobal), call: Call) -> io::Result<bool> {
     let came = call.attempt(rt)?;
     let answer = if came.is_refused { "no memory" } else { "done" };
@@ -42,7 +41,7 @@ fn tell(rt: &(impl Print + Eprint + AllocGlobal), call: Call) -> io::Result<bool
     Ok(came.is_as_promised)
 }
 
-/// Tries the call with a name, or prints the names of all. Says whether what came is as promised.
+/// Tries the call with a name, or prints all names. Whether the result is as promised.
 pub fn try_named(rt: &(impl Print + Eprint + AllocGlobal), name: Option<&str>) -> io::Result<bool> {
     let Some(name) = name else {
         print_names(rt)?;

@@ -1,4 +1,4 @@
-//! What a panel text stands for: its panels, the pool of the LUs that they name, and a host that shows them.
+//! What a panel text defines: its panels, the pool of its LUs, and a host that shows the panels.
 use crate::fault::Fault;
 use host_core::Host;
 use lu_pool::{Pool, PoolFault};

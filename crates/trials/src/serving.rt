@@ -1,15 +1,15 @@
-//! A host that serves two clients in memory, a turn at a time. Both tell a story, byte for byte. It is told to its end at
-//! several paces; and it is broken off on one connection, at each read, at each write, and behind each number of its
-//! client's bytes: then that connection is lost and no other, its LU is granted to the next client, and the other
-//! connection is as it is where it is served alone, and goes on to the end of its story.
+//! A host that serves two clients in memory, a turn at a time. Each client has a story, an exchange byte for byte. Both stories run to
+//! their ends at several paces. In other cases one connection ends or fails, at each read, at each write, and after each number of its
+//! client's bytes: then only that connection is lost, its LU is granted to the next client, and the other connection is in the same
+//! state as if it were served alone, and its story runs to the end.
 //!
-//! For each kind of case a line is printed: that all came as expected, or the first that didn't.
-//! What is expected is taken from the standards and the panels, and never from what the program printed.
+//! For each kind of case a line is printed: that all results are as expected, or the first case that differs.
+//! The expected bytes are taken from the standards and the panels, and never from what the program printed.
 //!
 //! Run with each allocation refused in turn (in crates/trials3270, `rt try --fail-alloc N -- serving last`) it prints the same, but for
-//! numbers of reads and writes: a call that is refused memory leaves the host as it was and is made again, a turn of serving goes on with
-//! the next, and what the program has no memory for is tried again. With `last`, as here, only the last case of each kind is
-//! tried, since an interpreter runs it.
+//! numbers of reads and writes: a call that is refused memory leaves the host unchanged and is repeated, serving goes on with the next
+//! turn, and the program repeats what it has no memory for. With `last`, as here, only the last case of each kind is tried, since an
+//! interpreter runs it.
 
 mod cases;
 mod client;
@@ -34,7 +34,7 @@ const WHOLE: Pace = Pace {
     pauses: false,
 };
 
-/// The paces at which the story is told, and their names.
+/// The paces at which the stories run, and their names.
 const PACES: [(&str, Pace); 5] = [
     ("whole", WHOLE),
     (
@@ -111,7 +111,7 @@ pub enum Range {
 }
 
 impl Range {
-    /// The first one, of so many.
+    /// The number of the first of `count` cases that is tried.
     fn first(self, count: usize) -> usize {
         match self {
             Range::Each => 1,
@@ -120,7 +120,7 @@ impl Range {
     }
 }
 
-/// The first case of a kind that comes otherwise, of those from one number to another.
+/// The first case of a kind, of those from one number to another, whose result differs from the expected one.
 fn first_otherwise(
     hall: &mut Hall,
     twin: &mut Hall,

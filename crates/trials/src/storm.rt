@@ -1,14 +1,15 @@
 //! A storm of hostile bytes. Its script has panels, dialogues, a seed and a
-//! count of rounds. In each round the bytes of one dialogue are changed, as numbers drawn from the seed and the round say: bits
+//! count of rounds. In each round the bytes of one dialogue are changed, as random numbers from the seed and the round decide: bits
 //! are turned, spans left out, repeated, replaced or put in, halves swapped, the end cut off, or all replaced.
 //!
-//! A host is told them on one connection beside two that are bound, and acts behind each record; or a terminal is told them, and
-//! keys are pressed. That is done three times: whole, in drawn pieces, and byte by byte. What comes of it has to be the same:
-//! how far the bytes are taken, why no further, phase, turn, belief or screen, and what there is to send. The two other
-//! connections have to be as they are at a host where nobody else speaks; and the LU of the one that was struck is granted
-//! again, at once where the host closed it.
+//! A host gets these bytes on one connection beside two that are bound, and acts after each record; or a terminal gets them, and
+//! keys are pressed. That is done three times: whole, in random pieces, and byte by byte. The results must be the same:
+//! how many bytes are taken and why no more, phase, turn, belief or screen, and the output. The two other connections must be in the
+//! same state as at a host with no third client; and the LU of the connection that got the bytes is granted again, at once if the
+//! host closed it.
 //!
-//! At the first round where something is otherwise it is told with its seed, its number and its bytes. `first` and `count` take that round alone again. `script` says how a script is read.
+//! The first round that differs is printed, with its seed, its number and its bytes. `first` and `count` repeat that round alone.
+//! `script` says how a script is read.
 
 mod chance;
 mod change;

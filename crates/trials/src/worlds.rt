@@ -1,11 +1,13 @@
-//! Whole worlds: a host, four terminals, and all that may happen between them. A script has cases; `script` and `command` say which lines it has. A case is told three times, each time with a world of its own:
-//! event by event; by lists of events, one up to each question; and event by event with each delivery byte by byte. What the first
-//! telling prints is printed, and whether it is what the script expects, and whether the others printed the same and left worlds
-//! that look the same. Behind each event of the first telling the headline is looked for: where the host holds the turn with its
-//! last command answered, the screen is as it believes, and no LU is that of two sessions.
+//! Whole worlds: a host, four terminals, and all that may happen between them. A script has cases; `script` and `command` say which
+//! lines it has. A case runs three times, each time with a world of its own: event by event; by lists of events, one up to each
+//! question; and event by event with each delivery byte by byte. The output of the first run is printed, with whether it is what the
+//! script expects, and whether the other runs printed the same and left worlds that look the same. After each event of the first run
+//! the headline is tested: if the host holds the turn with its last command answered, its belief allows the screen, and no two
+//! sessions have one LU.
 //!
-//! Run with each allocation refused in turn (in crates/trials3270, `rt try --fail-alloc N -- worlds`) it prints the same: what was refused
-//! memory in a world happens again, and a case that the program has no memory for is told again. Where there is none for the script itself, that is the error.
+//! Run with each allocation refused in turn (in crates/trials3270, `rt try --fail-alloc N -- worlds`) it prints the same: an event that
+//! was refused memory happens again, and a case for which the program has no memory runs again. If there is none for the script
+//! itself, that is an error.
 
 mod belief;
 mod case;

@@ -1,4 +1,4 @@
-//! Dialogues with a host. A line holds if what it expects came. C is a connection's number, 0 to 63.
+//! Dialogues with a host. A line holds if the host does what it expects. C is a connection's number, 0 to 63.
 //!
 //! ```text
 //! | TEXT                a line of the panel text
@@ -6,14 +6,14 @@
 //! open C                a connection begins
 //! client C BYTES        its client sends these; the host takes all of them and goes on
 //! closes C CAUSE BYTES  its client sends these; at the last the host closes the connection, for this cause
-//! deaf C WHY            what comes isn't taken: going, or closed CAUSE
-//! begins C BYTES        this is what the host has to send first; it is sent
-//! says C BYTES          this is all that the host has to send; it is sent
-//! silent C              it has nothing to send
+//! deaf C WHY            the host takes no bytes of this connection: going, or closed CAUSE
+//! begins C BYTES        the host's output begins with these; they are sent
+//! says C BYTES          the host's output is these; they are sent
+//! silent C              the host has no output
 //! act C WHAT            the host acts: sent, or nothing
 //! note C WHAT TEXT      a note is written: sent, or nothing
 //! lost C [BYTES]        the connection is lost before these were sent
-//! restart               the host begins anew
+//! restart               the host restarts
 //! phase C PHASE         free, talking, bound LU, or closed CAUSE
 //! turn C WHOSE          host or terminal
 //! pending C N           the number of the command that waits for its answer, or none
@@ -24,7 +24,7 @@
 //! stays C               all of it is as it was then
 //! ```
 //!
-//! Each dialogue is held twice: once what a line's client sends comes in one piece, and once byte by byte.
+//! Each dialogue is held twice: once with the bytes of each line in one piece, and once byte by byte.
 mod belief;
 mod exchange;
 mod sights;
@@ -68,7 +68,7 @@ impl Switchboard {
         }
     }
 
-    /// Does what a line says that is about a connection, or sees whether it holds.
+    /// Executes or tests a line for one connection.
     fn obey_on(&mut self, word: &str, words: &str) -> Result<(), Fault> {
         let (number, words) = first_of(words);
         let conn = usize::from(number_of(number)?);

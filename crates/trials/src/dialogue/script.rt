@@ -1,12 +1,12 @@
 //! Scripts. A line is a heading, a command for the subject of its dialogue, or `play NAME`:
 //!
 //! ```text
-//! # A comment; blank lines are passed over, and blanks around a line.
-//! terminal-passage NAME    begins lines for a terminal that are played by their name
+//! # A comment; blank lines, and blanks around a line, are ignored.
+//! terminal-passage NAME    begins a passage, lines for a terminal that `play` repeats
 //! host-passage NAME        begins such lines for a host
 //! terminal-dialogue NAME   begins a dialogue with a fresh terminal
 //! host-dialogue NAME       begins a dialogue with a fresh host
-//! play NAME                stands for the lines of a passage further up, for the same subject
+//! play NAME                is replaced by the lines of an earlier passage, for the same subject
 //! ```
 ghost use Rattle.std.specs.Prelude.{◌≤◌, IfOk, length};
 
@@ -32,7 +32,7 @@ pub(crate) enum Kind {
     Command,
 }
 
-/// A line of a script, where `play` is replaced by what it stands for.
+/// A line of a script, with each `play` replaced by the lines of its passage.
 #[derive(Clone, Copy)]
 pub(crate) struct Line<'a> {
     /// Its number, from 1 on.

@@ -1,19 +1,19 @@
-//! Dialogues with a terminal. A line holds if what it expects came.
+//! Dialogues with a terminal. A line holds if the terminal does what it expects.
 //!
 //! ```text
 //! connect [LU]         a connection begins, on which the terminal asks for this LU, if one
 //! host BYTES           the host sends these; the terminal takes all of them and goes on
 //! cut BYTES            the host sends the front of these; the dialogue is held once for each place to cut them at
-//! rest                 it sends what is behind the cut
+//! rest                 it sends the bytes after the cut
 //! offer BYTES          the host sends these; `taken` and `stops` say how far the terminal takes them
-//! taken N              so many of them were taken
+//! taken N              the terminal took N of them
 //! stops WHY            going, or closed CAUSE
-//! says BYTES           this is all that the terminal has to send; it is sent
-//! silent               it has nothing to send
+//! says BYTES           the terminal's output is these; they are sent
+//! silent               the terminal has no output
 //! key NAME [OUTCOME]   the key is pressed: done (said of none), sends AID, or refused REFUSAL
 //! type TEXT            the key of each character is pressed, and is done
 //! lost [BYTES]         the connection is lost before these were sent
-//! restart              the terminal begins anew
+//! restart              the terminal restarts
 //! phase PHASE          idle, talking, bound LU, refused REASON, or closed CAUSE
 //! lock LOCK            free, wait or error
 //! took-write YES       whether the last byte completed a write: yes or no
@@ -143,7 +143,7 @@ impl Desk {
         Ok(())
     }
 
-    /// Sends what the terminal has to send, which has to be this.
+    /// Sends the terminal's output, which must be this.
     fn send(&mut self, words: &str) -> Result<(), Fault> {
         expect_spelt(self.alloc, words, self.terminal.out())?;
         let count = self.terminal.out().len();

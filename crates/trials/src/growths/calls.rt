@@ -16,7 +16,7 @@ use std::io;
 pub(crate) enum Call {
     Append(Appends),
     Make(Makes),
-    /// A call, behind so many steps of a story, and further ones.
+    /// A call, after a number of steps of the story, and further steps.
     Host(Asks, usize, &'static [Step]),
     Terminal(Does),
     World(Lets),

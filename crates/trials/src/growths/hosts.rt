@@ -38,11 +38,11 @@ pub(crate) enum Step {
     Opens,
     Fed(&'static [u8]),
     Acts,
-    /// The host answers options until so many bytes are surpassed by those that wait to be sent.
+    /// The host answers options until more than this number of bytes wait to be sent.
     Fills(usize),
 }
 
-/// A call, and what comes before it: so many steps of the story, and further ones.
+/// A call, and the steps before it: a number of the story's, and further ones.
 #[derive(Clone, Copy)]
 pub(crate) struct Asked {
     pub(crate) asks: Asks,
@@ -97,7 +97,7 @@ fn open(host: &mut Host, conn: usize) -> Answer
     }
 }
 
-/// Has the host answer options until so many bytes are surpassed.
+/// Lets the host answer options until more than `unsent` bytes wait to be sent.
 fn fill(host: &mut Host, unsent: usize) {
     for _ in 0..MANY {
         if host.out(CONN).len() > unsent {
@@ -124,7 +124,7 @@ fn tell(host: &mut Host, steps: &[Step]) {
     }
 }
 
-/// Feeds so many of these bytes from a place on, or all behind it.
+/// Feeds `count` of these bytes from a position on, or all from there if there are fewer.
 fn feed_part(host: &mut Host, bytes: &[u8], from: usize, count: usize) -> Fed {
     let rest = bytes.get(from..).unwrap_or(&[]);
     host.feed(CONN, rest.get(..count).unwrap_or(rest))

@@ -133,7 +133,7 @@ impl Maker {
         }
     }
 
-    /// Makes a host or a world of what it takes. Where that was taken before, it is read anew.
+    /// Makes a host or a world of its parts. If a call before took the parts, they are read again.
     fn found(&mut self) -> Answer {
         let parts = match self.parts.take() {
             Some(parts) => Ok(parts),

@@ -10,13 +10,13 @@ pub(crate) enum Answer {
     Done,
     /// Memory was refused, and nothing has changed.
     Memory,
-    /// Memory was refused behind so many of the bytes, or of the events, that it was handed: the value stands as after these.
+    /// Memory was refused after this number of the bytes or events handed in: the value is as after these.
     Part(usize),
-    /// Something else came, or the call couldn't be made.
+    /// There was another answer, or the call couldn't be made.
     Otherwise,
 }
 
-/// Done where something is made; else memory was refused.
+/// Done if something is made; else memory was refused.
 pub(crate) fn made<T: Drop, E: Drop>(made: Result<T, E>) -> Answer {
     match made {
         Ok(_) => Answer::Done,
@@ -34,29 +34,29 @@ pub(crate) trait Trial {
     where
         Self: Sized;
 
-    /// Makes the call, on what is left to hand to it.
+    /// Makes the call, with the bytes or events that aren't taken yet.
     fn call(&mut self) -> Answer;
 
-    /// Hands it so many of the bytes or events; nothing where it is handed all at once.
+    /// Hands in `count` of the bytes or events; does nothing for a call that takes all at once.
     fn take(&mut self, count: usize);
 
-    /// Does further things, if some show what can't be looked at.
+    /// Does further things, if they show what can't be compared directly.
     fn go_on(&mut self);
 
     /// Whether the value looks as the twin does.
     fn looks_same(&self, twin: &Self) -> bool;
 }
 
-/// What came of a trial.
+/// The result of a trial.
 #[derive(Clone, Copy)]
 pub(crate) struct Came {
     /// Whether want of memory was answered.
     pub(crate) is_refused: bool,
-    /// Whether value and twin stood as the answer promises, and went on alike.
+    /// Whether value and twin were as the answer promises, and went on alike.
     pub(crate) is_as_promised: bool,
 }
 
-/// Whether the value stands as its call's answer promises: as the twin does, once that is handed what was taken.
+/// Whether the value is as its call's answer promises: like the twin, once the twin has taken the same bytes or events.
 fn stands<T: Trial>(answer: Answer, value: &T, twin: &mut T) -> bool {
     match answer {
         Answer::Done => true,
@@ -78,7 +78,7 @@ fn goes_on<T: Trial>(answer: Answer, value: &mut T, twin: &mut T) -> bool {
     is_done_alike && value.looks_same(twin)
 }
 
-/// Makes the call between two marks on standard error, and looks at what came. Growths are to be refused between the marks alone.
+/// Makes the call between two marks on standard error, and compares the result. Growths are refused only between the marks.
 fn try_with_twin<T: Trial>(rt: &impl Eprint, value: &mut T, twin: &mut T) -> io::Result<Came> {
     let was_same = value.looks_same(twin);
     eprintln!(rt; "begin")?;

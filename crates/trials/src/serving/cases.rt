@@ -1,4 +1,4 @@
-//! Cases: stories that are told to the end, and one that is broken off while the other goes on.
+//! Cases: two stories that run to their ends, and one that is broken off while the other goes on.
 use crate::likeness::hosts_look_same;
 use crate::serving::client::{Extent, Pace, Trouble};
 use crate::serving::hall::Hall;
@@ -8,7 +8,7 @@ use host_core::Served;
 /// More turns than a story takes at any pace.
 const MOST_TURNS: usize = 1500;
 
-/// Serves both, turn by turn, until both stories are told. Says whether they are, and no connection was lost.
+/// Serves both clients, turn by turn, until both stories are at their ends. Whether they are, and no connection was lost.
 fn tell_both(hall: &mut Hall) -> bool {
     for _ in 0..MOST_TURNS {
         if hall.is_content(Seat::First) && hall.is_content(Seat::Second) {
@@ -56,7 +56,7 @@ fn is_lost_alone(hall: &mut Hall, twin: &mut Hall, struck: Seat) -> bool {
         && hosts_look_same(&hall.host, &twin.host, struck.other().number())
 }
 
-/// Whether trouble loses a connection and no other, and both stories are told once another client takes that connection, which is
+/// Whether trouble loses its connection alone, and both stories run to their ends once another client takes that connection and is
 /// granted the same LU.
 pub(crate) fn is_broken_off(
     hall: &mut Hall,

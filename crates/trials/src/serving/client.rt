@@ -43,14 +43,14 @@ impl Extent {
     }
 }
 
-/// How a connection is over.
+/// How a connection ends.
 #[derive(Clone, Copy)]
 pub(crate) enum Way {
     Ends,
     Fails,
 }
 
-/// Where a connection is over, and how: at the read or the write with a number, or behind so many bytes that the client said.
+/// Where and how a connection ends: at the read or the write with this number, or after this number of the client's bytes.
 #[derive(Clone, Copy)]
 pub(crate) struct Trouble {
     pub(crate) place: Place,
@@ -65,22 +65,22 @@ const NOWHERE: Trouble = Trouble {
     way: Way::Ends,
 };
 
-/// A client, and how far its story is told.
+/// A client, and how far its story has run.
 #[derive(Clone, Copy)]
 pub(crate) struct Client {
     story: &'static [Line<'static>],
     pace: Pace,
     pub(crate) trouble: Trouble,
-    /// The lines that are told, and how many bytes of the next one are.
+    /// How many lines of the story are done, and how many bytes of the next one.
     told: usize,
     crossed: usize,
-    /// It heard something else than its story has.
+    /// It received other bytes than its story has.
     is_astray: bool,
     pub(crate) extent: Extent,
 }
 
 impl Client {
-    /// A client at the beginning of its story, that meets no trouble.
+    /// A client at the beginning of its story, without trouble.
     pub(crate) fn new(seat: Seat, pace: Pace) -> Client {
         Client {
             story: seat.guest().story,
@@ -97,17 +97,17 @@ impl Client {
         }
     }
 
-    /// Whether all of the story was told, and nothing else.
+    /// Whether the whole story has run, and nothing else.
     pub(crate) fn is_done(&self) -> bool {
         self.told == self.story.len() && !self.is_astray
     }
 
-    /// What is told next, if anything is.
+    /// The next line of the story, unless it is at its end.
     fn line(&self) -> Option<&'static Line<'static>> {
         self.story.get(self.told)
     }
 
-    /// So many bytes of a line of this length crossed.
+    /// `count` more bytes of the line, which has this length, are done.
     fn pass(&mut self, count: usize, length: usize) {
         self.crossed = self.crossed.saturating_add(count);
         if self.crossed >= length {
@@ -126,7 +126,7 @@ impl Client {
         self.is_astray = true;
     }
 
-    /// Says what comes next of a line, and answers how many bytes that is.
+    /// Puts the next bytes of a line of the client into the buffer, and returns their number.
     fn say(&mut self, buffer: &mut [u8]) -> usize
         ensures { result ≤ length buffer.new }
     {

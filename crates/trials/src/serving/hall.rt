@@ -25,7 +25,7 @@ impl Hall {
         })
     }
 
-    /// The host begins anew, before two clients that do. Says whether their connections begin.
+    /// Restarts the host, with two new clients. Whether their connections begin.
     pub(crate) fn begin(&mut self, pace: Pace) -> bool {
         self.host.restart();
         self.clients = Clients::new(pace);

@@ -72,7 +72,7 @@ const IS_SECOND: &[u8] = b"\xff\xfa\x28\x02\x04IBM-3278-2\x01PNL02\xff\xf0";
 /// FUNCTIONS REQUEST of RESPONSES.
 const WANTS_RESPONSES: &[u8] = b"\xff\xfa\x28\x03\x07\x02\xff\xf0";
 
-/// FUNCTIONS IS, and behind it the first record, number 0 and ALWAYS-RESPONSE: an Erase/Write of the panel to sign on with.
+/// FUNCTIONS IS, and after it the first record, number 0 and ALWAYS-RESPONSE: an Erase/Write of the sign-on panel.
 const SIGN_ON: &[u8] = b"\xff\xfa\x28\x03\x04\x02\xff\xf0\
 \x00\x00\x02\x00\x00\xf5\xc3\
 \x11\x40\x40\x1d\xf0\xe2\xc9\xc7\xd5\x40\xd6\xd5\

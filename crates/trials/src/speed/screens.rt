@@ -6,7 +6,7 @@ use presentation::Screen;
 use std::alloc::Global;
 use std::io;
 
-/// Fields that fill a screen, an attribute at every so many cells.
+/// Fields that fill a screen, with one attribute every `every` cells.
 #[derive(Clone, Copy)]
 pub(crate) struct Layout {
     pub(crate) fields: u16,

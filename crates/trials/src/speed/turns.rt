@@ -91,7 +91,7 @@ fn seat(alloc: Global, host: &mut Host, conn: usize) -> io::Result<Terminal>
     Ok(terminal)
 }
 
-/// Seats so many terminals, on the first connection numbers.
+/// Connects `count` terminals, on the first connection numbers.
 fn seat_each(
     alloc: Global,
     host: &mut Host,

@@ -19,12 +19,12 @@ use tn3270e_msg::{Fed, Stop};
 /// `NOTE` in code page 037.
 const NOTE: [u8; 4] = [0xD5, 0xD6, 0xE3, 0xC5];
 
-/// What a host did on a connection, and what came of it.
+/// The commands and notes of a host on a connection.
 #[derive(Clone, Copy)]
 struct Deeds {
     /// How many commands and notes it sent.
     sent: u64,
-    /// How many of its commands were refused, and the connection went on.
+    /// How many of its commands were refused without a close.
     refused: u64,
 }
 
@@ -139,7 +139,7 @@ fn is_bound_to(host: &Host, seat: Seat, name: &str) -> bool {
     }
 }
 
-/// Puts a host anew before two clients that are bound, and a connection that begins.
+/// Restarts a host, with two clients that are bound, and a third connection that begins.
 fn begin(host: &mut Host, script: &Script) -> Result<(), Fault> {
     host.restart();
     tell_plainly(host, Seat::First, script.first_client.as_slice())?;
@@ -190,7 +190,7 @@ fn strike(
     Ok(told)
 }
 
-/// A host that isn't struck, and two that are told the same: one whole, the other in pieces. And what these saw.
+/// A host without the hostile bytes, and two that get the same bytes: one whole, the other in pieces. And what these saw.
 #[derive(Drop)]
 pub(crate) struct Hosts {
     calm: Host,
@@ -212,12 +212,12 @@ impl Hosts {
         })
     }
 
-    /// Puts the one that isn't struck before its clients.
+    /// Restarts the host without the hostile bytes, with its clients.
     pub(crate) fn begin(&mut self, script: &Script) -> Result<(), Fault> {
         begin(&mut self.calm, script)
     }
 
-    /// Tells the other the tale in pieces, and expects what came of it whole.
+    /// Gives the other host the bytes in pieces, and expects the same result as whole.
     fn expect_cut(
         &mut self,
         script: &Script,

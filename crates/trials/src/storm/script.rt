@@ -1,16 +1,16 @@
-//! The script of a storm. A line has a word, and mostly what it is about:
+//! The script of a storm. A line has a word, and mostly a value:
 //!
 //! ```text
-//! # A comment; blank lines are passed over.
+//! # A comment; blank lines are ignored.
 //! | TEXT           a line of the text of the hosts' panels
-//! seed N           what all that is drawn comes from
-//! first N          the number of the first round; 1 where there is no such line
+//! seed N           the seed of all random numbers
+//! first N          the number of the first round; 1 if there is no such line
 //! count N          how many rounds there are
-//! tally            at the end it is told what was seen
-//! client N BYTES   what the client on connection 1 or 2 says, before the storm
-//! heir LU BYTES    what a client says, once connection 0 is over, to be bound to this LU
-//! host NAME BYTES  a dialogue of which the storm is made: what a host is told on connection 0
-//! term NAME BYTES  one of those at a terminal: what it is told
+//! tally            the counts of what was seen are printed at the end
+//! client N BYTES   what the client on connection 1 or 2 sends, before the storm
+//! heir LU BYTES    what a client sends to be bound to this LU, once connection 0 has ended
+//! host NAME BYTES  a dialogue whose bytes are changed: what a host gets on connection 0
+//! term NAME BYTES  such a dialogue with a terminal: what it gets
 //! ```
 //!
 //! Bytes are spelt as in dialogues: `FF FD28 00*152`.
@@ -25,7 +25,7 @@ pub(crate) enum With {
     Terminal,
 }
 
-/// What an end is told, under a name: a dialogue of which the storm is made; or what an heir says to a host, under its LU's name.
+/// Bytes for one end, with a name: a dialogue whose bytes are changed; or what an heir sends to a host, under its LU's name.
 #[derive(Drop)]
 pub(crate) struct Speech {
     pub(crate) with: With,

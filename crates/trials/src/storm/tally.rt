@@ -56,7 +56,7 @@ impl Tally {
         }
     }
 
-    /// A dialogue was told so far, in which so many commands were sent and refused.
+    /// Adds a dialogue that was taken up to there, in which commands were sent and refused.
     pub(crate) fn add(&mut self, fed: Fed, sent: u64, refused: u64) {
         self.dialogues = self.dialogues.saturating_add(1);
         self.bytes = self.bytes.saturating_add(fed.taken as u64);

@@ -1,4 +1,4 @@
-//! How bytes are told to an end. However they are cut, the end is stirred at the same places: behind each two bytes that end
+//! How an end gets bytes. However they are cut, the end acts, or gets keys, at the same positions: after each two bytes that end
 //! a record or a subnegotiation.
 ghost use Rattle.std.specs.Prelude.{◌≤◌, ◌<◌, length};
 
@@ -18,7 +18,7 @@ pub(crate) trait End {
     fn stir(&mut self, word: Option<u32>) -> Result<(), AllocError>;
 }
 
-/// In which pieces bytes are told.
+/// In which pieces an end gets bytes.
 #[derive(Clone, Copy)]
 pub(crate) enum Telling {
     /// As much at once as comes before the end is stirred.
@@ -29,7 +29,7 @@ pub(crate) enum Telling {
     Single,
 }
 
-/// What an end is told, where it is cut, and what the end does meanwhile.
+/// The bytes that an end gets, the seed of their pieces, and what the end does meanwhile.
 #[derive(Clone, Copy)]
 pub(crate) struct Tale<'a> {
     pub(crate) bytes: &'a [u8],
@@ -40,7 +40,7 @@ pub(crate) struct Tale<'a> {
 }
 
 impl Telling {
-    /// How many bytes the next piece has, of so many.
+    /// How many bytes the next piece has, if `left` bytes are left.
     fn piece_length(self, cuts: &mut Chance, left: usize) -> usize
         requires { 0 < left }
         ensures { result ≤ left }

@@ -11,7 +11,7 @@ use tn3270e_msg::{Fed, Lu};
 /// The LU that a terminal asks for.
 const LU: &[u8] = b"PNL01";
 
-/// The key that a drawn word stands for, if one.
+/// The key that a random word selects, if any.
 fn key_of(word: u32) -> Option<Key> {
     match word % 10 {
         0 | 1 => Some(Key::Char('A')),
@@ -41,7 +41,7 @@ impl End for Terminal {
     }
 }
 
-/// Puts a terminal anew before a host.
+/// Restarts a terminal, and connects it.
 fn begin(terminal: &mut Terminal) -> Result<(), Fault> {
     terminal.restart();
     match terminal.phase() {
@@ -66,7 +66,7 @@ fn refusals_in(out: &[u8]) -> usize {
         .count()
 }
 
-/// Two terminals that are told the same: one whole, the other in pieces. And what they saw.
+/// Two terminals that get the same bytes: one whole, the other in pieces. And what they saw.
 #[derive(Drop)]
 pub(crate) struct Terminals {
     whole: Terminal,
@@ -83,7 +83,7 @@ impl Terminals {
         })
     }
 
-    /// Tells the other the tale in pieces, and expects what came of it whole.
+    /// Gives the other terminal the bytes in pieces, and expects the same result as whole.
     fn expect_cut(&mut self, telling: Telling, tale: Tale<'_>, fed: Fed) -> Result<(), Fault> {
         let came = strike(&mut self.cut, telling, tale)?;
         expect(

@@ -16,7 +16,7 @@ use world3270::{Event, Stepped};
 /// More rounds than it takes until nothing is under way.
 const MOST_ROUNDS: usize = 64;
 
-/// A case that is told three times.
+/// A case that runs three times.
 #[derive(Drop)]
 struct Case {
     alloc: Global,
@@ -25,13 +25,13 @@ struct Case {
     by_byte: Telling,
     /// What is to happen by list before the next question.
     waiting: Vec<Event>,
-    /// Who is where in the first telling.
+    /// Who is where in the first run.
     watch: Watch,
-    /// What the case has to print.
+    /// What the case must print.
     expected: String,
-    /// The number of the line that is obeyed.
+    /// The number of the line that is executed.
     line: usize,
-    /// The number of the first line behind which the headline didn't hold.
+    /// The number of the first line after which the headline didn't hold.
     fails_at: Option<usize>,
 }
 
@@ -175,7 +175,7 @@ impl Case {
         }
     }
 
-    /// What is wrong with the page, and the one that it has to be.
+    /// What is wrong with the page, and the expected page.
     fn unexpected(&self) -> Option<(&'static str, &str)> {
         let expected = self.expected.as_str();
         if self.by_event.page.as_str() == expected {

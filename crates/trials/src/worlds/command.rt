@@ -4,16 +4,16 @@
 //! connect T [LU]    the terminal connects, and wants this LU, if one is named
 //! key T NAME        a key is pressed
 //! type T TEXT       the keys of these characters are, up to the first that is refused
-//! up C N            so many of the bytes under way come up to the host, or all
-//! down C N          so many come down to the terminal, or all
+//! up C N            N of the bytes under way are delivered up to the host, or all if there are fewer
+//! down C N          N of them are delivered down to the terminal, likewise
 //! act C             the host acts
 //! note C TEXT       the host sends this note
 //! lose C            the connection is lost
 //! hostsees C        the host sees that
 //! termsees T        the terminal sees that
-//! restartterm T     the terminal begins anew
-//! restarthost       the host begins anew
-//! settle            rounds: on each connection all comes up, the host acts, and all comes down; up to a round without an event
+//! restartterm T     the terminal restarts
+//! restarthost       the host restarts
+//! settle            rounds: on each connection all is delivered up, the host acts, and all is delivered down; up to a round without an event
 //! show T            what the terminal prints of its screen
 //! status T          how far it is with its host: idle, talking, bound LU, refused REASON, or closed CAUSE
 //! up? C             the bytes under way to the host

@@ -1,12 +1,12 @@
-//! Scripts. A line is a heading, or stands below one:
+//! Scripts. A line is a heading, or belongs to the heading before it:
 //!
 //! ```text
-//! # A comment; empty lines are passed over.
+//! # A comment; empty lines are ignored.
 //! panels PANELS         begins a panel text with this name
 //! | TEXT                a line of it
 //! world PANELS NAME     begins a case with this name, in a world whose host serves those panels
-//! > TEXT                a line that the case has to print
-//! blank N               so many empty lines that it has to print
+//! > TEXT                a line that the case must print
+//! blank N               N empty lines that it must print
 //! ```
 //!
 //! Any other line is a command of its case.
@@ -18,7 +18,7 @@ use crate::named::named;
 use crate::worlds::command::{WORDS, Word};
 use std::alloc::{AllocError, Global};
 
-/// A line of a script: its number, from 1 on, what it is by its first word, and the words behind that.
+/// A line of a script: its number, from 1 on, its kind by its first word, and the words after that.
 #[derive(Clone, Copy)]
 pub(crate) struct Line<'a> {
     pub(crate) number: usize,

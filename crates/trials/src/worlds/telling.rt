@@ -60,7 +60,7 @@ fn run_whole(town: &mut Town, events: &[Event]) -> Result<(), Fault> {
     }
 }
 
-/// Goes on with events of which the first was refused memory behind so many bytes.
+/// Goes on with events of which the first was refused memory after `part` bytes.
 fn go_on(town: &mut Town, events: &[Event], part: usize) -> Result<(), Fault> {
     let Some((first, others)) = events.split_first() else {
         return Ok(());
@@ -74,13 +74,13 @@ fn go_on(town: &mut Town, events: &[Event], part: usize) -> Result<(), Fault> {
     run_whole(town, others)
 }
 
-/// Events happen one after another. Where memory is refused they go on from there.
+/// Events happen one after another. If memory is refused they go on from there.
 pub(crate) fn run(town: &mut Town, events: &[Event]) -> Result<(), Fault> {
     let ran = town.run(events);
     go_on(town, &events[ran.whole..], ran.part)
 }
 
-/// Something happens. Where memory is refused it happens again, or what is left of it does.
+/// An event happens. If memory is refused it happens again, or the rest of its delivery does.
 pub(crate) fn step(town: &mut Town, deed: &Deed<'_>) -> Result<Stepped, Fault> {
     let taken = match town.step(deed.event()?) {
         Stepped::Memory => 0,
@@ -91,7 +91,7 @@ pub(crate) fn step(town: &mut Town, deed: &Deed<'_>) -> Result<Stepped, Fault> {
     Ok(Stepped::Done)
 }
 
-/// A byte comes, so many times or until nothing does.
+/// A delivery of one byte, `count` times or until no byte is left.
 fn step_each(town: &mut Town, byte: &Deed<'_>, count: usize) -> Result<Stepped, Fault> {
     let mut came = Stepped::Skipped;
     for _ in 0..count {

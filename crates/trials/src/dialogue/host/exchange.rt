@@ -80,7 +80,7 @@ impl Exchange {
         })
     }
 
-    /// The host begins anew.
+    /// The host restarts.
     pub(crate) fn restart(&mut self) {
         self.host.restart();
     }
@@ -144,7 +144,7 @@ impl Exchange {
         self.hear(conn, stop.as_str(), words)
     }
 
-    /// Takes nothing of what comes.
+    /// The host takes no byte of this connection.
     fn overhear(&mut self, conn: usize, why: &str) -> Result<(), Fault>
         requires { conn < most_connections }
     {
@@ -152,7 +152,7 @@ impl Exchange {
         expect_fed(self.alloc, 0, why, fed)
     }
 
-    /// Lets the host act, of which this has to come.
+    /// Lets the host act, which must have this answer.
     fn act(&mut self, conn: usize, expected: &str) -> Result<(), Fault>
         requires { conn < most_connections }
     {
@@ -160,7 +160,7 @@ impl Exchange {
         expect_text(self.alloc, expected, acted_word(acted))
     }
 
-    /// Lets the host write a note, of which this has to come.
+    /// Lets the host write a note, which must have this answer.
     fn note(&mut self, conn: usize, expected: &str, text: &str) -> Result<(), Fault>
         requires { conn < most_connections }
     {
@@ -168,7 +168,7 @@ impl Exchange {
         expect_text(self.alloc, expected, acted_word(acted))
     }
 
-    /// Sends what the host has to send first, which has to be this.
+    /// Sends the front of the host's output, which must be this.
     fn send_first(&mut self, conn: usize, words: &str) -> Result<(), Fault>
         requires { conn < most_connections }
     {
@@ -183,7 +183,7 @@ impl Exchange {
         Ok(())
     }
 
-    /// Sends all that the host has to send, which has to be this.
+    /// Sends the host's output, which must be this.
     fn send(&mut self, conn: usize, words: &str) -> Result<(), Fault>
         requires { conn < most_connections }
     {

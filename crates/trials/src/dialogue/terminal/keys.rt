@@ -1,4 +1,4 @@
-//! Keys by their names, and what comes of pressing one, in words.
+//! Keys by their names, and the answer to a key, in words.
 use crate::keys::key_named;
 use codes3270::{Aid, aid_byte};
 use keyboard::{Key, Pressed, Refusal};
@@ -27,7 +27,7 @@ fn press_again(terminal: &mut Terminal, key: Key) -> Result<Pressed, AllocError>
     }
 }
 
-/// Presses a key, and answers what came of it.
+/// Presses a key, and returns its answer in words.
 pub(crate) fn press(
     alloc: Global,
     terminal: &mut Terminal,
