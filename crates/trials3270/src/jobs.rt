@@ -1,5 +1,5 @@
-//! Trials of the program's jobs (jobs3270), over their public calls: what words and lines ask for, told line by line; input that breaks off or is
-//! long, output that fails, and wires in memory, which the program itself can't show. Whole runs of the program stand in runs/, as pages.
+//! Checks of the program's jobs (jobs3270), over their public calls: what words and lines ask for, printed line by line; input that ends
+//! early or is long, output that fails, and wires in memory, which the program itself can't show. Whole runs of the program are pages in runs/.
 mod asks;
 mod checks;
 mod lines;

@@ -1,7 +1,7 @@
-//! Programs that try the whole system, as one: worked dialogues, whole worlds, storms of bytes, connections that break off, growths of memory
-//! that are refused, and figures of speed. What they do stands in library_tests and trials, and in `jobs`.
+//! All checks of the whole system, in one program: worked dialogues, whole worlds, storms of bytes, connections that break off, refused
+//! growths of memory, and figures of speed. Their code is in library_tests and trials, and in `jobs`.
 //!
-//! Without a word, standard input is the stored run (`stdin`, and `stdout` what it has to print): parts, each headed by a line `%% PART`.
+//! Without a word, standard input is the stored run (`stdin`, and `stdout` its expected output): parts, each headed by a line `%% PART`.
 //! With a part's name as the first word, standard input is that part's text alone:
 //!
 //! ```text
@@ -11,14 +11,14 @@
 //! storm            a storm's script: trials `storm`
 //! serving [last]   nothing; with `last` the last case of each kind alone: trials `serving`
 //! asks             a script of words and lines: `jobs::asks`
-//! jobs             nothing; the jobs where the program can't show them: `jobs::checks`
+//! jobs             nothing; checks of jobs that the program can't show: `jobs::checks`
 //! growths [CALL]   nothing; the call to try, without one their names: trials `growths`
 //! former           a script of cases: library_tests `former`
 //! speed [figures]  a panel text with 64 LUs; with `figures` it is measured: trials `speed`
-//! then             nothing; what former and present bodies take is measured: library_tests `former::figures`
+//! then             nothing; the times of the former and the present code: library_tests `former::figures`
 //! ```
 //!
-//! The exit status is 1 where something came otherwise than it has to.
+//! The exit status is 1 if a result differs from the expected one.
 #![tactic(auto)]
 
 mod jobs;

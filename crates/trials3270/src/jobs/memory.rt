@@ -26,7 +26,7 @@ impl<'a> Pieces<'a> {
         }
     }
 
-    /// Fails at a read, behind so many.
+    /// Fails at the read after the first `fails_at` ones.
     pub(crate) fn breaking(bytes: &'a [u8], size: usize, fails_at: u32) -> Pieces<'a> {
         Pieces {
             bytes,
@@ -73,7 +73,7 @@ impl Write for Paper {
     }
 }
 
-/// A writer with room for so many bytes.
+/// A writer with room for this number of bytes.
 pub(crate) fn paper_with(alloc: Global, room: usize) -> CountedWriter<Paper> {
     CountedWriter::new(Paper {
         text: Vec::new(alloc),

@@ -1,4 +1,4 @@
-//! What a host tells of refusals, over sockets of this machine.
+//! What a host logs of refusals, over sockets of this machine.
 use crate::jobs::memory::{Paper, paper_with};
 use jobs3270::{CountedWriter, Fault, Log, Server, host_of, patience};
 use std::alloc::Global;
@@ -83,7 +83,7 @@ fn server_of<N: Net>(net: &N, alloc: Global) -> Result<Server, Fault> {
     Server::new(net, alloc, host_of(alloc, PANELS)?, 0)
 }
 
-/// The host of these panels tells of them.
+/// Runs the host of these panels, which logs them.
 fn tell_of_them<N: Net>(net: &N, alloc: Global, lines: &mut CountedWriter<Paper>) -> bool {
     match server_of(net, alloc) {
         Ok(mut server) => ask_for_lus(net, &mut server, &mut Log { alloc, lines }),
@@ -91,7 +91,7 @@ fn tell_of_them<N: Net>(net: &N, alloc: Global, lines: &mut CountedWriter<Paper>
     }
 }
 
-/// Each refusal is told when it is sent, with the LU that was asked for, in the order of the requests.
+/// Each refusal is logged when it is sent, with the requested LU, in the order of the requests.
 pub(crate) fn refusals_are_told<N: Net>(net: &N, alloc: Global) -> bool {
     let mut lines = paper_with(alloc, usize::MAX);
     tell_of_them(net, alloc, &mut lines) && lines.into_inner().text.as_slice() == TOLD.as_bytes()

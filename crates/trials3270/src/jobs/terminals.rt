@@ -84,7 +84,7 @@ const SHOWS: &str = "status\nwait\nstatus\n\nshow";
 const ERASED: &str =
     " HI\n\n\n\n\n\n\n\n\n\n\n\n\n\n\n\n\n\n\n\n\n\n\n\ncursor 4 lock free aid 60\n";
 
-/// A wait ends with the write that frees the keyboard, and what comes behind it waits for the next.
+/// A wait ends with the write that frees the keyboard, and bytes after that write are left for the next wait.
 fn waits_for_each_write(alloc: Global, came: &[u8], sent: &[u8]) -> bool {
     let script = "wait\ntype A\nkey enter\nwait\nshow\n";
     let outcome = operated(alloc, script, Pieces::of_size(came, 1), ROOM);
