@@ -1,5 +1,5 @@
 -- The room that a terminal makes for its output suffices.
-use Rattle.std.proofs.Common.{◌≡◌, arith, subst}
+use Rattle.std.proofs.Common.{arith, subst}
 use Rattle.tn3270e_msg.specs.declared.cause.Stop.{Stop}
 use Rattle.term_core.specs.Feeds.{StopsFor}
 use Rattle.term_core.specs.Laws.{FeedingHasRoom, KeysHaveRoom}

@@ -1,5 +1,5 @@
 -- Whether a key sends, and the room that it asks for.
-use Rattle.std.proofs.Common.{◌≡◌, ◌<◌, ◌≤◌, ◌+◌, ℕ, Bool, true, false, List, Option, None, Some, Result, Ok, Err, OnErr, length, refl, subst, sym, arith}
+use Rattle.std.proofs.Common.{◌≡◌, ◌<◌, ◌≤◌, ◌+◌, ℕ, Bool, true, false, List, Option, None, Some, Result, Ok, Err, OnErr, length, refl, subst, arith}
 use Rattle.codes3270.specs.declared.attention.PaNo.{PaNo}
 use Rattle.codes3270.specs.declared.attention.PfNo.{PfNo}
 use Rattle.datastream.specs.Screen.{Screen}
