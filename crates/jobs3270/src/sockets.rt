@@ -166,7 +166,7 @@ impl Links for Sockets {
 
     ghost failures = { λ sockets conn. failures_at conn sockets };
 
-    ghost gave = { GivesAt };
+    ghost gave = { λ before conn room bytes answer after. GivesAt before conn bytes answer after };
 
     ghost took = { TakesAt };
 

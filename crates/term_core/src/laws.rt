@@ -1,5 +1,5 @@
 //! Laws of the definitions in `specs/`, for proofs in the crates above.
-ghost use Rattle.term_core.specs.Laws.{BytesAreItems, OneOutcome, PiecesCompose, PiecesPart};
+ghost use Rattle.term_core.specs.Laws.{BytesAreItems, FeedingHasRoom, KeysHaveRoom, OneOutcome, PiecesCompose, PiecesPart};
 
 /// Does nothing: its contract says that what a terminal becomes, and what it sends, is a function of what it was and of the
 /// bytes, however they are cut into pieces.
@@ -13,3 +13,10 @@ pub fn one_machine()
     telnet_wire::one_reading();
     tn3270e_msg::one_reading();
 }
+
+/// Does nothing: its contract says that a terminal with the room that it makes is refused memory only while more than 1,024
+/// bytes wait to be sent.
+pub fn room_suffices()
+    ensures feeding { FeedingHasRoom }
+    ensures keys { KeysHaveRoom }
+{}

@@ -240,7 +240,7 @@ went_on begin events message number sending old new answer host acted_as.Sent do
 went_on begin events message number sending old new answer host acted_as.Memory does others answers leaves before reached = record {
   more = [];
   is_once = ap (λ (a : Stepped). once message a) (sym answers);
-  reached = reached_still begin events old new before (leaves ∙ nothing_said number old host others does);
+  reached = reached_still begin events old new before (leaves ∙ nothing_said number old host others does.0);
 }
 went_on begin events message number sending old new answer host acted_as.Nothing does others answers leaves before reached = absurd does
 

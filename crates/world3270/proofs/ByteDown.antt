@@ -13,6 +13,7 @@ use Rattle.telnet_wire.specs.Items.{WireItem, sent_bytes}
 use Rattle.telnet_wire.specs.Reading.{Rest, Delivers}
 use Rattle.term_core.specs.Bytes.{TakesByte, before_byte}
 use Rattle.term_core.specs.Feeds.{StopsFor}
+use Rattle.term_core.specs.Room.{out_room}
 use Rattle.term_core.specs.Says.{response}
 use Rattle.term_core.specs.State.{Terminal, Attached, Closed}
 use Rattle.tn3270e_msg.specs.Header.{record_limit}
@@ -270,7 +271,7 @@ bytes_went number terminal count seat old line_below way_below below =
 
 -- a terminal that is still attached hasn't closed
 not_gone : (why : Stop) (old new : Terminal) (bytes : List ℕ) (taken terminal number : ℕ) (world : ByteWorld) (rest : Rest) (talk : Term)
-    → StopsFor why old bytes taken new → new.link ≡ Attached rest talk → terminal_gone_if why terminal number world ≡ world
+    → StopsFor out_room why old bytes taken new → new.link ≡ Attached rest talk → terminal_gone_if why terminal number world ≡ world
 not_gone stop.Going old new bytes taken terminal number world rest talk stops attached = refl
 not_gone stop.Memory old new bytes taken terminal number world rest talk stops attached = refl
 not_gone (stop.Closed cause) old new bytes taken terminal number world rest talk stops attached =

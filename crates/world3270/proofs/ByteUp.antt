@@ -1,5 +1,5 @@
 -- Bytes that come up to a host: the world over bytes stands for the one behind as many single deliveries as there were messages completed.
-use Rattle.std.proofs.Common.{◌≡◌, ◌<◌, ◌&&◌, ◌⊎◌, inl, inr, nat_lt, ℕ, suc, Bool, true, false, Option, None, Some, List, [], ◌∷◌, ◌++◌, drop, take, length, map, refl, ap, sym, subst, ◌∙◌, append_assoc}
+use Rattle.std.proofs.Common.{◌≡◌, ◌<◌, ◌&&◌, inl, inr, nat_lt, ℕ, suc, Bool, true, false, Option, None, Some, List, [], ◌∷◌, ◌++◌, drop, take, length, map, refl, ap, sym, subst, ◌∙◌, append_assoc}
 use Rattle.std.specs.List.{AllByRecursion}
 use Rattle.std.proofs.lemmas.Bool.{and_parts, ltb-true, lt-ltb}
 use Rattle.std.proofs.lemmas.List.{append-nil, length-take-le, take-append-drop}

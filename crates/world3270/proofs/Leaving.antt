@@ -1,5 +1,5 @@
 -- An end leaves its connection by the events that make it leave, and by no other: first over messages, then over bytes.
-use Rattle.std.proofs.Common.{◌≡◌, ◌==◌, ℕ, Bool, true, false, Option, None, Some, List, ◌++◌, refl, ap, sym, subst, ◌∙◌, if◌then◌else◌}
+use Rattle.std.proofs.Common.{◌≡◌, ◌==◌, ℕ, Bool, true, false, Option, None, Some, List, ◌++◌, refl, sym, subst, ◌∙◌, if◌then◌else◌}
 use Rattle.std.proofs.lemmas.Bool.{and_parts, eqb-true}
 use Rattle.keyboard.specs.declared.key.Key.{Key}
 use Rattle.host_core.specs.Acts.{Sent, acted}

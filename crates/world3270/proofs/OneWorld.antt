@@ -19,6 +19,7 @@ use Rattle.host_core.specs.declared.acted.Acted.TheVariants as acted
 use Rattle.term_core.specs.Bytes.{TakesByte as TermTakesByte}
 use Rattle.term_core.specs.Feeds.{IsAttached, StopsFor as TermStopsFor}
 use Rattle.term_core.specs.Laws.{OneOutcome as OneTerminal}
+use Rattle.term_core.specs.Room.{out_room}
 use Rattle.term_core.specs.State.{Link, Terminal, Detached, Closed}
 use Rattle.world3270.specs.ByteRuns.{AllHappen, Runs, StopsAt, refused_at}
 use Rattle.world3270.specs.ByteSteps.{ActsHost, ComesDown, ComesUp, Connects, ConnectsIf, GoesDown, Happens, HappensIf, Is, Presses, SeatFeeds, answer_acted, answer_fed, down_came, free_number, has_place, host_gone_if, terminal_gone_if, up_came}
@@ -198,7 +199,7 @@ module _ (one_terminal : OneTerminal) where
 
   -- it doesn't stop while another goes on from the same seat with the same bytes
   seat_stops : (old one other : Seat) (bytes : List ℕ) (m n : ℕ) (why : Stop) → n ≤ length bytes → SeatTakes old (take m bytes) one → SeatTakes old (take n bytes) other
-      → TermStopsFor why old.terminal bytes m one.terminal → (why ≡ stop.Memory → ⊥) → m < n → ⊥
+      → TermStopsFor out_room why old.terminal bytes m one.terminal → (why ≡ stop.Memory → ⊥) → m < n → ⊥
   seat_stops old one other bytes m n stop.Going few takes also (inl at_end) going less =
       let whole = at_end.0 in
       omega (arith, whole)
@@ -214,8 +215,8 @@ module _ (one_terminal : OneTerminal) where
   seat_stays : (old one : Seat) (bytes : List ℕ) (m : ℕ) → m ≡ 0 → SeatTakes old (take m bytes) one → one ≡ old
   seat_stays old one bytes m none takes = subst (λ (n : ℕ). SeatTakes old (take n bytes) one) none takes
 
-  seat_stops_so : (old one : Seat) (bytes : List ℕ) (m : ℕ) (why also : Stop) → SeatTakes old (take m bytes) one → TermStopsFor why old.terminal bytes m one.terminal
-      → TermStopsFor also old.terminal bytes m one.terminal → (why ≡ stop.Memory → ⊥) → (also ≡ stop.Memory → ⊥) → why ≡ also
+  seat_stops_so : (old one : Seat) (bytes : List ℕ) (m : ℕ) (why also : Stop) → SeatTakes old (take m bytes) one → TermStopsFor out_room why old.terminal bytes m one.terminal
+      → TermStopsFor out_room also old.terminal bytes m one.terminal → (why ≡ stop.Memory → ⊥) → (also ≡ stop.Memory → ⊥) → why ≡ also
   seat_stops_so old one bytes m stop.Memory also takes is other_is going also_going = absurd (going refl)
   seat_stops_so old one bytes m stop.Going stop.Memory takes is other_is going also_going = absurd (also_going refl)
   seat_stops_so old one bytes m (stop.Closed cause) stop.Memory takes is other_is going also_going = absurd (also_going refl)
@@ -244,9 +245,9 @@ module _ (one_terminal : OneTerminal) where
       let count : fed.taken ≡ run.taken = one_seat_count old one other bytes fed run is also going also_going in
       let here : SeatTakes old (take fed.taken bytes) other = subst (λ (n : ℕ). SeatTakes old (take n bytes) other) (sym count) also.takes in
       let same : one ≡ other = one_seat old one other (take fed.taken bytes) is.takes here in
-      let stops : TermStopsFor run.stop old.terminal bytes fed.taken other.terminal = subst (λ (n : ℕ). TermStopsFor run.stop old.terminal bytes n other.terminal) (sym count) also.stops in
+      let stops : TermStopsFor out_room run.stop old.terminal bytes fed.taken other.terminal = subst (λ (n : ℕ). TermStopsFor out_room run.stop old.terminal bytes n other.terminal) (sym count) also.stops in
       let why : fed.stop ≡ run.stop =
-      seat_stops_so old one bytes fed.taken fed.stop run.stop is.takes is.stops (subst (λ (s : Seat). TermStopsFor run.stop old.terminal bytes fed.taken s.terminal) (sym same) stops) going also_going in
+      seat_stops_so old one bytes fed.taken fed.stop run.stop is.takes is.stops (subst (λ (s : Seat). TermStopsFor out_room run.stop old.terminal bytes fed.taken s.terminal) (sym same) stops) going also_going in
       (ap (λ (taken : ℕ). fed_of taken fed.stop) count ∙ ap (λ (s : Stop). fed_of run.taken s) why, same)
 
   one_down : (terminal number : ℕ) (bytes : List ℕ) (old new other : ByteWorld) (answer reply : Stepped) → ComesDown terminal number bytes old answer new
@@ -270,8 +271,8 @@ module _ (one_terminal : OneTerminal) where
 
 one_press : (terminal : ℕ) (key : Key) (old new other : ByteWorld) (answer reply : Stepped) → Presses terminal key old answer new → refused_at answer ≡ None
     → Presses terminal key old reply other → refused_at reply ≡ None → Alike answer reply new other
-one_press terminal key old new other answer reply (Presses.refused is new_is) none also other_none = absurd (not_memory answer is none)
-one_press terminal key old new other answer reply (Presses.done is new_is) none (Presses.refused also other_is) other_none = absurd (not_memory reply also other_none)
+one_press terminal key old new other answer reply (Presses.refused lacks is new_is) none also other_none = absurd (not_memory answer is none)
+one_press terminal key old new other answer reply (Presses.done is new_is) none (Presses.refused lacks also other_is) other_none = absurd (not_memory reply also other_none)
 one_press terminal key old new other answer reply (Presses.done is new_is) none (Presses.done also other_is) other_none = (is ∙ sym also, new_is ∙ sym other_is)
 
 one_doing : (does : Option Sent) (old one other : Line) (act reply : Acted) → HostDoes does old act one → refused_at (answer_acted act) ≡ None

@@ -1,16 +1,22 @@
 -- A terminal at its place takes bytes, and its history follows.
-use Rattle.std.proofs.Common.{◌≡◌, inl, inr, ◌<◌, ◌≤◌, ◌+◌, ◌++◌, take, ℕ, zero, suc, false, List, [], ◌∷◌, Option, length, get_or, refl, ap, sym, subst, ◌∙◌, arith}
+use Rattle.std.proofs.Common.{◌≡◌, inl, inr, ◌<◌, ◌≤◌, ◌+◌, ◌++◌, take, ℕ, zero, suc, Bool, false, List, [], ◌∷◌, Option, None, Some, length, get_or, refl, ap, sym, subst, ◌∙◌, arith}
 use Rattle.std.proofs.lemmas.List.{take_more}
 use Rattle.codes3270.specs.Size.{cell_count, cells_in, model_2}
 use Rattle.datastream.specs.Screen.{Screen, blank_screen}
 use Rattle.term_core.specs.Bytes.{TakesByte, TakesBytes}
-use Rattle.term_core.specs.Feeds.{Feeds, StopsFor, IsAttached}
-use Rattle.term_core.specs.State.{Terminal, Link, Closed, Detached}
+use Rattle.keyboard.specs.declared.key.Key.{Key}
+use Rattle.keyboard.specs.declared.key.Pressed.{Pressed}
+use Rattle.keyboard.specs.declared.key.Pressed.TheVariants.{Done, Refused, Send}
+use Rattle.term_core.specs.Feeds.{Feeds, LacksReplyRoom, StopsFor, IsAttached}
+use Rattle.term_core.specs.Presses.{LacksKeyRoom, data_pressed, key_outcome}
+use Rattle.term_core.specs.Room.{out_room}
+use Rattle.term_core.specs.State.{Device, Terminal, Link, Closed, Detached, is_bound, phase_of}
 use Rattle.tn3270e_msg.specs.declared.cause.Cause.{Cause}
 use Rattle.tn3270e_msg.specs.declared.cause.Fed.{Fed}
 use Rattle.tn3270e_msg.specs.declared.cause.Stop.{Stop}
 use Rattle.tn3270e_msg.specs.declared.cause.Stop.TheVariants as stop
 use Rattle.world3270.specs.ByteWorld.{Sitting}
+use Rattle.world3270.specs.Flows.{IsSoundSitting}
 use Rattle.world3270.specs.Seats.{Seat, SeatTakes, SeatTakesByte, marked}
 
 sizes : cell_count ≡ cells_in model_2
@@ -37,10 +43,10 @@ not_closed link cause attached closed = subst IsAttached closed attached
 not_detached : (link : Link) → IsAttached link → link ≡ Detached → ⊥
 not_detached link attached detached = subst IsAttached detached attached
 
-went_on : (old new : Terminal) (byte taken : ℕ) → IsAttached old.link → TakesBytes old (take taken (byte ∷ [])) new
-    → StopsFor stop.Going old (byte ∷ []) taken new → TakesByte old byte new × IsAttached new.link
-went_on old new byte taken attached takes (inl all) = (one_taken old new byte taken all.0 takes, all.1)
-went_on old new byte taken attached takes (inr none) = absurd (not_detached old.link attached none.1)
+went_on : (room : ℕ) (old new : Terminal) (byte taken : ℕ) → IsAttached old.link → TakesBytes old (take taken (byte ∷ [])) new
+    → StopsFor room stop.Going old (byte ∷ []) taken new → TakesByte old byte new × IsAttached new.link
+went_on room old new byte taken attached takes (inl all) = (one_taken old new byte taken all.0 takes, all.1)
+went_on room old new byte taken attached takes (inr none) = absurd (not_detached old.link attached none.1)
 
 closed_by : (old new : Terminal) (byte taken : ℕ) (cause : Cause) → IsAttached old.link → taken ≤ 1 → TakesBytes old (take taken (byte ∷ [])) new
     → new.link ≡ Closed cause → TakesByte old byte new
@@ -49,21 +55,59 @@ closed_by old new byte zero cause attached few takes closed =
 closed_by old new byte (suc zero) cause attached few takes closed = one_taken old new byte 1 refl takes
 closed_by old new byte (suc (suc taken)) cause attached few takes closed = absurd (omega arith)
 
-pub byte_went_on : (old : Seat) (terminal : Terminal) (byte : ℕ) (fed : Fed) (new : Seat) → IsAttached old.terminal.link
-    → Feeds old.terminal (byte ∷ []) fed terminal → fed.stop ≡ stop.Going
+pub byte_went_on : (room : ℕ) (old : Seat) (terminal : Terminal) (byte : ℕ) (fed : Fed) (new : Seat) → IsAttached old.terminal.link
+    → Feeds room old.terminal (byte ∷ []) fed terminal → fed.stop ≡ stop.Going
     → new ≡ record { terminal = terminal; history = marked terminal.station old.history } → SeatTakesByte old byte new × IsAttached new.terminal.link
-byte_went_on old terminal byte fed new attached feeds going is =
-    let stops = subst (λ (s : Stop). StopsFor s old.terminal (byte ∷ []) fed.taken terminal) going feeds.stops in
-    let went = went_on old.terminal terminal byte fed.taken attached feeds.takes stops in
+byte_went_on room old terminal byte fed new attached feeds going is =
+    let stops = subst (λ (s : Stop). StopsFor room s old.terminal (byte ∷ []) fed.taken terminal) going feeds.stops in
+    let went = went_on room old.terminal terminal byte fed.taken attached feeds.takes stops in
     subst (λ (s : Seat). SeatTakesByte old byte s × IsAttached s.terminal.link) (sym is) (record { takes = went.0; history = refl }, went.1)
 
-pub byte_closed : (old : Seat) (terminal : Terminal) (byte : ℕ) (cause : Cause) (fed : Fed) (new : Seat) → IsAttached old.terminal.link
-    → Feeds old.terminal (byte ∷ []) fed terminal → fed.stop ≡ stop.Closed cause
+pub byte_closed : (room : ℕ) (old : Seat) (terminal : Terminal) (byte : ℕ) (cause : Cause) (fed : Fed) (new : Seat) → IsAttached old.terminal.link
+    → Feeds room old.terminal (byte ∷ []) fed terminal → fed.stop ≡ stop.Closed cause
     → new ≡ record { terminal = terminal; history = marked terminal.station old.history } → SeatTakesByte old byte new × (new.terminal.link ≡ Closed cause)
-byte_closed old terminal byte cause fed new attached feeds closed is =
-    let stops = subst (λ (s : Stop). StopsFor s old.terminal (byte ∷ []) fed.taken terminal) closed feeds.stops in
+byte_closed room old terminal byte cause fed new attached feeds closed is =
+    let stops = subst (λ (s : Stop). StopsFor room s old.terminal (byte ∷ []) fed.taken terminal) closed feeds.stops in
     let took = closed_by old.terminal terminal byte fed.taken cause attached feeds.few feeds.takes stops in
     subst (λ (s : Seat). SeatTakesByte old byte s × (s.terminal.link ≡ Closed cause)) (sym is) (record { takes = took; history = refl }, stops)
+
+-- ---- the room of a terminal's output
+
+-- a terminal at a connection keeps its room
+pub sound_on : (at : Option ℕ) (old new : Device) → new.terminal.link ≡ old.terminal.link → old.room ≤ new.room → IsSoundSitting at old → IsSoundSitting at new
+sound_on None old new same grows sound = same ∙ sound
+sound_on (Some number) old new same grows sound = (sound.0, omega (arith, grows, sound.1))
+
+pub sound_when_fed : (at : Option ℕ) (old new : Device) → IsAttached old.terminal.link → old.room ≤ new.room → IsSoundSitting at old → IsSoundSitting at new
+sound_when_fed None old new attached grows sound = absurd (not_detached old.terminal.link attached sound)
+sound_when_fed (Some number) old new attached grows sound = (sound.0, omega (arith, grows, sound.1))
+
+none_taken : (old new : Terminal) (byte taken : ℕ) → taken < 1 → TakesBytes old (take taken (byte ∷ [])) new → new ≡ old
+none_taken old new byte zero few takes = takes
+none_taken old new byte (suc taken) few takes = absurd (omega (arith, few))
+
+-- a byte for which there was no memory
+pub byte_lacked : (at : Option ℕ) (old new : Device) (byte : ℕ) (fed : Fed) → IsAttached old.terminal.link → old.room ≤ new.room → IsSoundSitting at old
+    → Feeds new.room old.terminal (byte ∷ []) fed new.terminal → fed.stop ≡ stop.Memory
+    → (new.terminal ≡ old.terminal) × LacksReplyRoom out_room new.terminal.out
+byte_lacked None old new byte fed attached grows sound feeds memory = absurd (not_detached old.terminal.link attached sound)
+byte_lacked (Some number) old new byte fed attached grows sound feeds memory =
+    let stops = subst (λ (s : Stop). StopsFor new.room s old.terminal (byte ∷ []) fed.taken new.terminal) memory feeds.stops in
+    (none_taken old.terminal new.terminal byte fed.taken stops.0 feeds.takes, omega (arith, grows, sound.1, stops.2))
+
+unbound_sends_nothing : (answer : Pressed) (screen : Screen) (body : List ℕ) → data_pressed false answer screen ≡ Some body → ⊥
+unbound_sends_nothing Done screen body sends = cc
+unbound_sends_nothing (Refused why) screen body sends = cc
+unbound_sends_nothing (Send aid) screen body sends = cc
+
+-- a key for which there was no memory
+pub key_lacked : (at : Option ℕ) (old : Device) (key : Key) → IsSoundSitting at old → LacksKeyRoom old.room key old.terminal → LacksKeyRoom out_room key old.terminal
+key_lacked None old key sound lacks =
+    let outcome = key_outcome key old.terminal.station in
+    let unbound : is_bound (phase_of old.terminal.link) ≡ false = ap (λ (link : Link). is_bound (phase_of link)) sound in
+    absurd (unbound_sends_nothing outcome.answer outcome.screen lacks.body
+    (subst (λ (bound : Bool). data_pressed bound outcome.answer outcome.screen ≡ Some lacks.body) unbound lacks.sends))
+key_lacked (Some number) old key sound lacks = record { body = lacks.body; sends = lacks.sends; full = omega (arith, sound.1, lacks.full) }
 
 -- ---- bytes
 

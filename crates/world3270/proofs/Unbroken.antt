@@ -11,7 +11,7 @@ use Rattle.telnet_wire.specs.Reading.{nothing}
 use Rattle.tn3270e_msg.specs.Header.{record_limit, type_code}
 use Rattle.tn3270e_msg.specs.declared.header.DataType.TheVariants.{Data3270, Response}
 use Rattle.tn3270e_msg.specs.declared.cause.Cause.{Cause}
-use Rattle.tn3270e_msg.specs.Talk.{Saying, item_of}
+use Rattle.tn3270e_msg.specs.Talk.{Saying}
 use Rattle.lu_pool.specs.Asking.{answer_to}
 use Rattle.term_core.specs.Says.{response, outcome_flag}
 use Rattle.term_core.specs.declared.outcome.Outcome.{Outcome}
@@ -19,21 +19,19 @@ use Rattle.term_core.specs.declared.outcome.Outcome.TheVariants.{DeviceEnd, Refu
 use Rattle.host_core.specs.Application.{Application, application_of}
 use Rattle.host_core.specs.Messages.{ToTerminal, ToHost, Verdict}
 use Rattle.host_core.specs.Takes.{Step, pool_after, took as host_took}
-use Rattle.world3270.specs.Always.{is_negative, is_refusal}
-use Rattle.world3270.specs.ByteSteps.{Steps}
+use Rattle.world3270.specs.Always.{is_refusal}
 use Rattle.world3270.specs.ByteWorld.{ByteWorld}
 use Rattle.world3270.specs.Happens.{came_down, came_up, closed_if, done, happens, place_after, said, went_down}
 use Rattle.world3270.specs.Known.{Known, KnownWorlds}
 use Rattle.world3270.specs.Link.{Link, host_left_if, host_stepped, sent, term_left_if, term_stepped}
 use Rattle.world3270.specs.Placed.{has_place}
-use Rattle.world3270.specs.Refines.{Begin, IsBegin, IsReached, Reached, GoesOn, StepsGoOn, after}
+use Rattle.world3270.specs.Refines.{Begin, IsBegin, Reached, GoesOn, StepsGoOn, after}
 use Rattle.world3270.specs.Sendable.{IsTyped}
 use Rattle.world3270.specs.Standing.{link_of}
 use Rattle.world3270.specs.Stands.{StandsUp}
 use Rattle.world3270.specs.Terminal.{TermStep, took as term_took}
-use Rattle.world3270.specs.Unbroken.{IsDelivery, SameEnds, DeliveriesCloseNothing, NobodyHasRefused, NothingIsRefused}
+use Rattle.world3270.specs.Unbroken.{SameEnds, DeliveriesCloseNothing, NobodyHasRefused, NothingIsRefused}
 use Rattle.world3270.specs.World.{World, Event, IsEvent, AreEvents, with_at}
-use Rattle.world3270.specs.declared.event.Event.{Event as ByteEvent}
 use Rattle.world3270.specs.declared.event.Event.TheVariants as event
 use Rattle.world3270.specs.declared.event.Stepped.{Stepped}
 use Rattle.world3270.proofs.Known.{facts, after_more, are_more}

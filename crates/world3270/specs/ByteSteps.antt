@@ -16,7 +16,8 @@ use Rattle.host_core.specs.declared.acted.Acted.{Acted}
 use Rattle.host_core.specs.declared.acted.Acted.TheVariants as acted
 use Rattle.host_core.specs.State.{opened}
 use Rattle.term_core.specs.Feeds.{StopsFor}
-use Rattle.term_core.specs.Presses.{answer_to_key}
+use Rattle.term_core.specs.Presses.{LacksKeyRoom, answer_to_key}
+use Rattle.term_core.specs.Room.{out_room}
 use Rattle.world3270.specs.ByteWorld.{ByteWorld, Ways, Sitting, alone, begun_ways, came, cut, left, is_live, is_senders, new_sitting, sits, ways_at, sitting_at, with_ways, with_sitting, with_host, host_there, terminal_there, terminal_at, host_out, terminal_out, down_of, up_of}
 use Rattle.world3270.specs.Placed.{is_queued}
 use Rattle.world3270.specs.Seats.{Seat, SeatTakes, seat_after_key}
@@ -76,11 +77,12 @@ has_place event.RestartHost world = true
 
 -- ---- bytes come
 
--- A terminal is fed bytes: it took so many of them, one after another, and its history follows.
+-- A terminal is fed bytes: it took so many of them, one after another, and its history follows. While it is at a connection, its output
+-- buffer has at least the room that a terminal makes.
 pub record SeatFeeds (old : Seat) (bytes : List ℕ) (fed : Fed) (new : Seat) : Type 0 where
   pub few : fed.taken ≤ length bytes
   pub takes : SeatTakes old (take fed.taken bytes) new
-  pub stops : StopsFor fed.stop old.terminal bytes fed.taken new.terminal
+  pub stops : StopsFor out_room fed.stop old.terminal bytes fed.taken new.terminal
 
 -- memory was refused behind so many bytes
 abbrev pub refused_behind : ℕ → Stepped
@@ -170,9 +172,10 @@ answer_pressed pressed.Done = stepped.Done
 answer_pressed (pressed.Refused why) = stepped.Refused why
 answer_pressed (pressed.Send aid) = stepped.Done
 
--- memory is refused and nothing changed, or the key is pressed
+-- the key sends, memory for its data is refused, and nothing changed; or the key is pressed
 pub data Presses (terminal : ℕ) (key : Key) (old : ByteWorld) (answer : Stepped) (new : ByteWorld) : Type 0 where
-  refused : answer ≡ stepped.Memory → new ≡ old → Presses terminal key old answer new
+  refused : LacksKeyRoom out_room key (sitting_at terminal old).seat.terminal → answer ≡ stepped.Memory → new ≡ old
+      → Presses terminal key old answer new
   done : answer ≡ answer_pressed (answer_to_key key (sitting_at terminal old).seat.terminal)
       → new ≡ with_sitting terminal (record (sitting_at terminal old) { seat = seat_after_key key (sitting_at terminal old).seat }) old
       → Presses terminal key old answer new

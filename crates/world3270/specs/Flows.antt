@@ -1,8 +1,9 @@
 -- How code keeps what is under way (our profile); only private contracts and proofs need it.
-use Rattle.std.specs.Prelude.{◌≡◌, ◌<◌, ℕ, List, [], Option, Some, None, slice_index_or}
+use Rattle.std.specs.Prelude.{◌≡◌, ◌<◌, ◌≤◌, ℕ, List, [], Option, Some, None, slice_index_or}
 use Rattle.host_core.specs.State.{most_connections}
-use Rattle.term_core.specs.Feeds.{IsAttached}
-use Rattle.term_core.specs.State.{Link, Detached, Closed}
+use Rattle.term_core.specs.Feeds.{IsAttached, LacksReplyRoom}
+use Rattle.term_core.specs.Room.{out_room}
+use Rattle.term_core.specs.State.{Device, Link, Detached, Closed}
 use Rattle.tn3270e_msg.specs.declared.cause.Stop.{Stop}
 use Rattle.tn3270e_msg.specs.declared.cause.Stop.TheVariants as stop
 use Rattle.world3270.specs.ByteWorld.{Under, Sitting, new_sitting}
@@ -15,10 +16,10 @@ under_of flow.Live = Under.Live
 under_of (flow.Cut kept) = Under.Cut kept
 under_of (flow.Left bytes) = Under.Left bytes.items
 
--- a terminal that is at no connection isn't attached, and one that is, is at one of these numbers
-abbrev pub IsSoundSitting : Option ℕ → Link → Type 0
-IsSoundSitting None link = link ≡ Detached
-IsSoundSitting (Some number) link = number < most_connections
+-- a terminal that is at no connection isn't attached; one that is at a connection is at one of these numbers, and has its room
+abbrev pub IsSoundSitting : Option ℕ → Device → Type 0
+IsSoundSitting None device = device.terminal.link ≡ Detached
+IsSoundSitting (Some number) device = (number < most_connections) × (out_room ≤ device.room)
 
 -- where bytes stop at once, and why
 abbrev pub StopsAtOnce : Option Stop → Link → Type 0
@@ -30,7 +31,7 @@ StopsAtOnce (Some (stop.Closed cause)) link = link ≡ Closed cause
 -- what became of a byte
 abbrev pub TookByte : Stop → Seat → ℕ → Seat → Type 0
 TookByte stop.Going old byte new = SeatTakesByte old byte new × IsAttached new.terminal.link
-TookByte stop.Memory old byte new = new ≡ old
+TookByte stop.Memory old byte new = (new ≡ old) × LacksReplyRoom out_room new.terminal.out
 TookByte (stop.Closed cause) old byte new = SeatTakesByte old byte new × (new.terminal.link ≡ Closed cause)
 
 -- what one of the terminals has to send

@@ -154,7 +154,7 @@ impl Network {
     /// A terminal, by its number.
     pub(crate) fn terminal(&self, terminal: usize) -> &Terminal
         requires { terminal < length self.now.sittings }
-        ensures { result.now ≡ (sitting_at terminal self.now).seat.terminal }
+        ensures { result.now.terminal ≡ (sitting_at terminal self.now).seat.terminal }
     {
         self.seats[terminal].terminal()
     }
@@ -379,9 +379,8 @@ impl Network {
         requires free { is_held conn self.old ≡ false }
         ensures { Connects terminal wanted conn self.old result self.new }
     {
-        match self.host.open(conn) {
+        match self.seats[terminal].sit(&mut self.host, conn, wanted) {
             Ok(()) => {
-                self.seats[terminal].sit(conn, wanted);
                 self.links[conn].begin();
                 Stepped::Done
             }

@@ -1,13 +1,15 @@
 //! A terminal at its place, with the history of its screen.
 ghost use Rattle.std.specs.Prelude.{◌≡◌, ◌<◌, ◌≤◌, drop, length, IfOk, IfSome, OnOk, OnErr, Some, None};
-ghost use Rattle.host_core.specs.State.{most_connections};
+ghost use Rattle.host_core.specs.State.{most_connections, opened, phase_of, service_at, with_line};
 ghost use Rattle.term_core.specs.Feeds.{IsAttached};
-ghost use Rattle.term_core.specs.Presses.{answer_to_key};
+ghost use Rattle.term_core.specs.Presses.{LacksKeyRoom, answer_to_key};
+ghost use Rattle.term_core.specs.Room.{out_room};
 ghost use Rattle.world3270.specs.ByteSteps.{SeatFeeds};
 ghost use Rattle.world3270.specs.ByteWorld.{alone, new_sitting, sits, sits_at};
 ghost use Rattle.world3270.specs.Flows.{StopsAtOnce, TookByte};
 ghost use Rattle.world3270.specs.Seats.{seat_after_key, marked};
 
+use host_core::{Host, Phase};
 use keyboard::{Key, Pressed};
 use presentation::Screen;
 use std::alloc::Global;
@@ -32,9 +34,9 @@ impl Model for Chair {
 
     ghost Value = { Sitting };
 
-    ghost view = { λ s. record { seat = record { terminal = s.terminal; history = record { left = s.left; erased = s.erased } }; at = s.at } };
+    ghost view = { λ s. record { seat = record { terminal = s.terminal.terminal; history = record { left = s.left; erased = s.erased } }; at = s.at } };
 
-    ghost invariant = { λ s. IsSoundSitting s.at s.terminal.link };
+    ghost invariant = { λ s. IsSoundSitting s.at s.terminal };
 }
 
 impl Chair {
@@ -53,7 +55,7 @@ impl Chair {
 
     /// The terminal.
     pub(crate) fn terminal(&self) -> &Terminal
-        ensures { result.now ≡ self.now.seat.terminal }
+        ensures { result.now.terminal ≡ self.now.seat.terminal }
     {
         &self.terminal
     }
@@ -91,11 +93,13 @@ impl Chair {
         self.terminal.sent(count);
     }
 
-    /// Presses a key; an Erase Input that is done is remembered.
+    /// Presses a key; an Erase Input that is done is remembered. Memory is refused only for a key that sends, if the room that a
+    /// terminal makes isn't enough.
     pub(crate) fn press(&mut self, key: Key) -> Result<Pressed, Memory>
         ensures pressed { OnOk result (self.new ≡ record self.old { seat = seat_after_key key self.old.seat }) }
         ensures answer { IfOk result (λ answer. answer ≡ answer_to_key key self.old.seat.terminal) }
         ensures unchanged { OnErr result (self.new ≡ self.old) }
+        ensures full { OnErr result (LacksKeyRoom out_room key self.old.seat.terminal) }
     {
         let erases = matches!(key, Key::EraseInput);
         let pressed = self.terminal.press(key)?;
@@ -104,16 +108,28 @@ impl Chair {
         Ok(pressed)
     }
 
-    /// Begins a connection.
-    pub(crate) fn sit(&mut self, number: usize, wanted: Option<Lu>)
+    /// Begins a connection, here and at the host. The terminal's room is made first: if memory is refused, nothing has changed.
+    pub(crate) fn sit(
+        &mut self,
+        host: &mut Host,
+        number: usize,
+        wanted: Option<Lu>,
+    ) -> Result<(), Memory>
         requires alone { self.old.at ≡ None }
         requires number { number < most_connections }
-        ensures { self.new ≡ sits wanted number }
+        requires free { phase_of (service_at number host.old) ≡ Phase.Free }
+        ensures sits { OnOk result (self.new ≡ sits wanted number) }
+        ensures opened { OnOk result (host.new ≡ with_line number opened host.old) }
+        ensures unchanged { OnErr result (self.new ≡ self.old) }
+        ensures unopened { OnErr result (host.new ≡ host.old) }
     {
+        self.terminal.make_room()?;
+        host.open(number)?;
         self.terminal.connected(wanted);
         self.at = Some(number);
         self.left = Screen::blank();
         self.erased = false;
+        Ok(())
     }
 
     /// Leaves its connection, and hands back what wasn't sent.

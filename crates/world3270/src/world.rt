@@ -83,7 +83,7 @@ impl World {
     /// A terminal, by its number.
     pub fn terminal(&self, terminal: usize) -> &Terminal
         requires { terminal < length self.now.sittings }
-        ensures { result.now ≡ (sitting_at terminal self.now).seat.terminal }
+        ensures { result.now.terminal ≡ (sitting_at terminal self.now).seat.terminal }
     {
         self.network.terminal(terminal)
     }

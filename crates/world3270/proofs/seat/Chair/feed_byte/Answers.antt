@@ -9,18 +9,18 @@ use Rattle.world3270.proofs.seat.Chair.feed_byte.Goals as goal
 
 pub returns-in-Going-clause-took : goal.returns-in-Going-clause-took
 returns-in-Going-clause-took c =
-    let now : Seat = record { terminal = c.self.inside.terminal; history = record { left = c.self.inside.left; erased = c.self.inside.erased } } in
+    let now : Seat = record { terminal = c.self.inside.terminal.terminal; history = record { left = c.self.inside.left; erased = c.self.inside.erased } } in
     let same : now ≡ c.args.self.now.seat = ap (λ (s : Sitting). s.seat) c.self.view_is in
     subst (λ (s : Seat). TookByte stop.Going s c.args.byte c.mark.new.self.seat) same
-    (byte_went_on now c.feed.new.self c.args.byte c.feed.result c.mark.new.self.seat
+    (byte_went_on c.feed.new.self.room now c.feed.new.self.terminal c.args.byte c.feed.result c.mark.new.self.seat
     (subst (λ (s : Seat). IsAttached s.terminal.link) (sym same) c.requires.attached)
-    c.feed.ensures c.in-Going.is (ap (λ (s : Sitting). s.seat) c.mark.ensures))
+    c.feed.ensures.fed c.in-Going.is (ap (λ (s : Sitting). s.seat) c.mark.ensures))
 
 pub returns-in-Closed-clause-took : goal.returns-in-Closed-clause-took
 returns-in-Closed-clause-took c =
-    let now : Seat = record { terminal = c.self.inside.terminal; history = record { left = c.self.inside.left; erased = c.self.inside.erased } } in
+    let now : Seat = record { terminal = c.self.inside.terminal.terminal; history = record { left = c.self.inside.left; erased = c.self.inside.erased } } in
     let same : now ≡ c.args.self.now.seat = ap (λ (s : Sitting). s.seat) c.self.view_is in
     subst (λ (s : Seat). TookByte (stop.Closed c.in-Closed.cause) s c.args.byte c.mark-in-Closed.new.self.seat) same
-    (byte_closed now c.feed.new.self c.args.byte c.in-Closed.cause c.feed.result c.mark-in-Closed.new.self.seat
+    (byte_closed c.feed.new.self.room now c.feed.new.self.terminal c.args.byte c.in-Closed.cause c.feed.result c.mark-in-Closed.new.self.seat
     (subst (λ (s : Seat). IsAttached s.terminal.link) (sym same) c.requires.attached)
-    c.feed.ensures c.in-Closed.is (ap (λ (s : Sitting). s.seat) c.mark-in-Closed.ensures))
+    c.feed.ensures.fed c.in-Closed.is (ap (λ (s : Sitting). s.seat) c.mark-in-Closed.ensures))
