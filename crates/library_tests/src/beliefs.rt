@@ -23,7 +23,7 @@ pub(crate) fn take(shadow: &mut Shadow, bytes: &[u8]) -> bool {
     }
 }
 
-/// Takes in what a terminal sent: None where the bytes are no inbound data.
+/// Hears the data of a terminal: None if the bytes are no inbound data.
 fn hear(shadow: &mut Shadow, bytes: &[u8], form: Form) -> Option<Result<(), HeardFault>> {
     match read_inbound(bytes, form) {
         Ok(inbound) => Some(shadow.heard(&inbound)),
@@ -274,7 +274,7 @@ fn what_cannot_be_is_refused(alloc: Global) -> bool {
 static ROUND_THE_END: [Step; 6] = [
     Step::Take(b"\xF5\xC3\x11\x5D\x7F\x1D\xC1\xC2"),
     Step::Field(1919, Some(Fact::Exact)),
-    // A text comes from address 0.
+    // A text is returned for address 0.
     Step::Hear(b"\x7D\x40\x40\x11\x40\x40\xC3\xC4"),
     Step::Text(1919, Fact::Text, &[0xC3, 0xC4]),
     // Nulls, and an attribute in the last cell.
@@ -353,7 +353,7 @@ static PROTECTED: [Step; 10] = [
         Form::Modified,
         HeardFault::Contradiction,
     ),
-    // Characters come before it, or it comes twice. An address of no field is looked for before anything else.
+    // Characters before it, or the field twice. An address of no field is tested before anything else.
     Step::Refuse(
         b"\x7D\x40\x40\xC1\x11\x40\xC1\xC1\xC2",
         Form::Modified,
@@ -369,7 +369,7 @@ static PROTECTED: [Step; 10] = [
         Form::Modified,
         HeardFault::NoSuchField,
     ),
-    // It comes with the text that is known.
+    // It is returned with the known text.
     Step::Hear(b"\x7D\x40\x40\x11\x40\xC1\xC1\xC2"),
     Step::Text(0, Fact::Exact, &[0xC1, 0x00, 0xC2]),
     Step::Text(4, Fact::ExactOrNulls, &[0xC4]),

@@ -1,7 +1,7 @@
-//! Long bytes, as runs, and what is added to vectors, of which some are full.
+//! Long sequences of bytes, as runs, and bytes added to vectors, some of them full.
 use std::alloc::{AllocError, Global};
 
-/// Bytes, and how often they come, one behind the other.
+/// Bytes, and how often they are repeated.
 pub(crate) type Run = (&'static [u8], usize);
 
 fn put_run(out: &mut Vec<u8>, bytes: &[u8], count: usize) -> Result<(), AllocError> {
@@ -37,7 +37,7 @@ pub(crate) fn are_all(bytes: &[u8], byte: u8, count: usize) -> bool {
 
 static SEVENS: [u8; 64] = [7; 64];
 
-/// Fills the room that a new vector has with sevens. Says whether there were enough.
+/// Fills the room of a new vector with sevens. Whether there were enough.
 fn fill_room(out: &mut Vec<u8>) -> bool {
     match SEVENS.get(..out.capacity()) {
         Some(sevens) => out.extend_from_slice(sevens).is_ok(),
@@ -47,7 +47,7 @@ fn fill_room(out: &mut Vec<u8>) -> bool {
 
 /// What adds bytes to a vector.
 pub(crate) trait Adds {
-    /// Says whether it added them; where it doesn't, the vector is as it was.
+    /// Whether it added them; if it didn't, the vector is unchanged.
     fn add(&self, out: &mut Vec<u8>) -> bool;
 }
 
@@ -61,13 +61,13 @@ pub(crate) enum Room {
     Enough,
 }
 
-/// Says whether these bytes are added behind what is there.
+/// Whether these bytes are added after the present ones.
 fn is_added_to<A: Adds>(out: &mut Vec<u8>, value: &A, bytes: &[u8]) -> bool {
     let start = out.len();
     value.add(out) && out.get(start..) == Some(bytes)
 }
 
-/// Says whether these bytes are added behind sevens, and, where a growth was refused, nothing at first and all of them then.
+/// Whether these bytes are added after sevens; if a growth is refused, nothing at first and all of them then.
 fn is_added_at_last<A: Adds>(out: &mut Vec<u8>, value: &A, bytes: &[u8]) -> bool {
     if !fill_room(out) {
         return false;
@@ -79,13 +79,13 @@ fn is_added_at_last<A: Adds>(out: &mut Vec<u8>, value: &A, bytes: &[u8]) -> bool
     out.get(start..) == Some(bytes)
 }
 
-/// Says whether these bytes are added, and the vector stays where it is.
+/// Whether these bytes are added, and the vector isn't moved.
 fn is_added_in_place<A: Adds>(out: &mut Vec<u8>, value: &A, bytes: &[u8]) -> bool {
     let room = out.capacity();
     is_added_to(out, value, bytes) && out.capacity() == room
 }
 
-/// Says whether these bytes, and no others, are added to a vector with such room, where one is had. A refused growth changes nothing.
+/// Whether these bytes, and no others, are added to a vector with this room, if there is memory for one. A refused growth changes nothing.
 pub(crate) fn is_added<A: Adds>(alloc: Global, value: &A, bytes: &[u8], room: &Room) -> bool {
     match room {
         Room::New => is_added_to(&mut Vec::new(alloc), value, bytes),

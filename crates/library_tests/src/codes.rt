@@ -35,7 +35,7 @@ enum Row {
     WriteControl(u8, bool, bool, bool),
     /// Its other bits are dropped.
     ControlBits(u8, u8),
-    /// A key's identifier, and whether it comes alone.
+    /// A key's identifier, and whether it is sent alone.
     Identifier(u8, Named, bool),
     /// Numbers that no key has.
     NoPf(u8),
@@ -98,7 +98,7 @@ static SIX_BIT_RUNS: [(u8, u8); 11] = [
     (0x7A, 0x7F),
 ];
 
-/// Says whether the address with this number is written as these bytes.
+/// Whether the address with this number is written as these bytes.
 fn is_written_as(number: u16, bytes: [u8; 2]) -> bool {
     match Addr::new(number) {
         Some(addr) => addr_to_bytes(addr) == bytes,
@@ -106,7 +106,7 @@ fn is_written_as(number: u16, bytes: [u8; 2]) -> bool {
     }
 }
 
-/// Says whether the bytes are read as the address with this number.
+/// Whether the bytes are read as the address with this number.
 fn is_read_as(bytes: [u8; 2], number: u16) -> bool {
     match (addr_from_bytes(bytes), Addr::new(number)) {
         (Ok(read), Some(addr)) => read == addr && addr.get() == number,
@@ -114,14 +114,14 @@ fn is_read_as(bytes: [u8; 2], number: u16) -> bool {
     }
 }
 
-/// Says whether the code is the value's, as the low six bits of an address, and as the high ones where there is one.
+/// Whether the code is the value's, as the low six bits of an address, and as the high ones if there are any.
 fn is_code_of(value: u8, code: u8) -> bool {
     let high = u16::from(value) * 64;
     is_written_as(u16::from(value), [0x40, code])
         && (Addr::new(high).is_none() || is_written_as(high, [code, 0x40]))
 }
 
-/// Says whether the runs are the codes of the values from 0 to 63.
+/// Whether the runs are the codes of the values from 0 to 63.
 fn each_six_bit_value_has_its_code() -> bool {
     let mut values = 0..64;
     for (first, last) in &SIX_BIT_RUNS {
@@ -197,7 +197,7 @@ fn addresses_go_round_the_screen() -> bool {
 
 // ---- attributes and write control characters
 
-/// Says whether the code is the attribute's, and each question is answered by the fields.
+/// Whether the code is the attribute's, and each question is answered by the fields.
 fn attribute_agrees(code: u8, attr: Attr) -> bool {
     attr_code(attr) == code
         && Attr::from_code(code) == attr
@@ -319,7 +319,7 @@ static IDENTIFIERS: [Row; 36] = [
     Row::NoPa(255),
 ];
 
-/// Says whether as many bytes as this are identifiers.
+/// Whether exactly `count` bytes are identifiers.
 fn identifiers_number(count: u8) -> bool {
     let mut numbers = 0..count;
     for byte in 0..=255 {
@@ -335,7 +335,7 @@ fn identifiers_number(count: u8) -> bool {
 /// The control codes that a cell can hold.
 static STORED_CONTROLS: [u8; 9] = [0x00, 0x0C, 0x0D, 0x15, 0x19, 0x1C, 0x1E, 0x3F, 0xFF];
 
-/// Says whether a cell holds the listed bytes, as many as this.
+/// Whether a cell can hold exactly the listed bytes, `count` in all.
 fn cells_hold_the_listed_bytes(count: u8) -> bool {
     let mut numbers = 0..count;
     for byte in 0..=255 {
@@ -363,7 +363,7 @@ static CODE_PAGE_037: [&str; 12] = [
     "0123456789³ÛÜÙÚ",
 ];
 
-/// Says whether the rows are the characters of the codes from 40 to FE.
+/// Whether the rows are the characters of the codes from 40 to FE.
 fn rows_agree() -> bool {
     let mut codes = 0x40..=0xFE;
     for row in &CODE_PAGE_037 {

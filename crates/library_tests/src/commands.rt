@@ -91,7 +91,7 @@ fn put(writer: &mut CommandWriter, call: &Call) -> Result<(), Memory> {
     }
 }
 
-/// Calls of one writer. Where one of several is refused, what the others added stays.
+/// Calls of one writer. If one of several is refused, the bytes of the others stay.
 struct Calls(&'static [Call]);
 
 impl Adds for Calls {

@@ -5,10 +5,10 @@ use codes3270::{Addr, Attr, CELL_COUNT, Cell, aid_byte};
 use datastream::{Form, Inbound, InboundFault, Part, parts_are_fields, read_inbound, sent_is_read};
 use std::alloc::Global;
 
-/// A field that came: its first address and its text.
+/// A returned field: its first address and its text.
 type Returned = (u16, &'static [u8]);
 
-/// Whether these are the fields that came.
+/// Whether these are the returned fields.
 fn has_fields(inbound: &Inbound<'_>, wanted: &[Returned]) -> bool {
     let mut fields = inbound.returned();
     for (first, text) in wanted {
@@ -74,7 +74,7 @@ fn has_cells(inbound: &Inbound<'_>, wanted: &[(Shown, usize)]) -> bool {
 enum Outcome {
     /// The byte of its AID, its cursor, the characters before any field, and its fields.
     Fields(u8, Option<u16>, &'static [u8], &'static [Returned]),
-    /// Its parts, each with how often it comes.
+    /// Its parts, each with its number of repetitions.
     Parts(&'static [(Shown, usize)]),
     /// Its cursor, and its cells, which are its parts; it has no fields.
     Cells(u16, &'static [(Shown, usize)]),
@@ -118,7 +118,7 @@ fn comes_to(bytes: &[u8], form: Form, outcome: &Outcome) -> bool {
 enum Row {
     /// What bytes of a form come to.
     Data(&'static [u8], Form, Outcome),
-    /// What a buffer of these runs comes to.
+    /// The result of a buffer of these runs.
     Buffer(&'static [Run], Outcome),
     /// A fault is printed so.
     Text(InboundFault, &'static str),
@@ -341,7 +341,7 @@ static OTHER_BUFFERS: [Row; 5] = [
         &[BEGUN, (b"\xC1", CELL_COUNT - 2), (b"\x1D", 1)],
         Outcome::Fault(InboundFault::Short),
     ),
-    // One cut behind the last.
+    // One cut after the last.
     Row::Buffer(
         &[BEGUN, (b"\xC1", CELL_COUNT - 1), (b"\x1D", 1)],
         Outcome::Fault(InboundFault::BadForm),

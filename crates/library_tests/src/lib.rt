@@ -64,7 +64,7 @@ fn tell(rt: &impl Print, library: &str, what: &str, is_so: bool) -> io::Result<(
     println!(rt; "{library}: {what}: {word}")
 }
 
-/// Tries a library's checks, which have names, and prints each. Says whether all are so.
+/// Tries a library's checks, which have names, and prints each. Whether all hold.
 fn try_all<T: Tried>(
     rt: &(impl Print + AllocGlobal),
     library: &str,
@@ -152,7 +152,7 @@ fn try_library(rt: &(impl Print + AllocGlobal), library: &Library) -> io::Result
     }
 }
 
-/// Tries all. Says whether all are so.
+/// Tries all. Whether all hold.
 pub fn try_libraries(rt: &(impl Print + AllocGlobal)) -> io::Result<bool> {
     let mut all = true;
     for library in &LIBRARIES {

@@ -11,7 +11,7 @@ use tn3270e_msg::{
 
 // ---- rows
 
-/// A row of a table: what is read or called, and what it comes to.
+/// A row of a table: what is read or called, and the result.
 enum Row {
     /// Bytes are a header, both read and written, and the body after it.
     Read(&'static [u8], Header, &'static [u8]),
@@ -23,7 +23,7 @@ enum Row {
     NoHeader(&'static [u8], Option<HeadFault>),
     /// The number that follows.
     Next(u16, u16),
-    /// How a name is kept, where it is one.
+    /// How a name is kept, if it is one.
     Name(&'static [u8], Option<&'static [u8]>),
     /// The device that a text names.
     Device(&'static [u8], Option<Device>),

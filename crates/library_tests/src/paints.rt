@@ -19,7 +19,7 @@ fn keep(wanted: &mut Wanted, from: u16, to: u16) {
     }
 }
 
-/// Wants each cell, where it is known, to stay as it is believed, with MDT off; any other to be null.
+/// Wants each known cell as it is believed, with MDT off, and a null in each other cell.
 fn wanted_again(shadow: &Shadow) -> Wanted {
     let mut wanted = Wanted::filled(Want::Char(0));
     for place in 0..CELLS {
@@ -370,7 +370,7 @@ fn a_full_vector_grows_or_stays(alloc: Global, wanted: &Wanted) -> bool {
     }
 }
 
-/// Where there is room none is asked for.
+/// If there is room, no memory is requested.
 fn a_roomy_vector_takes_it(alloc: Global, wanted: &Wanted) -> bool {
     match Vec::with_capacity(alloc, 61) {
         Ok(mut out) => {

@@ -15,7 +15,7 @@ use std::alloc::Global;
 
 // ---- what is asked of a screen
 
-/// What a command asks for; None where the bytes spell none.
+/// What a command asks for; None if the bytes spell no command.
 fn obey(screen: &mut Screen, command: &[u8]) -> Option<Applied> {
     match read_command(command) {
         Ok(command) => Some(screen.apply(&command)),
@@ -69,7 +69,7 @@ fn lists(screen: &Screen, extents: &[Extent]) -> bool {
     fields.next().is_none()
 }
 
-/// Whether a copy, where there is memory for one, is the same as the screen.
+/// Whether a copy, if there is memory for one, is the same as the screen.
 fn is_copied(screen: &Screen) -> bool {
     match screen.clone() {
         Ok(copy) => copy == *screen,

@@ -76,7 +76,7 @@ fn connect(terminal: &mut Terminal) {
     }
 }
 
-/// Feeds bytes, and where memory is refused the rest again.
+/// Feeds bytes; if memory is refused, feeds the rest again.
 fn feed(terminal: &mut Terminal, bytes: &[u8]) -> Fed {
     let fed = terminal.feed(bytes);
     if fed.stop != Stop::Memory {
@@ -89,7 +89,7 @@ fn feed(terminal: &mut Terminal, bytes: &[u8]) -> Fed {
     }
 }
 
-/// Presses a key, and where memory is refused again.
+/// Presses a key, and again if memory is refused.
 fn press(terminal: &mut Terminal, key: Key) -> Result<Pressed, Memory> {
     let again = key;
     match terminal.press(key) {
@@ -98,7 +98,7 @@ fn press(terminal: &mut Terminal, key: Key) -> Result<Pressed, Memory> {
     }
 }
 
-/// Says whether two terminals look the same. What doesn't show, as the number of the next record, does when they go on.
+/// Whether two terminals look the same. Hidden state, such as the number of the next record, shows when they go on.
 fn same(one: &Terminal, other: &Terminal) -> bool {
     one.phase() == other.phase()
         && one.lock() == other.lock()
@@ -107,8 +107,8 @@ fn same(one: &Terminal, other: &Terminal) -> bool {
         && one.screen() == other.screen()
 }
 
-/// Feeds bytes to a terminal, and to its twin those that it took; then the rest to both. Says whether they look the same
-/// at both stops, the first of which is for want of memory if bytes are left.
+/// Feeds bytes to a terminal, and to its twin those that it took; then the rest to both. Whether they look the same at
+/// both stops, the first of which is for want of memory if bytes are left.
 fn feeds_twins(terminal: &mut Terminal, twin: &mut Terminal, bytes: &[u8]) -> bool {
     let fed = terminal.feed(bytes);
     let (taken, rest) = bytes.split_at(fed.taken);
@@ -119,7 +119,7 @@ fn feeds_twins(terminal: &mut Terminal, twin: &mut Terminal, bytes: &[u8]) -> bo
     stopped_alike && same(terminal, twin)
 }
 
-/// Presses a key at a terminal, and where memory is refused again. Says whether it looked as before then, like its twin.
+/// Presses a key at a terminal, and again if memory is refused. Whether the terminal was unchanged then, like its twin.
 fn is_unchanged_when_refused(terminal: &mut Terminal, twin: &Terminal, key: Key) -> bool {
     let again = key;
     match terminal.press(key) {
@@ -128,7 +128,7 @@ fn is_unchanged_when_refused(terminal: &mut Terminal, twin: &Terminal, key: Key)
     }
 }
 
-/// Presses a key at a terminal, and then at its twin. Says whether a refusal changed nothing, and whether they look the same then.
+/// Presses a key at a terminal, and then at its twin. Whether a refusal changed nothing, and both look the same then.
 fn presses_twins(terminal: &mut Terminal, twin: &mut Terminal, key: Key) -> bool {
     let at_the_twin = key;
     is_unchanged_when_refused(terminal, twin, key)
@@ -136,7 +136,7 @@ fn presses_twins(terminal: &mut Terminal, twin: &mut Terminal, key: Key) -> bool
         && same(terminal, twin)
 }
 
-/// Says whether the twins are the same through a key before the talk, and through the talk.
+/// Whether the twins are the same through a key before the talk, and through the talk.
 fn talk_alike(terminal: &mut Terminal, twin: &mut Terminal) -> bool {
     connect(terminal);
     connect(twin);
@@ -147,7 +147,7 @@ fn talk_alike(terminal: &mut Terminal, twin: &mut Terminal) -> bool {
     alike
 }
 
-/// Says whether the twins are the same through a write, a read, a character and Enter.
+/// Whether the twins are the same through a write, a read, a character and Enter.
 fn answer_alike(terminal: &mut Terminal, twin: &mut Terminal) -> bool {
     feeds_twins(terminal, twin, SHOW_HI)
         && feeds_twins(terminal, twin, READ_BUFFER)
@@ -204,7 +204,7 @@ fn shows_each_time(terminal: &mut Terminal) -> bool {
     done
 }
 
-/// Says whether it shows `HI`; where memory is refused it is asked for again.
+/// Whether it shows `HI`; if memory is refused the call is repeated.
 fn shows_hi(alloc: Global, terminal: &Terminal) -> bool {
     match terminal.screen_text(alloc) {
         Ok(text) => text.as_str() == HI_SHOWN,

@@ -18,7 +18,7 @@ const RECORD_LIMIT: usize = 16_384;
 /// What a byte is answered that completes nothing.
 const MORE: Result<Step, WireFault> = Ok(Step::More);
 
-/// Pushes the bytes. Says whether each is answered so.
+/// Pushes the bytes. Whether each has this answer.
 fn all_answer(decoder: &mut Decoder, bytes: &[u8], answer: Result<Step, WireFault>) -> bool {
     for byte in bytes {
         if decoder.push(*byte) != answer {
@@ -28,7 +28,7 @@ fn all_answer(decoder: &mut Decoder, bytes: &[u8], answer: Result<Step, WireFaul
     true
 }
 
-/// Pushes the bytes. Says whether the last of them, and no other, completed this item.
+/// Pushes the bytes. Whether the last of them, and no other, completed this item.
 fn completes(decoder: &mut Decoder, bytes: &[u8], item: Item) -> bool {
     let Some((last, before)) = bytes.split_last() else {
         return false;
@@ -38,7 +38,7 @@ fn completes(decoder: &mut Decoder, bytes: &[u8], item: Item) -> bool {
         && decoder.item() == item
 }
 
-/// Says whether the bytes complete the item wherever they are cut, and nothing before their end.
+/// Whether the bytes complete the item at any cut, and nothing before their end.
 fn is_read_from_any_cut(decoder: &mut Decoder, bytes: &[u8], item: Item) -> bool {
     for cut in 1..bytes.len() {
         // The last cut leaves out the end alone: there is no record before it.
@@ -50,7 +50,7 @@ fn is_read_from_any_cut(decoder: &mut Decoder, bytes: &[u8], item: Item) -> bool
     true
 }
 
-/// Says whether a record is read after a reset, with nothing from before it.
+/// Whether a record is read after a reset, with nothing from before it.
 fn is_as_new_after_reset(decoder: &mut Decoder) -> bool {
     decoder.reset();
     completes(decoder, b"\x07\xff\xef", Item::Record(b"\x07"))
@@ -151,7 +151,7 @@ enum Turn {
     /// The last byte is refused, and every byte after it until a reset.
     Refused(&'static [u8], WireFault),
     Limited(Limit),
-    /// What came is forgotten by a reset.
+    /// A reset forgets the bytes before it.
     Forgotten(&'static [u8]),
 }
 
@@ -172,7 +172,7 @@ fn is_so(alloc: Global, decoder: &mut Decoder, turn: &Turn) -> bool {
     }
 }
 
-/// Says whether each step is so, in turn.
+/// Whether each step holds, in turn.
 fn follows(alloc: Global, decoder: &mut Decoder, turns: &[Turn]) -> bool {
     for turn in turns {
         if !is_so(alloc, decoder, turn) {
@@ -182,7 +182,7 @@ fn follows(alloc: Global, decoder: &mut Decoder, turns: &[Turn]) -> bool {
     true
 }
 
-/// Says whether each step is so of a new decoder.
+/// Whether each step holds for a new decoder.
 fn begins_with(alloc: Global, turns: &[Turn]) -> bool {
     one_reading();
     match Decoder::new(alloc, RECORD_LIMIT) {
@@ -383,7 +383,7 @@ static LONG_ONES: [(Written, &[Run]); 4] = [
     ),
 ];
 
-/// Says whether this is written as these bytes, where there is memory for them.
+/// Whether this is written as these bytes, if there is memory for them.
 fn is_written(alloc: Global, written: &Written, runs: &[Run], room: &Room) -> bool {
     match spelt(alloc, runs) {
         Ok(bytes) => is_added(alloc, written, bytes.as_slice(), room),
@@ -402,7 +402,7 @@ fn long_ones_are_written(alloc: Global, room: &Room) -> bool {
     true
 }
 
-/// Says whether a decoder of this limit is made, or memory is refused.
+/// Whether a decoder of this limit is made, or memory is refused.
 fn is_made_or_refused(alloc: Global, limit: usize) -> bool {
     match Decoder::new(alloc, limit) {
         Ok(_) => limit == RECORD_LIMIT,

@@ -178,7 +178,7 @@ fn takes(
     tell(rt, what, fields, ROUNDS, former, present)
 }
 
-/// What is believed, where the first cells are to be others.
+/// The wanted screen of a belief, with other characters in the first cells.
 fn changed(subjects: &Subjects, cells: u16) -> Wanted {
     let mut wanted = wanted_of(Wanting::Known, &subjects.shadow);
     for place in 0..cells {

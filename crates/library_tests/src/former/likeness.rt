@@ -6,7 +6,7 @@ use datastream::{Memory, Wanted};
 use presentation::Screen;
 use shadow::{Fact, Shadow};
 
-/// What is otherwise, and at which cell.
+/// The difference, and its cell.
 #[derive(Clone, Copy)]
 pub(crate) struct Difference {
     pub(crate) what: &'static str,
@@ -61,7 +61,7 @@ fn texts_alike(former: &FormerShadow, shadow: &Shadow, at: Addr) -> Alike {
     Ok(())
 }
 
-/// What is believed otherwise of a cell, or of the field whose attribute is there.
+/// The difference in what is believed of a cell, or of the field whose attribute is there.
 fn otherwise_at(
     former: &FormerShadow,
     cells: &[Known],

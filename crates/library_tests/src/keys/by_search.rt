@@ -1,4 +1,4 @@
-//! Where New Line goes, beside what a search from cell to cell finds.
+//! Compares New Line with a search from cell to cell.
 use crate::beliefs::SIGN_ON;
 use codes3270::{Addr, CELLS, COLUMNS, Cell, ROWS};
 use datastream::read_command;
@@ -14,7 +14,7 @@ fn may_be_typed_into(screen: &Screen, at: Addr) -> bool {
     }
 }
 
-/// The first cell behind a row that may be typed into, round the end, each looked up by itself; 0 if there is none.
+/// The first cell after a row that may be typed into, round the end, each looked up by itself; 0 if there is none.
 fn searched_line(screen: &Screen, row: u16) -> Addr {
     let behind = Addr::first().forward((row % ROWS) * COLUMNS);
     for step in 0..CELLS {
@@ -40,7 +40,7 @@ fn goes_to(screen: &mut Screen, row: u16, wanted: Addr) -> bool {
     goes_from(screen, first, wanted) && goes_from(screen, first.forward(COLUMNS - 1), wanted)
 }
 
-/// Whether New Line goes from each row to where a search does.
+/// Whether New Line moves from each row to the cell that a search finds.
 fn goes_as_searched(screen: &mut Screen) -> bool {
     for row in 0..ROWS {
         let wanted = searched_line(screen, row);

@@ -138,7 +138,7 @@ enum Step {
     Letters,
     /// What is asked of the panel at an index.
     Panel(usize, Asked),
-    /// Where it starts, and how many panels and LUs there are.
+    /// Its first panel, and the numbers of panels and LUs.
     Has(usize, usize, usize),
 }
 
@@ -356,7 +356,7 @@ const VALUES_SCREEN: &[Item] = &[
     (1840, 0xF8, &[]),
 ];
 
-/// What is kept is marked only where the panel says so.
+/// A kept field is marked only if the panel says so.
 const KEPT_SCREEN: &[Item] = &[
     (0, 0x40, &[]),
     (4, 0x40, &[]),

@@ -3,7 +3,7 @@ use crate::at;
 use codes3270::{Addr, CELLS};
 use presentation::{Field, Screen};
 
-/// Where the attribute stands that is the nearest before a cell, round the end.
+/// The address of the nearest attribute before a cell, round the end.
 fn searched_place(screen: &Screen, at: Addr) -> Option<Addr> {
     for back in 0..CELLS {
         let place = at.backward(back);

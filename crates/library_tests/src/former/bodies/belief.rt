@@ -13,7 +13,7 @@ use shadow::{Fact, HeardFault, Mark};
 #[derive(Drop)]
 pub(crate) enum FormerShadow {
     Nothing,
-    /// The characters of a screen without attributes, where they are known.
+    /// The characters of a screen without attributes, as far as they are known.
     Unformatted(Chars),
     Formatted(Fields),
 }
@@ -174,7 +174,7 @@ impl FormerShadow {
         Ok(())
     }
 
-    /// All cells, as far as they are known; none where nothing is.
+    /// All cells, as far as they are known; none if nothing is.
     pub(crate) fn cells(&self) -> Cells {
         match self {
             FormerShadow::Nothing => ArrayVec::new(),

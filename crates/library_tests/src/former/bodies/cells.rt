@@ -48,7 +48,7 @@ pub(crate) fn count_characters(cells: &[Cell]) -> usize {
     cells.iter().take_while(|cell| is_character(cell)).count()
 }
 
-/// The distance from one place up to another, round the end; all cells where they are equal.
+/// The distance from one address up to another, round the end; all cells if they are equal.
 pub(crate) fn distance_to(from: u16, stop: u16) -> u16 {
     if from == stop {
         CELLS
@@ -64,7 +64,7 @@ pub(crate) fn fill(cells: &mut [Cell], from: u16, count: u16, new: Cell) {
     }
 }
 
-/// Where the attribute stands that is the nearest before a cell, round the end.
+/// The address of the nearest attribute before a cell, round the end.
 pub(crate) fn attribute_place(cells: &[Cell], at: u16) -> Option<u16> {
     for back in 0..CELLS {
         let place = at.saturating_add(CELLS).saturating_sub(back) % CELLS;
@@ -93,7 +93,7 @@ pub(crate) fn erase_unprotected_in(cells: &mut [Cell], from: u16, count: u16) {
     }
 }
 
-/// The least place of a character behind the attribute of an unprotected field, round the end; else 0.
+/// The least address of a character after the attribute of an unprotected field, round the end; else 0.
 pub(crate) fn home_of(cells: &[Cell]) -> u16 {
     let mut before = cell_at(cells, CELLS.saturating_sub(1));
     for place in 0..CELLS {

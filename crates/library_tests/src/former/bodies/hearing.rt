@@ -5,7 +5,7 @@ use codes3270::{CELL_COUNT, attr_code};
 use datastream::{Inbound, ReturnedFields};
 use shadow::{Fact, HeardFault, Mark};
 
-/// The text that came for each field.
+/// The returned text of each field.
 type Texts<'a> = ArrayVec<Option<&'a [u8]>, CELL_COUNT>;
 
 /// Nulls, and characters of which none is known.
@@ -44,7 +44,7 @@ fn first_address(place: usize) -> usize {
     place.wrapping_add(1) % CELL_COUNT
 }
 
-/// Whether one of those that came begins where no field does.
+/// Whether one of the returned fields begins where no field does.
 fn any_nowhere(fields: &Fields, came: ReturnedFields<'_>) -> bool {
     let mut starts = [false; CELL_COUNT];
     for head in fields.heads() {
@@ -60,7 +60,7 @@ fn any_nowhere(fields: &Fields, came: ReturnedFields<'_>) -> bool {
     false
 }
 
-/// A field that came: the address of its first cell, and its text.
+/// A returned field: the address of its first cell, and its text.
 #[derive(Clone, Copy)]
 struct Came<'a> {
     first: usize,
@@ -78,7 +78,7 @@ fn next_of<'a>(rest: &mut ReturnedFields<'a>) -> Option<Came<'a>> {
     }
 }
 
-/// Each field's text; None where those that came are out of order, or one comes twice.
+/// Each field's text; None if the returned fields are out of order, or one is there twice.
 fn texts_of<'a>(fields: &Fields, returned: ReturnedFields<'a>) -> Option<Texts<'a>> {
     let mut rest = returned;
     let mut next = next_of(&mut rest);

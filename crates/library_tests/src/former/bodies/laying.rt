@@ -4,7 +4,7 @@ use arrayvec::ArrayVec;
 use codes3270::CELL_COUNT;
 use shadow::Fact;
 
-/// Characters, where they are known.
+/// Characters, as far as they are known.
 pub(crate) type Chars = ArrayVec<Option<u8>, CELL_COUNT>;
 
 /// Each cell of a screen.
@@ -15,7 +15,7 @@ const RING: usize = 2 * CELL_COUNT;
 /// The cells twice.
 type Ring = ArrayVec<Known, RING>;
 
-/// Adds characters, where they are known.
+/// Adds characters, as far as they are known.
 pub(crate) fn push_chars(cells: &mut Cells, chars: &[Option<u8>]) {
     for char in chars {
         let _full = cells.try_push(Known::Char(*char, false));
@@ -54,7 +54,7 @@ pub(crate) fn laid_out(fields: &Fields) -> Cells {
     cells
 }
 
-/// For each address, how many fields stand before the first whose attribute is there: all of them, where none is.
+/// For each address, the number of fields before the first whose attribute is there: all of them, if none is.
 fn skips_of(fields: &Fields) -> [usize; CELL_COUNT] {
     let mut skips = [fields.heads().len(); CELL_COUNT];
     for (index, head) in fields.heads().iter().enumerate() {
@@ -90,7 +90,7 @@ fn gather(gathered: &mut Gathered, behind: &[Known]) {
     }
 }
 
-/// Fields that there were, and how many of them stand before an address.
+/// The fields before a write, and the number of them before each address.
 #[derive(Clone, Copy)]
 struct Before<'a> {
     fields: &'a Fields,

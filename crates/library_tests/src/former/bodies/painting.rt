@@ -19,7 +19,7 @@ fn keeps_round(behind: &[Want], whole: &[Want]) -> bool {
     }
 }
 
-/// How many cells stand before the first attribute, in these and then in all wants.
+/// The number of cells before the first attribute, in these and then in all wants.
 fn count_round(behind: &[Want], whole: &[Want]) -> usize {
     behind
         .iter()
