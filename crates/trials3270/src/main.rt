@@ -77,7 +77,7 @@ impl Part {
         }
     }
 
-    /// Does a part with its text. Says whether all came as it has to.
+    /// Does a part with its text. Whether all results are as expected.
     fn perform(self, rt: &HostRuntime, detail: Option<&str>, text: &str) -> Result<bool> {
         match self {
             Part::Dialogues => hold_script(rt, text),
@@ -105,7 +105,7 @@ impl Part {
     }
 }
 
-/// Does the parts of a stored run. Says whether all came as it has to.
+/// Does the parts of a stored run. Whether all results are as expected.
 fn perform_all(rt: &HostRuntime, run: &str) -> Result<bool> {
     let mut all = true;
     for block in run.split("%% ").skip(1) {

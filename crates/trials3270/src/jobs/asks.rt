@@ -46,7 +46,7 @@ fn tell_words(rt: &HostRuntime, line: &str) -> io::Result<()> {
     }
 }
 
-/// Prints what a line asks for. False where it is none of this language.
+/// Prints what a line asks for. False if it is no line of this language.
 fn tell_line(rt: &HostRuntime, line: &str) -> io::Result<bool> {
     let Some((kind, rest)) = line.split_once(" [") else {
         return Ok(line.is_empty() || line.starts_with('#'));
@@ -67,7 +67,7 @@ fn tell_line(rt: &HostRuntime, line: &str) -> io::Result<bool> {
     Ok(true)
 }
 
-/// Prints what each line of a script asks for. Says whether each is one of this language.
+/// Prints what each line of a script asks for. Whether each is a line of this language.
 pub fn tell_asks(rt: &HostRuntime, script: &str) -> io::Result<bool> {
     let mut all = true;
     for line in script.split('\n') {

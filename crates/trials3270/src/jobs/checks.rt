@@ -1,4 +1,4 @@
-//! The jobs where the program itself can't show them, check by check.
+//! Checks of the jobs that the program itself can't show.
 use crate::jobs::sockets::refusals_are_told;
 use crate::jobs::streams::{
     a_script_tells_of_its_writer, broken_input_is_refused, input_is_limited,
@@ -75,7 +75,7 @@ impl Check {
     }
 }
 
-/// Makes the checks, and prints a line for each. Says whether all hold.
+/// Makes the checks, and prints a line for each. Whether all hold.
 pub fn try_jobs(rt: &HostRuntime) -> io::Result<bool> {
     let mut all = true;
     for (check, shows) in &CHECKS {

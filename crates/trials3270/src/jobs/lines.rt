@@ -55,7 +55,7 @@ fn key_name(key: Key) -> &'static str {
     }
 }
 
-/// A key's number; 0 where it has none.
+/// A key's number; 0 if it has none.
 fn key_number(key: Key) -> u8 {
     match key {
         Key::Pf(number) => number.get(),

@@ -1,4 +1,4 @@
-//! Readers and writers in memory that end or fail where they are to.
+//! Readers and writers in memory that end or fail at a given position.
 use jobs3270::CountedWriter;
 use std::alloc::Global;
 use std::io::{self, ErrorKind, Read, Write};

@@ -27,7 +27,7 @@ keys = {pf3 = 'SIGNON'}
 const ASKS_ROUND: &[u8] =
     b"\xff\xfb\x28\xff\xfa\x28\x02\x07IBM-3278-2\x01NOSUCH\xff\xf0\xff\xfa\x28\x02\x07IBM-3278-2-E\x012DESK\xff\xf0\xff\xfa\x28\x02\x07IBM-3287-1\x01PNL02\xff\xf0\xff\xfa\x28\x02\x07IBM-3278-2\x00PNL01\xff\xf0\xff\xfa\x28\x02\x07IBM-3278-2\x01PNL01\xff\xf0\xff\xfa\x28\x03\x07\x02\xff\xf0";
 
-/// Another asks for PNL01, in small letters, while that is held; this comes in two pieces, behind data that no record ends.
+/// Another client requests PNL01, in small letters, while that is held; this is sent in two pieces, after data that no record ends.
 const ASKS_TOO: &[u8] = b"\xff\xfb\x28A\xff\xffB\xff\xfa\x28\x02\x07IBM-3278-3\x01pn";
 
 const ASKED_TOO: &[u8] = b"l01\xff\xf0";

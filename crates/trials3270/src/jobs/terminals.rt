@@ -60,7 +60,7 @@ const HI: &[u8] = b"\x00\x00\x02\x00\x00\xf5\xc3\x11\x40\x40\x1d\x60\xc8\xc9\x1d
 /// Erase All Unprotected, number 1.
 const ERASE: &[u8] = b"\x00\x00\x02\x00\x01\x6f\xff\xef";
 
-/// The host is done with number 0, Enter comes with an `A` behind 3, and the host is done with number 1.
+/// The response to number 0, Enter with an `A` in the field at 3, and the response to number 1.
 const ENTERS: &[u8] =
     b"\x02\x00\x00\x00\x00\x00\xff\xef\x00\x00\x00\x00\x00\x7d\x40\xc5\x11\x40\xc4\xc1\xff\xef\x02\x00\x00\x00\x01\x00\xff\xef";
 
@@ -157,7 +157,7 @@ pub(crate) fn waits_end(alloc: Global) -> bool {
 
 // ---- ends of runs
 
-/// The lines before one that isn't understood are done; and a run ends where nothing can be printed.
+/// The lines before one that isn't understood are done; and a run ends if nothing can be printed.
 pub(crate) fn runs_end_early(alloc: Global) -> bool {
     let stopped = operated(
         alloc,
