@@ -31,7 +31,7 @@ pub(crate) struct Head {
 }
 
 impl Head {
-    /// A field of which only the address is known.
+    /// A field of which nothing is known but where it is.
     pub(crate) fn new(place: usize, attr: Attr, mark: Mark, length: usize) -> Head {
         Head {
             place,
@@ -63,7 +63,7 @@ pub(crate) struct Lent<'a> {
     pub(crate) fact: Fact,
     /// What the fact speaks of, unless it is `Any`.
     pub(crate) text: &'a [u8],
-    /// If the fact is `Any`, each known character.
+    /// Where the fact is `Any`, each character that is known.
     pub(crate) chars: &'a [Option<u8>],
 }
 
