@@ -99,7 +99,7 @@ impl Pool {
         }
     }
 
-    /// Frees every LU, as where a host starts anew.
+    /// Frees every LU, for example when a host restarts.
     pub fn free_all(&mut self)
         ensures becomes { self.new ≡ all_free self.old }
         ensures nobody { (conn : ℕ) → HoldsNone self.new conn }
