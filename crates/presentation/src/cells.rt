@@ -156,7 +156,7 @@ pub(crate) fn tab_stop_from(cells: &[PackedCell], at: Addr) -> Addr
     }
 }
 
-/// Whether no attribute stands in a list of cells.
+/// Whether there is no attribute in a list of cells.
 pub(crate) fn has_only_characters(cells: &[PackedCell]) -> bool
     ensures { result ≡ list_all is_char cells.now }
 {
