@@ -14,7 +14,7 @@ pub fn the_last_row_is_for_messages()
 {}
 
 /// Law: each screen that a panel asks for keeps whole fields, or none. With what was typed to be
-/// kept, Keep stands at each character of each field, between the field's attribute and another;
+/// kept, there is a Keep at each character of each field, between the field's attribute and another;
 /// elsewhere, and on other screens, it stands nowhere. For this no two items of the panel may share
 /// a cell, as `PanelSet::panels_are_sound` says of all panels.
 pub fn kept_fields_are_whole()
@@ -22,7 +22,7 @@ pub fn kept_fields_are_whole()
     ensures nothing_else { NothingElseIsKept }
 {}
 
-/// Law: a text defines its panels once: what is read of it is told by the text alone.
+/// Law: a text defines its panels once: what is read from it is a function of the text.
 pub fn a_text_defines_its_panels_once()
     ensures { DefinesOnce }
 {}
