@@ -21,7 +21,7 @@ pub record Belief : Type 0 where
   pub length : ℕ
   pub fact : Fact
 
--- of an unformatted screen each character, where it is known; the fields stand in the order of their addresses
+-- of an unformatted screen each character, if it is known; the fields are in the order of their addresses
 pub data Shadow : Type 0 where
   NothingKnown : Shadow
   Unformatted : List (Option ℕ) → Shadow

@@ -19,7 +19,7 @@ use Rattle.shadow.specs.Heard.{contradicts_text, lost_text, after_long, mark_of}
 use Rattle.shadow.specs.Held.{answer}
 use Rattle.shadow.specs.InPlace.{chars_known, belief_held, is_whole, known_text}
 
--- ---- what came for a place
+-- ---- what was returned for a place
 
 abbrev pub text_came : CellBelief → ℕ → List Returned → Option (List ℕ)
 text_came (Attr attribute mark knowledge) place came = text_at (next_address cell_count place) came
@@ -50,7 +50,7 @@ long_after erased [] came = []
 long_after erased (belief ∷ beliefs) came =
     after_long erased (answer belief (text_at (next_address cell_count belief.place) came)) ∷ long_after erased beliefs (came_past (next_address cell_count belief.place) came)
 
--- `ahead`: the places behind it
+-- `ahead`: the places after it
 abbrev pub contradicts_held : CellBelief → ℕ → List CellBelief → Option (List ℕ) → Bool
 contradicts_held (Attr attribute mark knowledge) place ahead text = contradicts_text (belief_held place attribute mark knowledge ahead) text
 contradicts_held (KnownPlace char) place ahead text = false
@@ -116,7 +116,7 @@ fill_next Fill.Null = Fill.Null
 fill_next (Fill.Chars text) = Fill.Chars (text_behind text)
 fill_next Fill.Told = Fill.Told
 
--- what the characters behind so many are filled with
+-- what the characters after a number of them are filled with
 abbrev pub fill_after : ℕ → Fill → Fill
 fill_after count Fill.Same = Fill.Same
 fill_after count Fill.Unknown = Fill.Unknown
@@ -124,7 +124,7 @@ fill_after count Fill.Null = Fill.Null
 fill_after count (Fill.Chars text) = Fill.Chars (drop count text)
 fill_after count Fill.Told = Fill.Told
 
--- any place, and what the place behind it is filled with
+-- any place, and what the place after it is filled with
 abbrev pub changed : CellBelief → Fill → Change → CellBelief
 changed (Attr attribute mark knowledge) fill change = Attr attribute change.mark change.knowledge
 changed (KnownPlace char) fill change = filled fill (KnownPlace char)

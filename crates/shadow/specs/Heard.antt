@@ -35,7 +35,7 @@ is_nowhere size beliefs came = not (list_any (λ belief. starts_at size belief c
 abbrev pub answer_and : Belief → Option (List ℕ) → Option (List Answer) → Option (List Answer)
 answer_and belief text others = option_map (λ answers. record { field = belief; text = text } ∷ answers) others
 
--- each field with what came for it; None where the texts are out of the fields' order, or one comes twice
+-- each field with what was returned for it; None if the texts are out of the fields' order, or one is there twice
 abbrev pub answers : ℕ → List Belief → List Returned → Option (List Answer)
 answers size [] [] = Some []
 answers size [] (came ∷ more) = None

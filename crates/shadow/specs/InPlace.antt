@@ -32,7 +32,7 @@ chars_known places = known_ahead (cells_known places)
 
 -- ---- the fields
 
--- the text that is told: it ends where nothing more is told
+-- the told text: it ends at the first place that tells nothing
 abbrev pub text_told : List CellBelief → List ℕ
 text_told [] = []
 text_told (Attr attribute mark knowledge ∷ places) = []
@@ -59,7 +59,7 @@ belief_held place attribute mark knowledge ahead = record {
   fact = fact_held knowledge ahead;
 }
 
--- the fields whose attributes stand in `rest`, the places of `whole` from an address on
+-- the fields whose attributes are in `rest`, the places of `whole` from an address on
 abbrev pub beliefs_held : List CellBelief → ℕ → List CellBelief → List Belief
 beliefs_held whole at [] = []
 beliefs_held whole at (Attr attribute mark knowledge ∷ rest) = belief_held at attribute mark knowledge (rest ++ whole) ∷ beliefs_held whole (at + 1) rest
@@ -77,7 +77,7 @@ shadow_held true places = formatted_as (beliefs_held places 0 places) (chars_kno
 abbrev pub SaysCells : TextKnowledge → List CellBelief → Type 0
 SaysCells knowledge ahead = known_chars (length (chars_known ahead)) (fact_held knowledge ahead) ≡ chars_known ahead
 
--- so of each field whose attribute stands in `rest`
+-- so of each field whose attribute is in `rest`
 abbrev pub AreHeld : List CellBelief → List CellBelief → Type 0
 AreHeld whole [] = ⊤
 AreHeld whole (Attr attribute mark knowledge ∷ rest) = SaysCells knowledge (rest ++ whole) × AreHeld whole rest

@@ -66,7 +66,7 @@ told (Fact.Text value) = Some value
 told (Fact.TextOrNulls value) = None
 told (Fact.Any known) = None
 
--- the text of an unprotected field with MDT on is told
+-- the fact of an unprotected field with MDT on tells its text
 abbrev pub FieldTold : Belief → Field → Type 0
 FieldTold belief field = field.attr.protected ≡ false → field.attr.mdt ≡ true → told belief.fact ≡ Some (without_nulls field.text)
 

@@ -101,7 +101,7 @@ abbrev pub belief_after : List Belief → ℕ → Attribute → MdtState → Lis
 belief_after before place attribute mark ahead =
     record { place = place; attr = attribute; mark = mark; length = length (known_ahead ahead); fact = fact_after before place ahead }
 
--- the fields whose attributes stand in `rest`, the cells of `whole` from an address on
+-- the fields whose attributes are in `rest`, the cells of `whole` from an address on
 abbrev pub beliefs_from : List Belief → List Known → ℕ → List Known → List Belief
 beliefs_from before whole at [] = []
 beliefs_from before whole at (KnownChar known fresh ∷ rest) = beliefs_from before whole (at + 1) rest

@@ -83,7 +83,7 @@ fn known_char(ahead: Ahead<'_>, index: usize) -> Option<u8>
     None
 }
 
-/// A character of the text that is told.
+/// A character of the told text.
 fn told_char(ahead: Ahead<'_>, index: usize) -> Option<u8>
     ensures { result ≡ slice_get (text_told ahead.entry) index }
 {

@@ -20,7 +20,7 @@ pub(crate) fn same_attr(one: Attr, other: Attr) -> bool
     attr_code(one.with_mdt(false)) == attr_code(other.with_mdt(false))
 }
 
-/// The next character that was read, if one stands before the first attribute; `whole`: what follows the rest, round the end.
+/// The next character that was read, if there is one before the first attribute; `whole`: what follows the rest, round the end.
 fn next_char(rest: &mut Cells<'_>, whole: &mut Cells<'_>) -> Option<u8>
     ensures { let ahead = places_stored rest.old ++ places_stored whole.old in
         MatchOption result (known_text (chars_known ahead) ≡ []) (λ char. known_text (chars_known ahead) ≡ char ∷ known_text (chars_known (places_stored rest.new ++ places_stored whole.new))) }
@@ -75,7 +75,7 @@ fn are_others(known: Ahead<'_>, rest: Cells<'_>, whole: Cells<'_>) -> bool
     next_char(&mut rest, &mut whole).is_some()
 }
 
-/// Whether a cell that was read shows that a screen isn't the one that is believed; `rest`: those behind it.
+/// Whether a cell that was read shows that a screen isn't the one that is believed; `rest`: those after it.
 fn is_other(
     places: &CellBeliefs,
     place: usize,

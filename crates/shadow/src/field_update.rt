@@ -17,7 +17,7 @@ pub(crate) enum FieldUpdate<'a> {
     Unknown,
     /// They are null.
     Null,
-    /// They tell a text, and behind it nothing is known.
+    /// They tell a text, and after it nothing is known.
     Text(&'a [u8]),
     /// Those that are known tell a text.
     Told,
@@ -66,7 +66,7 @@ pub(crate) fn update_next(update: FieldUpdate<'_>) -> FieldUpdate<'_>
     }
 }
 
-/// The bytes behind so many.
+/// The bytes after the first `count`.
 fn text_after(text: &[u8], count: usize) -> &[u8]
     ensures { result.now ≡ drop count text.now }
 {
@@ -77,7 +77,7 @@ fn text_after(text: &[u8], count: usize) -> &[u8]
     }
 }
 
-/// What becomes of the characters behind so many.
+/// What becomes of the characters after the first `count`.
 pub(crate) fn update_after(update: FieldUpdate<'_>, count: usize) -> FieldUpdate<'_>
     ensures { fill_of result ≡ fill_after count (fill_of update.entry) }
 {

@@ -13,7 +13,7 @@ use crate::cell_beliefs::CellBeliefs;
 use codes3270::{Attr, CELL_COUNT};
 use datastream::{Want, Wanted, Wants};
 
-/// Whether Keep stands before the first attribute.
+/// Whether there is a Keep before the first attribute.
 pub(crate) fn keeps_ahead(ahead: Wants<'_>) -> bool
     ensures { result ≡ keeps_before ahead.entry }
 {
@@ -125,7 +125,7 @@ fn any_attribute(cells: Wants<'_>) -> bool
     false
 }
 
-/// Whether Keep stands in fields alone, and each of these fits.
+/// Whether there is a Keep only in fields, and each of these fits.
 pub(crate) fn fits_fields(held: Option<&CellBeliefs>, wanted: &Wanted) -> bool
     ensures { result ≡ ((not (list_any is_keep wanted.now.cells) || list_any is_attribute wanted.now.cells) && fits_from (beliefs_of held.entry) wanted.now.cells 0 wanted.now.cells) }
 {

@@ -133,7 +133,7 @@ fn erased_if_possible(places: &CellBeliefs, returned: ReturnedFields<'_>) -> Opt
     }
 }
 
-/// Why what came can't be of a screen that is so believed.
+/// The fault of data that contradicts the belief.
 #[inline(never)]
 fn fault_of(places: &CellBeliefs, returned: ReturnedFields<'_>) -> HeardFault
     ensures { result ≡ (if list_any (is_nowhere cell_count (beliefs_held places.now 0 places.now)) returned.entry then NoSuchField else Contradiction) }
@@ -161,7 +161,7 @@ pub(crate) fn check_fields(places: &CellBeliefs, inbound: &Inbound<'_>) -> Resul
     }
 }
 
-/// What becomes of the field whose attribute stands at a place, if it isn't returned.
+/// What becomes of the field whose attribute is at a place, if it isn't returned.
 fn if_unreturned(places: &CellBeliefs, place: usize, knowledge: TextKnowledge) -> Unreturned
     requires { place < cell_count }
     ensures { result ≡ unreturned_of knowledge (drop (place + 1) places.now ++ places.now) }

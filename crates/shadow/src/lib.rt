@@ -7,7 +7,7 @@
 //! let mut write = Vec::new(alloc);
 //! shadow.paint(&mut write, &wanted)?;
 //!
-//! // The terminal's positive response has come. Here WHO? stands at row 1 and column 2, and a field behind its attribute at 6.
+//! // The terminal's positive response has come. Here WHO? is at row 1 and column 2, and a field after its attribute at 6.
 //! shadow.sent_taken(&read_command(write.as_slice())?);
 //! assert!(rt; shadow.known(Addr::first().next()) == Some(Cell::Char(0xe6)));
 //!

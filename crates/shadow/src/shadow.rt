@@ -79,7 +79,7 @@ impl Shadow {
     }
 
     /// Takes in what a terminal sent. A refusal changes nothing. It is `NoSuchField` where an address is the first of no
-    /// field, else `Contradiction` where what came can't be, by what is believed.
+    /// field, else `Contradiction` if the belief contradicts the data.
     pub fn heard(&mut self, inbound: &Inbound<'_>) -> Result<(), HeardFault>
         ensures { let heard = heard cell_count self.old inbound.now in
             MatchResult result (λ _. heard ≡ Ok self.new) (λ fault. (heard ≡ Err fault) × (self.new ≡ self.old)) }
