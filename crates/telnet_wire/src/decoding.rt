@@ -187,7 +187,7 @@ impl Model for Decoder {
 impl Decoder {
     /// A decoder before the first byte, for records of at most `limit` bytes of data, each 255 counted once.
     ///
-    /// It makes all the room that the decoder will need, and answers [`WireFault::Memory`] if memory is refused.
+    /// It makes all the room that the decoder will need, and answers [`WireFault::Memory`] where that can't be had.
     pub fn new(alloc: Global, limit: usize) -> Result<Decoder, WireFault>
         ensures made { IfOk result (λ d. d ≡ fresh limit) }
         ensures memory { IfErr result (λ fault. fault ≡ Memory) }

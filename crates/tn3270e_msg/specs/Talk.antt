@@ -22,7 +22,7 @@ use Rattle.tn3270e_msg.specs.Device.{device_text}
 use Rattle.tn3270e_msg.specs.Lu.{is_lu}
 use Rattle.tn3270e_msg.specs.Message.{Message, Name, Connect, SendType, TypeRequest, TypeIs, TypeReject, FunRequest, FunIs, Says, HasFault, name_part}
 
--- the input, as the tables name it
+-- what comes, as the tables name it
 pub data Comes : Type 0 where
   Will : Comes  -- WILL TN3270E, and so on
   Wont : Comes

@@ -131,7 +131,7 @@ impl fmt::Display for HeadFault {
 
 impl Error for HeadFault {}
 
-/// The header that a record begins with, and the body after it (RFC 1647, section 8.1).
+/// The header that a record begins with, and the body behind it (RFC 1647, section 8.1).
 ///
 /// It is refused by [`HeadFault::Short`] where there are fewer than five bytes, and by
 /// [`HeadFault::BadFlag`] where the type has no such RESPONSE-FLAG. A type without a name and any
