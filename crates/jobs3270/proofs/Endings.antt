@@ -32,27 +32,28 @@ too_many first old new bytes buffer count before now within long =
     (let n = length-take-le count buffer within in let m = length-append bytes (take count buffer) in omega arith)
 
 -- where there is no input nothing is written
-pub without_input : (task : Task) (fault : Fault) (in_old in_new : Input) (out : Output) → RefusesInput fault in_old in_new → HasCause task (Some fault) in_old in_new out out
-without_input task InputNotRead in_old in_new out why = (why, record { kept = Keeps-refl out.got; sound = refl })
-without_input task (Panels fault) in_old in_new out why = absurd why
-without_input task (Pool fault) in_old in_new out why = absurd why
-without_input task (NotHex line) in_old in_new out why = absurd why
-without_input task (NotUnderstood line) in_old in_new out why = absurd why
-without_input task NoMemory in_old in_new out why = record { kept = Keeps-refl out.got; sound = refl }
-without_input task SocketFailed in_old in_new out why = absurd why
-without_input task TurnsOver in_old in_new out why = absurd why
-without_input task OutputFailed in_old in_new out why = absurd why
+pub without_input : (task : Task) (Came : List ℕ → Type 0) (fault : Fault) (in_old in_new : Input) (out : Output) → RefusesInput fault in_old in_new
+    → ((bytes : List ℕ) × Came bytes) → HasCause task Came (Some fault) in_old in_new out out
+without_input task Came InputNotRead in_old in_new out why came = (why, came, record { kept = Keeps-refl out.got; sound = refl })
+without_input task Came (Panels fault) in_old in_new out why came = absurd why
+without_input task Came (Pool fault) in_old in_new out why came = absurd why
+without_input task Came (NotHex line) in_old in_new out why came = absurd why
+without_input task Came (NotUnderstood line) in_old in_new out why came = absurd why
+without_input task Came NoMemory in_old in_new out why came = (came, record { kept = Keeps-refl out.got; sound = refl })
+without_input task Came SocketFailed in_old in_new out why came = absurd why
+without_input task Came TurnsOver in_old in_new out why came = absurd why
+without_input task Came OutputFailed in_old in_new out why came = absurd why
 
 -- where there is one the run ends as its printing does
-pub with_input : (task : Task) (ending : Option Fault) (in_old in_new : Input) (out_old out_new : Output) (text : List ℕ) → IsInput in_old in_new text
-    → EndsPrinting task ending text out_old out_new → HasCause task ending in_old in_new out_old out_new
-with_input task None in_old in_new out_old out_new text is ends = (text, is, ends)
-with_input task (Some InputNotRead) in_old in_new out_old out_new text is ends = absurd ends
-with_input task (Some (Panels fault)) in_old in_new out_old out_new text is ends = (text, is, ends)
-with_input task (Some (Pool fault)) in_old in_new out_old out_new text is ends = (text, is, ends)
-with_input task (Some (NotHex line)) in_old in_new out_old out_new text is ends = (text, is, ends)
-with_input task (Some (NotUnderstood line)) in_old in_new out_old out_new text is ends = (text, is, ends)
-with_input task (Some NoMemory) in_old in_new out_old out_new text is ends = ends
-with_input task (Some SocketFailed) in_old in_new out_old out_new text is ends = absurd ends
-with_input task (Some TurnsOver) in_old in_new out_old out_new text is ends = absurd ends
-with_input task (Some OutputFailed) in_old in_new out_old out_new text is ends = (text, is, ends)
+pub with_input : (task : Task) (Came : List ℕ → Type 0) (ending : Option Fault) (in_old in_new : Input) (out_old out_new : Output) (text : List ℕ) → IsInput in_old in_new text
+    → Came text → EndsPrinting task ending text out_old out_new → HasCause task Came ending in_old in_new out_old out_new
+with_input task Came None in_old in_new out_old out_new text is came ends = (text, is, came, ends)
+with_input task Came (Some InputNotRead) in_old in_new out_old out_new text is came ends = absurd ends
+with_input task Came (Some (Panels fault)) in_old in_new out_old out_new text is came ends = (text, is, came, ends)
+with_input task Came (Some (Pool fault)) in_old in_new out_old out_new text is came ends = (text, is, came, ends)
+with_input task Came (Some (NotHex line)) in_old in_new out_old out_new text is came ends = (text, is, came, ends)
+with_input task Came (Some (NotUnderstood line)) in_old in_new out_old out_new text is came ends = (text, is, came, ends)
+with_input task Came (Some NoMemory) in_old in_new out_old out_new text is came ends = ((text, came), ends)
+with_input task Came (Some SocketFailed) in_old in_new out_old out_new text is came ends = absurd ends
+with_input task Came (Some TurnsOver) in_old in_new out_old out_new text is came ends = absurd ends
+with_input task Came (Some OutputFailed) in_old in_new out_old out_new text is came ends = (text, is, came, ends)

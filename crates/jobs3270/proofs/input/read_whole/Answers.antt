@@ -1,9 +1,12 @@
-use Rattle.std.proofs.Common.{rules, ◌≡◌, ◌<◌, ◌+◌, ◌-◌, ◌^◌, ◌∙◌, ◌++◌, ap, subst, sym, ℕ, List, min, length, take, arith}
+use Rattle.std.proofs.Common.{rules, ◌≡◌, ◌<◌, ◌+◌, ◌-◌, ◌^◌, ◌∙◌, ◌++◌, [], ap, refl, subst, sym, string_bytes, ℕ, List, min, length, take, arith}
 use Rattle.std.proofs.KnownBytes.{Consumes-kept, Consumes-trans}
 use Rattle.std.specs.Io.KnownBytes.{Consumes}
 use Rattle.jobs3270.specs.Counting.{more}
 use Rattle.jobs3270.specs.Runs.{read_failed}
 use Rattle.jobs3270.proofs.Endings.{reads_more, refused, too_many}
+use Rattle.jobs3270.proofs.ReadsOn.{in_pieces, reads_nothing, reads_on, refused_in_pieces, text_in_pieces}
+use Rattle.std.proofs.lemmas.List.{append-nil}
+use Rattle.jobs3270.specs.declared.streams.Answer.TheVariants.{Gave, Ended, Interrupted, Failed}
 use Rattle.jobs3270.proofs.input.read_whole.Goals.{in-Gave+else-saturating_add-gt-MOST_BYTES+else-is_err, in-Interrupted}
 use Rattle.jobs3270.proofs.input.read_whole.Goals as goal
 
@@ -46,6 +49,8 @@ loop-preserved g c =
             consumed = subst (λ (bytes : List ℕ). Consumes first.left new.left bytes) (sym items)
                 (Consumes-trans first.left (g.I.Source.seen c.loop.input).left new.left c.loop.bytes.items came before.consumed w.in-Gave.ensures.bytes);
             within = search rules;
+            pieces = reads_on g.I.Source.gave 4096 c.loop.counter c.args.input.now c.loop.input c.read.new.self c.loop.bytes.items came _ (Gave w.in-Gave.count)
+                before.pieces w.in-Gave.ensures.gave items;
             not_read = λ none. absurd (omega arith);
             read = λ some. reads_more _ _ _ c.loop.counter before.not_read before.read c.read.ensures.counts.reads;
             ends = w.in-Gave.ensures.counts.ends ∙ before.ends;
@@ -54,9 +59,36 @@ loop-preserved g c =
       | in-Interrupted w ↦ record {
         consumed = search rules;
         within = search rules;
+        pieces = reads_nothing g.I.Source.gave 4096 c.loop.counter c.args.input.now c.loop.input c.read.new.self c.loop.bytes.items Interrupted
+            before.pieces w.in-Interrupted.ensures.gave;
         not_read = λ none. absurd (omega arith);
         read = λ some. reads_more _ _ _ c.loop.counter before.not_read before.read c.read.ensures.counts.reads;
         ends = w.in-Interrupted.ensures.counts.ends ∙ before.ends;
         failures = w.in-Interrupted.ensures.counts.failures ∙ before.failures;
       }
     ]
+
+pub returns-in-Ended-clause-pieces : goal.returns-in-Ended-clause-pieces
+returns-in-Ended-clause-pieces g c =
+    text_in_pieces g.I.Source.gave string_bytes c.text_of.result c.args.input.now c.read.new.self c.loop.bytes.items c.text_of.ensures.text
+    (in_pieces g.I.Source.gave c.loop.counter c.args.input.now c.loop.input c.read.new.self c.loop.bytes.items [] c.loop.bytes.items Ended c.loop-test.true
+    c.loop.invariant.pieces c.in-Ended.ensures.gave (sym (append-nil c.loop.bytes.items)))
+
+pub returns-in-Ended-clause-refused_in_pieces : goal.returns-in-Ended-clause-refused_in_pieces
+returns-in-Ended-clause-refused_in_pieces g c =
+    refused_in_pieces g.I.Source.gave c.text_of.result c.args.input.now c.read.new.self c.loop.bytes.items
+    (in_pieces g.I.Source.gave c.loop.counter c.args.input.now c.loop.input c.read.new.self c.loop.bytes.items [] c.loop.bytes.items Ended c.loop-test.true
+    c.loop.invariant.pieces c.in-Ended.ensures.gave (sym (append-nil c.loop.bytes.items)))
+
+pub returns-then-saturating_add-gt-MOST_BYTES-clause-refused_in_pieces : goal.returns-then-saturating_add-gt-MOST_BYTES-clause-refused_in_pieces
+returns-then-saturating_add-gt-MOST_BYTES-clause-refused_in_pieces g c =
+    let came = take c.in-Gave.count c.read.new.buffer in
+    (c.loop.bytes.items ++ came,
+    in_pieces g.I.Source.gave c.loop.counter c.args.input.now c.loop.input c.read.new.self c.loop.bytes.items came _ (Gave c.in-Gave.count) c.loop-test.true
+    c.loop.invariant.pieces c.in-Gave.ensures.gave refl)
+
+pub returns-in-Failed-clause-refused_in_pieces : goal.returns-in-Failed-clause-refused_in_pieces
+returns-in-Failed-clause-refused_in_pieces g c =
+    (c.loop.bytes.items,
+    in_pieces g.I.Source.gave c.loop.counter c.args.input.now c.loop.input c.read.new.self c.loop.bytes.items [] c.loop.bytes.items Failed c.loop-test.true
+    c.loop.invariant.pieces c.in-Failed.ensures.gave (sym (append-nil c.loop.bytes.items)))
