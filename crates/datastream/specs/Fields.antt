@@ -1,5 +1,5 @@
 -- The fields of a screen as a list (GA23-0059-07 on fields): each once, in the order of their attributes' addresses.
-use Rattle.std.specs.Prelude.{ℕ, ◌+◌, List, [], ◌∷◌, ◌++◌}
+use Rattle.std.specs.Prelude.{◌≡◌, ℕ, ◌+◌, List, [], ◌∷◌, ◌++◌}
 use Rattle.codes3270.specs.declared.attribute.Cell.{Cell}
 use Rattle.codes3270.specs.declared.attribute.Cell.TheVariants.{Char, Attr}
 use Rattle.codes3270.specs.declared.attribute.Attr.{Attr as Attribute}
@@ -22,3 +22,10 @@ fields_from whole at (Attr attribute ∷ rest) =
 -- all fields of these cells
 abbrev pub fields : List Cell → List Field
 fields cells = fields_from cells 0 cells
+
+-- a formatted screen has fields
+abbrev pub IsFormatted : List Cell → Type 0
+IsFormatted cells = fields cells ≡ [] → ⊥
+
+abbrev pub IsUnformatted : List Cell → Type 0
+IsUnformatted cells = fields cells ≡ []

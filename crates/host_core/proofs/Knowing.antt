@@ -104,3 +104,35 @@ pub text_is_characters : ToldCanBeStored → (shadow : Shadow) (field : Field) (
 unfolding told_of
 text_is_characters law shadow field text stored known =
     chars_of_known law shadow (field.extent.first - 1) (field_at (field.extent.first - 1) shadow) text stored refl known
+
+-- the field that is believed to be there, and its text
+pub known_there : ToldCanBeStored → (shadow : Shadow) (field : Field) (place : ℕ) (known : Option Belief) → CanBeStored shadow → place + 1 ≡ field.extent.first → field_at place shadow ≡ known
+    → IsSettled known → (belief : Belief) × (field_at place shadow ≡ Some belief) × (text_known shadow field ≡ Some (without_nulls (value_of belief.fact)))
+known_there law shadow field place None stored at there settled = absurd (cc)
+known_there law shadow field place (Some belief) stored at there settled =
+    let only = λ (other : Belief) (is : field_at place shadow ≡ Some other).
+    let same : belief ≡ other = cc in
+    ap (λ (b : Belief). without_nulls (value_of b.fact)) same in (
+      belief,
+      there,
+      sym (text_is_known law shadow field place (without_nulls (value_of belief.fact)) stored at (rw there settled) only),
+    )
+
+unsettled_told : (fact : Fact) → is_settled_fact fact ≡ false → told fact ≡ None
+unsettled_told (Fact.Exact value) unsettled = absurd (cc)
+unsettled_told (Fact.ExactOrNulls value) unsettled = refl
+unsettled_told (Fact.Text value) unsettled = absurd (cc)
+unsettled_told (Fact.TextOrNulls value) unsettled = refl
+unsettled_told (Fact.Any known) unsettled = refl
+
+told_of_unsettled : (known : Option Belief) → option_map_or (λ belief. is_settled_fact belief.fact) known false ≡ false → told_of known ≡ None
+unfolding told_of
+told_of_unsettled None unsettled = refl
+told_of_unsettled (Some belief) unsettled = unsettled_told belief.fact unsettled
+
+-- of a field in doubt no text is known
+pub unknown_there : (shadow : Shadow) (field : Field) (place : ℕ) → place + 1 ≡ field.extent.first
+    → option_map_or (λ belief. is_settled_fact belief.fact) (field_at place shadow) false ≡ false → text_known shadow field ≡ None
+unfolding told_of
+unknown_there shadow field place at unsettled =
+    ap (λ (p : ℕ). told_of (field_at p shadow)) (attribute_of place field.extent.first at) ∙ told_of_unsettled (field_at place shadow) unsettled

@@ -18,3 +18,4 @@ pub mod RecordsTaken
 pub mod TalkSteps
 pub mod ByteSteps
 pub mod Outcomes
+pub mod Learned

@@ -1,14 +1,17 @@
 -- What acts and notes make of a connection is what they make of its line, and they leave the talk.
-use Rattle.std.proofs.Common.{◌≡◌, ℕ, Bool, true, false, List, Option, Some, None, Vec, refl, ap, sym, subst, ◌∙◌, if◌then◌else◌}
+use Rattle.std.proofs.Common.{◌≡◌, ◌≤◌, ℕ, Bool, true, false, List, Option, Some, None, Vec, refl, ap, sym, subst, ◌∙◌, if◌then◌else◌, arith}
+use Rattle.std.specs.Prelude.{length}
+use Rattle.std.specs.Vec.{vec_capacity}
 use Rattle.std.specs.declared.alloc.Global.{Global}
 use Rattle.telnet_wire.specs.Reading.{Rest}
 use Rattle.tn3270e_msg.specs.HostTable.{granted}
 use Rattle.host_core.specs.Acts.{Act, Sent, acted, act_on, done, may_act}
 use Rattle.host_core.specs.Application.{Application}
-use Rattle.host_core.specs.Does.{Does}
-use Rattle.host_core.specs.Keeps.{DoesOn}
-use Rattle.host_core.specs.Lines.{service_of}
+use Rattle.host_core.specs.Does.{Does, MayWantMemory}
+use Rattle.host_core.specs.Keeps.{DoesOn, WantsMemory}
+use Rattle.host_core.specs.Lines.{IsSoundLine, service_of}
 use Rattle.host_core.specs.Notes.{noted, noted_as, may_note}
+use Rattle.host_core.specs.Rooms.{out_room, room_for}
 use Rattle.host_core.specs.Session.{Conn, is_agreed}
 use Rattle.host_core.specs.State.{Service, Line, lu_of}
 use Rattle.host_core.specs.declared.acted.Acted.{Acted}
@@ -24,12 +27,31 @@ open_line rest conn out = record { service = Service.Open rest conn; out = out }
 same_line : (rest : Rest) (one other : Conn) (bytes others : List ℕ) → one ≡ other → bytes ≡ others → open_line rest one bytes ≡ open_line rest other others
 same_line rest one other bytes others conns outs = ap (λ c. open_line rest c bytes) conns ∙ ap (open_line rest other) outs
 
-on_line : (what : Option Sent) (rest : Rest) (old new : Conn) (before after : Vec ℕ Global) (answered : Acted) → DoesOn what old before answered new after
+-- more room does as well
+pub still_sound : (service : Kept) (before after : Vec ℕ Global) → vec_capacity before ≤ vec_capacity after → IsSoundLine service before → IsSoundLine service after
+still_sound kept.Free before after more sound = tt
+still_sound (kept.Open held) before after more sound =
+    let roomy = sound.1 in
+    (sound.0, omega (arith, more, roomy))
+still_sound (kept.Closed cause) before after more sound = tt
+
+-- the room of a connection that is open
+pub room_of_open : (service : Kept) (box : Box Connection Global) (out : Vec ℕ Global) → service ≡ kept.Open box → IsSoundLine service out → out_room ≤ vec_capacity out
+room_of_open service box out is sound = (subst (λ (s : Kept). IsSoundLine s out) is sound).1
+
+-- a connection has kept its room, so that this didn't do either
+may_want : (sent : Sent) (rest : Rest) (old : Conn) (before : Vec ℕ Global) → out_room ≤ vec_capacity before → WantsMemory sent old before → MayWantMemory sent (open_line rest old before.items)
+may_want sent rest old before roomy (WantsMemory.room short) =
+    let len = before.ok.0 in
+    MayWantMemory.room (omega (arith, roomy, short, len))
+may_want sent rest old before roomy (WantsMemory.values changes) = MayWantMemory.values changes
+
+on_line : (what : Option Sent) (rest : Rest) (old new : Conn) (before after : Vec ℕ Global) (answered : Acted) → out_room ≤ vec_capacity before → DoesOn what old before answered new after
     → Does what (open_line rest old before.items) answered (open_line rest new after.items)
-on_line None rest old new before after answered does = (does.0, same_line rest new old after.items before.items does.1 does.2)
-on_line (Some sent) rest old new before after answer.Sent does = same_line rest new sent.conn after.items _ does.conn does.bytes
-on_line (Some sent) rest old new before after answer.Memory does = same_line rest new old after.items before.items does.0 does.1
-on_line (Some sent) rest old new before after answer.Nothing does = absurd does
+on_line None rest old new before after answered roomy does = (does.0, same_line rest new old after.items before.items does.1 does.2)
+on_line (Some sent) rest old new before after answer.Sent roomy does = same_line rest new sent.conn after.items _ does.conn does.bytes
+on_line (Some sent) rest old new before after answer.Memory roomy does = (same_line rest new old after.items before.items does.0 does.1, may_want sent rest old before roomy does.2)
+on_line (Some sent) rest old new before after answer.Nothing roomy does = absurd does
 
 -- the line of an open connection, from its parts
 line_is : (now : Line) (service : Kept) (box : Box Connection Global) (old : Connection) (before : Vec ℕ Global)
@@ -40,12 +62,12 @@ line_is now service box old before view is value =
     ∙ ap (λ (x : Connection). open_line x.decoder.rest x.session before.items) (sym value)
 
 pub does_line : (what : Service → Option Sent) (now : Line) (service : Kept) (box : Box Connection Global) (old : Connection) (new : Conn) (before after : Vec ℕ Global) (answered : Acted)
-    → now ≡ record { service = service_of service; out = before.items } → service ≡ kept.Open box → old ≡ box.value
+    → now ≡ record { service = service_of service; out = before.items } → IsSoundLine service before → service ≡ kept.Open box → old ≡ box.value
     → DoesOn (what (Service.Open old.decoder.rest old.session)) old.session before answered new after
     → Does (what now.service) now answered (open_line old.decoder.rest new after.items)
-does_line what now service box old new before after answered view is value does =
+does_line what now service box old new before after answered view sound is value does =
     subst (λ (l : Line). Does (what l.service) l answered (open_line old.decoder.rest new after.items)) (sym (line_is now service box old before view is value))
-    (on_line (what (Service.Open old.decoder.rest old.session)) old.decoder.rest old.session new before after answered does)
+    (on_line (what (Service.Open old.decoder.rest old.session)) old.decoder.rest old.session new before after answered (subst (λ (s : Kept). IsSoundLine s before) is sound).1 does)
 
 -- ---- the talk stays
 

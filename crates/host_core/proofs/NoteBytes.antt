@@ -1,5 +1,5 @@
 -- A note, as it is written.
-use Rattle.std.proofs.Common.{◌≡◌, ◌≤◌, ◌-◌, ◌+◌, ℕ, zero, suc, true, List, [], ◌∷◌, ◌++◌, length, map, take, drop, Some, refl, ap, sym, ◌∙◌, arith, append_assoc, inl, inr, Vec}
+use Rattle.std.proofs.Common.{◌≡◌, ◌≤◌, ◌-◌, ◌+◌, ◌*◌, ℕ, zero, suc, true, List, [], ◌∷◌, ◌++◌, length, map, take, drop, Some, refl, ap, sym, ◌∙◌, arith, append_assoc, inl, inr, Vec}
 use Rattle.std.specs.Prelude.{replicate, All, slice_index_or}
 use Rattle.std.specs.List.{list_all}
 use Rattle.std.specs.declared.alloc.Global.{Global}
@@ -21,7 +21,7 @@ use Rattle.host_core.proofs.Notes.{IsStored, few_taken, graphic_stored, orders_p
 use Rattle.host_core.specs.Application.{IsShape, message_place}
 use Rattle.host_core.specs.Keeps.{command_in, pending_in, IsPlainWrite, IsSentOn}
 use Rattle.host_core.specs.Notes.{IsNoteText, in_cells, note_orders, note_command, noted_as}
-use Rattle.host_core.specs.Rooms.{record_room}
+use Rattle.host_core.specs.Rooms.{note_room}
 use Rattle.host_core.specs.Says.{written}
 use Rattle.host_core.specs.Session.{Conn, Pending}
 use Rattle.host_core.specs.declared.pending.Pending.TheVariants as unanswered
@@ -116,7 +116,7 @@ note_length shape text =
     ap (λ (some : List ℕ). length some) (orders_bytes-chars (in_cells (shape.columns - 1) text)) in
     omega arith
 
-pub note_record_fits : (number : ℕ) (text sent : List ℕ) → sent ≡ write_record number Write quiet (note_orders model_2 text) → length sent ≤ record_room
+pub note_record_fits : (number : ℕ) (text sent : List ℕ) → sent ≡ write_record number Write quiet (note_orders model_2 text) → 2 * length sent + 2 ≤ note_room
 note_record_fits number text sent begun =
     let whole : length sent ≡ length (write_record number Write quiet (note_orders model_2 text)) = ap (λ (some : List ℕ). length some) begun in
     let few = note_length model_2 text in

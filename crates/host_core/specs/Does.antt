@@ -1,9 +1,11 @@
 -- What acts and notes make of a connection number (our profile).
-use Rattle.std.specs.Prelude.{◌≡◌, ℕ, List, [], ◌∷◌, ◌++◌, Option, Some, None}
+use Rattle.std.specs.Prelude.{◌≡◌, ◌≢◌, ◌<◌, ◌+◌, ℕ, List, [], ◌∷◌, ◌++◌, length, Option, Some, None}
+use Rattle.panels.specs.Screen.{Values}
 use Rattle.telnet_wire.specs.Items.{sent_bytes}
 use Rattle.host_core.specs.Acts.{Sent, acted}
 use Rattle.host_core.specs.Application.{Application}
 use Rattle.host_core.specs.Notes.{noted}
+use Rattle.host_core.specs.Rooms.{out_room, room_for}
 use Rattle.host_core.specs.Says.{item_sent}
 use Rattle.host_core.specs.Session.{Conn}
 use Rattle.host_core.specs.State.{Service, Line}
@@ -31,9 +33,20 @@ with_conn conn (Service.Closed cause) = Service.Closed cause
 abbrev pub sent_on : Sent → Line → Line
 sent_on sent line = record { service = with_conn sent.conn line.service; out = line.out ++ sent_bytes (item_sent sent.message ∷ []) }
 
--- where there is something to do it is done, or memory is refused and nothing has changed
+abbrev pub values_of : Service → Values
+values_of Service.Free = []
+values_of (Service.Open rest conn) = conn.values
+values_of (Service.Closed cause) = []
+
+-- Memory can be wanted for two reasons alone: the bytes that wait leave less of the room that a connection keeps than the command
+-- may take, or the values of fields change.
+pub data MayWantMemory (sent : Sent) (old : Line) : Type 0 where
+  room : out_room < length old.out + room_for sent.message → MayWantMemory sent old
+  values : sent.conn.values ≢ values_of old.service → MayWantMemory sent old
+
+-- If there is something to do it is done, or memory is refused and nothing has changed.
 abbrev pub Does : Option Sent → Line → Acted → Line → Type 0
 Does None old answer new = (answer ≡ Nothing) × (new ≡ old)
 Does (Some sent) old IsSent new = new ≡ sent_on sent old
-Does (Some sent) old Memory new = new ≡ old
+Does (Some sent) old Memory new = (new ≡ old) × MayWantMemory sent old
 Does (Some sent) old Nothing new = ⊥

@@ -1,9 +1,11 @@
 -- What feeding a host says (our profile).
-use Rattle.std.specs.Prelude.{◌≡◌, ◌<◌, ◌≤◌, ◌⊎◌, ⊤, ℕ, List, take, length}
+use Rattle.std.specs.Prelude.{◌≡◌, ◌<◌, ◌≤◌, ◌+◌, ◌⊎◌, ⊤, ℕ, List, take, length}
+use Rattle.tn3270e_msg.specs.Writing.{reply_room}
 use Rattle.tn3270e_msg.specs.declared.cause.Fed.{Fed}
 use Rattle.tn3270e_msg.specs.declared.cause.Stop.{Stop}
 use Rattle.tn3270e_msg.specs.declared.cause.Stop.TheVariants.{Going, Memory, Closed as ClosedStop}
 use Rattle.host_core.specs.Bytes.{Counter, TakesBytes}
+use Rattle.host_core.specs.Rooms.{out_room}
 use Rattle.host_core.specs.State.{Service, Host, line_at, with_line}
 
 abbrev pub IsOpen : Service → Type 0
@@ -11,11 +13,11 @@ IsOpen Service.Free = ⊥
 IsOpen (Service.Open rest conn) = ⊤
 IsOpen (Service.Closed cause) = ⊥
 
--- where it stopped: at the end of the bytes, or at once where the number is free; before a byte for which there was no room; or
--- closed
+-- where it stopped: at the end of the bytes, or at once if the number is free; before a byte, if the bytes that wait leave less of
+-- the room that a connection keeps than a reply may take; or closed
 abbrev pub StopsFor : Stop → Counter → List ℕ → ℕ → Counter → Type 0
 StopsFor Going old bytes taken new = ((taken ≡ length bytes) × IsOpen new.line.service) ⊎ ((taken ≡ 0) × (old.line.service ≡ Service.Free))
-StopsFor Memory old bytes taken new = (taken < length bytes) × IsOpen new.line.service
+StopsFor Memory old bytes taken new = (taken < length bytes) × IsOpen new.line.service × (out_room < length new.line.out + reply_room)
 StopsFor (ClosedStop cause) old bytes taken new = new.line.service ≡ Service.Closed cause
 
 -- it took so many of the bytes and stands as after these

@@ -1,5 +1,6 @@
 -- How the host keeps a connection, and its steps as the code takes them (our profile); only private contracts and proofs need it.
-use Rattle.std.specs.Prelude.{◌≡◌, ◌≢◌, ◌==◌, ◌↔◌, ⊤, ℕ, true, List, [], ◌∷◌, ◌++◌, drop, Option, Some, None, map, Vec, if◌then◌else◌}
+use Rattle.std.specs.Prelude.{◌≡◌, ◌≢◌, ◌==◌, ◌↔◌, ◌<◌, ◌+◌, ⊤, ℕ, true, List, [], ◌∷◌, ◌++◌, drop, Option, Some, None, map, unwrap_or, Vec, vec_len, if◌then◌else◌}
+use Rattle.std.specs.Vec.{vec_capacity}
 use Rattle.std.specs.declared.alloc.Global.{Global}
 use Rattle.codes3270.specs.WriteControl.{wcc_of}
 use Rattle.datastream.specs.Grammar.{CommandParts, IsCommand, codes_of}
@@ -9,6 +10,7 @@ use Rattle.datastream.specs.declared.command_code.CommandCode.TheVariants.{Write
 use Rattle.lu_pool.specs.Asking.{answer_to}
 use Rattle.lu_pool.specs.Pool.{Holds}
 use Rattle.lu_pool.specs.declared.entry.Entry.{Entry}
+use Rattle.panels.specs.Screen.{Values}
 use Rattle.shadow.specs.Stores.{is_plain}
 use Rattle.telnet_wire.specs.Held.{Held, IsRunning as Running}
 use Rattle.telnet_wire.specs.Items.{WireItem, sent_bytes}
@@ -20,6 +22,7 @@ use Rattle.tn3270e_msg.specs.declared.cause.Stop.TheVariants.{Going, Memory, Clo
 use Rattle.host_core.specs.Acts.{Act, Sent}
 use Rattle.host_core.specs.Bytes.{Counter, service_after}
 use Rattle.host_core.specs.Items.{TakesItem}
+use Rattle.host_core.specs.Rooms.{command_room, read_buffer_room, room_for}
 use Rattle.host_core.specs.Says.{item_sent}
 use Rattle.host_core.specs.Session.{Conn, Pending}
 use Rattle.host_core.specs.Takes.{Step, pool_after}
@@ -109,18 +112,34 @@ cause_of (ClosedStop cause) = Some cause
 
 -- ---- acts
 
-abbrev pub act_of : Chosen → Act
-act_of chosen.Read = Act.Read
-act_of (chosen.Show panel message keep values) = Act.Show panel message keep values
+-- the act that was chosen, while fields have these values; a panel is shown with these, unless they change
+abbrev pub act_of : Values → Chosen → Act
+act_of values chosen.Read = Act.Read
+act_of values (chosen.Show panel message keep changed) = Act.Show panel message keep (unwrap_or changed values)
+
+-- the most bytes that its command takes
+abbrev pub room_of : Chosen → ℕ
+room_of chosen.Read = read_buffer_room
+room_of (chosen.Show panel message keep changed) = command_room
+
+-- it sets other values than these
+abbrev pub ChangesValues : Values → Act → Type 0
+ChangesValues values Act.Read = ⊥
+ChangesValues values (Act.Show panel message keep new) = new ≢ values
 
 -- something was sent: its bytes stand behind what is there
 pub record IsSentOn (sent : Sent) (before after : Vec ℕ Global) (new : Conn) : Type 0 where
   pub conn : new ≡ sent.conn
   pub bytes : after.items ≡ before.items ++ sent_bytes (item_sent sent.message ∷ [])
 
--- there is nothing to do, or it is done, or memory is refused; then nothing has changed
+-- why memory was wanted: the room didn't do, or values changed
+pub data WantsMemory (sent : Sent) (old : Conn) (before : Vec ℕ Global) : Type 0 where
+  room : vec_capacity before < vec_len before + room_for sent.message → WantsMemory sent old before
+  values : sent.conn.values ≢ old.values → WantsMemory sent old before
+
+-- There is nothing to do, or it is done, or memory is refused; then nothing has changed.
 abbrev pub DoesOn : Option Sent → Conn → Vec ℕ Global → Acted → Conn → Vec ℕ Global → Type 0
 DoesOn None old before answer new after = (answer ≡ Nothing) × (new ≡ old) × (after.items ≡ before.items)
 DoesOn (Some sent) old before IsSent new after = IsSentOn sent before after new
-DoesOn (Some sent) old before NoMemory new after = (new ≡ old) × (after.items ≡ before.items)
+DoesOn (Some sent) old before NoMemory new after = (new ≡ old) × (after.items ≡ before.items) × WantsMemory sent old before
 DoesOn (Some sent) old before Nothing new after = ⊥

@@ -21,3 +21,4 @@ pub mod Keeps
 pub mod Parts
 pub mod Lines
 pub mod Choices
+pub mod Learning

@@ -1,8 +1,11 @@
 -- How the host keeps a connection number (our profile); only private contracts and proofs need it.
-use Rattle.std.specs.Prelude.{◌≡◌, ⊤, ℕ, Option, Some, None}
+use Rattle.std.specs.Prelude.{◌≡◌, ◌≤◌, ⊤, ℕ, Option, Some, None, Vec}
+use Rattle.std.specs.Vec.{vec_capacity}
+use Rattle.std.specs.declared.alloc.Global.{Global}
 use Rattle.std.specs.Borrow.{Bor}
 use Rattle.shadow.specs.Belief.{Shadow}
 use Rattle.host_core.specs.Keeps.{IsRunning}
+use Rattle.host_core.specs.Rooms.{out_room}
 use Rattle.host_core.specs.Sound.{IsShown}
 use Rattle.host_core.specs.State.{Service, shadow_of}
 use Rattle.host_core.specs.declared.line.Service.{Service as Kept}
@@ -14,11 +17,11 @@ service_of kept.Free = Service.Free
 service_of (kept.Open held) = Service.Open held.value.decoder.rest held.value.session
 service_of (kept.Closed cause) = Service.Closed cause
 
--- its decoder may go on while it is open
-abbrev pub IsSoundLine : Kept → Type 0
-IsSoundLine kept.Free = ⊤
-IsSoundLine (kept.Open held) = IsRunning held.value.decoder
-IsSoundLine (kept.Closed cause) = ⊤
+-- while it is open its decoder may go on, and it has the room for output
+abbrev pub IsSoundLine : Kept → Vec ℕ Global → Type 0
+IsSoundLine kept.Free out = ⊤
+IsSoundLine (kept.Open held) out = IsRunning held.value.decoder × (out_room ≤ vec_capacity out)
+IsSoundLine (kept.Closed cause) out = ⊤
 
 -- what is shown stays a panel that there is
 abbrev pub StaysShown : Service → Service → Type 0

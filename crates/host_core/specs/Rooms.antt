@@ -1,8 +1,10 @@
--- How much room the largest command takes (our profile), so that it can be made before one is sent.
+-- How much room what a host sends takes, in bytes (our profile), so that it can be made before it is sent.
 use Rattle.std.specs.Prelude.{ℕ, ◌+◌, ◌*◌, ◌≤◌, vec_len, Vec}
 use Rattle.std.specs.Vec.{vec_capacity}
 use Rattle.std.specs.declared.alloc.Global.{Global}
-use Rattle.codes3270.specs.Size.{cell_count}
+use Rattle.codes3270.specs.Size.{cell_count, model_2}
+use Rattle.tn3270e_msg.specs.Writing.{reply_room}
+use Rattle.host_core.specs.Messages.{ToTerminal}
 
 -- the most bytes of a record that a host sends: a header, and a paint with five bytes for each cell
 abbrev pub record_room : ℕ
@@ -12,6 +14,25 @@ record_room = 5 + (6 + 5 * cell_count)
 abbrev pub command_room : ℕ
 command_room = 2 * record_room + 2
 
--- a command fits behind what is there
-abbrev pub HasRoomForCommand : Vec ℕ Global → Type 0
-HasRoomForCommand out = vec_len out + command_room ≤ vec_capacity out
+-- a Read Buffer: a header and a code, with each byte doubled, and its end
+abbrev pub read_buffer_room : ℕ
+read_buffer_room = 2 * (5 + 1) + 2
+
+-- a note: a header, the beginning of a Write and the last row behind its attribute, with each byte doubled, and its end
+abbrev pub note_room : ℕ
+note_room = 2 * (5 + (4 + model_2.columns)) + 2
+
+-- the most bytes that each takes on the wire
+abbrev pub room_for : ToTerminal → ℕ
+room_for (ToTerminal.TalksDown saying) = reply_room
+room_for (ToTerminal.Paint number wanted over) = command_room
+room_for (ToTerminal.ReadBuffer number) = read_buffer_room
+room_for (ToTerminal.Note number command) = note_room
+
+-- The room for output that a connection has from its beginning on: the largest command, and 1,024 bytes beside it.
+abbrev pub out_room : ℕ
+out_room = 1024 + command_room
+
+-- so many bytes fit behind what is there
+abbrev pub HasRoomFor : ℕ → Vec ℕ Global → Type 0
+HasRoomFor room out = vec_len out + room ≤ vec_capacity out

@@ -19,6 +19,10 @@ use Rattle.host_core.specs.declared.serving.Served.TheVariants.{Lost, Memory}
 
 -- ---- reads and writes
 
+-- the length of the buffer that a turn reads into, in bytes
+abbrev pub read_room : ℕ
+read_room = 4096
+
 -- the bytes that a read got
 abbrev pub bytes_got : LinkRead → List ℕ → List ℕ
 bytes_got (read.Got count) buffer = take count buffer
@@ -105,11 +109,11 @@ ReceiveCounts conn (Some count) ends ends_after failures failures_after = Stays 
 ReceiveCounts conn None ends ends_after failures failures_after =
     (Rises conn ends ends_after × Stays failures failures_after) ⊎ (Stays ends ends_after × Rises conn failures failures_after)
 
-module _ {L : Type 0} (gave : L → ℕ → List ℕ → LinkRead → L → Type 0) (took : L → ℕ → List ℕ → LinkWrite → L → Type 0) where
-  -- a read of the connection: None where that is over
+module _ {L : Type 0} (gave : L → ℕ → ℕ → List ℕ → LinkRead → L → Type 0) (took : L → ℕ → List ℕ → LinkWrite → L → Type 0) where
+  -- a read of the connection into a buffer: None if the connection is over
   abbrev pub Receives : ℕ → L → List ℕ → Option ℕ → L → Type 0
-  Receives conn old buffer (Some count) new = (got : LinkRead) × gave old conn (take count buffer) got new × GoesOn got × (count ≤ length buffer)
-  Receives conn old buffer None new = (got : LinkRead) × gave old conn [] got new × (GoesOn got → ⊥)
+  Receives conn old buffer (Some count) new = (got : LinkRead) × gave old conn (length buffer) (take count buffer) got new × GoesOn got × (count ≤ length buffer)
+  Receives conn old buffer None new = (got : LinkRead) × gave old conn (length buffer) [] got new × (GoesOn got → ⊥)
 
   -- What there is to send is handed to one write, and what that took is dropped; where there is nothing to send, nothing is written.
   pub data SendsOut (conn : ℕ) (host : Host) (old : L) (new_host : Host) (new : L) : Type 0 where
@@ -117,12 +121,13 @@ module _ {L : Type 0} (gave : L → ℕ → List ℕ → LinkRead → L → Type
     handed : (wrote : LinkWrite) → (line_at conn host).out ≢ [] → took old conn (line_at conn host).out wrote new → new_host ≡ sent_from conn (taken_by wrote) host
         → SendsOut conn host old new_host new
 
-  -- One read; where that ended or failed nothing else. Else the host is fed what came, acts, and sends; want of memory ends the turn.
+  -- One read, into a buffer of read_room bytes; if it ended or failed nothing else. Else the host is fed what was read, acts, and
+  -- sends; want of memory ends the turn.
   pub data Serves (conn : ℕ) (host : Host) (old : L) (answer : Served) (new_host : Host) (new : L) : Type 0 where
-    over : (got : LinkRead) → gave old conn [] got new → (GoesOn got → ⊥) → new_host ≡ host → answer ≡ Lost → Serves conn host old answer new_host new
-    starved : (got : LinkRead) (bytes : List ℕ) → gave old conn bytes got new → GoesOn got → Responds conn host bytes false new_host
+    over : (got : LinkRead) → gave old conn read_room [] got new → (GoesOn got → ⊥) → new_host ≡ host → answer ≡ Lost → Serves conn host old answer new_host new
+    starved : (got : LinkRead) (bytes : List ℕ) → gave old conn read_room bytes got new → GoesOn got → Responds conn host bytes false new_host
         → answer ≡ Memory → Serves conn host old answer new_host new
-    served : (got : LinkRead) (bytes : List ℕ) (mid : Host) (links : L) → gave old conn bytes got links → GoesOn got → Responds conn host bytes true mid
+    served : (got : LinkRead) (bytes : List ℕ) (mid : Host) (links : L) → gave old conn read_room bytes got links → GoesOn got → Responds conn host bytes true mid
         → SendsOut conn mid links new_host new → answer ≢ Memory → Serves conn host old answer new_host new
 
 -- A connection is lost where its count of ends or failures rose, or its phase is closed: exactly there, unless memory ended the turn.

@@ -1,21 +1,23 @@
 //! What a host does in its turn.
-ghost use Rattle.std.specs.Prelude.{◌≡◌, ◌<◌, ℕ, false, IfOk, length};
+ghost use Rattle.std.specs.Prelude.{◌≡◌, ◌≤◌, ◌<◌, ℕ, false, IfOk, OnErr, length, unwrap_or};
 ghost use Rattle.std.specs.List.{list_any};
+ghost use Rattle.std.specs.Vec.{vec_capacity};
 ghost use Rattle.codes3270.specs.declared.attention.Aid.TheVariants.{Clear};
 ghost use Rattle.panels.specs.Keys.{IsKey};
+ghost use Rattle.panels.specs.Screen.{Values as FieldValues};
 ghost use Rattle.panels.specs.declared.message.Message.TheVariants.{Fresh};
 ghost use Rattle.panels.specs.declared.next.Next.TheVariants.{Go};
 ghost use Rattle.host_core.specs.Acts.{Act as Doing, act_on, acted, after_key, gone_to, is_in_doubt as in_doubt, is_to_be_read, led, may_act, repeated, target_or, unless_missing};
 ghost use Rattle.host_core.specs.Application.{application_of};
 ghost use Rattle.host_core.specs.Choices.{CanBeDone};
-ghost use Rattle.host_core.specs.Keeps.{DoesOn, act_of};
+ghost use Rattle.host_core.specs.Keeps.{ChangesValues, DoesOn, act_of, room_of};
 ghost use Rattle.host_core.specs.Session.{is_agreed};
 
 use crate::acted::Acted;
 use crate::learning::{first_missing, is_in_doubt, learned};
 use crate::occasion::Occasion;
 use crate::pending::Pending;
-use crate::room::COMMAND_ROOM;
+use crate::room::{COMMAND_ROOM, READ_BUFFER_ROOM};
 use crate::sending::panel_in;
 use crate::session::Session;
 use crate::turn::Turn;
@@ -25,12 +27,24 @@ use shadow::Shadow;
 use telnet_wire::Memory;
 use tn3270e_msg::HostState;
 
-/// What the host may do: read the whole screen, or show a panel with a message and these values of fields.
+/// What the host may do: read the whole screen, or show a panel with a message.
 #[derive(Drop)]
 pub(crate) enum Act {
     Read,
-    /// The panel, its message, whether fields keep what the operator left in them, and the values.
-    Show(usize, Message, bool, Values),
+    /// The panel, its message, whether fields keep what the operator left in them, and the values of fields if they change.
+    Show(usize, Message, bool, Option<Values>),
+}
+
+impl Act {
+    /// The most bytes that its command takes.
+    fn room(&self) -> usize
+        ensures { result ≡ room_of self.now }
+    {
+        match self {
+            Act::Read => READ_BUFFER_ROOM,
+            Act::Show(_, _, _, _) => COMMAND_ROOM,
+        }
+    }
 }
 
 /// Whether some field is in doubt.
@@ -52,12 +66,18 @@ fn repeated(message: Message) -> Message
 }
 
 /// A target is shown anew; but while a required field is missing, the panel is shown again.
-fn unless_missing(panel: usize, target: usize, values: Values, missing: Option<usize>) -> Act
-    ensures { act_of result ≡ unless_missing panel target values missing }
+fn unless_missing(
+    panel: usize,
+    target: usize,
+    changed: Option<Values>,
+    missing: Option<usize>,
+) -> Act
+    ensures act { (values : FieldValues) → act_of values result ≡ unless_missing panel target (unwrap_or changed values) missing }
+    ensures can_be_done { (count : ℕ) → panel < count → target < count → CanBeDone count result }
 {
     match missing {
-        None => Act::Show(target, Message::Fresh, false, values),
-        Some(field) => Act::Show(panel, Message::Required(field), true, values),
+        None => Act::Show(target, Message::Fresh, false, changed),
+        Some(field) => Act::Show(panel, Message::Required(field), true, changed),
     }
 }
 
@@ -111,72 +131,66 @@ impl Session {
         }
     }
 
-    /// Where a key leads with these values; one without a target isn't active.
-    fn led(&self, panels: &PanelSet, values: Values, aid: &Aid, next: Next) -> Act
+    /// Where a key leads once these values are set, if they change; a key without a target isn't active.
+    fn led(&self, panels: &PanelSet, changed: Option<Values>, aid: &Aid, next: Next) -> Act
         requires panel { self.now.panel < length panels.now.panels }
         requires target { (target : ℕ) → next ≡ Go target → target < length panels.now.panels }
-        ensures act { act_of result ≡ led (application_of panels.now) self.now values aid.now next }
+        ensures act { act_of self.now.values result ≡ led (application_of panels.now) self.now (unwrap_or changed self.now.values) aid.now next }
         ensures can_be_done { CanBeDone (length panels.now.panels) result }
     {
         match next {
-            Next::Again => Act::Show(self.panel, Message::KeyNotActive, true, values),
+            Next::Again => Act::Show(self.panel, Message::KeyNotActive, true, changed),
             Next::Go(target) => {
-                let missing = self.missing_after(panels, &values, aid);
-                unless_missing(self.panel, target, values, missing)
+                let missing = self.missing_after(panels, self.values_once(&changed), aid);
+                unless_missing(self.panel, target, changed, missing)
             }
         }
     }
 
     /// What is shown after Clear: the target of that key, else the same panel.
-    fn after_clear(&self, panels: &PanelSet) -> Result<Act, Memory>
+    fn after_clear(&self, panels: &PanelSet) -> Act
         requires { self.now.panel < length panels.now.panels }
-        ensures act { IfOk result (λ act. act_of act ≡ Doing.Show (target_or self.now.panel ((application_of panels.now).next self.now.panel Clear)) Fresh false self.now.values) }
-        ensures can_be_done { IfOk result (CanBeDone (length panels.now.panels)) }
+        ensures act { act_of self.now.values result ≡ Doing.Show (target_or self.now.panel ((application_of panels.now).next self.now.panel Clear)) Fresh false self.now.values }
+        ensures can_be_done { CanBeDone (length panels.now.panels) result }
     {
         let target = match next_of(panels, self.panel, &Aid::Clear) {
             Next::Again => self.panel,
             Next::Go(target) => target,
         };
-        Ok(Act::Show(target, Message::Fresh, false, self.values.clone()?))
+        Act::Show(target, Message::Fresh, false, None)
     }
 
-    /// What is done after a key.
+    /// What is done after a key. It takes memory if that changes the values of fields.
     fn after_key(&self, panels: &PanelSet, aid: &Aid, buffered: bool) -> Result<Act, Memory>
         requires { self.now.panel < length panels.now.panels }
-        ensures act { IfOk result (λ act. act_of act ≡ after_key (application_of panels.now) self.now aid.now buffered) }
+        ensures act { IfOk result (λ act. act_of self.now.values act ≡ after_key (application_of panels.now) self.now aid.now buffered) }
         ensures can_be_done { IfOk result (CanBeDone (length panels.now.panels)) }
+        ensures memory { OnErr result (ChangesValues self.now.values (after_key (application_of panels.now) self.now aid.now buffered)) }
     {
         if let Aid::Clear = aid {
-            return self.after_clear(panels);
+            return Ok(self.after_clear(panels));
         }
         if self.is_to_be_read(panels, aid) && !buffered {
             return Ok(Act::Read);
         }
+        panels.panels_are_sound();
         let fields = panel_in(panels, self.panel).fields();
-        let values = learned(&self.shadow, fields, &self.values, self.alloc)?;
-        Ok(self.led(panels, values, aid, next_of(panels, self.panel, aid)))
+        let changed = learned(&self.shadow, fields, &self.values, self.alloc)?;
+        Ok(self.led(panels, changed, aid, next_of(panels, self.panel, aid)))
     }
 
-    /// What is done: at agreement the first panel is shown, after a refusal the same panel, whole. It takes memory for the values.
+    /// What is done: at agreement the first panel is shown, after a refusal the same panel, whole. It takes memory if that changes
+    /// the values of fields.
     pub(crate) fn act_on(&self, panels: &PanelSet) -> Result<Act, Memory>
         requires { self.now.panel < length panels.now.panels }
-        ensures act { IfOk result (λ act. act_of act ≡ act_on (application_of panels.now) self.now self.now.occasion) }
+        ensures act { IfOk result (λ act. act_of self.now.values act ≡ act_on (application_of panels.now) self.now self.now.occasion) }
         ensures can_be_done { IfOk result (CanBeDone (length panels.now.panels)) }
+        ensures memory { OnErr result (ChangesValues self.now.values (act_on (application_of panels.now) self.now self.now.occasion)) }
     {
         match self.occasion {
-            Occasion::Agreement => Ok(Act::Show(
-                panels.start(),
-                Message::Fresh,
-                false,
-                self.values.clone()?,
-            )),
+            Occasion::Agreement => Ok(Act::Show(panels.start(), Message::Fresh, false, None)),
             Occasion::Key(aid, buffered) => self.after_key(panels, &aid, buffered),
-            Occasion::Refusal => Ok(Act::Show(
-                self.panel,
-                repeated(self.message),
-                false,
-                self.values.clone()?,
-            )),
+            Occasion::Refusal => Ok(Act::Show(self.panel, repeated(self.message), false, None)),
         }
     }
 
@@ -208,25 +222,27 @@ impl Session {
         }
     }
 
-    /// Sends what there is to do in its turn.
+    /// Sends what there is to do in its turn. Nothing has changed if memory is refused, which is asked for if the values of fields
+    /// change, or if the command may not fit into the room that is there.
     pub(crate) fn act(&mut self, panels: &PanelSet, out: &mut Vec<u8>) -> Acted
         requires panel { self.old.panel < length panels.now.panels }
         ensures acted { DoesOn (acted (application_of panels.now) self.old) self.old out.old result self.new out.new }
         ensures panel { self.new.panel < length panels.now.panels }
+        ensures capacity { vec_capacity out.old ≤ vec_capacity out.new }
     {
         if !self.may_act() {
             return Acted::Nothing;
         }
-        if out.reserve(COMMAND_ROOM).is_err() {
-            return Acted::Memory;
-        }
         let Ok(act) = self.act_on(panels) else {
             return Acted::Memory;
         };
+        if out.reserve(act.room()).is_err() {
+            return Acted::Memory;
+        }
         match act {
             Act::Read => self.read(out),
-            Act::Show(panel, message, keep, values) => {
-                self.show(panels, panel, message, keep, values, out);
+            Act::Show(panel, message, keep, changed) => {
+                self.show(panels, panel, message, keep, changed, out);
             }
         }
         Acted::Sent

@@ -1,10 +1,12 @@
 //! How a connection that is open takes bytes.
-ghost use Rattle.std.specs.Prelude.{◌≡◌, None};
+ghost use Rattle.std.specs.Prelude.{◌≡◌, ◌≤◌, None};
+ghost use Rattle.std.specs.Vec.{vec_capacity};
 ghost use Rattle.tn3270e_msg.specs.HostTable.{granted};
 ghost use Rattle.host_core.specs.Bytes.{TakesByte};
 ghost use Rattle.host_core.specs.Feeds.{Feeds};
 ghost use Rattle.host_core.specs.Keeps.{IsLeft, IsRunning, OthersHold, cause_of, claim, counter_of};
 ghost use Rattle.tn3270e_msg.specs.Writing.{HasRoomForReply};
+ghost use Rattle.host_core.specs.Rooms.{out_room};
 ghost use Rattle.host_core.specs.Sound.{HoldsJust};
 
 use crate::session::Session;
@@ -13,8 +15,8 @@ use lu_pool::Pool;
 use telnet_wire::{Decoder, Step};
 use tn3270e_msg::{Cause, Fed, REPLY_ROOM, Stop};
 
-/// Takes bytes as long as the connection with this number is open and there is room for a reply. Where it closes its LU is free
-/// at once.
+/// Takes bytes as long as the connection with this number is open and there is room for a reply. If it closes, its LU is free at
+/// once.
 pub(crate) fn feed_open(
     pool: &mut Pool,
     number: usize,
@@ -24,12 +26,14 @@ pub(crate) fn feed_open(
     bytes: &[u8],
 ) -> Fed
     requires running { IsRunning decoder.old }
+    requires room { out_room ≤ vec_capacity out.old }
     requires holder { HoldsJust number pool.old (granted session.old.talk.state) }
     ensures fed { Feeds number (counter_of pool.old decoder.old session.old None out.old) bytes.now result (counter_of pool.new decoder.new session.new (cause_of result.stop) out.new) }
     ensures holds { HoldsJust number pool.new (claim (cause_of result.stop) session.new) }
     ensures others { OthersHold number pool.old pool.new }
     ensures panel { session.new.panel ≡ session.old.panel }
     ensures left { IsLeft (cause_of result.stop) decoder.new }
+    ensures capacity { vec_capacity out.old ≤ vec_capacity out.new }
 {
     for (taken, byte) in bytes.iter().enumerate() {
         if out.reserve(REPLY_ROOM).is_err() {
@@ -68,6 +72,7 @@ fn take_byte(
     ensures others { OthersHold number pool.old pool.new }
     ensures panel { session.new.panel ≡ session.old.panel }
     ensures left { IsLeft result decoder.new }
+    ensures capacity { vec_capacity out.old ≤ vec_capacity out.new }
 {
     match decoder.push(byte) {
         Err(_) => {

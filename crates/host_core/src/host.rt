@@ -86,8 +86,8 @@ impl Host {
         })
     }
 
-    /// Begins a connection on a number that is free, and offers TN3270E there. All the room that a session needs is made here;
-    /// where memory is refused nothing has changed.
+    /// Begins a connection on a number that is free, and offers TN3270E there. All the room that a session needs is made here, also
+    /// that for [`OUT_ROOM`](crate::OUT_ROOM) bytes of output, which the connection keeps. If memory is refused nothing has changed.
     pub fn open(&mut self, conn: usize) -> Result<(), Memory>
         requires number { conn < most_connections }
         requires free { phase_of (service_at conn self.old) ≡ phase.Free }
@@ -101,8 +101,9 @@ impl Host {
     /// Takes bytes that came on a connection, up to one for which there is no room or that closes the connection, and answers
     /// how many it took and what stopped it. It stands as after these.
     ///
-    /// Room for the largest reply is made before a byte is taken. A number that is free takes nothing and answers Going, one
-    /// that has closed takes nothing and answers its cause. An LU of a connection that closes is free at once.
+    /// Room for the largest reply, 516 bytes, is made before a byte is taken. So memory is needed only if the bytes that wait to be
+    /// sent leave less of the connection's room. A number that is free takes nothing and answers Going, one that has closed takes
+    /// nothing and answers its cause. An LU of a connection that closes is free at once.
     pub fn feed(&mut self, conn: usize, bytes: &[u8]) -> Fed
         requires number { conn < most_connections }
         ensures fed { Feeds conn (counter_at conn self.old) bytes.now result (counter_at conn self.new) }
@@ -111,8 +112,11 @@ impl Host {
         self.lines[conn].feed(&mut self.pool, conn, bytes)
     }
 
-    /// Does what the host does in its turn: it reads the screen, or shows a panel. Nothing where it isn't the host's turn, a
-    /// command waits for its answer, or the ends haven't agreed.
+    /// Does what the host does in its turn: it reads the screen, or shows a panel. Nothing if it isn't the host's turn, a command
+    /// waits for its answer, or the ends haven't agreed.
+    ///
+    /// Memory is needed only if the bytes that wait to be sent leave less of the connection's room than the largest such command
+    /// takes (1,024 bytes may wait), or if a field's known text isn't its value yet, so that values change.
     pub fn act(&mut self, conn: usize) -> Acted
         requires number { conn < most_connections }
         ensures acted { Does (acted_by (application_of self.old.panels) (service_at conn self.old)) (line_at conn self.old) result (line_at conn self.new) }
@@ -122,8 +126,9 @@ impl Host {
     }
 
     /// Sends a note, of at most 131 characters of code page 037, into the last row while the operator has the turn. What is
-    /// longer than the row's room is cut. Nothing where it isn't the terminal's turn, a command waits for its answer, or the ends
-    /// haven't agreed.
+    /// longer than the row's room is cut. Nothing if it isn't the terminal's turn, a command waits for its answer, or the ends
+    /// haven't agreed. Memory is needed only if the bytes that wait to be sent leave less of the connection's room than the largest
+    /// note takes, 180 bytes.
     pub fn note(&mut self, conn: usize, text: &[u8]) -> Acted
         requires number { conn < most_connections }
         requires text { IsNoteText text.now }

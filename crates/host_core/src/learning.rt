@@ -1,13 +1,16 @@
 //! What is known of a panel's fields.
-ghost use Rattle.std.specs.Prelude.{◌≡◌, ◌++◌, ◌∷◌, [], false, Option, Some, IfOk, IfSome, OnOk, option_map, if◌then◌else◌, not, ◌==◌};
+ghost use Rattle.std.specs.Prelude.{◌≡◌, ◌≢◌, ◌++◌, ◌∷◌, [], false, Option, Some, IfOk, IfSome, OnOk, OnErr, bytes_eq, option_map, unwrap_or, if◌then◌else◌, not, ◌==◌};
+ghost use Rattle.std.specs.List.{list_any};
 ghost use Rattle.std.specs.Option.{option_map_or};
 ghost use Rattle.datastream.specs.Inbound.{without_nulls};
 ghost use Rattle.panels.specs.Characters.{AreCharacters};
+ghost use Rattle.panels.specs.Panel.{HaveNumbersApart};
 ghost use Rattle.panels.specs.Values.{set_if};
 ghost use Rattle.shadow.specs.Asked.{field_at, kind_of, value_of};
 ghost use Rattle.shadow.specs.Belief.{Belief};
 ghost use Rattle.shadow.specs.Storable.{CanBeStored};
 ghost use Rattle.host_core.specs.Acts.{first_missing, is_blank, is_in_doubt, is_missing, is_settled_fact, learned, text_known};
+ghost use Rattle.host_core.specs.Learning.{SetsNothing, is_news};
 
 use codes3270::Addr;
 use panels::{Field, Values};
@@ -84,21 +87,57 @@ fn learn(values: &mut Values, shadow: &Shadow, field: &Field, alloc: Global) -> 
     }
 }
 
-/// The values of fields, once the known texts are set.
+/// Whether the text of a field is known and isn't the field's value yet.
+fn is_news(values: &Values, shadow: &Shadow, field: &Field) -> bool
+    requires { CanBeStored shadow.now }
+    ensures news { result ≡ is_news shadow.now values.now field.now }
+    ensures same { result ≡ false → SetsNothing shadow.now values.now field.now }
+{
+    what_is_believed_can_be_stored();
+    let attr = field.extent.attr();
+    if !is_settled(shadow.fact(attr)) {
+        return false;
+    }
+    match values.get(field.number) {
+        Some(value) => !shadow.is_text(attr, value),
+        None => true,
+    }
+}
+
+/// Whether there is such a field.
+fn is_some_news(values: &Values, shadow: &Shadow, fields: &[Field]) -> bool
+    requires { CanBeStored shadow.now }
+    ensures news { result ≡ list_any (is_news shadow.now values.now) fields.now }
+    ensures same { result ≡ false → learned shadow.now fields.now values.now ≡ values.now }
+{
+    for field in fields {
+        if is_news(values, shadow, field) {
+            return true;
+        }
+    }
+    false
+}
+
+/// The values of fields, once the known texts are set; None if that changes none. It takes memory if it changes some.
 pub(crate) fn learned(
     shadow: &Shadow,
     fields: &[Field],
     values: &Values,
     alloc: Global,
-) -> Result<Values, Memory>
-    requires { CanBeStored shadow.now }
-    ensures { IfOk result (λ known. known ≡ learned shadow.now fields.now values.now) }
+) -> Result<Option<Values>, Memory>
+    requires stored { CanBeStored shadow.now }
+    requires numbers { HaveNumbersApart fields.now }
+    ensures values { IfOk result (λ changed. unwrap_or changed values.now ≡ learned shadow.now fields.now values.now) }
+    ensures memory { OnErr result (learned shadow.now fields.now values.now ≢ values.now) }
 {
+    if !is_some_news(values, shadow, fields) {
+        return Ok(None);
+    }
     let mut known = values.clone()?;
     for field in fields {
         learn(&mut known, shadow, field, alloc)?;
     }
-    Ok(known)
+    Ok(Some(known))
 }
 
 /// Whether a value is blanks, or nothing.

@@ -1,5 +1,6 @@
 //! A connection number, as the host keeps it.
 ghost use Rattle.std.specs.Prelude.{◌≡◌, ◌≤◌, ◌<◌, ℕ, length, drop, None, OnOk, OnErr};
+ghost use Rattle.std.specs.Vec.{vec_capacity};
 ghost use Rattle.host_core.specs.Application.{application_of};
 ghost use Rattle.tn3270e_msg.specs.HostTable.{granted};
 ghost use Rattle.host_core.specs.Does.{Does, acted_by, noted_by};
@@ -7,6 +8,7 @@ ghost use Rattle.host_core.specs.Feeds.{Feeds};
 ghost use Rattle.host_core.specs.Keeps.{IsRunning, IsLeft, OthersHold, counter_of, cause_of, claim};
 ghost use Rattle.host_core.specs.Lines.{StaysShown, ShadowIf};
 ghost use Rattle.host_core.specs.Notes.{IsNoteText};
+ghost use Rattle.host_core.specs.Rooms.{out_room};
 ghost use Rattle.host_core.specs.Sound.{HoldsJust, IsShown};
 ghost use Rattle.host_core.specs.State.Service.{Free};
 ghost use Rattle.host_core.specs.State.{opened, unused, lu_of, phase_of, turn_of, pending_of};
@@ -14,7 +16,7 @@ ghost use Rattle.host_core.specs.State.{opened, unused, lu_of, phase_of, turn_of
 use crate::acted::Acted;
 use crate::feeding::feed_open;
 use crate::phase::Phase;
-use crate::room::COMMAND_ROOM;
+use crate::room::OUT_ROOM;
 use crate::session::Session;
 use crate::turn::Turn;
 use lu_pool::Pool;
@@ -39,12 +41,14 @@ impl Connection {
     /// Takes bytes that came, as the host does.
     fn feed(&mut self, pool: &mut Pool, number: usize, out: &mut Vec<u8>, bytes: &[u8]) -> Fed
         requires running { IsRunning self.old.decoder }
+        requires room { out_room ≤ vec_capacity out.old }
         requires holder { HoldsJust number pool.old (granted self.old.session.talk.state) }
         ensures fed { Feeds number (counter_of pool.old self.old.decoder self.old.session None out.old) bytes.now result (counter_of pool.new self.new.decoder self.new.session (cause_of result.stop) out.new) }
         ensures holds { HoldsJust number pool.new (claim (cause_of result.stop) self.new.session) }
         ensures others { OthersHold number pool.old pool.new }
         ensures panel { self.new.session.panel ≡ self.old.session.panel }
         ensures left { IsLeft (cause_of result.stop) self.new.decoder }
+        ensures capacity { vec_capacity out.old ≤ vec_capacity out.new }
     {
         feed_open(
             pool,
@@ -80,7 +84,7 @@ impl Model for Line {
 
     ghost view = { λ line. record { service = service_of line.service; out = line.out.items } };
 
-    ghost invariant = { λ line. IsSoundLine line.service };
+    ghost invariant = { λ line. IsSoundLine line.service line.out };
 }
 
 impl Line {
@@ -94,7 +98,7 @@ impl Line {
         }
     }
 
-    /// Begins a connection, and offers TN3270E there. All the room that a session needs is made here.
+    /// Begins a connection, and offers TN3270E there. All the room that a session needs is made here, and that for output.
     pub(crate) fn open(&mut self) -> Result<(), Memory>
         requires free { self.old.service ≡ Free }
         ensures opened { OnOk result (self.new ≡ opened) }
@@ -108,7 +112,7 @@ impl Line {
         };
         let session = Session::new(alloc)?;
         let connection = Box::new(alloc, Connection { decoder, session })?;
-        self.out.reserve(COMMAND_ROOM)?;
+        self.out.reserve(OUT_ROOM)?;
         self.out.clear();
         put_option(&mut self.out, Verb::Do, TN3270E).unwrap();
         self.service = Service::Open(connection);

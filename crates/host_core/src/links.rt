@@ -28,9 +28,10 @@ pub enum LinkWrite {
 
 /// The connections that a host serves, by their numbers.
 ///
-/// Contracts see how often each ended or failed, and what an implementation says of its reads and writes (`gave`, `took`): over
-/// the links before, the number, the bytes got or handed in, the answer, and the links after. An implementation whose count is
-/// at its last value answers NotNow instead.
+/// Contracts see how often each ended or failed, and what an implementation says of its reads and writes. `gave` relates the
+/// links before a read, the number, the length of the buffer, the bytes got, the answer, and the links after. `took` relates the
+/// links before a write, the number, the bytes handed in, the answer, and the links after. An implementation whose count is at
+/// its last value answers NotNow instead.
 pub trait Links {
     ghost use Rattle.host_core.specs.declared.links.LinkRead.{LinkRead};
     ghost use Rattle.host_core.specs.declared.links.LinkWrite.{LinkWrite};
@@ -39,15 +40,15 @@ pub trait Links {
 
     ghost failures: { Self → ℕ → ℕ };
 
-    ghost gave: { Self → ℕ → List ℕ → LinkRead → Self → Type 0 };
+    ghost gave: { Self → ℕ → ℕ → List ℕ → LinkRead → Self → Type 0 };
 
     ghost took: { Self → ℕ → List ℕ → LinkWrite → Self → Type 0 };
 
-    /// Reads once.
+    /// Reads once, into this buffer.
     fn read(&mut self, conn: usize, buffer: &mut [u8]) -> LinkRead
         ensures within { GotWithin result (length buffer.new) }
         ensures counts { ReadCounts conn result (ends self.old) (ends self.new) (failures self.old) (failures self.new) }
-        ensures gave { gave self.old conn (bytes_got result buffer.new) result self.new };
+        ensures gave { gave self.old conn (length buffer.new) (bytes_got result buffer.new) result self.new };
 
     /// Hands bytes over to be sent, once.
     fn write(&mut self, conn: usize, bytes: &[u8]) -> LinkWrite

@@ -6,13 +6,13 @@ ghost use Rattle.codes3270.specs.Storable.{is_storable};
 ghost use Rattle.host_core.specs.Application.{message_place};
 ghost use Rattle.host_core.specs.Keeps.{DoesOn, IsSentOn};
 ghost use Rattle.host_core.specs.Notes.{IsNoteText, may_note, note_command, noted, noted_as};
-ghost use Rattle.host_core.specs.Rooms.{HasRoomForCommand};
+ghost use Rattle.host_core.specs.Rooms.{HasRoomFor, note_room};
 ghost use Rattle.host_core.specs.Says.{written};
 ghost use Rattle.host_core.specs.Session.{is_agreed};
 
 use crate::acted::Acted;
 use crate::pending::Pending;
-use crate::room::COMMAND_ROOM;
+use crate::room::NOTE_ROOM;
 use crate::sending::{begin_record, send_record};
 use crate::session::Session;
 use crate::turn::Turn;
@@ -117,8 +117,9 @@ impl Session {
     /// Sends a note.
     fn send_note(&mut self, text: &[u8], out: &mut Vec<u8>)
         requires text { IsNoteText text.now }
-        requires room { HasRoomForCommand out.old }
-        ensures { IsSentOn (noted_as text.now self.old) out.old out.new self.new }
+        requires room { HasRoomFor note_room out.old }
+        ensures sent { IsSentOn (noted_as text.now self.old) out.old out.new self.new }
+        ensures capacity { vec_capacity out.old ≤ vec_capacity out.new }
     {
         begin_record(&mut self.sent, ALWAYS_RESPONSE, self.number);
         put_note(&mut self.sent, text);
@@ -132,11 +133,12 @@ impl Session {
         requires text { IsNoteText text.now }
         ensures noted { DoesOn (noted text.now self.old) self.old out.old result self.new out.new }
         ensures panel { self.new.panel ≡ self.old.panel }
+        ensures capacity { vec_capacity out.old ≤ vec_capacity out.new }
     {
         if !self.may_note() {
             return Acted::Nothing;
         }
-        if out.reserve(COMMAND_ROOM).is_err() {
+        if out.reserve(NOTE_ROOM).is_err() {
             return Acted::Memory;
         }
         self.send_note(text, out);

@@ -1,5 +1,5 @@
 //! The commands that are sent in the host's turn.
-ghost use Rattle.std.specs.Prelude.{◌≡◌, ◌<◌, ◌≤◌, ◌+◌, ◌++◌, ◌∷◌, [], ℕ, true, false, length, vec_len};
+ghost use Rattle.std.specs.Prelude.{◌≡◌, ◌<◌, ◌≤◌, ◌+◌, ◌*◌, ◌++◌, ◌∷◌, [], ℕ, true, false, length, unwrap_or, vec_len};
 ghost use Rattle.std.specs.Vec.{vec_capacity};
 ghost use Rattle.codes3270.specs.declared.attention.Aid.{Aid as Identifier};
 ghost use Rattle.datastream.specs.Wanted.{IsScreen};
@@ -12,7 +12,7 @@ ghost use Rattle.tn3270e_msg.specs.Header.{always_response, spelling};
 ghost use Rattle.host_core.specs.Acts.{Act as Doing, done, wanted_by};
 ghost use Rattle.host_core.specs.Application.{Application, application_of, panel_at};
 ghost use Rattle.host_core.specs.Keeps.{IsSentOn};
-ghost use Rattle.host_core.specs.Rooms.{HasRoomForCommand, record_room};
+ghost use Rattle.host_core.specs.Rooms.{HasRoomFor, command_room, read_buffer_room, record_room};
 ghost use Rattle.host_core.specs.Says.{command_header, read_buffer_command, written};
 
 use crate::laws::{panels_are_shown, what_is_shown_fits};
@@ -58,9 +58,9 @@ pub(crate) fn begin_record(bytes: &mut Vec<u8>, flag: u8, number: u16)
 
 /// Sends the record of a command.
 pub(crate) fn send_record(bytes: &[u8], out: &mut Vec<u8>)
-    requires room { HasRoomForCommand out.old }
-    requires short { length bytes.now ≤ record_room }
-    ensures { out.new.items ≡ out.old.items ++ sent_bytes (Record bytes.now ∷ []) }
+    requires { HasRoomFor (2 * length bytes.now + 2) out.old }
+    ensures sent { out.new.items ≡ out.old.items ++ sent_bytes (Record bytes.now ∷ []) }
+    ensures capacity { vec_capacity out.old ≤ vec_capacity out.new }
 {
     put_record(out, bytes).unwrap();
 }
@@ -81,11 +81,21 @@ fn put_read_buffer(bytes: &mut Vec<u8>)
     writer.begin(CommandCode::ReadBuffer, none).unwrap();
 }
 
+/// Sets the values of fields, if they change.
+fn set_if_changed(values: &mut Values, changed: Option<Values>)
+    ensures { values.new ≡ unwrap_or changed values.old }
+{
+    if let Some(changed) = changed {
+        *values = changed;
+    }
+}
+
 impl Session {
     /// Asks for the whole screen.
     pub(crate) fn read(&mut self, out: &mut Vec<u8>)
-        requires { HasRoomForCommand out.old }
-        ensures { (app : Application) → IsSentOn (done app self.old Doing.Read) out.old out.new self.new }
+        requires { HasRoomFor read_buffer_room out.old }
+        ensures sent { (app : Application) → IsSentOn (done app self.old Doing.Read) out.old out.new self.new }
+        ensures capacity { vec_capacity out.old ≤ vec_capacity out.new }
     {
         begin_record(&mut self.sent, ERROR_RESPONSE, self.number);
         put_read_buffer(&mut self.sent);
@@ -144,24 +154,36 @@ impl Session {
         let _cursor = wanted.cursor();
     }
 
-    /// Shows a panel with a message and these values of fields.
+    /// The values of fields, once these are set if they change.
+    pub(crate) fn values_once<'a>(&'a self, changed: &'a Option<Values>) -> &'a Values
+        ensures { result.now ≡ unwrap_or changed.now self.now.values }
+    {
+        match changed {
+            Some(values) => values,
+            None => &self.values,
+        }
+    }
+
+    /// Shows a panel with a message and the values of fields, which are set first if they change.
     pub(crate) fn show(
         &mut self,
         panels: &PanelSet,
         panel: usize,
         message: Message,
         keep: bool,
-        values: Values,
+        changed: Option<Values>,
         out: &mut Vec<u8>,
     )
         requires panel { panel < length panels.now.panels }
         requires fresh { message ≡ Fresh → keep ≡ false }
-        requires room { HasRoomForCommand out.old }
-        ensures { IsSentOn (done (application_of panels.now) self.old (Doing.Show panel message keep values)) out.old out.new self.new }
+        requires room { HasRoomFor command_room out.old }
+        ensures sent { IsSentOn (done (application_of panels.now) self.old (Doing.Show panel message keep (unwrap_or changed self.old.values))) out.old out.new self.new }
+        ensures capacity { vec_capacity out.old ≤ vec_capacity out.new }
     {
         what_is_wanted_is_painted();
         let mut wanted = Wanted::filled(Want::Keep);
-        self.put_fitting(&mut wanted, panels, panel, message, keep, &values);
+        let values = self.values_once(&changed);
+        self.put_fitting(&mut wanted, panels, panel, message, keep, values);
         begin_record(&mut self.sent, ALWAYS_RESPONSE, self.number);
         self.shadow.paint(&mut self.sent, &wanted).unwrap();
         send_record(self.sent.as_slice(), out);
@@ -170,6 +192,6 @@ impl Session {
         self.number = next_seq(self.number);
         self.panel = panel;
         self.message = message;
-        self.values = values;
+        set_if_changed(&mut self.values, changed);
     }
 }

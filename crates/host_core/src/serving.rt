@@ -9,8 +9,8 @@ use crate::host::Host;
 use crate::links::{LinkRead, LinkWrite, Links};
 use tn3270e_msg::Stop;
 
-/// How many bytes one read asks for.
-const READ_ROOM: usize = 4096;
+/// The length of the buffer that [`serve_turn`] reads into, in bytes (our profile).
+pub const READ_ROOM: usize = 4096;
 
 /// What became of a connection in a turn.
 #[derive(Clone, Copy, Debug, PartialEq, Eq)]
@@ -43,7 +43,7 @@ fn send_out<L: Links>(host: &mut Host, links: &mut L, conn: usize) -> bool
     }
 }
 
-/// Reads a connection once, and answers how many bytes came; None where it is over.
+/// Reads a connection once, and answers how many bytes came; None if it is over.
 fn receive<L: Links>(links: &mut L, conn: usize, buffer: &mut [u8]) -> Option<usize>
     ensures receives { Receives L.gave L.took conn links.old buffer.new result links.new }
     ensures counts { ReceiveCounts conn result (L.ends links.old) (L.ends links.new) (L.failures links.old) (L.failures links.new) }
@@ -71,8 +71,8 @@ fn respond(host: &mut Host, conn: usize, bytes: &[u8]) -> bool
     }
 }
 
-/// Reads a connection once and feeds the host what came; then the host acts, and what there is to send is handed to one write.
-/// Where the read ended or failed, nothing else is done.
+/// Reads a connection once, into a buffer of [`READ_ROOM`] bytes, and feeds the host what came; then the host acts, and what
+/// there is to send is handed to one write. If the read ended or failed, nothing else is done.
 ///
 /// Lost where the read or the write ended or failed, or the connection is closed. After Memory what was read and not taken is
 /// gone. No other connection changes.

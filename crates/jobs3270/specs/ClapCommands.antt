@@ -1,4 +1,4 @@
--- What clap's values hold of the command line (specs/JobWords).
+-- What clap's values hold of the command line (specs/Words).
 use Rattle.std.specs.Prelude.{◌≡◌, ⊤, ℕ, List, [], ◌∷◌, true, false}
 use Rattle.clap.specs.Built.{AddsArg, AddsSubcommand}
 use Rattle.clap.specs.Walk.{Rule, rule_of}

@@ -104,7 +104,7 @@ pub(crate) fn asked(line: &str) -> Option<Asks>
     if is_in_range(&asks) { Some(asks) } else { None }
 }
 
-/// PrintsLine what a line asks for, and adds what that prints.
+/// Does what a line asks for, and adds what that prints to the page.
 fn play_line(
     alloc: Global,
     world: &mut World,

@@ -163,14 +163,13 @@ impl<S: RawRead + RawWrite + Drop> Sockets<S> {
 }
 
 impl<S: RawRead + RawWrite + Drop> Links for Sockets<S> {
-    ghost use Rattle.std.specs.Prelude.{ℕ};
     ghost use Rattle.jobs3270.specs.Sockets.{GivesAt, TakesAt, ends_at, failures_at};
 
     ghost ends = { λ sockets conn. ends_at conn sockets };
 
     ghost failures = { λ sockets conn. failures_at conn sockets };
 
-    ghost gave = { λ old conn bytes answer new. (room : ℕ) × GivesAt S.read_gave old conn room bytes answer new };
+    ghost gave = { GivesAt S.read_gave };
 
     ghost took = { TakesAt S.write_took };
 

@@ -19,3 +19,4 @@ pub mod Answering
 pub mod KeptFields
 pub mod NothingElseKept
 pub mod DefinedOnce
+pub mod Setting

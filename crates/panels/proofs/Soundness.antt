@@ -8,7 +8,7 @@ use Rattle.panels.specs.declared.panel.Content.TheVariants.{Literal, Show}
 use Rattle.panels.specs.declared.panel.Field.{Field}
 use Rattle.panels.specs.Characters.{AreCharacters}
 use Rattle.panels.specs.Draft.{DraftItem, DraftPanel, DraftText}
-use Rattle.panels.specs.Panel.{PanelParts, Panels, HasCharacters, IsOfCharacters, AreSound}
+use Rattle.panels.specs.Panel.{PanelParts, Panels, HasCharacters, IsOfCharacters, HaveNumbersApart, AreSound}
 use Rattle.panels.specs.Passes.{IsFaultless}
 use Rattle.panels.specs.Defines.{IsContentOf, IsTextOf, IsFieldOf, IsEachOf, IsCursorBy, IsPanelOf, Defines, fields_before}
 use Rattle.panels.proofs.Apart.{items_apart}
@@ -47,6 +47,19 @@ characters_in panels p draft panel is = record {
       (λ i item field its. subst AreCharacters (sym its.fill) (codes_are_characters (chars item.fill))) is.fields;
 }
 
+-- ---- numbers
+
+-- a field's number counts those before it
+numbers_in : (panels : List DraftPanel) (p : ℕ) (draft : DraftPanel) (panel : PanelParts) → IsPanelOf panels p draft panel → HaveNumbersApart panel.fields
+numbers_in panels p draft panel is = λ i j one other less at_i at_j same.
+    let field = λ (i : ℕ) (field : Field) (at_i : slice_get panel.fields i ≡ Some field).
+    draft_of_each (λ i. IsFieldOf (fields_before p panels + i)) draft.fields panel.fields i field is.fields at_i in
+    let (a, a_there, a_is) = field i one at_i in
+    let (b, b_there, b_is) = field j other at_j in
+    let first = a_is.number in
+    let second = b_is.number in
+    omega arith
+
 pub are_sound : (draft : DraftText) (set : Panels) → IsFaultless draft → Defines draft set → AreSound set
 are_sound draft set clean defines =
     let of = λ (p : ℕ) (panel : PanelParts) (at_p : slice_get set.panels p ≡ Some panel). draft_of_each (IsPanelOf draft.panels) draft.panels set.panels p panel defines.panels at_p in
@@ -61,4 +74,7 @@ are_sound draft set clean defines =
       apart = λ p panel at_p.
           let (inner, there, is) = of p panel at_p in
           items_apart draft p inner panel clean there is;
+      numbers = λ p panel at_p.
+          let (inner, there, is) = of p panel at_p in
+          numbers_in draft.panels p inner panel is;
     }

@@ -1,5 +1,5 @@
 -- What panels have (our profile).
-use Rattle.std.specs.Prelude.{◌≡◌, ℕ, ◌<◌, ◌≤◌, ◌+◌, List, length, Option, Some, option_and_then, slice_get, All}
+use Rattle.std.specs.Prelude.{◌≡◌, ◌≢◌, ℕ, ◌<◌, ◌≤◌, ◌+◌, List, length, Option, Some, option_and_then, slice_get, All}
 use Rattle.codes3270.specs.Size.{cell_count}
 use Rattle.codes3270.specs.declared.attention.Aid.{Aid}
 use Rattle.panels.specs.declared.extent.Extent.{Extent}
@@ -69,9 +69,17 @@ pub record HasItemsApart (panel : PanelParts) : Type 0 where
 abbrev pub AreApart : Panels → Type 0
 AreApart set = (number : ℕ) (panel : PanelParts) → slice_get set.panels number ≡ Some panel → HasItemsApart panel
 
+-- no two fields of a panel have the same number
+abbrev pub HaveNumbersApart : List Field → Type 0
+HaveNumbersApart fields = (i : ℕ) (j : ℕ) (one : Field) (other : Field) → i < j → slice_get fields i ≡ Some one → slice_get fields j ≡ Some other → one.number ≢ other.number
+
+abbrev pub NumbersAreApart : Panels → Type 0
+NumbersAreApart set = (number : ℕ) (panel : PanelParts) → slice_get set.panels number ≡ Some panel → HaveNumbersApart panel.fields
+
 -- what holds of the panels of each text
 pub record AreSound (set : Panels) : Type 0 where
   pub linked : AreLinked set
   pub cursors : CursorsAreOnTheScreen set
   pub characters : AreOfCharacters set
   pub apart : AreApart set
+  pub numbers : NumbersAreApart set

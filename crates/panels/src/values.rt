@@ -44,11 +44,14 @@ impl Values {
         Values { alloc, values }
     }
 
-    /// The value of the field with a number, if it has one: storable bytes without nulls.
+    /// The value of the field with a number, if it has one: storable bytes without nulls. To set it once more would change nothing.
     pub fn get(&self, field: usize) -> Option<&[u8]>
         ensures value { option_copied result ≡ value_of self.now field }
         ensures characters { IfSome result (λ value. AreCharacters value.now) }
+        ensures same { IfSome result (λ value. insert_entry nat_cmp self.now field value.now ≡ self.now) }
     {
+        // It says that the map is in order.
+        let _count = self.values.len();
         Some(self.values.get(&field)?.as_slice())
     }
 

@@ -11,7 +11,7 @@ use Rattle.codes3270.specs.declared.attribute.Attr.{Attr as Attribute}
 use Rattle.codes3270.specs.declared.attribute.Cell.{Cell}
 use Rattle.codes3270.specs.Aid.{is_short_aid}
 use Rattle.datastream.specs.Screen.{text_before_attribute}
-use Rattle.datastream.specs.Fields.{Field, fields}
+use Rattle.datastream.specs.Fields.{Field, fields, IsFormatted, IsUnformatted}
 use Rattle.datastream.specs.Inbound.{without_nulls}
 use Rattle.datastream.specs.InboundFields.{Returned, lead, returned, cells_sent}
 use Rattle.datastream.specs.InboundText.{InboundParts}
@@ -269,10 +269,18 @@ each_seen (b ∷ bs) (f ∷ fs) meets exact = (one, each_seen bs fs meets.1 (All
         let protected : b.attr.protected ≡ true = ap (λ (a : Attribute). a.protected) (sym meets.0.same_attr) ∙ e in
         exact_seen b.fact f.text (All-head IsExactIfProtected b bs exact protected) meets.0.holds
 
+-- a screen of which nothing is known has no fields, if all are listed
+none_listed : (cells : List Cell) → (IsFormatted cells → ⊥) → IsUnformatted cells
+none_listed cells none = by_fields (fields cells) refl
+  where
+    by_fields : (fs : List Field) → fields cells ≡ fs → IsUnformatted cells
+    by_fields [] e = e
+    by_fields (f ∷ fs) e = absurd (none (λ empty. absurd (let both = sym e ∙ empty in cc)))
+
 pub protected_seen : ProtectedIsSeen
-protected_seen Shadow.NothingKnown s meets exact = tt
-protected_seen (Shadow.Unformatted known) s meets exact = tt
-protected_seen (Shadow.Formatted bs) s meets exact = each_seen bs (fields s.cells) meets.1 exact
+protected_seen Shadow.NothingKnown s meets lists exact = none_listed s.cells lists
+protected_seen (Shadow.Unformatted known) s meets lists exact = meets.0
+protected_seen (Shadow.Formatted bs) s meets lists exact = each_seen bs (fields s.cells) meets.1 exact
 
 pub nothing_exact : NothingIsExact
 nothing_exact = (All-nil FieldIsExact, All-nil IsExactIfProtected)
@@ -293,6 +301,6 @@ each_told (b ∷ bs) (f ∷ fs) meets exact told_free = (one, each_told bs fs me
     one on = cases f.attr.protected refl on
 
 pub returned_told : ReturnedIsTold
-returned_told Shadow.NothingKnown s meets exact told_free = tt
-returned_told (Shadow.Unformatted known) s meets exact told_free = tt
-returned_told (Shadow.Formatted bs) s meets exact told_free = each_told bs (fields s.cells) meets.1 exact told_free
+returned_told Shadow.NothingKnown s meets lists exact told_free = none_listed s.cells lists
+returned_told (Shadow.Unformatted known) s meets lists exact told_free = meets.0
+returned_told (Shadow.Formatted bs) s meets lists exact told_free = each_told bs (fields s.cells) meets.1 exact told_free

@@ -80,7 +80,7 @@ ring_last whole more n [] e = refl
 ring_last whole more n (Char c ∷ rest) e = ap (λ cs. Char c ∷ cs) (ring_last whole more (n + 1) rest e)
 ring_last whole more n (Attr a ∷ rest) e = absurd (cc)
 
--- list_any other ends at the next attribute
+-- Any other ends at the next attribute
 ring_inner : (whole more : List Cell) (n : ℕ) (rest : List Cell) → (fields_from whole n rest ≡ [] → ⊥) → char_cells (text_before_attribute (rest ++ more)) ++ from_attr rest ≡ rest
 ring_inner whole more n [] h = absurd (h refl)
 ring_inner whole more n (Char c ∷ rest) h = ap (λ cs. Char c ∷ cs) (ring_inner whole more (n + 1) rest h)

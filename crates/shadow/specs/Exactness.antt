@@ -1,6 +1,6 @@
 -- Where the fact of a field is exact (our profile): where all its characters are known, and in each protected field.
-use Rattle.std.specs.Prelude.{◌≡◌, ⊤, ℕ, Bool, true, false, List, length, map, Some, All, IfOk}
-use Rattle.datastream.specs.Fields.{Field, fields}
+use Rattle.std.specs.Prelude.{◌≡◌, ℕ, Bool, true, false, List, length, map, Some, All, IfOk}
+use Rattle.datastream.specs.Fields.{Field, fields, IsUnformatted}
 use Rattle.datastream.specs.Inbound.{without_nulls}
 use Rattle.datastream.specs.InboundText.{InboundParts}
 use Rattle.datastream.specs.Grammar.{CommandParts}
@@ -11,7 +11,7 @@ use Rattle.datastream.specs.declared.command_code.CommandCode.TheVariants.{Write
 use Rattle.datastream.specs.Wanted.{WantedScreen}
 use Rattle.shadow.specs.Pairs.{Pairwise}
 use Rattle.shadow.specs.Belief.{Fact, Belief, Shadow, fields_of}
-use Rattle.shadow.specs.Meets.{Meets, told, IsTold}
+use Rattle.shadow.specs.Meets.{Meets, ListsFields, told, IsTold}
 use Rattle.shadow.specs.Heard.{heard}
 use Rattle.shadow.specs.Seen.{known_chars}
 use Rattle.shadow.specs.Stores.{Store, stores}
@@ -93,14 +93,16 @@ WrittenStaysProtected = (command : CommandParts) (shadow : Shadow) (screen : Scr
 abbrev pub ProtectedSeen : Belief → Field → Type 0
 ProtectedSeen belief field = field.attr.protected ≡ true → belief.fact ≡ Fact.Exact field.text
 
--- a relation between each field as it is believed and as it is
+-- The belief lists the fields of the screen, and this holds between each field as it is believed and as it is. A belief that lists
+-- none is right of an unformatted screen alone.
 abbrev pub EachField : (Belief → Field → Type 0) → Shadow → Screen → Type 0
-EachField R Shadow.NothingKnown screen = ⊤
-EachField R (Shadow.Unformatted known) screen = ⊤
+EachField R Shadow.NothingKnown screen = IsUnformatted screen.cells
+EachField R (Shadow.Unformatted known) screen = IsUnformatted screen.cells
 EachField R (Shadow.Formatted beliefs) screen = Pairwise R beliefs (fields screen.cells)
 
 abbrev pub ProtectedIsSeen : Type 0
-ProtectedIsSeen = (shadow : Shadow) (screen : Screen) → Meets shadow screen → ProtectedIsExact shadow → EachField ProtectedSeen shadow screen
+ProtectedIsSeen = (shadow : Shadow) (screen : Screen) → Meets shadow screen → ListsFields shadow screen → ProtectedIsExact shadow
+    → EachField ProtectedSeen shadow screen
 
 -- the text of a field with MDT on is told, also where it is protected
 abbrev pub ReturnedTold : Belief → Field → Type 0
@@ -108,4 +110,5 @@ ReturnedTold belief field = field.attr.mdt ≡ true → told belief.fact ≡ Som
 
 -- Where protected fields are exact, and the texts of unprotected fields with MDT on are told, so are those of protected ones.
 abbrev pub ReturnedIsTold : Type 0
-ReturnedIsTold = (shadow : Shadow) (screen : Screen) → Meets shadow screen → ProtectedIsExact shadow → IsTold shadow screen → EachField ReturnedTold shadow screen
+ReturnedIsTold = (shadow : Shadow) (screen : Screen) → Meets shadow screen → ListsFields shadow screen → ProtectedIsExact shadow → IsTold shadow screen
+    → EachField ReturnedTold shadow screen

@@ -1,7 +1,7 @@
 -- The screens that a belief allows (our profile).
 use Rattle.std.specs.Prelude.{◌≡◌, ◌⊎◌, ⊤, ℕ, Bool, true, false, List, [], length, Option, Some, None}
 use Rattle.datastream.specs.Screen.{Screen, text_before_attribute}
-use Rattle.datastream.specs.Fields.{Field, fields}
+use Rattle.datastream.specs.Fields.{Field, fields, IsFormatted as IsFormattedScreen, IsUnformatted}
 use Rattle.datastream.specs.Held.{without_mdt}
 use Rattle.datastream.specs.Inbound.{without_nulls}
 use Rattle.shadow.specs.declared.mark.Mark.{Mark}
@@ -39,8 +39,8 @@ pub record FieldMeets (belief : Belief) (field : Field) : Type 0 where
 
 abbrev pub Meets : Shadow → Screen → Type 0
 Meets Shadow.NothingKnown screen = ⊤
-Meets (Shadow.Unformatted known) screen = (fields screen.cells ≡ []) × Pairwise KnownIs known (text_before_attribute screen.cells)
-Meets (Shadow.Formatted beliefs) screen = (fields screen.cells ≡ [] → ⊥) × Pairwise FieldMeets beliefs (fields screen.cells)
+Meets (Shadow.Unformatted known) screen = IsUnformatted screen.cells × Pairwise KnownIs known (text_before_attribute screen.cells)
+Meets (Shadow.Formatted beliefs) screen = IsFormattedScreen screen.cells × Pairwise FieldMeets beliefs (fields screen.cells)
 
 -- the host knows something of the screen
 abbrev pub Knows : Shadow → Type 0
@@ -54,9 +54,9 @@ IsFormatted Shadow.NothingKnown = ⊥
 IsFormatted (Shadow.Unformatted known) = ⊥
 IsFormatted (Shadow.Formatted beliefs) = ⊤
 
--- Where the screen has fields, so has the belief. (That they are the same follows, where the screen meets it.)
+-- If the screen is formatted, so is the belief. (That they have the same fields follows, if the screen meets the belief.)
 abbrev pub ListsFields : Shadow → Screen → Type 0
-ListsFields shadow screen = (fields screen.cells ≡ [] → ⊥) → IsFormatted shadow
+ListsFields shadow screen = IsFormattedScreen screen.cells → IsFormatted shadow
 
 -- the text without nulls that a fact tells
 abbrev pub told : Fact → Option (List ℕ)

@@ -1,5 +1,6 @@
 //! What is held of a field.
-ghost use Rattle.std.specs.Prelude.{◌≡◌, ◌<◌, ◌≤◌, ◌+◌, ◌*◌, ◌++◌, length, drop, slice_get, option_map, option_and_then, bytes_eq, true, false};
+ghost use Rattle.std.specs.Prelude.{◌≡◌, ◌<◌, ◌≤◌, ◌+◌, ◌*◌, ◌++◌, length, drop, slice_get, option_map, option_and_then, bytes_eq, [], true, false};
+ghost use Rattle.std.specs.Option.{option_map_or};
 ghost use Rattle.codes3270.specs.Size.{cell_count};
 ghost use Rattle.datastream.specs.Inbound.{without_nulls};
 ghost use Rattle.shadow.specs.Asked.{belief_with, kind_of, value_of, known_at, known_cell as known_of};
@@ -180,6 +181,64 @@ fn are_text(ahead: Ahead<'_>, text: &[u8]) -> bool
         }
     }
     rest.is_empty()
+}
+
+/// Whether the text that is told is this one, nulls apart.
+fn is_told(ahead: Ahead<'_>, text: &[u8]) -> bool
+    ensures { result ≡ bytes_eq (without_nulls (text_told ahead.entry)) text.now }
+{
+    let mut rest = text;
+    for place in ahead {
+        let Place::Told(char) = place else {
+            return rest.is_empty();
+        };
+        if char != 0 {
+            match rest {
+                [first, others @ ..] if *first == char => rest = others,
+                _ => return false,
+            }
+        }
+    }
+    rest.is_empty()
+}
+
+/// Whether a text is empty.
+fn is_nothing(text: &[u8]) -> bool
+    ensures { result ≡ bytes_eq [] text.now }
+{
+    text.is_empty()
+}
+
+/// Whether the text that the fact of a field speaks of is this one, nulls apart; `place` is its attribute's.
+fn is_text(places: &Places, place: usize, telling: Telling, text: &[u8]) -> bool
+    requires { place < cell_count }
+    ensures { result ≡ bytes_eq (without_nulls (value_of (fact_held telling (drop (place + 1) places.now ++ places.now)))) text.now }
+{
+    match telling {
+        Telling::Cells => {
+            if all_known(places.ahead(place)) {
+                are_text(places.ahead(place), text)
+            } else {
+                is_nothing(text)
+            }
+        }
+        Telling::ExactOrNulls => is_told(places.ahead(place), text),
+        Telling::Text => is_told(places.ahead(place), text),
+        Telling::TextOrNulls => is_told(places.ahead(place), text),
+    }
+}
+
+/// Whether the text that the fact of the field at an address speaks of is this one, nulls apart. False if no field is there.
+pub(crate) fn is_text_held_at(places: &Places, place: usize, text: &[u8]) -> bool
+    requires { place < cell_count }
+    ensures { result ≡ option_map_or (λ belief. bytes_eq (without_nulls (value_of belief.fact)) text.now) (belief_with place (beliefs_held places.now 0 places.now)) false }
+{
+    match places.get(place) {
+        Place::Attr(_, _, telling) => is_text(places, place, telling, text),
+        Place::Known(_) => false,
+        Place::Told(_) => false,
+        Place::Unknown => false,
+    }
 }
 
 /// Whether the characters of a field are known, and without nulls another text.

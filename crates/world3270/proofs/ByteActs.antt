@@ -240,7 +240,7 @@ went_on begin events message number sending old new answer host acted_as.Sent do
 went_on begin events message number sending old new answer host acted_as.Memory does others answers leaves before reached = record {
   more = [];
   is_once = ap (λ (a : Stepped). once message a) (sym answers);
-  reached = reached_still begin events old new before (leaves ∙ nothing_said number old host others does);
+  reached = reached_still begin events old new before (leaves ∙ nothing_said number old host others does.0);
 }
 went_on begin events message number sending old new answer host acted_as.Nothing does others answers leaves before reached = absurd does
 
@@ -281,7 +281,7 @@ module _ (known : Known) (skips : SkipsAreThose) (given : Given) (stands_for : P
       by_does (acted_by (application_of old.host.panels) (service_at number old.host)) refl parts.1 happens
     where
       by_does : (does : Option Sent) → acted_by (application_of old.host.panels) (service_at number old.host) ≡ does → is_some does ≡ true → ActsHost does number old answer new
-          → GoesOn begin events (event.Act number) answer new
+          → GoesOn begin events (event.Act number) old answer new
       by_does None e some acts = absurd (cc)
       by_does (Some sending) e some acts =
           let app : Application = application_of begin.panels in
@@ -304,7 +304,7 @@ module _ (known : Known) (skips : SkipsAreThose) (given : Given) (stands_for : P
       by_does (noted_by text (service_at number old.host)) refl parts.1 happens
     where
       by_does : (does : Option Sent) → noted_by text (service_at number old.host) ≡ does → is_some does ≡ true → ActsHost does number old answer new
-          → GoesOn begin events (event.Note number text) answer new
+          → GoesOn begin events (event.Note number text) old answer new
       by_does None e some acts = absurd (cc)
       by_does (Some sending) e some acts =
           let app : Application = application_of begin.panels in

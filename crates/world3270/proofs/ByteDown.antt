@@ -8,19 +8,23 @@ use Rattle.datastream.specs.InboundFields.{IsSendable}
 use Rattle.host_core.specs.Application.{Application, application_of}
 use Rattle.host_core.specs.Messages.{ToTerminal}
 use Rattle.host_core.specs.State.{Line, line_at, most_connections}
-use Rattle.telnet_wire.specs.Items.{sent_bytes}
-use Rattle.telnet_wire.specs.Reading.{Rest}
+use Rattle.shadow.specs.Pairs.{Pairwise}
+use Rattle.telnet_wire.specs.Items.{WireItem, sent_bytes}
+use Rattle.telnet_wire.specs.Reading.{Rest, Delivers}
 use Rattle.term_core.specs.Bytes.{TakesByte, before_byte}
 use Rattle.term_core.specs.Feeds.{StopsFor}
+use Rattle.term_core.specs.Says.{response}
 use Rattle.term_core.specs.State.{Terminal, Attached, Closed}
+use Rattle.tn3270e_msg.specs.Header.{record_limit}
 use Rattle.tn3270e_msg.specs.TermTable.{Term}
 use Rattle.tn3270e_msg.specs.declared.cause.Cause.{Cause}
 use Rattle.tn3270e_msg.specs.declared.cause.Cause.TheVariants.{Wire}
 use Rattle.tn3270e_msg.specs.declared.cause.Stop.{Stop}
 use Rattle.tn3270e_msg.specs.declared.cause.Stop.TheVariants as stop
 use Rattle.world3270.specs.Known.{Known}
-use Rattle.world3270.specs.ByteSteps.{ComesDown, GoesDown, down_came, host_told, terminal_gone_if}
+use Rattle.world3270.specs.ByteSteps.{ComesDown, GoesDown, HappensIf, down_came, has_place, host_told, terminal_gone_if}
 use Rattle.world3270.specs.ByteWorld.{ByteWorld, Under, Ways, Sitting, came, terminal_there, down_of, is_senders, is_there, new_sitting, sitting_at, terminal_at, unused_ways, ways_at, with_sitting}
+use Rattle.world3270.specs.Deliveries.{rest_at, rest_of_terminal, taken_by, terminal_rest}
 use Rattle.world3270.specs.Happens.{closed_if, came_down, done, happens, place_after, run, said, term_took_it, went_down}
 use Rattle.world3270.specs.Link.{Link, term_left_if, term_stepped}
 use Rattle.world3270.specs.Placed.{comes_down, is_link, is_queued}
@@ -28,17 +32,20 @@ use Rattle.world3270.specs.Refines.{Begin, IsBegin, Reached, GoesOn, after}
 use Rattle.world3270.specs.Seats.{Seat, SeatTakes}
 use Rattle.world3270.specs.Sendable.{IsTyped, display_at}
 use Rattle.world3270.specs.Standing.{WorldStands, with_out}
-use Rattle.world3270.specs.Stands.{ByteLink, LinkStands}
+use Rattle.world3270.specs.Stands.{BytesDown, ByteLink, LinkStands, StandsDown, StandsUp}
 use Rattle.world3270.specs.StandsLinks.{IsReady, NoneCloses, took_down}
 use Rattle.world3270.specs.Terminal.{TermEnd, TermStep, took as term_took}
+use Rattle.world3270.specs.Unbroken.{SaysNoRefusal, TerminalsRefuseNothing}
 use Rattle.world3270.specs.World.{Place, World, Event as MessageEvent, AreEvents, with_at}
 use Rattle.world3270.specs.declared.event.Event.TheVariants as event
 use Rattle.world3270.specs.declared.event.Stepped.{Stepped}
 use Rattle.world3270.proofs.ByteTerms.{made_of, AreFlows, BytesWent, GoesOnHere, TermWent, flows_go_on, flows_here, link_goes_on, stands_here, term_went_stands}
+use Rattle.world3270.proofs.Completed.{counted, left_down, seat_reads, taken_is, taken_there}
 use Rattle.world3270.proofs.Frames.{found_sits, found_within, line_other, line_same, line_within, sitting_other, sitting_same, who_was_there, way_within, ways_other, ways_same}
 use Rattle.world3270.proofs.Known.{Facts, Goes, facts_now, facts_then, reached_more}
 use Rattle.world3270.proofs.OneOfMany.{with_other, with_same}
 use Rattle.world3270.proofs.StandsLinks.{stayed}
+use Rattle.world3270.proofs.Unbroken.{among}
 use Rattle.world3270.proofs.UnderWay.{came_flows, came_live, came_under_way}
 
 -- ---- what a terminal makes of bytes doesn't hang on what it has to send
@@ -293,6 +300,9 @@ module _ (known : Known) (begin : Begin) (events : List MessageEvent) (number co
   abbrev taken_bytes : ℕ
   taken_bytes = comes.fed.taken
 
+  abbrev bytes_brought : List ℕ
+  bytes_brought = take count (down_of number old)
+
   abbrev bytes_behind : List ℕ
   bytes_behind = drop taken_bytes (down_of number old)
 
@@ -321,12 +331,22 @@ module _ (known : Known) (begin : Begin) (events : List MessageEvent) (number co
     sendable = subst (λ (p : Place). IsSendable (display_at world p).screen) place (world_facts.sendable terminal);
   }
 
-  goes_on : GoesOn begin events (event.Down number count) answer new
-  goes_on =
-      let quiet = quiet_takes sitting.seat (take taken_bytes (take count (down_of number old))) comes.seat comes.feeds.takes in
-      let bytes : ByteLink = made_of terminal line ways sitting in
-      let down = known.links.down bytes link (take taken_bytes (take count (down_of number old))) bytes_behind (with_out quiet.said comes.seat) ready
-      (taken_off taken_bytes count (down_of number old) comes.feeds.few) (quiet.takes []) in
+  abbrev bytes : ByteLink
+  bytes = made_of terminal line ways sitting
+
+  abbrev front : List ℕ
+  front = take taken_bytes bytes_brought
+
+  quiet : TakesQuietly sitting.seat front comes.seat
+  quiet = quiet_takes sitting.seat front comes.seat comes.feeds.takes
+
+  in_two : down_of number old ≡ front ++ bytes_behind
+  in_two = taken_off taken_bytes count (down_of number old) comes.feeds.few
+
+  -- what the event is over messages, and the terminal after it
+  went_down_so : GoesOn begin events (event.Down number count) old answer new × (sitting_at terminal new ≡ record sitting { seat = comes.seat })
+  went_down_so =
+      let down = known.links.down bytes link front bytes_behind (with_out quiet.said comes.seat) ready in_two (quiet.takes []) in
       let more : List MessageEvent = replicate (length down.taken) (MessageEvent.Down number) in
       let typed : All IsTyped more = All-replicate IsTyped (length down.taken) (MessageEvent.Down number) tt in
       let app : Application = application_of begin.panels in
@@ -335,6 +355,20 @@ module _ (known : Known) (begin : Begin) (events : List MessageEvent) (number co
       let none : NoneCloses link.term (down.taken ++ down.others) = subst (λ (m : List ToTerminal). NoneCloses link.term m) down.whole (world_facts.may number).1 in
       let went : TermWent number terminal next world now = all_came app number terminal linked down.taken down.others world here place down.whole none in
       let holds = (down.stands.term terminal went.here).holds in
+      let term = stood.term terminal here in
+      let to : Rest = (down.stands.term terminal went.here).rest in
+      let read = seat_reads known front sitting.seat comes.seat term.rest to term.holds.talk holds.talk term.down.is_rest term.holds.attached holds.attached comes.feeds.takes in
+      let as_many : length read.0 ≡ length down.taken =
+      counted known StandsDown term.rest to front bytes_behind read.0 link.down down.taken down.others read.1
+      (subst (λ (b : List ℕ). BytesDown term.rest b link.down) in_two term.down)
+      (subst (λ (m : List ToTerminal). BytesDown to bytes_behind m) (left_down down.taken down.others link down.whole) (down.stands.term terminal went.here).down)
+      down.whole in
+      let held : terminal_rest number old ≡ term.rest = ap (λ (h : Option ℕ). rest_of_terminal h old) found ∙ ap rest_at term.holds.attached in
+      let took_them : taken_by answer bytes_brought ≡ front =
+      ap (λ (a : Stepped). taken_by a bytes_brought) comes.answers
+      ∙ taken_is comes.fed.stop taken_bytes bytes_brought
+      (taken_there comes.fed.stop sitting.seat.terminal comes.seat.terminal bytes_brought taken_bytes term.rest to term.holds.talk holds.talk comes.feeds.stops
+      term.holds.attached holds.attached) in
       let left : Under = came taken_bytes ways.down in
       let out : List ℕ = out_then (is_senders ways.down) taken_bytes line.out in
       let goes : GoesOnHere line out ways left sitting comes.seat quiet.said bytes_behind = record {
@@ -360,12 +394,34 @@ module _ (known : Known) (begin : Begin) (events : List MessageEvent) (number co
         at = found_sits number terminal old found;
         stands = subst (λ (b : ByteLink). LinkStands b next) (sym (link_goes_on terminal line out ways left sitting comes.seat quiet.said bytes_behind flows goes)) down.stands;
       })
-      reached.stands world_facts.agree next_facts.agree place in
+      reached.stands world_facts.agree next_facts.agree place in (
+        record {
+          more = more;
+          comes_to = record {
+            completed = read.0;
+            behind = to;
+            delivers = subst (λ (r : Rest). Delivers record_limit r (taken_by answer bytes_brought) read.0 to) (sym held)
+                (subst (λ (b : List ℕ). Delivers record_limit term.rest b read.0 to) (sym took_them) read.1);
+            one_each = ap (λ (n : ℕ). replicate n (MessageEvent.Down number)) (sym as_many);
+          };
+          reached = reached_more begin events more old new reached (are_deliveries number (length down.taken)) typed
+              (ap (λ (w : ByteWorld). w.host.panels) made ∙ went_bytes.panels) (subst (λ (w : ByteWorld). WorldStands w now) (sym made) stands);
+        },
+        ap (λ (w : ByteWorld). sitting_at terminal w) {x = new} {y = after_it} made ∙ went_bytes.sitting_is,
+      )
+
+  goes_on : GoesOn begin events (event.Down number count) old answer new
+  goes_on = went_down_so.0
+
+  refuses_nothing : SaysNoRefusal terminal old new
+  refuses_nothing =
+      let said = known.links.not_refused bytes link front bytes_behind (with_out quiet.said comes.seat) ready in_two (quiet.takes []) in
       record {
-        more = more;
-        comes_to = (length down.taken, refl);
-        reached = reached_more begin events more old new reached (are_deliveries number (length down.taken)) typed
-            (ap (λ (w : ByteWorld). w.host.panels) made ∙ went_bytes.panels) (subst (λ (w : ByteWorld). WorldStands w now) (sym made) stands);
+        says = said.says;
+        sent = ap (λ (s : Sitting). s.seat.terminal.out) went_down_so.1 ∙ quiet.out_is ∙ ap (λ (b : List ℕ). sitting.seat.terminal.out ++ b) said.out;
+        fit = said.fit;
+        carried_out = λ sequence outcome before behind same.
+            among sequence outcome before behind said.sends (subst (λ (items : List WireItem). Pairwise StandsUp items said.sends) same said.said) said.none;
       }
 
 module _ (known : Known) where
@@ -377,6 +433,30 @@ module _ (known : Known) where
       linked = (and_parts (is_link number) (terminal_there number old && is_queued (take count (down_of number old))) place).0
 
       by_here : (here : Option ℕ) → terminal_at number old.sittings ≡ here → GoesDown here number (take count (down_of number old)) old answer new
-          → GoesOn begin events (event.Down number count) answer new
+          → GoesOn begin events (event.Down number count) old answer new
       by_here None found comes = absurd comes
       by_here (Some terminal) found comes = goes_on known begin events number count terminal old answer new is reached linked found comes
+
+  -- nothing is said where nothing comes
+  not_any : {X : Type 0} (before behind : List X) (x : X) → [] ≡ before ++ x ∷ behind → ⊥
+  not_any [] behind x e = absurd (cc)
+  not_any (y ∷ before) behind x e = absurd (cc)
+
+  says_nothing_then : (terminal : ℕ) (old new : ByteWorld) → new ≡ old → SaysNoRefusal terminal old new
+  says_nothing_then terminal old new same = record {
+    says = [];
+    sent = ap (λ (w : ByteWorld). (sitting_at terminal w).seat.terminal.out) same ∙ sym (append-nil (sitting_at terminal old).seat.terminal.out);
+    fit = tt;
+    carried_out = λ sequence outcome before behind e. absurd (not_any before behind (response sequence outcome) e);
+  }
+
+  -- A terminal refuses nothing that comes to it.
+  pub terminals_refuse_nothing : TerminalsRefuseNothing
+  terminals_refuse_nothing terminal number count old answer new is found steps = by_place (has_place (event.Down number count) old) refl steps
+    where
+      by_place : (b : Bool) → has_place (event.Down number count) old ≡ b → HappensIf b (event.Down number count) old answer new → SaysNoRefusal terminal old new
+      by_place true has happens =
+          let linked = (and_parts (is_link number) (terminal_there number old && is_queued (take count (down_of number old))) has).0 in
+          refuses_nothing known is.begin is.events number count terminal old answer new is.is_begin is.reached linked found
+          (subst (λ (h : Option ℕ). GoesDown h number (take count (down_of number old)) old answer new) found happens)
+      by_place false has skipped = says_nothing_then terminal old new skipped.1

@@ -106,10 +106,10 @@ module _ (known : Known) (skips : SkipsAreThose) where
   -- it happens once, over bytes as over messages
   goes_once : (it : Event) (begin : Begin) (events : List MessageEvent) (old : ByteWorld) (answer : Stepped) (new : ByteWorld)
       → IsBegin begin → Reached begin events old → IsReal it → IsCounted it → has_place it old ≡ true
-      → ComesTo it answer (message_event it ∷ []) → new.host.panels ≡ old.host.panels
+      → ComesTo it old answer (message_event it ∷ []) → new.host.panels ≡ old.host.panels
       → (EndsAgree (done (application_of begin.panels) (message_event it) (after begin events))
       → WorldStands new (done (application_of begin.panels) (message_event it) (after begin events)))
-      → GoesOn begin events it answer new
+      → GoesOn begin events it old answer new
   goes_once it begin events old answer new is reached real counted place comes panels stands =
       let there = sym (skips begin events it old is reached counted) ∙ place in
       record {
@@ -130,7 +130,7 @@ module _ (known : Known) (skips : SkipsAreThose) where
       let f = facts_now known.worlds begin events old is reached in
       let below = within number (is_up number old) old (after begin events) reached.stands place in
       let made : ByteWorld = with_ways number (lost_ways number old) old in
-      subst (λ (w : ByteWorld). GoesOn begin events (event.Lose number) answer w) (sym happens.1)
+      subst (λ (w : ByteWorld). GoesOn begin events (event.Lose number) old answer w) (sym happens.1)
       (goes_once (event.Lose number) begin events old answer made is reached real tt place
       (ap (λ (a : Stepped). once (MessageEvent.Lose number) a) (sym happens.0)) refl
       (lost_stands number old (after begin events) f.agree reached.stands f.up_held known.links.loss below))
@@ -141,7 +141,7 @@ module _ (known : Known) (skips : SkipsAreThose) where
   host_sees_goes number begin events old answer new is reached real place happens =
       let f = facts_now known.worlds begin events old is reached in
       let below = within number (is_lost number old && host_there number old) old (after begin events) reached.stands place in
-      subst (λ (w : ByteWorld). GoesOn begin events (event.HostSees number) answer w) (sym happens.1)
+      subst (λ (w : ByteWorld). GoesOn begin events (event.HostSees number) old answer w) (sym happens.1)
       (goes_once (event.HostSees number) begin events old answer (host_gone number old) is reached real tt place
       (ap (λ (a : Stepped). once (MessageEvent.HostSees number) a) (sym happens.0)) refl
       (host_gone_stands number old (after begin events) f.agree reached.stands f.up_held known.links.host_leaves below))
@@ -151,7 +151,7 @@ module _ (known : Known) (skips : SkipsAreThose) where
       let f = facts_now known.worlds begin events old is reached in
       let at : Option ℕ = (sitting_at terminal old).at in
       let there = ltb-true terminal (length old.sittings) (and_parts (is_terminal terminal old) (sees_loss at old) place).0 in
-      subst (λ (w : ByteWorld). GoesOn begin events (event.TermSees terminal) answer w) (sym happens.1)
+      subst (λ (w : ByteWorld). GoesOn begin events (event.TermSees terminal) old answer w) (sym happens.1)
       (goes_once (event.TermSees terminal) begin events old answer (saw_loss terminal at old) is reached real tt place
       (ap (λ (a : Stepped). once (MessageEvent.TermSees terminal) a) (sym happens.0)) (saw_panels terminal at old)
       (saw_stands known.links.term_leaves terminal old (after begin events) f.agree f.up_held reached.stands there at ((after begin events).place terminal) refl refl))
@@ -162,7 +162,7 @@ module _ (known : Known) (skips : SkipsAreThose) where
   restart_term_goes terminal begin events old answer new is reached real place happens =
       let f = facts_now known.worlds begin events old is reached in
       let at : Option ℕ = (sitting_at terminal old).at in
-      subst (λ (w : ByteWorld). GoesOn begin events (event.RestartTerm terminal) answer w) (sym happens.1)
+      subst (λ (w : ByteWorld). GoesOn begin events (event.RestartTerm terminal) old answer w) (sym happens.1)
       (goes_once (event.RestartTerm terminal) begin events old answer (terminal_anew terminal at old) is reached real tt place
       (ap (λ (a : Stepped). once (MessageEvent.RestartTerm terminal) a) (sym happens.0)) (anew_panels terminal at old)
       (anew_stands known.links.term_leaves terminal old (after begin events) f.agree f.up_held reached.stands (ltb-true terminal (length old.sittings) place) at
@@ -172,7 +172,7 @@ module _ (known : Known) (skips : SkipsAreThose) where
   restart_host_goes begin events old answer new is reached real place happens =
       let f = facts_now known.worlds begin events old is reached in
       let made : ByteWorld = host_anew (host_gone_below most_connections old) in
-      subst (λ (w : ByteWorld). GoesOn begin events event.RestartHost answer w) (sym happens.1)
+      subst (λ (w : ByteWorld). GoesOn begin events event.RestartHost old answer w) (sym happens.1)
       (goes_once event.RestartHost begin events old answer made is reached real tt place
       (ap (λ (a : Stepped). once MessageEvent.RestartHost a) (sym happens.0))
       (panels_stay known.links.host_leaves old (after begin events) f.agree f.up_held reached.stands)
@@ -183,7 +183,7 @@ module _ (known : Known) (skips : SkipsAreThose) where
   pub connect_goes : (terminal : ℕ) (wanted : Option (List ℕ)) → Goes (event.Connect terminal wanted)
   connect_goes terminal wanted begin events old answer new is reached real place happens = by_found (free_number old) refl happens
     where
-      by_found : (found : Option ℕ) → free_number old ≡ found → ConnectsIf terminal wanted found old answer new → GoesOn begin events (event.Connect terminal wanted) answer new
+      by_found : (found : Option ℕ) → free_number old ≡ found → ConnectsIf terminal wanted found old answer new → GoesOn begin events (event.Connect terminal wanted) old answer new
       by_found None free connects = absurd connects
       by_found (Some number) free (Connects.refused memory same) = record {
         more = [];
@@ -198,7 +198,7 @@ module _ (known : Known) (skips : SkipsAreThose) where
           let lonely = is_alone (sitting_at terminal old).at old both.1 in
           let below = way_within number old (after begin events) reached.stands (found_below most_connections 0 number old free) in
           let same : free_over_messages (after begin events).link ≡ Some number = sym (same_free old (after begin events) reached.stands) ∙ free in
-          subst (λ (w : ByteWorld). GoesOn begin events (event.Connect terminal wanted) answer w) (sym made)
+          subst (λ (w : ByteWorld). GoesOn begin events (event.Connect terminal wanted) old answer w) (sym made)
           (goes_once (event.Connect terminal wanted) begin events old answer (connected number terminal wanted old) is reached real tt place
           (ap (λ (a : Stepped). once (MessageEvent.Connect terminal wanted) a) (sym answers)) refl
           (λ agrees. subst (λ (n : Option ℕ). WorldStands (connected number terminal wanted old) (joined app terminal wanted n (after begin events))) (sym same)

@@ -151,7 +151,7 @@ module _ (known : Known) (key : Key) (terminal : ℕ) (old : ByteWorld) (world :
 module _ (known : Known) (skips : SkipsAreThose) where
   pressed_on : (terminal : ℕ) (key : Key) (begin : Begin) (events : List MessageEvent) (old : ByteWorld) (answer : Stepped) (new : ByteWorld)
       → IsBegin begin → Reached begin events old → IsReal (event.Key terminal key) → nat_lt terminal (length old.sittings) ≡ true
-      → Presses terminal key old answer new → GoesOn begin events (event.Key terminal key) answer new
+      → Presses terminal key old answer new → GoesOn begin events (event.Key terminal key) old answer new
   pressed_on terminal key begin events old answer new is reached real place (Presses.refused memory same) = record {
     more = [];
     comes_to = ap (once (MessageEvent.Press terminal key)) (sym memory);

@@ -1,8 +1,8 @@
 -- Bytes that come up to a host: the world over bytes stands for the one behind as many single deliveries as there were messages completed.
-use Rattle.std.proofs.Common.{◌≡◌, ◌<◌, ◌+◌, ◌&&◌, nat_lt, ℕ, suc, Bool, true, false, Option, None, Some, List, [], ◌∷◌, ◌++◌, drop, take, length, map, replicate, refl, ap, sym, subst, ◌∙◌, append_assoc}
+use Rattle.std.proofs.Common.{◌≡◌, ◌<◌, ◌&&◌, ◌⊎◌, inl, inr, nat_lt, ℕ, suc, Bool, true, false, Option, None, Some, List, [], ◌∷◌, ◌++◌, drop, take, length, map, refl, ap, sym, subst, ◌∙◌, append_assoc}
 use Rattle.std.specs.List.{AllByRecursion}
 use Rattle.std.proofs.lemmas.Bool.{and_parts, ltb-true, lt-ltb}
-use Rattle.std.proofs.lemmas.List.{append-nil, length-take-le, replicate-append-replicate, take-append-drop}
+use Rattle.std.proofs.lemmas.List.{append-nil, length-take-le, take-append-drop}
 use Rattle.std.proofs.lemmas.List.Elements.{All-nil}
 use Rattle.lu_pool.specs.Asking.{answer_to}
 use Rattle.lu_pool.specs.Holders.{granted_if}
@@ -28,12 +28,13 @@ use Rattle.host_core.specs.Takes.{Step, freed_if, took as host_took}
 use Rattle.world3270.specs.Known.{Known}
 use Rattle.world3270.specs.ByteSteps.{is_link, host_gone_if}
 use Rattle.world3270.specs.ByteWorld.{ByteWorld, is_there, host_there, terminal_at, down_of, up_of}
+use Rattle.world3270.specs.Deliveries.{AreDeliveries, host_rest, taken_by}
 use Rattle.world3270.specs.Forms.{FormsAreAwaited}
 use Rattle.world3270.specs.Happens.{closed_if, host_took_it, came_up}
 use Rattle.world3270.specs.Link.{Link, sent, host_left_if}
 use Rattle.world3270.specs.Placed.{is_queued, has_place as has_place_over_messages}
 use Rattle.world3270.specs.Places.{EndsAgree}
-use Rattle.world3270.specs.Refines.{Begin, IsBegin, Reached, Repeats, after}
+use Rattle.world3270.specs.Refines.{Begin, IsBegin, Reached, after}
 use Rattle.world3270.specs.Sendable.{IsTyped}
 use Rattle.world3270.specs.Standing.{WorldStands, IsNotClosed, conn_of, rest_of, link_of}
 use Rattle.world3270.specs.Stands.{StandsDown, StandsUp, BytesUp, ByteLink, LinkStands}
@@ -42,6 +43,8 @@ use Rattle.world3270.specs.StandsLinks.{MayComeAll, WhatComesMayCome, HostSends,
 use Rattle.world3270.specs.Terminal.{TermEnd, took as term_took}
 use Rattle.world3270.specs.World.{World, Event as MessageEvent, with_at}
 use Rattle.world3270.specs.declared.event.Event.TheVariants as event
+use Rattle.world3270.specs.declared.event.Stepped.{Stepped}
+use Rattle.world3270.proofs.Completed.{IsTaken, host_rest_is, more_delivered, none_delivered, taken_is}
 use Rattle.world3270.proofs.Frames.{line_within, way_within}
 use Rattle.world3270.proofs.HostItems.{IsSaidUp, IsAwaited, host_takes}
 use Rattle.world3270.proofs.HostSteps.{just_talks}
@@ -119,9 +122,10 @@ all_three one two three a b c = ap (λ (x : Bool). x && (two && three)) a ∙ ap
 -- ---- one byte
 
 -- the world over bytes stands for the one behind a delivery, or none; the host goes on, and the bytes behind are under way
-record OneByte (begin : Begin) (events : List MessageEvent) (number : ℕ) (counter : Counter) (old : ByteWorld) : Type 0 where
+record OneByte (begin : Begin) (events : List MessageEvent) (number byte : ℕ) (counter : Counter) (old : ByteWorld) : Type 0 where
   some : List MessageEvent
-  repeats : Repeats (MessageEvent.Up number) some
+  completed : AreDeliveries (host_rest number old) (byte ∷ []) (MessageEvent.Up number) some
+  behind : rest_of counter.line.service ≡ completed.behind
   reached : Reached begin (events ++ some) (took_up 1 number counter old)
   is_open : IsOpen counter.line.service
   there : terminal_at number (took_up 1 number counter old).sittings ≡ terminal_at number old.sittings
@@ -167,7 +171,7 @@ module _ (known : Known) (begin : Begin) (is : IsBegin begin) (events : List Mes
   nothing_completes : (byte : ℕ) (behind : List ℕ) (counter : Counter) (rest to : Rest) (conn : Conn) → up_of number old ≡ byte ∷ behind
       → service_at number old.host ≡ Service.Open rest conn → Delivers record_limit rest (byte ∷ []) [] to
       → counter ≡ record { pool = old.host.pool; line = record { service = Service.Open to conn; out = (counter_at number old.host).line.out } }
-      → OneByte begin events number counter old
+      → OneByte begin events number byte counter old
   nothing_completes byte behind counter rest to conn queue held delivers is_counter =
       let came = known.links.up (link_of number old) link (byte ∷ []) behind [] to (stands.links number) host_here queue
       (subst (λ (r : Rest). Delivers record_limit r (byte ∷ []) [] to) (sym (ap rest_of held)) delivers) in
@@ -196,7 +200,13 @@ module _ (known : Known) (begin : Begin) (is : IsBegin begin) (events : List Mes
       let stood = one_stood number counter old world world taken known_here.agree known_here.agree stands in
       record {
         some = [];
-        repeats = (0, refl);
+        completed = record {
+          completed = [];
+          behind = to;
+          delivers = subst (λ (r : Rest). Delivers record_limit r (byte ∷ []) [] to) (sym (ap rest_of held)) delivers;
+          one_each = refl;
+        };
+        behind = ap rest_of taken.service;
         reached = reached_more begin events [] old (took_up 1 number counter old) reached tt (All-nil IsTyped) (panels_are counter) stood.stands;
         is_open = subst IsOpen (sym taken.service) tt;
         there = stood.there;
@@ -253,11 +263,12 @@ module _ (known : Known) (begin : Begin) (is : IsBegin begin) (events : List Mes
         ∙ ap (λ (p : List Entry). host_took (answer_to p) link.host message) stands.pool
 
     item_completes : (item : WireItem) (done : Step) (byte : ℕ) (behind : List ℕ) (to : Rest) (counter : Counter) → up_of number old ≡ byte ∷ behind
+        → Delivers record_limit (host_rest number old) (byte ∷ []) (item ∷ []) to
         → StandsUp item message → TakesItem (answer_to old.host.pool) (conn_of (service_at number old.host)) item done
         → LinkStands (record (link_of number old) { host_rest = to; up = behind }) (record link { up = others })
         → counter ≡ stepped number to done (counter_at number old.host)
-        → OneByte begin events number counter old
-    item_completes item done byte behind to counter queue stand item_taken stood_up is_counter =
+        → OneByte begin events number byte counter old
+    item_completes item done byte behind to counter queue read stand item_taken stood_up is_counter =
         let counter_now : counter ≡ stepped number to step (counter_at number old.host) =
         is_counter ∙ ap (λ (s : Step). stepped number to s (counter_at number old.host)) (step_is item done stand item_taken) in
         let just = just_talks (answer_to world.pool) link.host message in
@@ -288,7 +299,8 @@ module _ (known : Known) (begin : Begin) (is : IsBegin begin) (events : List Mes
         let new : ByteWorld = took_up 1 number counter old in
         record {
           some = delivery ∷ [];
-          repeats = (1, refl);
+          completed = record { completed = item ∷ []; behind = to; delivers = read; one_each = refl };
+          behind = ap rest_of taken.service;
           reached = reached_one begin events delivery old new reached tt tt has_its_place (panels_are counter)
               (subst (λ (w : World). WorldStands new w) (sym world_now) stood.stands);
           is_open = subst IsOpen (sym taken.service) tt;
@@ -300,17 +312,19 @@ module _ (known : Known) (begin : Begin) (is : IsBegin begin) (events : List Mes
   something_completes : (byte : ℕ) (behind : List ℕ) (counter : Counter) (rest to : Rest) (conn : Conn) (item : WireItem) (done : Step) → up_of number old ≡ byte ∷ behind
       → service_at number old.host ≡ Service.Open rest conn → Delivers record_limit rest (byte ∷ []) (item ∷ []) to
       → TakesItem (answer_to old.host.pool) conn item done → counter ≡ stepped number to done (counter_at number old.host)
-      → OneByte begin events number counter old
+      → OneByte begin events number byte counter old
   something_completes byte behind counter rest to conn item done queue held delivers item_taken is_counter =
-      let came = known.links.up (link_of number old) link (byte ∷ []) behind (item ∷ []) to (stands.links number) host_here queue
-      (subst (λ (r : Rest). Delivers record_limit r (byte ∷ []) (item ∷ []) to) (sym (ap rest_of held)) delivers) in
+      let came = known.links.up (link_of number old) link (byte ∷ []) behind (item ∷ []) to (stands.links number) host_here queue read in
       by_taken came.taken came.others came.whole came.each came.stands
     where
+      read : Delivers record_limit (host_rest number old) (byte ∷ []) (item ∷ []) to
+      read = subst (λ (r : Rest). Delivers record_limit r (byte ∷ []) (item ∷ []) to) (sym (ap rest_of held)) delivers
+
       by_taken : (taken others : List ToHost) → link.up ≡ taken ++ others → Pairwise StandsUp (item ∷ []) taken
-          → LinkStands (record (link_of number old) { host_rest = to; up = behind }) (record link { up = others }) → OneByte begin events number counter old
+          → LinkStands (record (link_of number old) { host_rest = to; up = behind }) (record link { up = others }) → OneByte begin events number byte counter old
       by_taken [] others whole each stood = absurd each
       by_taken (message ∷ []) others whole each stood =
-          item_completes message others whole item done byte behind to counter queue each.0
+          item_completes message others whole item done byte behind to counter queue read each.0
           (subst (λ (c : Conn). TakesItem (answer_to old.host.pool) c item done) (sym (ap conn_of held)) item_taken) stood is_counter
       by_taken (message ∷ other ∷ more) others whole each stood = absurd each.1
 
@@ -327,7 +341,7 @@ module _ (known : Known) (begin : Begin) (is : IsBegin begin) (events : List Mes
       known.links.wrong_is_final record_limit rest (byte ∷ []) behind fault spelt.delivers.tokens nothing wrong spelt.delivers.reads spelt.delivers.is_rest
 
   one_byte : (byte : ℕ) (behind : List ℕ) (counter : Counter) → up_of number old ≡ byte ∷ behind → TakesByte number (counter_at number old.host) byte counter
-      → OneByte begin events number counter old
+      → OneByte begin events number byte counter old
   one_byte byte behind counter queue (TakesByte.goes_on rest to conn held delivers is_counter) =
       nothing_completes byte behind counter rest to conn queue held delivers is_counter
   one_byte byte behind counter queue (TakesByte.completes rest to conn item done held delivers item_taken is_counter) =
@@ -336,10 +350,10 @@ module _ (known : Known) (begin : Begin) (is : IsBegin begin) (events : List Mes
 
 -- ---- bytes, one after another
 
-record ManyBytes (begin : Begin) (events : List MessageEvent) (number count : ℕ) (counter : Counter) (old : ByteWorld) : Type 0 where
+record ManyBytes (begin : Begin) (events : List MessageEvent) (number : ℕ) (front : List ℕ) (counter : Counter) (old : ByteWorld) : Type 0 where
   more : List MessageEvent
-  repeats : Repeats (MessageEvent.Up number) more
-  reached : Reached begin (events ++ more) (took_up count number counter old)
+  completed : AreDeliveries (host_rest number old) front (MessageEvent.Up number) more
+  reached : Reached begin (events ++ more) (took_up (length front) number counter old)
   is_open : IsOpen counter.line.service
 
 open_there : (service : Service) → IsOpen service → is_there service ≡ true
@@ -352,19 +366,12 @@ there_open Service.Free is e = absurd (cc)
 there_open (Service.Open rest conn) is e = tt
 there_open (Service.Closed cause) is e = absurd is
 
-repeats_more : (delivery : MessageEvent) (some more : List MessageEvent) → Repeats delivery some → Repeats delivery more → Repeats delivery (some ++ more)
-repeats_more delivery some more one two = (
-  one.0 + two.0,
-  ap (λ (s : List MessageEvent). s ++ more) one.1 ∙ ap (λ (m : List MessageEvent). replicate one.0 delivery ++ m) two.1
-      ∙ replicate-append-replicate one.0 two.0 delivery,
-)
-
 many_bytes : Known → (begin : Begin) → IsBegin begin → (number : ℕ) → number < most_connections → (front behind : List ℕ) (events : List MessageEvent) (old : ByteWorld)
     (counter : Counter) → Reached begin events old → host_there number old ≡ true → up_of number old ≡ front ++ behind
-    → TakesBytes number (counter_at number old.host) front counter → ManyBytes begin events number (length front) counter old
+    → TakesBytes number (counter_at number old.host) front counter → ManyBytes begin events number front counter old
 many_bytes known begin is number below [] behind events old counter reached there queue same = record {
   more = [];
-  repeats = (0, refl);
+  completed = none_delivered known (host_rest number old) (MessageEvent.Up number) (host_rest_is known number old (after begin events) reached.stands);
   reached = reached_still begin events old (took_up 0 number counter old) reached
       (ap (λ (c : Counter). took_up 0 number c old) same ∙ took_none number old);
   is_open = subst (λ (c : Counter). IsOpen c.line.service) (sym same) (there_open (service_at number old.host) (reached.stands.none_closed number) there);
@@ -382,7 +389,8 @@ many_bytes known begin is number below (byte ∷ front) behind events old counte
     (subst (λ (c : Counter). TakesBytes number c front counter) (sym counter_mid) taken.2) in
     record {
       more = one.some ++ others.more;
-      repeats = repeats_more (MessageEvent.Up number) one.some others.more one.repeats others.repeats;
+      completed = more_delivered known (host_rest number old) (byte ∷ []) front (MessageEvent.Up number) one.some others.more one.completed
+          (subst (λ (r : Rest). AreDeliveries r front (MessageEvent.Up number) others.more) (ap (λ (c : Counter). rest_of c.line.service) counter_mid ∙ one.behind) others.completed);
       reached = subst (λ (m : List MessageEvent). Reached begin m (took_up (suc (length front)) number counter old)) (append_assoc events one.some others.more)
           (subst (λ (w : ByteWorld). Reached begin ((events ++ one.some) ++ others.more) w) (took_next number first old linked lined (length front) counter one.there)
           others.reached);
@@ -397,6 +405,14 @@ stops_open : (stop : Stop) (old : Counter) (bytes : List ℕ) (taken number : �
 stops_open Going old bytes taken number counter behind is stops = refl
 stops_open Memory old bytes taken number counter behind is stops = refl
 stops_open (ClosedStop cause) old bytes taken number counter behind is stops = absurd (subst IsOpen stops is)
+
+-- and took all bytes, unless memory was refused
+taken_up : (stop : Stop) (old counter : Counter) (bytes : List ℕ) (taken : ℕ) → StopsFor stop old bytes taken counter → is_there old.line.service ≡ true
+    → IsOpen counter.line.service → IsTaken stop taken bytes
+taken_up Going old counter bytes taken (inl all) there is = all.0
+taken_up Going old counter bytes taken (inr none) there is = let both : false ≡ true = sym (ap is_there none.1) ∙ there in absurd (cc)
+taken_up Memory old counter bytes taken stops there is = tt
+taken_up (ClosedStop cause) old counter bytes taken stops there is = absurd (subst IsOpen stops is)
 
 in_pieces : (taken count : ℕ) (queue : List ℕ) → queue ≡ take taken (take count queue) ++ (drop taken (take count queue) ++ drop count queue)
 in_pieces taken count queue =
@@ -415,9 +431,12 @@ module _ (known : Known) where
       let many = many_bytes known begin is number below (take taken bytes) (drop taken bytes ++ drop count (up_of number old)) events old happens.counter reached there
       (in_pieces taken count (up_of number old)) happens.feeds.takes in
       let world : ByteWorld = took_up taken number happens.counter old in
+      let took_them : taken_by answer bytes ≡ take taken bytes =
+      ap (λ (a : Stepped). taken_by a bytes) happens.answers
+      ∙ taken_is happens.fed.stop taken bytes (taken_up happens.fed.stop (counter_at number old.host) happens.counter bytes taken happens.feeds.stops there many.is_open) in
       record {
         more = many.more;
-        comes_to = many.repeats;
+        comes_to = subst (λ (b : List ℕ). AreDeliveries (host_rest number old) b (MessageEvent.Up number) many.more) (sym took_them) many.completed;
         reached = subst (λ (w : ByteWorld). Reached begin (events ++ many.more) w)
             (sym (happens.leaves ∙ stops_open happens.fed.stop (counter_at number old.host) bytes taken number happens.counter world many.is_open happens.feeds.stops))
             (subst (λ (n : ℕ). Reached begin (events ++ many.more) (took_up n number happens.counter old)) (length-take-le taken bytes happens.feeds.few) many.reached);

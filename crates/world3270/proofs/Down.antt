@@ -46,7 +46,8 @@ use Rattle.host_core.specs.declared.occasion.Occasion.TheVariants as occasions
 use Rattle.world3270.specs.Always.{is_negative}
 use Rattle.world3270.specs.Given.{Given}
 use Rattle.world3270.specs.Happens.{verdict_in}
-use Rattle.world3270.specs.Headline.{SentFields, UnmodifiedIsKept}
+use Rattle.world3270.specs.Headline.{SentFields}
+use Rattle.world3270.specs.Unreturned.{UnmodifiedIsKept}
 use Rattle.world3270.specs.Link.{Link, sent}
 use Rattle.world3270.specs.Moments.{Kind, Talking, Serving, Moment, UnderWay, IsAt, host_talk_at, term_state_at, turn_at, pending_at, down_at, up_at}
 use Rattle.world3270.specs.Occasions.{IsOccasion, IsOpenBy, IsOpenFor, IsCleared}
@@ -214,7 +215,7 @@ takes_paint given app is link rest k lu number command wants over at f left =
           knows = subst Knows knows (given.belief.known size over wants);
           held = given.keys.at_first new.cells;
           messages = given.notes.painted_takes link.host.shape over wants screen f.paintable k.whole;
-          noted = λ place. inr refl;
+          noted = record { places = record { size = refl; kinds = λ place. refl }; each = λ place. inr refl };
         };
       };
       open_end = refl;
@@ -276,7 +277,8 @@ kept_by given shape command screen erased left is note whole takes kept = by_for
     by_form : TakesNotes shape screen.cells → UnmodifiedIsKept erased left (after_command command screen).cells
     by_form (TakesNotes.formatted row) =
         kept_noted given.notes.form erased command left screen noted.size noted.characters (given.notes.writes_protected shape command screen.cells is note whole row) kept
-    by_form (TakesNotes.unformatted bare) = kept_bare erased left (after_command command screen).cells (still_bare screen.cells (after_command command screen).cells (given.notes.form command screen noted.characters).attributes bare)
+    by_form (TakesNotes.unformatted bare) =
+        kept_bare given.notes.form erased command left screen noted.characters (still_bare screen.cells (after_command command screen).cells (given.notes.form command screen noted.characters).attributes bare) kept
 
 -- where nothing is known nothing is open
 pub none_open : (shadow : Shadow) → shadow ≡ Shadow.NothingKnown → NothingIsOpen shadow

@@ -1,21 +1,29 @@
 -- The world over bytes follows the world over messages, whatever happens.
-use Rattle.std.proofs.Common.{◌≡◌, ℕ, zero, suc, Bool, true, false, Option, List, [], ◌∷◌, ◌++◌, drop, take, append_assoc, refl, ap, sym, subst, ◌∙◌, if◌then◌else◌}
+use Rattle.std.proofs.Common.{◌≡◌, ◌<◌, ◌≤◌, ◌+◌, ℕ, zero, suc, Bool, true, false, Option, Some, None, List, [], ◌∷◌, ◌++◌, drop, get_or, length, take, append_assoc, refl, ap, sym, subst, ◌∙◌, if◌then◌else◌}
+use Rattle.std.proofs.Math.Seq.{drop-length, take-length}
+use Rattle.std.proofs.lemmas.List.{append-nil, at_drop_more, take_all, take_more}
 use Rattle.std.proofs.lemmas.List.Elements.{All-cons, All-nil}
 use Rattle.keyboard.specs.declared.key.Key.{Key}
+use Rattle.telnet_wire.specs.Reading.{Rest, IsRest}
+use Rattle.tn3270e_msg.specs.Header.{record_limit}
 use Rattle.host_core.specs.Application.{application_of}
-use Rattle.world3270.specs.ByteRuns.{AllHappen, StopsAt}
+use Rattle.world3270.specs.ByteRuns.{AllHappen, StopsAt, refused_at}
 use Rattle.world3270.specs.ByteSteps.{HappensIf, Steps, has_place}
-use Rattle.world3270.specs.ByteWorld.{ByteWorld}
+use Rattle.world3270.specs.ByteWorld.{ByteWorld, down_of, up_of}
+use Rattle.world3270.specs.Deliveries.{AreDeliveries, host_rest, taken_by, terminal_rest}
 use Rattle.world3270.specs.Happens.{done, happens}
+use Rattle.world3270.specs.Known.{Known}
 use Rattle.world3270.specs.Placed.{has_place as has_place_over_messages}
-use Rattle.world3270.specs.Refines.{Begin, IsBegin, Reached, IsReached, IsReal, IsCounted, GoesOn, ComesTo, StepsGoOn, SkipsAreThose, ComeTo, NextComesTo, RunsGoOn, AreReal, after, message_event, once}
+use Rattle.world3270.specs.Refines.{Begin, IsBegin, Reached, IsReached, IsReal, IsCounted, GoesOn, ComesTo, StepsGoOn, SkipsAreThose, ComeTo, NextComesTo, RunGoesOn, RunsGoOn, StepOverMessages, RunOverMessages, AreReal, after, message_event, once}
 use Rattle.world3270.specs.Sendable.{IsTyped}
 use Rattle.world3270.specs.Standing.{WorldStands}
 use Rattle.world3270.specs.World.{World, Event as MessageEvent}
 use Rattle.world3270.specs.declared.event.Event.{Event}
 use Rattle.world3270.specs.declared.event.Event.TheVariants as event
+use Rattle.world3270.specs.declared.event.Ran.{Ran}
 use Rattle.world3270.specs.declared.event.Stepped.{Stepped}
 use Rattle.world3270.specs.declared.event.Stepped.TheVariants as stepped
+use Rattle.world3270.proofs.Completed.{host_rest_is, none_delivered, terminal_rest_is}
 use Rattle.world3270.proofs.Known.{Goes, reached_more, reached_still}
 
 -- what each event comes to, where it has a place
@@ -60,21 +68,35 @@ module _ (begin : Begin) (events : List MessageEvent) (old new : ByteWorld) (rea
       (ap (λ (b : ByteWorld). b.host.panels) same)
       (subst (λ (w : World). WorldStands new w) (sym stays) (subst (λ (b : ByteWorld). WorldStands b world) (sym same) reached.stands))
 
-module _ (skips : SkipsAreThose) (begin : Begin) (events : List MessageEvent) (old : ByteWorld) (answer : Stepped) (new : ByteWorld)
+module _ (known : Known) (skips : SkipsAreThose) (begin : Begin) (events : List MessageEvent) (old : ByteWorld) (answer : Stepped) (new : ByteWorld)
     (is : IsBegin begin) (reached : Reached begin events old) (skip : answer ≡ stepped.Skipped) (same : new ≡ old) where
   is_once : (event : MessageEvent) → event ∷ [] ≡ once event answer
   is_once event = sym (ap (once event) skip)
 
-  skips_once : (event : Event) → IsReal event → IsCounted event → has_place event old ≡ false → ComesTo event answer (message_event event ∷ []) → GoesOn begin events event answer new
+  skips_once : (event : Event) → IsReal event → IsCounted event → has_place event old ≡ false → ComesTo event old answer (message_event event ∷ []) → GoesOn begin events event old answer new
   skips_once event real counted place comes = record {
     more = message_event event ∷ [];
     comes_to = comes;
     reached = skipped begin events old new reached same event real (sym (skips begin events event old is reached counted) ∙ place);
   }
 
-  skips_go : (event : Event) → IsReal event → has_place event old ≡ false → GoesOn begin events event answer new
-  skips_go (event.Up number count) real place = record { more = []; comes_to = (0, refl); reached = reached_still begin events old new reached same }
-  skips_go (event.Down number count) real place = record { more = []; comes_to = (0, refl); reached = reached_still begin events old new reached same }
+  -- nothing was taken of bytes that come
+  none_taken : (rest : Rest) (bytes : List ℕ) (delivery : MessageEvent) → IsRest record_limit rest → AreDeliveries rest (taken_by answer bytes) delivery []
+  none_taken rest bytes delivery held =
+      subst (λ (a : Stepped). AreDeliveries rest (taken_by a bytes) delivery []) (sym skip) (none_delivered known rest delivery held)
+
+  skips_go : (event : Event) → IsReal event → has_place event old ≡ false → GoesOn begin events event old answer new
+  skips_go (event.Up number count) real place = record {
+    more = [];
+    comes_to = none_taken (host_rest number old) (take count (up_of number old)) (MessageEvent.Up number) (host_rest_is known number old (after begin events) reached.stands);
+    reached = reached_still begin events old new reached same;
+  }
+  skips_go (event.Down number count) real place = record {
+    more = [];
+    comes_to = none_taken (terminal_rest number old) (take count (down_of number old)) (MessageEvent.Down number)
+        (terminal_rest_is known number old (after begin events) reached.stands);
+    reached = reached_still begin events old new reached same;
+  }
   skips_go (event.Key terminal key) real place = skips_once (event.Key terminal key) real tt place (is_once (MessageEvent.Press terminal key))
   skips_go (event.Act number) real place = skips_once (event.Act number) real tt place (is_once (MessageEvent.Act number))
   skips_go (event.Note number text) real place = skips_once (event.Note number text) real tt place (is_once (MessageEvent.Note number text))
@@ -87,12 +109,12 @@ module _ (skips : SkipsAreThose) (begin : Begin) (events : List MessageEvent) (o
 
 -- ---- each event
 
-pub steps_go_on : EventsGo → SkipsAreThose → StepsGoOn
-steps_go_on go skips begin events event old answer new is reached real steps = by_place (has_place event old) refl steps
+pub steps_go_on : Known → EventsGo → SkipsAreThose → StepsGoOn
+steps_go_on known go skips begin events event old answer new is reached real steps = by_place (has_place event old) refl steps
   where
-    by_place : (b : Bool) → has_place event old ≡ b → HappensIf b event old answer new → GoesOn begin events event answer new
+    by_place : (b : Bool) → has_place event old ≡ b → HappensIf b event old answer new → GoesOn begin events event old answer new
     by_place true place happens = goes go event begin events old answer new is reached real place happens
-    by_place false place nothing = skips_go skips begin events old answer new is reached nothing.0 nothing.1 event real place
+    by_place false place nothing = skips_go known skips begin events old answer new is reached nothing.0 nothing.1 event real place
 
 -- So a world that was reached is still one that is.
 pub step_reaches : StepsGoOn → (event : Event) (old : ByteWorld) (answer : Stepped) (new : ByteWorld) → IsReal event → Steps event old answer new → IsReached old → IsReached new
@@ -102,41 +124,41 @@ step_reaches go event old answer new real steps is =
 
 -- ---- many events
 
--- what events that happened come to
-record HaveGone (begin : Begin) (before : List MessageEvent) (events : List Event) (new : ByteWorld) : Type 0 where
-  more : List MessageEvent
-  come : ComeTo events more
-  reached : Reached begin (before ++ more) new
+-- what events that happened are over messages
+pub record HaveGone (begin : Begin) (before : List MessageEvent) (events : List Event) (old new : ByteWorld) : Type 0 where
+  pub more : List MessageEvent
+  pub come : ComeTo begin before events old new more
+  pub reached : Reached begin (before ++ more) new
 
 grouped : (begin : Begin) (before first others : List MessageEvent) (new : ByteWorld) → Reached begin ((before ++ first) ++ others) new → Reached begin (before ++ (first ++ others)) new
 grouped begin before first others new reached = subst (λ (es : List MessageEvent). Reached begin es new) (append_assoc before first others) reached
 
 all_gone : StepsGoOn → (begin : Begin) (before : List MessageEvent) (events : List Event) (old new : ByteWorld)
-    → IsBegin begin → Reached begin before old → AreReal events → AllHappen events old new → HaveGone begin before events new
+    → IsBegin begin → Reached begin before old → AreReal events → AllHappen events old new → HaveGone begin before events old new
 all_gone go begin before [] old new is reached real none =
-    record { more = []; come = refl; reached = reached_still begin before old new reached none }
+    record { more = []; come = (none, refl); reached = reached_still begin before old new reached none }
 all_gone go begin before (event ∷ events) old new is reached real all =
     let one = go begin before event old all.0 all.1 is reached real.0 all.2 in
     let others = all_gone go begin (before ++ one.more) events all.1 new is one.reached real.1 all.4 in
     record {
       more = one.more ++ others.more;
-      come = (all.0, one.more, others.more, refl, one.comes_to, others.come);
+      come = (all.0, all.1, others.more, all.2, all.3, one, refl, others.come);
       reached = grouped begin before one.more others.more new others.reached;
     }
 
 -- the next of the events
-record HasStopped (begin : Begin) (before : List MessageEvent) (events : List Event) (new : ByteWorld) : Type 0 where
-  more : List MessageEvent
-  comes : NextComesTo events more
-  reached : Reached begin (before ++ more) new
+pub record HasStopped (begin : Begin) (before : List MessageEvent) (events : List Event) (part : ℕ) (old new : ByteWorld) : Type 0 where
+  pub more : List MessageEvent
+  pub comes : NextComesTo begin before events part old new more
+  pub reached : Reached begin (before ++ more) new
 
 stopped : StepsGoOn → (begin : Begin) (before : List MessageEvent) (events : List Event) (part : ℕ) (old new : ByteWorld)
-    → IsBegin begin → Reached begin before old → AreReal events → StopsAt events part old new → HasStopped begin before events new
+    → IsBegin begin → Reached begin before old → AreReal events → StopsAt events part old new → HasStopped begin before events part old new
 stopped go begin before [] part old new is reached real stops =
-    record { more = []; comes = refl; reached = reached_still begin before old new reached stops.1 }
+    record { more = []; comes = (stops.0, stops.1, refl); reached = reached_still begin before old new reached stops.1 }
 stopped go begin before (event ∷ events) part old new is reached real stops =
     let one = go begin before event old stops.0 new is reached real.0 stops.1 in
-    record { more = one.more; comes = (stops.0, one.comes_to); reached = one.reached }
+    record { more = one.more; comes = (stops.0, stops.1, stops.2, one, refl); reached = one.reached }
 
 real_first : (count : ℕ) (events : List Event) → AreReal events → AreReal (take count events)
 real_first zero events real = tt
@@ -148,14 +170,128 @@ real_others zero events real = real
 real_others (suc count) [] real = tt
 real_others (suc count) (event ∷ events) real = real_others count events real.1
 
+whole_and_next : (begin : Begin) (before : List MessageEvent) (events : List Event) (old mid : ByteWorld) (ran : Ran) (new : ByteWorld)
+    → (whole : HaveGone begin before (take ran.whole events) old mid) → HasStopped begin (before ++ whole.more) (drop ran.whole events) ran.part mid new
+    → RunGoesOn begin before events old ran new
+whole_and_next begin before events old mid ran new whole next = record {
+  first = whole.more;
+  last = next.more;
+  mid = mid;
+  whole = whole.come;
+  next = next.comes;
+  between = whole.reached;
+  reached = grouped begin before whole.more next.more new next.reached;
+}
+
 pub runs_go_on : StepsGoOn → RunsGoOn
 runs_go_on go begin before events old ran new is reached real runs =
     let whole = all_gone go begin before (take ran.whole events) old runs.mid is reached (real_first ran.whole events real) runs.whole in
-    let next = stopped go begin (before ++ whole.more) (drop ran.whole events) ran.part runs.mid new is whole.reached (real_others ran.whole events real) runs.rest in
+    whole_and_next begin before events old runs.mid ran new whole
+    (stopped go begin (before ++ whole.more) (drop ran.whole events) ran.part runs.mid new is whole.reached (real_others ran.whole events real) runs.rest)
+
+-- ---- events one after another, and one more
+
+-- whatever world over messages the old bytes represent
+abbrev pub Gone : List Event → ByteWorld → ByteWorld → Type 0
+Gone events old new = (begin : Begin) (before : List MessageEvent) → IsBegin begin → Reached begin before old → HaveGone begin before events old new
+
+pub none_gone : (old new : ByteWorld) → new ≡ old → Gone [] old new
+none_gone old new same begin before is reached = record { more = []; come = (same, refl); reached = reached_still begin before old new reached same }
+
+-- the same step, of a world and after events that are the same
+abbrev goes_on_from : (begin : Begin) (before others : List MessageEvent) (event : Event) (mid old : ByteWorld) (answer : Stepped) (new : ByteWorld)
+    → before ≡ others → mid ≡ old → GoesOn begin before event mid answer new → GoesOn begin others event old answer new
+goes_on_from begin before others event mid old answer new same world one = record {
+  more = one.more;
+  comes_to = subst (λ (w : ByteWorld). ComesTo event w answer one.more) world one.comes_to;
+  reached = subst (λ (es : List MessageEvent). Reached begin (es ++ one.more) new) same one.reached;
+}
+
+come_more : (begin : Begin) (before : List MessageEvent) (events : List Event) (event : Event) (old mid new : ByteWorld) (answer : Stepped) (first : List MessageEvent)
+    → ComeTo begin before events old mid first → Steps event mid answer new → refused_at answer ≡ None → (one : GoesOn begin (before ++ first) event mid answer new)
+    → ComeTo begin before (events ++ event ∷ []) old new (first ++ one.more)
+come_more begin before [] event old mid new answer first come steps goes one =
+    let none : before ++ first ≡ before = ap (λ (m : List MessageEvent). before ++ m) come.1 ∙ append-nil before in (
+      answer,
+      new,
+      [],
+      subst (λ (w : ByteWorld). Steps event w answer new) come.0 steps,
+      goes,
+      goes_on_from begin (before ++ first) before event mid old answer new none come.0 one,
+      ap (λ (m : List MessageEvent). m ++ one.more) come.1 ∙ sym (append-nil one.more),
+      (refl, refl),
+    )
+come_more begin before (next ∷ events) event old mid new answer first come steps goes one =
+    let begun = come.5 in
+    let same : before ++ first ≡ (before ++ begun.more) ++ come.2 =
+    ap (λ (m : List MessageEvent). before ++ m) come.6 ∙ sym (append_assoc before begun.more come.2) in (
+      come.0,
+      come.1,
+      come.2 ++ one.more,
+      come.3,
+      come.4,
+      begun,
+      ap (λ (m : List MessageEvent). m ++ one.more) come.6 ∙ append_assoc begun.more come.2 one.more,
+      come_more begin (before ++ begun.more) events event come.1 mid new answer come.2 come.7 steps goes
+          (goes_on_from begin (before ++ first) ((before ++ begun.more) ++ come.2) event mid mid answer new same refl one),
+    )
+
+pub gone_more : (events : List Event) (index : ℕ) (d : Event) (old mid new : ByteWorld) (answer : Stepped) → index < length events → Gone (take index events) old mid
+    → Steps (get_or events index d) mid answer new → StepOverMessages (get_or events index d) mid answer new → refused_at answer ≡ None
+    → Gone (take (index + 1) events) old new
+gone_more events index d old mid new answer below gone steps over goes begin before is reached =
+    let whole = gone begin before is reached in
+    let one = over.goes_on begin (before ++ whole.more) is whole.reached in
     record {
-      first = whole.more;
-      last = next.more;
-      whole = whole.come;
-      next = next.comes;
-      reached = grouped begin before whole.more next.more new next.reached;
+      more = whole.more ++ one.more;
+      come = subst (λ (es : List Event). ComeTo begin before es old new (whole.more ++ one.more)) (sym (take_more events index d below))
+          (come_more begin before (take index events) (get_or events index d) old mid new answer whole.more whole.come steps goes one);
+      reached = grouped begin before whole.more one.more new one.reached;
     }
+
+-- all happened
+pub all_ran : (events : List Event) (index : ℕ) (ran : Ran) (old new : ByteWorld) → length events ≤ index → ran.whole ≡ length events → ran.part ≡ 0
+    → Gone (take index events) old new → IsReached old → RunOverMessages events old ran new
+all_ran events index ran old new past whole part gone represents = record {
+  represents = represents;
+  goes_on = λ begin before is reached.
+      let have = gone begin before is reached in
+      let all : take index events ≡ take ran.whole events =
+      take_all index events past ∙ sym (take-length events) ∙ ap (λ (n : ℕ). take n events) (sym whole) in
+      let none : drop ran.whole events ≡ [] = ap (λ (n : ℕ). drop n events) whole ∙ drop-length events in
+      whole_and_next begin before events old new ran new
+      (record {
+        more = have.more;
+        come = subst (λ (es : List Event). ComeTo begin before es old new have.more) all have.come;
+        reached = have.reached;
+      })
+      (record {
+        more = [];
+        comes = subst (λ (es : List Event). NextComesTo begin (before ++ have.more) es ran.part new new []) (sym none) (part, refl, refl);
+        reached = reached_still begin (before ++ have.more) new new have.reached refl;
+      });
+}
+
+-- memory was refused to one
+pub part_ran : (events : List Event) (index : ℕ) (d : Event) (ran : Ran) (old mid new : ByteWorld) (answer : Stepped) → index < length events → ran.whole ≡ index
+    → Gone (take index events) old mid → Steps (get_or events index d) mid answer new → StepOverMessages (get_or events index d) mid answer new
+    → refused_at answer ≡ Some ran.part → IsReached old → RunOverMessages events old ran new
+part_ran events index d ran old mid new answer below whole gone steps over refused represents = record {
+  represents = represents;
+  goes_on = λ begin before is reached.
+      let have = gone begin before is reached in
+      let one = over.goes_on begin (before ++ have.more) is have.reached in
+      whole_and_next begin before events old mid ran new
+      (record {
+        more = have.more;
+        come = subst (λ (n : ℕ). ComeTo begin before (take n events) old mid have.more) (sym whole) have.come;
+        reached = have.reached;
+      })
+      (record {
+        more = one.more;
+        comes = subst (λ (n : ℕ). NextComesTo begin (before ++ have.more) (drop n events) ran.part mid new one.more) (sym whole)
+            (subst (λ (es : List Event). NextComesTo begin (before ++ have.more) es ran.part mid new one.more)
+            (sym (at_drop_more (λ (es : List Event). es) events index d below)) (answer, steps, refused, one, refl));
+        reached = one.reached;
+      });
+}

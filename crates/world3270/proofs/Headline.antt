@@ -18,7 +18,7 @@ use Rattle.host_core.specs.Messages.{ToHost}
 use Rattle.host_core.specs.declared.turn.Turn.TheVariants as whose
 use Rattle.host_core.specs.declared.occasion.Occasion.{Occasion}
 use Rattle.host_core.specs.declared.occasion.Occasion.TheVariants as occasions
-use Rattle.host_core.specs.Session.{Pending, agreed_lu}
+use Rattle.host_core.specs.Session.{Conn, Pending, agreed_lu}
 use Rattle.world3270.specs.Always.{Always, HeadlineHolds, is_refusal, NobodyRefuses}
 use Rattle.world3270.specs.Given.{Given}
 use Rattle.world3270.specs.Happens.{run}
@@ -26,12 +26,13 @@ use Rattle.world3270.specs.Headline.{SentFields, OneSessionEach, BoundIsGranted,
 use Rattle.world3270.specs.Link.{Link}
 use Rattle.world3270.specs.Moments.{Talking, Serving, Moment, UnderWay, term_state_at, host_talk_at, turn_at, pending_at, up_at}
 use Rattle.world3270.specs.Occasions.{IsOccasion, IsOpenBy, IsOpenFor, IsCleared, ActsOnTheKey, KnowsTheCleared, LeavesNothingOpen}
-use Rattle.world3270.specs.Seen.{seen, seen_link}
+use Rattle.world3270.specs.Seen.{HostSeen, TerminalSeen, conn_seen, end_seen, host_seen, seen, seen_link, terminal_seen}
 use Rattle.world3270.specs.Stages.{scene_of, Fact, Kept}
-use Rattle.world3270.specs.Terminal.{bound_to}
+use Rattle.world3270.specs.Terminal.{TermEnd, bound_to}
 use Rattle.world3270.specs.View.{View, view_of}
 use Rattle.world3270.specs.World.{World, new_world}
 use Rattle.world3270.proofs.Down.{none_open}
+use Rattle.world3270.proofs.AsLeft.{as_left}
 use Rattle.world3270.proofs.Worlds.{GoodWorld, run_good, new_good}
 
 -- ---- who is bound to what
@@ -65,16 +66,30 @@ agreed_granted (Named device lu) mine e = absurd (cc)
 agreed_granted (Countered device lu) mine e = absurd (cc)
 agreed_granted (Closed cause) mine e = absurd (cc)
 
+-- an end that is seen is attached
+host_attached : (here : Bool) (conn : Conn) (host : HostSeen) → host_seen here conn ≡ Some host → (here ≡ true) × (host ≡ conn_seen conn)
+host_attached true conn host e = (refl, let same : Some host ≡ Some (conn_seen conn) = sym e in cc)
+host_attached false conn host e = absurd (cc)
+
+terminal_attached : (here : Option ℕ) (end : TermEnd) (terminal : TerminalSeen) → terminal_seen here end ≡ Some terminal → (number : ℕ) × (here ≡ Some number) × (terminal ≡ end_seen number end)
+terminal_attached None end terminal e = absurd (cc)
+terminal_attached (Some number) end terminal e = (number, refl, let same : Some terminal ≡ Some (end_seen number end) = sym e in cc)
+
 bound_granted : (app : Application) (world : World) → GoodWorld app world → BoundIsGranted (seen world)
-bound_granted app world g number lu here bound =
+bound_granted app world g number host terminal lu host_is terminal_is bound =
     let link : Link = world.link number in
-    let agreed = bound_agrees app (view_of link) lu (g.links number) bound in
-    record { agreed = agreed; held = g.holds number lu here (agreed_granted link.host.talk.state lu agreed) }
+    let here = host_attached link.host_here link.host host host_is in
+    let there = terminal_attached link.term_here link.term terminal terminal_is in
+    let agreed = bound_agrees app (view_of link) lu (g.links number) (sym (ap (λ (t : TerminalSeen). t.bound) there.2) ∙ bound) in
+    record {
+      agreed = ap (λ (h : HostSeen). h.agreed) here.1 ∙ agreed;
+      held = g.holds number lu here.0 (agreed_granted link.host.talk.state lu agreed);
+    }
 
 one_session : (app : Application) (world : World) → GoodWorld app world → OneSessionEach (seen world)
 one_session app world g one other lu here there =
-    let first : holder world.pool lu ≡ Some one = (bound_granted app world g one lu here.host here.bound).held in
-    let second : holder world.pool lu ≡ Some other = (bound_granted app world g other lu there.host there.bound).held in
+    let first : holder world.pool lu ≡ Some one = (bound_granted app world g one here.host here.terminal lu here.host_is here.terminal_is here.bound).held in
+    let second : holder world.pool lu ≡ Some other = (bound_granted app world g other there.host there.terminal lu there.host_is there.terminal_is there.bound).held in
     let same : Some one ≡ Some other = sym first ∙ second in
     cc
 
@@ -125,17 +140,25 @@ nothing_waits (Pending.Reading number) e = absurd (cc)
 nothing_waits (Pending.Noting number command) e = absurd (cc)
 
 knows_turn : (app : Application) (link : Link) → Kept app (view_of link) → IsHostsTurn (seen_link link) → Knows (view_of link)
-knows_turn app link k h = knows_at app (view_of link) k h.turn (nothing_waits link.host.pending h.answered)
+knows_turn app link k h =
+    let here = host_attached link.host_here link.host h.host h.host_is in
+    knows_at app (view_of link) k (sym (ap (λ (host : HostSeen). host.turn) here.1) ∙ h.turn)
+    (nothing_waits link.host.pending (sym (ap (λ (host : HostSeen). host.pending) here.1) ∙ h.answered))
 
-agrees : Given → (app : Application) (link : Link) → Kept app (view_of link) → IsHostsTurn (seen_link link) → Agrees (seen_link link)
+agrees : Given → (app : Application) (link : Link) → Kept app (view_of link) → (h : IsHostsTurn (seen_link link)) → Agrees h.host h.terminal
 agrees given app link k h =
     let v : View = view_of link in
     let known = knows_turn app link k h in
+    let here = host_attached link.host_here link.host h.host h.host_is in
+    let there = terminal_attached link.term_here link.term h.terminal h.terminal_is in
+    let both : Agrees (conn_seen link.host) (end_seen there.0 link.term) =
     record {
-      sees = record { meets = known.meets; lists = known.lists; protected = given.belief.seen v.host.shadow v.screen known.meets k.exact.protected };
-      returned = λ sent. given.belief.told v.host.shadow v.screen known.meets k.exact.protected (known.told sent);
-      unreturned = k.unreturned;
-    }
+      sees = record { meets = known.meets; protected = given.belief.seen v.host.shadow v.screen known.meets known.lists k.exact.protected };
+      returned = λ sent. given.belief.told v.host.shadow v.screen known.meets known.lists k.exact.protected (known.told sent);
+      unreturned = λ sent. as_left v.erased v.left.cells v.screen.cells (k.unreturned sent);
+    } in
+    subst (λ (host : HostSeen). Agrees host h.terminal) (sym here.1)
+    (subst (λ (terminal : TerminalSeen). Agrees (conn_seen link.host) terminal) (sym there.2) both)
 
 -- ---- nobody refuses
 

@@ -64,7 +64,7 @@ facts known begin is events are typed =
 abbrev pub Goes : ByteEvent → Type 0
 Goes event = (begin : Begin) (events : List Event) (old : ByteWorld) (answer : Stepped) (new : ByteWorld)
     → IsBegin begin → Reached begin events old → IsReal event → has_place event old ≡ true → Happens event old answer new
-    → GoesOn begin events event answer new
+    → GoesOn begin events event old answer new
 
 pub after_more : (begin : Begin) (events more : List Event) → after begin (events ++ more) ≡ run (application_of begin.panels) more (after begin events)
 after_more begin events more = run-append (application_of begin.panels) events more (new_world (application_of begin.panels) begin.pool begin.terminals)

@@ -2,6 +2,7 @@ pub mod Queues
 pub mod OneOfMany
 pub mod Sent
 pub mod Unreturned
+pub mod AsLeft
 pub mod Down
 pub mod Up
 pub mod Acting
@@ -40,10 +41,12 @@ pub mod Known
 pub mod UnderWay
 pub mod Frames
 pub mod SeenStands
+pub mod Completed
 pub mod Follows
 pub mod EventRuns
 pub mod ByteTerms
 pub mod ByteKeys
+pub mod Unbroken
 pub mod ByteDown
 pub mod BytePlaced
 pub mod ItemsSpelt
@@ -56,5 +59,5 @@ pub mod Partings
 pub mod Joinings
 pub mod HostAnew
 pub mod ByteEnds
-pub mod Unbroken
+pub mod Leaving
 pub mod OneWorld

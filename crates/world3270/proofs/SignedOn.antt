@@ -26,7 +26,7 @@ use Rattle.world3270.specs.ExampleEnds.{rounds, connects, connected, after, Deci
 use Rattle.world3270.specs.Happens.{happens, run, host_took_it, came_up, term_took_it, came_down, went_down}
 use Rattle.world3270.specs.Headline.{IsHostsTurn}
 use Rattle.world3270.specs.Placed.{is_queued}
-use Rattle.world3270.specs.Seen.{seen_link}
+use Rattle.world3270.specs.Seen.{conn_seen, end_seen, host_seen, seen_link, terminal_seen}
 use Rattle.world3270.specs.Terminal.{bound_to, replied}
 use Rattle.world3270.specs.World.{World, Event, new_world}
 use Rattle.tn3270e_msg.proofs.Agreement.{responses_alone}
@@ -152,9 +152,10 @@ at_turn key fact = record {
 
 pub turned : (world : World) (key : Aid) (place : ℕ) (fact : Option Fact) → facts place world ≡ at_turn key fact → IsHostsTurn (seen_link (world.link 0))
 turned world key place fact e = record {
-  host = ap (λ (all : Facts). all.host_here) e;
-  terminal = 0;
-  held = ap (λ (all : Facts). all.term_here) e;
+  host = conn_seen (world.link 0).host;
+  host_is = ap (λ (all : Facts). host_seen all.host_here (world.link 0).host) e;
+  terminal = end_seen 0 (world.link 0).term;
+  terminal_is = ap (λ (all : Facts). terminal_seen all.term_here (world.link 0).term) e;
   turn = ap (λ (all : Facts). all.turn) e;
   answered = ap (λ (all : Facts). all.pending) e;
 }
@@ -163,9 +164,10 @@ pub decided : (world : World) (key : Aid) (place : ℕ) (fact : Fact) → facts 
 decided world key place fact e = record {
   live = record {
     up = ap (λ (all : Facts). all.lost) e;
-    host = ap (λ (all : Facts). all.host_here) e;
-    terminal = 0;
-    held = ap (λ (all : Facts). all.term_here) e;
+    host = conn_seen (world.link 0).host;
+    host_is = ap (λ (all : Facts). host_seen all.host_here (world.link 0).host) e;
+    terminal = end_seen 0 (world.link 0).term;
+    terminal_is = ap (λ (all : Facts). terminal_seen all.term_here (world.link 0).term) e;
     bound = ap (λ (all : Facts). all.bound) e;
   };
   turn = turned world key place (Some fact) e;

@@ -1,8 +1,8 @@
 -- A connection over bytes stands for one over messages, whatever happens on it.
-use Rattle.std.proofs.Common.{◌≡◌, ◌||◌, ℕ, Bool, true, false, Option, None, Some, List, [], ◌∷◌, ◌++◌, refl, ap, sym, subst, ◌∙◌, append_assoc}
+use Rattle.std.proofs.Common.{◌≡◌, ◌||◌, ℕ, Bool, true, false, Option, None, Some, List, [], ◌∷◌, ◌++◌, map, refl, ap, sym, subst, ◌∙◌, append_assoc}
 use Rattle.std.proofs.lemmas.Grind.{flat_map-append}
 use Rattle.std.proofs.lemmas.List.{append-nil}
-use Rattle.std.specs.List.{AllByRecursion}
+use Rattle.std.specs.List.{AllByRecursion, list_any}
 use Rattle.datastream.specs.InboundFields.{IsSendable}
 use Rattle.shadow.specs.Pairs.{Pairwise}
 use Rattle.telnet_wire.specs.Items.{WireItem, CanCome, item_tokens, sent_bytes}
@@ -10,19 +10,22 @@ use Rattle.telnet_wire.specs.Laws.{WrongIsFinal}
 use Rattle.telnet_wire.specs.Reading.{Rest, nothing, Delivers, GoesWrong}
 use Rattle.telnet_wire.specs.Token.{text}
 use Rattle.telnet_wire.specs.declared.wire.WireFault.{WireFault}
-use Rattle.tn3270e_msg.specs.TermTable.{Term}
+use Rattle.tn3270e_msg.specs.Talk.{Saying, follow, says, sayings}
+use Rattle.tn3270e_msg.specs.TermTable.{Term, term_line}
 use Rattle.tn3270e_msg.specs.declared.cause.Cause.{Cause}
+use Rattle.tn3270e_msg.specs.declared.term_talk.TermState.TheVariants.{Closed}
 use Rattle.term_core.specs.Bytes.{TakesByte, before_byte, link_after}
 use Rattle.term_core.specs.Items.{TakesItem}
 use Rattle.tn3270e_msg.specs.Header.{record_limit}
 use Rattle.term_core.specs.State.{Station, Terminal, Attached}
 use Rattle.host_core.specs.Messages.{ToTerminal, ToHost}
+use Rattle.world3270.specs.Always.{is_refusal}
 use Rattle.world3270.specs.Link.{Link, sent, term_left_if, term_stepped}
 use Rattle.world3270.specs.Seats.{History, Seat, marked, SeatTakes, HistoryFollows, seat_after_key, ByteStep, end_at, EndTakes}
 use Rattle.world3270.specs.Stands.{StandsDown, StandsUp, BytesUp, BytesDown, ByteLink, IsEnd, Holds, HostStands, TermStands, LinkStands}
 use Rattle.world3270.specs.StandsEnds.{TakesKeepSendable, TermTakes, is_painted, WritesAreMarked, TermPresses}
-use Rattle.world3270.specs.StandsLinks.{StandsCompose, StandsGoOn, PressStands, MayComeAll, NoneCloses, took_down, fed, DownStands, any_painted, BytesAreMarked, HostSends, UpStands, LossStands, HostLeaves, TermLeaves}
-use Rattle.world3270.specs.Terminal.{TermEnd, TermStep, took, key_came}
+use Rattle.world3270.specs.StandsLinks.{StandsCompose, StandsGoOn, PressStands, MayComeAll, NoneCloses, took_down, fed, DownStands, DownIsNotRefused, any_painted, BytesAreMarked, HostSends, UpStands, LossStands, HostLeaves, TermLeaves}
+use Rattle.world3270.specs.Terminal.{TermEnd, TermStep, is_bound, note_came, once_bound, paint_came, read_came, took, key_came}
 use Rattle.world3270.proofs.Stands.{pairs_more}
 
 -- ---- history
@@ -99,6 +102,7 @@ record Ran (link now : Link) (old new : Seat) (behind : List ℕ) : Type 0 where
   up : now.up ≡ sent link.lost link.up sends
   said : Pairwise StandsUp says sends
   fit : AllByRecursion (CanCome record_limit) says
+  none : list_any is_refusal sends ≡ false
 
 -- the first of the messages came down
 record CameSome (link : Link) (old new : Seat) (behind : List ℕ) : Type 0 where
@@ -110,6 +114,31 @@ record CameSome (link : Link) (old new : Seat) (behind : List ℕ) : Type 0 wher
 all_more : {X : Type 0} (P : X → Type 0) (xs ys : List X) → AllByRecursion P xs → AllByRecursion P ys → AllByRecursion P (xs ++ ys)
 all_more P [] ys h k = k
 all_more P (x ∷ xs) ys h k = (h.0, all_more P xs ys h.1 k)
+
+none_more : {X : Type 0} (test : X → Bool) (xs ys : List X) → list_any test xs ≡ false → list_any test ys ≡ false → list_any test (xs ++ ys) ≡ false
+none_more test [] ys h k = k
+none_more test (x ∷ xs) ys h k = by_test (test x) h (λ (e : list_any test xs ≡ false). none_more test xs ys e k)
+  where
+    by_test : (b : Bool) → (b || list_any test xs) ≡ false → (list_any test xs ≡ false → list_any test (xs ++ ys) ≡ false) → (b || list_any test (xs ++ ys)) ≡ false
+    by_test true e others = absurd (cc)
+    by_test false e others = others e
+
+-- ---- a terminal refuses nothing
+
+talk_refuses_none : (talk : List Saying) → list_any is_refusal (map ToHost.TalksUp talk) ≡ false
+talk_refuses_none [] = refl
+talk_refuses_none (saying ∷ talk) = talk_refuses_none talk
+
+bound_refuses_none : (bound : Bool) (step : TermStep) (end : TermEnd) → list_any is_refusal step.sends ≡ false → list_any is_refusal (once_bound bound step end).sends ≡ false
+bound_refuses_none true step end none = none
+bound_refuses_none false step end none = refl
+
+none_refused : (end : TermEnd) (message : ToTerminal) → list_any is_refusal (took end message).sends ≡ false
+none_refused end (ToTerminal.TalksDown saying) =
+    talk_refuses_none (sayings (follow Closed end.talk.talk (term_line end.talk.wanted end.talk.talk.state (says saying))).1)
+none_refused end (ToTerminal.Paint number wanted believed) = bound_refuses_none (is_bound end) (paint_came number wanted end) end refl
+none_refused end (ToTerminal.ReadBuffer number) = bound_refuses_none (is_bound end) (read_came end) end refl
+none_refused end (ToTerminal.Note number command) = bound_refuses_none (is_bound end) (note_came number command end) end refl
 
 -- the connection after a message that closes nothing
 abbrev pub stayed : TermStep → List ToTerminal → Link → Link
@@ -134,6 +163,7 @@ ran_nothing link old new behind rest holds down same = record {
   up = sent_nothing link.lost link.up;
   said = tt;
   fit = tt;
+  none = refl;
 }
 
 -- a byte before that completes nothing
@@ -152,13 +182,14 @@ ran_since link now old mid new behind out ran = record {
   up = ran.up;
   said = ran.said;
   fit = ran.fit;
+  none = ran.none;
 }
 
 -- an item before, to which it says some
 one_more : (link now : Link) (step : TermStep) (rest : List ToTerminal) (old mid new : Seat) (behind : List ℕ) (some : List WireItem)
-    → Pairwise StandsUp some step.sends → AllByRecursion (CanCome record_limit) some → mid.terminal.out ≡ old.terminal.out ++ sent_bytes some
-    → Ran (stayed step rest link) now mid new behind → Ran link now old new behind
-one_more link now step rest old mid new behind some said fit out ran = record {
+    → Pairwise StandsUp some step.sends → AllByRecursion (CanCome record_limit) some → list_any is_refusal step.sends ≡ false
+    → mid.terminal.out ≡ old.terminal.out ++ sent_bytes some → Ran (stayed step rest link) now mid new behind → Ran link now old new behind
+one_more link now step rest old mid new behind some said fit none out ran = record {
   lost = ran.lost;
   host_here = ran.host_here;
   host = ran.host;
@@ -173,6 +204,7 @@ one_more link now step rest old mid new behind some said fit out ran = record {
   up = ran.up ∙ sent_twice link.lost link.up step.sends ran.sends;
   said = pairs_more StandsUp some ran.says step.sends ran.sends said ran.said;
   fit = all_more (CanCome record_limit) some ran.says fit ran.fit;
+  none = none_more is_refusal step.sends ran.sends none ran.none;
 }
 
 -- and the messages behind it
@@ -186,7 +218,7 @@ came_more message others link old mid new behind some whole goes_on said fit out
   whole = whole ∙ ap (λ (m : List ToTerminal). message ∷ m) came.whole;
   ran = subst (λ (l : Link). Ran link (took_down came.taken came.others l) old new behind)
       (sym (stepped_stays (took link.term message) (came.taken ++ came.others) others link goes_on came.whole))
-      (one_more link (took_down came.taken came.others (stayed (took link.term message) others link)) (took link.term message) others old mid new behind some said fit out came.ran);
+      (one_more link (took_down came.taken came.others (stayed (took link.term message) others link)) (took link.term message) others old mid new behind some said fit (none_refused link.term message) out came.ran);
 }
 
 link_parts : (rest to : Rest) (talk after : Term) → Attached rest talk ≡ Attached to after → (rest ≡ to) × (talk ≡ after)
@@ -350,6 +382,13 @@ down_stands takes keeps compose goes_on final bytes link front behind new ready 
       whole = came.whole;
       stands = ran_stands compose bytes link (took_down came.taken came.others link) behind new ready.stands term.silent came.ran;
     }
+
+pub down_is_not_refused : TermTakes → TakesKeepSendable → StandsGoOn StandsDown → WrongIsFinal → DownIsNotRefused
+down_is_not_refused takes keeps goes_on final bytes link front behind new ready queue taken =
+    let term = ready.stands.term ready.terminal ready.here in
+    let down : BytesDown term.rest (front ++ behind) link.down = subst (λ (b : List ℕ). BytesDown term.rest b link.down) queue term.down in
+    let ran = (bytes_come takes keeps goes_on final front behind new bytes.seat term.rest link term.holds down ready.may ready.none ready.sendable taken).ran in
+    record { says = ran.says; out = ran.out; fit = ran.fit; sends = ran.sends; said = ran.said; none = ran.none }
 
 pub bytes_are_marked : TermTakes → TakesKeepSendable → StandsCompose StandsUp → StandsGoOn StandsDown → WrongIsFinal → WritesAreMarked → BytesAreMarked
 bytes_are_marked takes keeps compose goes_on final marks bytes link byte behind new ready queue taken =

@@ -1,5 +1,5 @@
 -- Nobody refuses, and neither end closes a connection, over bytes: what is known of messages, said of the bytes that stand for them.
-use Rattle.std.proofs.Common.{◌≡◌, ◌||◌, ◌==◌, ℕ, zero, suc, Bool, true, false, Option, None, Some, List, [], ◌∷◌, ◌++◌, replicate, append_assoc, refl, ap, sym, subst, ◌∙◌, if◌then◌else◌}
+use Rattle.std.proofs.Common.{◌≡◌, ◌||◌, ◌==◌, ℕ, zero, suc, Bool, true, false, Option, None, Some, List, [], ◌∷◌, ◌++◌, length, replicate, append_assoc, refl, ap, sym, subst, ◌∙◌, if◌then◌else◌}
 use Rattle.std.proofs.lemmas.List.Elements.{All-append, All-cons, All-nil}
 use Rattle.std.proofs.lemmas.Bool.{eqb-true}
 use Rattle.std.proofs.lemmas.List.{append-nil}
@@ -26,12 +26,12 @@ use Rattle.world3270.specs.Happens.{came_down, came_up, closed_if, done, happens
 use Rattle.world3270.specs.Known.{Known, KnownWorlds}
 use Rattle.world3270.specs.Link.{Link, host_left_if, host_stepped, sent, term_left_if, term_stepped}
 use Rattle.world3270.specs.Placed.{has_place}
-use Rattle.world3270.specs.Refines.{Begin, IsBegin, IsReached, Reached, GoesOn, Repeats, StepsGoOn, after}
+use Rattle.world3270.specs.Refines.{Begin, IsBegin, IsReached, Reached, GoesOn, StepsGoOn, after}
 use Rattle.world3270.specs.Sendable.{IsTyped}
 use Rattle.world3270.specs.Standing.{link_of}
 use Rattle.world3270.specs.Stands.{StandsUp}
 use Rattle.world3270.specs.Terminal.{TermStep, took as term_took}
-use Rattle.world3270.specs.Unbroken.{IsDelivery, SameEnds, DeliveriesCloseNothing, NothingIsRefused}
+use Rattle.world3270.specs.Unbroken.{IsDelivery, SameEnds, DeliveriesCloseNothing, NobodyHasRefused, NothingIsRefused}
 use Rattle.world3270.specs.World.{World, Event, IsEvent, AreEvents, with_at}
 use Rattle.world3270.specs.declared.event.Event.{Event as ByteEvent}
 use Rattle.world3270.specs.declared.event.Event.TheVariants as event
@@ -155,14 +155,14 @@ all_stay known begin is event real typed leaves (suc count) events are all other
 
 -- ---- over bytes
 
-module _ (known : KnownWorlds) (goes : StepsGoOn) where
-  ends_stay : (old new : ByteWorld) (is : IsReached old) (event : Event) (more : List Event) → IsEvent event → IsTyped event
-      → LeavesEnds (application_of is.begin.panels) event → Repeats event more → Reached is.begin (is.events ++ more) new
+module _ (known : KnownWorlds) where
+  ends_stay : (begin : Begin) (events : List Event) (old new : ByteWorld) → IsBegin begin → Reached begin events old → (event : Event) (more : List Event)
+      → IsEvent event → IsTyped event → LeavesEnds (application_of begin.panels) event → (count : ℕ) → more ≡ replicate count event → Reached begin (events ++ more) new
       → (number : ℕ) → SameEnds number old new
-  ends_stay old new is event more real typed leaves repeats reached number =
-      let all = all_stay known is.begin is.is_begin event real typed leaves repeats.0 is.events is.reached.are_events is.reached.typed number in
-      let stays = subst (λ (es : List Event). Stays ((after is.begin is.events).link number) ((after is.begin (is.events ++ es)).link number)) (sym repeats.1) all in
-      let was = is.reached.stands.links number in
+  ends_stay begin events old new is before event more real typed leaves count repeats reached number =
+      let all = all_stay known begin is event real typed leaves count events before.are_events before.typed number in
+      let stays = subst (λ (es : List Event). Stays ((after begin events).link number) ((after begin (events ++ es)).link number)) (sym repeats) all in
+      let was = before.stands.links number in
       let now = reached.stands.links number in
       record {
         lost = now.lost ∙ stays.lost ∙ sym was.lost;
@@ -170,13 +170,27 @@ module _ (known : KnownWorlds) (goes : StepsGoOn) where
         terminal = now.term_here ∙ stays.terminal ∙ sym was.term_here;
       }
 
+  -- bytes that come leave all at their ends
+  pub up_same : (begin : Begin) (events : List Event) (at count : ℕ) (old : ByteWorld) (answer : Stepped) (new : ByteWorld) → IsBegin begin → Reached begin events old
+      → GoesOn begin events (event.Up at count) old answer new → (number : ℕ) → SameEnds number old new
+  up_same begin events at count old answer new is reached goes number =
+      ends_stay begin events old new is reached (Event.Up at) goes.more tt tt (up_leaves (application_of begin.panels) at) (length goes.comes_to.completed)
+      goes.comes_to.one_each goes.reached number
+
+  pub down_same : (begin : Begin) (events : List Event) (at count : ℕ) (old : ByteWorld) (answer : Stepped) (new : ByteWorld) → IsBegin begin → Reached begin events old
+      → GoesOn begin events (event.Down at count) old answer new → (number : ℕ) → SameEnds number old new
+  down_same begin events at count old answer new is reached goes number =
+      ends_stay begin events old new is reached (Event.Down at) goes.more tt tt (down_leaves (application_of begin.panels) at) (length goes.comes_to.completed)
+      goes.comes_to.one_each goes.reached number
+
+module _ (known : KnownWorlds) (goes : StepsGoOn) where
   pub deliveries_close_nothing : DeliveriesCloseNothing
   deliveries_close_nothing (event.Up at count) old answer new is delivery steps number =
-      let on = goes is.begin is.events (event.Up at count) old answer new is.is_begin is.reached (tt, tt) steps in
-      ends_stay old new is (Event.Up at) on.more tt tt (up_leaves (application_of is.begin.panels) at) on.comes_to on.reached number
+      up_same known is.begin is.events at count old answer new is.is_begin is.reached
+      (goes is.begin is.events (event.Up at count) old answer new is.is_begin is.reached (tt, tt) steps) number
   deliveries_close_nothing (event.Down at count) old answer new is delivery steps number =
-      let on = goes is.begin is.events (event.Down at count) old answer new is.is_begin is.reached (tt, tt) steps in
-      ends_stay old new is (Event.Down at) on.more tt tt (down_leaves (application_of is.begin.panels) at) on.comes_to on.reached number
+      down_same known is.begin is.events at count old answer new is.is_begin is.reached
+      (goes is.begin is.events (event.Down at count) old answer new is.is_begin is.reached (tt, tt) steps) number
   deliveries_close_nothing (event.Key terminal key) old answer new is delivery steps number = absurd delivery
   deliveries_close_nothing (event.Act at) old answer new is delivery steps number = absurd delivery
   deliveries_close_nothing (event.Note at text) old answer new is delivery steps number = absurd delivery
@@ -220,7 +234,7 @@ not_either : (one other : Bool) → (one || other) ≡ false → (one ≡ false)
 not_either true other e = absurd (cc)
 not_either false other e = (refl, e)
 
-among : (sequence : ℕ) (outcome : Outcome) (before behind : List WireItem) (messages : List ToHost)
+pub among : (sequence : ℕ) (outcome : Outcome) (before behind : List WireItem) (messages : List ToHost)
     → Pairwise StandsUp (before ++ response sequence outcome ∷ behind) messages → list_any is_refusal messages ≡ false → outcome ≡ DeviceEnd
 among sequence outcome [] behind [] pairs none = absurd pairs
 among sequence outcome [] behind (message ∷ messages) pairs none =
@@ -228,6 +242,9 @@ among sequence outcome [] behind (message ∷ messages) pairs none =
 among sequence outcome (item ∷ before) behind [] pairs none = absurd pairs
 among sequence outcome (item ∷ before) behind (message ∷ messages) pairs none =
     among sequence outcome before behind messages pairs.1 (not_either (is_refusal message) (list_any is_refusal messages) none).1
+
+pub nobody_has_refused : KnownWorlds → NobodyHasRefused
+nobody_has_refused known begin events bytes is reached = (facts known begin is events reached.are_events reached.typed).nobody_refuses
 
 pub nothing_is_refused : Known → NothingIsRefused
 nothing_is_refused known bytes number sequence outcome before behind is there delivers =

@@ -1,8 +1,9 @@
 -- Fields that weren't returned, while keys and notes go over them.
-use Rattle.std.proofs.Common.{◌≡◌, ◌⊎◌, inl, inr, ◌<◌, ◌+◌, ◌==◌, ℕ, zero, suc, arith, Bool, true, false, Option, None, Some, List, [], ◌∷◌, ◌++◌, length, take, drop, refl, ap, sym, subst, ◌∙◌, if◌then◌else◌}
+use Rattle.std.proofs.Common.{◌≡◌, ◌⊎◌, inl, inr, ◌<◌, ◌≤◌, ◌+◌, ◌==◌, ℕ, zero, suc, arith, Bool, true, false, Option, None, Some, List, [], ◌∷◌, ◌++◌, length, take, drop, refl, ap, sym, subst, ◌∙◌, if◌then◌else◌}
 use Rattle.std.specs.Prelude.{slice_index_or, is_none, map}
 use Rattle.std.specs.List.{All, Contains, list_all}
-use Rattle.std.proofs.lemmas.Bool.{and_parts, eqb-true}
+use Rattle.std.proofs.lemmas.Bool.{and_parts, cases_lt, eqb-true}
+use Rattle.std.proofs.lemmas.List.{get_or-map, get_or_past, length-map}
 use Rattle.std.proofs.lemmas.Bool.Decides.{Decides-eqb}
 use Rattle.std.proofs.lemmas.List.Elements.{All-nil, All-cons, All-head, All-tail}
 use Rattle.std.proofs.lemmas.Map.Made.{Contains-tail}
@@ -14,11 +15,11 @@ use Rattle.datastream.specs.Held.{Hold, Held, CharHeld, CellHeld}
 use Rattle.datastream.specs.Meaning.{after_command}
 use Rattle.datastream.specs.Note.{IsNote, IsNoteOrder, IsProtectedChar, OverCharacters, WritesProtected, places_noted, quiet}
 use Rattle.datastream.specs.NoteLaws.{HeldStaysProtected, NoteKeepsForm, NotesCompose, SameForm}
-use Rattle.datastream.specs.Screen.{Screen, attribute_in, attribute_over, is_char, last_attribute, protects, ring}
+use Rattle.datastream.specs.Screen.{Screen, attribute_in, attribute_over, is_char, is_char_at, last_attribute, protects, ring}
 use Rattle.datastream.specs.declared.command_code.CommandCode.TheVariants.{Write}
 use Rattle.datastream.specs.declared.order.Order.TheVariants.{Sba, Char as Data}
-use Rattle.world3270.specs.Headline.{IsUnmodified, IsKept, UnmodifiedIsKept}
-use Rattle.world3270.specs.Stages.{NotedSince}
+use Rattle.world3270.specs.Headline.{IsUnmodified}
+use Rattle.world3270.specs.Unreturned.{IsInUnmodified, IsKept, NotedSince, SamePlaces, UnmodifiedIsKept}
 
 -- ---- one place
 
@@ -38,7 +39,7 @@ protected_held stays erased shown now place held is =
     All-head (IsProtectedChar now) place [] (stays erased (single place) shown now (writes_single shown place is) held).each
 
 -- a field with MDT off isn't protected
-not_protected : (cells : List Cell) (place : ℕ) (over : Option Attribute) → attribute_over cells place ≡ over → IsUnmodified over → IsProtectedChar cells place → ⊥
+not_protected : (cells : List Cell) (place : ℕ) (over : Option Attribute) → attribute_over cells place ≡ over → IsInUnmodified over → IsProtectedChar cells place → ⊥
 not_protected cells place None e unmodified is = absurd unmodified
 not_protected cells place (Some attribute) e unmodified is =
     let guarded : attribute.protected ≡ true = sym (ap protects e) ∙ is.protected in
@@ -54,20 +55,40 @@ char_by erased false true left now p m h = absurd (cc)
 char_by true false false left now p m h = h
 char_by false false false left now p m h = h
 
-cell_kept : (erased : Bool) (over : Option Attribute) (shown now : Cell) → IsUnmodified over → CellHeld erased over shown now → IsKept erased shown now
+cell_kept : (erased : Bool) (over : Option Attribute) (shown now : Cell) → IsInUnmodified over → CellHeld erased over shown now → IsKept erased shown now
 cell_kept erased over shown (Attr now) unmodified h = tt
 cell_kept erased over (Attr shown) (Char now) unmodified h = absurd h
 cell_kept erased None (Char shown) (Char now) unmodified h = absurd unmodified
 cell_kept erased (Some attribute) (Char shown) (Char now) unmodified h = char_by erased attribute.protected attribute.mdt shown now unmodified.0 unmodified.1 h
 
+-- a cell that is held is of the kind that it was
+held_kind : (erased : Bool) (over : Option Attribute) (shown now : Cell) → CellHeld erased over shown now → is_char now ≡ is_char shown
+held_kind erased over (Char shown) (Char now) h = refl
+held_kind erased over (Char shown) (Attr now) h = absurd h
+held_kind erased over (Attr shown) (Char now) h = absurd h
+held_kind erased over (Attr shown) (Attr now) h = refl
+
+held_places : (erased : Bool) (shown now : List Cell) → Held erased shown now → SamePlaces shown now
+held_places erased shown now held = record { size = held.same_length; kinds = λ place. by_place place (cases_lt place (length now)) }
+  where
+    by_place : (place : ℕ) → (place < length now) ⊎ (length now ≤ place) → is_char_at now place ≡ is_char_at shown place
+    by_place place (inl within) = held_kind erased (attribute_over now place) (slice_index_or shown place (Char 0)) (slice_index_or now place (Char 0)) (held.each place within)
+    by_place place (inr beyond) = rw (get_or_past now place (Char 0) beyond, get_or_past shown place (Char 0) (subst (λ n. n ≤ place) held.same_length beyond)) refl
+
+-- places that are the same in two steps
+places_compose : (left shown now : List Cell) → SamePlaces left shown → SamePlaces shown now → SamePlaces left now
+places_compose left shown now first second =
+    record { size = second.size ∙ first.size; kinds = λ place. second.kinds place ∙ first.kinds place }
+
 -- what keys kept of the screen that was shown they kept of what was left
 pub kept_of : HeldStaysProtected → (erased : Bool) (left shown now : List Cell) → Held erased shown now → NotedSince left shown → UnmodifiedIsKept erased left now
-kept_of stays erased left shown now held noted place within unmodified = by_note (noted place)
+kept_of stays erased left shown now held noted =
+    record { places = places_compose left shown now noted.places (held_places erased shown now held); each = λ place within unmodified. by_note place within unmodified (noted.each place) }
   where
-    by_note : IsProtectedChar shown place ⊎ (slice_index_or shown place (Char 0) ≡ slice_index_or left place (Char 0))
+    by_note : (place : ℕ) → place < length now → IsInUnmodified (attribute_over now place) → IsProtectedChar shown place ⊎ (slice_index_or shown place (Char 0) ≡ slice_index_or left place (Char 0))
         → IsKept erased (slice_index_or left place (Char 0)) (slice_index_or now place (Char 0))
-    by_note (inl is) = absurd (not_protected now place (attribute_over now place) refl unmodified (protected_held stays erased shown now place held is))
-    by_note (inr same) =
+    by_note place within unmodified (inl is) = absurd (not_protected now place (attribute_over now place) refl unmodified (protected_held stays erased shown now place held is))
+    by_note place within unmodified (inr same) =
         subst (λ cell. IsKept erased cell (slice_index_or now place (Char 0))) same
         (cell_kept erased (attribute_over now place) (slice_index_or shown place (Char 0)) (slice_index_or now place (Char 0)) unmodified (held.each place within))
 
@@ -89,41 +110,67 @@ is_among P (first ∷ places) place each = by_test (first == place) refl (is_amo
         by_rest (inl is) = inl is
         by_rest (inr isnt) = inr (λ there. isnt (Contains-tail first places place other there))
 
+-- cells that have the same attributes have them at the same places
+kind_of : (cell : Cell) → is_char cell ≡ is_none (attribute_in cell)
+kind_of (Char byte) = refl
+kind_of (Attr attribute) = refl
+
+form_places : (command : CommandParts) (before after : Screen) → SameForm command before after → SamePlaces before.cells after.cells
+form_places command before after same = record { size = size; kinds = λ place. by_place place (cases_lt place (length after.cells)) }
+  where
+    size : length after.cells ≡ length before.cells
+    size = sym (length-map after.cells attribute_in) ∙ ap length same.attributes ∙ length-map before.cells attribute_in
+
+    attribute_at : (cells : List Cell) (place : ℕ) → place < length cells → is_char_at cells place ≡ is_none (slice_index_or (map attribute_in cells) place None)
+    attribute_at cells place within = kind_of (slice_index_or cells place (Char 0)) ∙ ap is_none (sym (get_or-map attribute_in cells place (Char 0) None within))
+
+    by_place : (place : ℕ) → (place < length after.cells) ⊎ (length after.cells ≤ place) → is_char_at after.cells place ≡ is_char_at before.cells place
+    by_place place (inl within) =
+        attribute_at after.cells place within ∙ ap (λ (xs : List (Option Attribute)). is_none (slice_index_or xs place None)) same.attributes
+        ∙ sym (attribute_at before.cells place (subst (λ n. place < n) size within))
+    by_place place (inr beyond) = rw (get_or_past after.cells place (Char 0) beyond, get_or_past before.cells place (Char 0) (subst (λ n. n ≤ place) size beyond)) refl
+
 -- where a note is written over protected characters, the others stay
 pub noted_on : NoteKeepsForm → (command : CommandParts) (left : List Cell) (shown : Screen) → OverCharacters command shown.cells → WritesProtected command shown.cells
     → ((place : ℕ) → IsProtectedChar shown.cells place → IsProtectedChar (after_command command shown).cells place)
     → NotedSince left shown.cells → NotedSince left (after_command command shown).cells
-noted_on form command left shown over writes stays noted place = by_place (is_among (IsProtectedChar shown.cells) (places_noted (length shown.cells) command) place writes.each)
+noted_on form command left shown over writes stays noted = record {
+  places = places_compose left shown.cells (after_command command shown).cells noted.places (form_places command shown (after_command command shown) (form command shown over));
+  each = λ place. by_place place (is_among (IsProtectedChar shown.cells) (places_noted (length shown.cells) command) place writes.each) (noted.each place);
+}
   where
     new : Screen
     new = after_command command shown
 
-    by_note : (Contains (places_noted (length shown.cells) command) place → ⊥) → IsProtectedChar shown.cells place ⊎ (slice_index_or shown.cells place (Char 0) ≡ slice_index_or left place (Char 0))
+    by_note : (place : ℕ) → (Contains (places_noted (length shown.cells) command) place → ⊥) → IsProtectedChar shown.cells place ⊎ (slice_index_or shown.cells place (Char 0) ≡ slice_index_or left place (Char 0))
         → IsProtectedChar new.cells place ⊎ (slice_index_or new.cells place (Char 0) ≡ slice_index_or left place (Char 0))
-    by_note isnt (inl is) = inl (stays place is)
-    by_note isnt (inr same) = inr ((form command shown over).elsewhere place isnt ∙ same)
+    by_note place isnt (inl is) = inl (stays place is)
+    by_note place isnt (inr same) = inr ((form command shown over).elsewhere place isnt ∙ same)
 
-    by_place : IsProtectedChar shown.cells place ⊎ (Contains (places_noted (length shown.cells) command) place → ⊥)
+    by_place : (place : ℕ) → IsProtectedChar shown.cells place ⊎ (Contains (places_noted (length shown.cells) command) place → ⊥)
+        → IsProtectedChar shown.cells place ⊎ (slice_index_or shown.cells place (Char 0) ≡ slice_index_or left place (Char 0))
         → IsProtectedChar new.cells place ⊎ (slice_index_or new.cells place (Char 0) ≡ slice_index_or left place (Char 0))
-    by_place (inl is) = inl (stays place is)
-    by_place (inr isnt) = by_note isnt (noted place)
+    by_place place (inl is) was = inl (stays place is)
+    by_place place (inr isnt) was = by_note place isnt was
 
 -- a note over protected characters keeps what wasn't returned
 pub kept_noted : NoteKeepsForm → (erased : Bool) (command : CommandParts) (left : List Cell) (now : Screen) → length (after_command command now).cells ≡ length now.cells → OverCharacters command now.cells
     → WritesProtected command now.cells → UnmodifiedIsKept erased left now.cells → UnmodifiedIsKept erased left (after_command command now).cells
-kept_noted form erased command left now size over writes kept place within unmodified = by_place (is_among (IsProtectedChar now.cells) (places_noted (length now.cells) command) place writes.each)
+kept_noted form erased command left now size over writes kept = record {
+  places = places_compose left now.cells (after_command command now).cells kept.places (form_places command now (after_command command now) same);
+  each = λ place within unmodified.
+      by_place place within (subst IsInUnmodified (same.over place) unmodified) (is_among (IsProtectedChar now.cells) (places_noted (length now.cells) command) place writes.each);
+}
   where
     same : SameForm command now (after_command command now)
     same = form command now over
 
-    was : IsUnmodified (attribute_over now.cells place)
-    was = subst IsUnmodified (same.over place) unmodified
-
-    by_place : IsProtectedChar now.cells place ⊎ (Contains (places_noted (length now.cells) command) place → ⊥)
+    by_place : (place : ℕ) → place < length (after_command command now).cells → IsInUnmodified (attribute_over now.cells place)
+        → IsProtectedChar now.cells place ⊎ (Contains (places_noted (length now.cells) command) place → ⊥)
         → IsKept erased (slice_index_or left place (Char 0)) (slice_index_or (after_command command now).cells place (Char 0))
-    by_place (inl is) = absurd (not_protected now.cells place (attribute_over now.cells place) refl was is)
-    by_place (inr isnt) =
-        subst (λ cell. IsKept erased (slice_index_or left place (Char 0)) cell) (sym (same.elsewhere place isnt)) (kept place (subst (λ n. place < n) size within) was)
+    by_place place within was (inl is) = absurd (not_protected now.cells place (attribute_over now.cells place) refl was is)
+    by_place place within was (inr isnt) =
+        subst (λ cell. IsKept erased (slice_index_or left place (Char 0)) cell) (sym (same.elsewhere place isnt)) (kept.each place (subst (λ n. place < n) size within) was)
 
 -- ---- a screen without fields
 
@@ -147,9 +194,18 @@ no_attribute (Char byte ∷ cells) h = rw (no_attribute cells h) refl
 no_attribute (Attr attribute ∷ cells) h = absurd (cc)
 
 -- no field is there that could be kept
-pub kept_bare : (erased : Bool) (left cells : List Cell) → list_all is_char cells ≡ true → UnmodifiedIsKept erased left cells
-kept_bare erased left cells bare place within unmodified =
-    absurd (subst IsUnmodified (no_attribute (ring (place + 1) cells) (all_append is_char (drop (place + 1) cells) (take (place + 1) cells) (all_drop is_char (place + 1) cells bare) (all_take is_char (place + 1) cells bare))) unmodified)
+pub kept_bare : (form : NoteKeepsForm) (erased : Bool) (command : CommandParts) (left : List Cell) (now : Screen) → OverCharacters command now.cells
+    → list_all is_char (after_command command now).cells ≡ true → UnmodifiedIsKept erased left now.cells → UnmodifiedIsKept erased left (after_command command now).cells
+kept_bare form erased command left now over bare kept = record {
+  places = places_compose left now.cells cells kept.places (form_places command now (after_command command now) (form command now over));
+  each = λ place within unmodified. absurd (subst IsInUnmodified (none place) unmodified);
+}
+  where
+    cells : List Cell
+    cells = (after_command command now).cells
+
+    none : (place : ℕ) → attribute_over cells place ≡ None
+    none place = no_attribute (ring (place + 1) cells) (all_append is_char (drop (place + 1) cells) (take (place + 1) cells) (all_drop is_char (place + 1) cells bare) (all_take is_char (place + 1) cells bare))
 
 -- no attribute is among the cells
 bare_by : (cells : List Cell) → list_all is_char cells ≡ list_all is_none (map attribute_in cells)

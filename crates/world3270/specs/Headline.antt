@@ -1,27 +1,29 @@
 -- The headline: what holds between a host and its terminals after every event, whatever is typed, delivered, lost, connected anew or
 -- restarted (our profile).
-use Rattle.std.specs.Prelude.{◌≡◌, ◌<◌, ⊤, ℕ, Bool, true, false, List, length, slice_index_or, Option, None, Some, if◌then◌else◌}
+use Rattle.std.specs.Prelude.{◌≡◌, ℕ, Bool, true, false, List, length, None, Some, if◌then◌else◌}
 use Rattle.codes3270.specs.declared.attention.Aid.{Aid}
 use Rattle.codes3270.specs.declared.attention.Aid.TheVariants.{NoAid, Enter, Clear, Pf, Pa}
 use Rattle.codes3270.specs.declared.attribute.Attr.{Attr as Attribute}
-use Rattle.codes3270.specs.declared.attribute.Cell.{Cell}
-use Rattle.codes3270.specs.declared.attribute.Cell.TheVariants.{Char, Attr}
-use Rattle.datastream.specs.Screen.{attribute_over}
+use Rattle.datastream.specs.Fields.{Field, fields}
+use Rattle.datastream.specs.Screen.{Screen}
+use Rattle.shadow.specs.Belief.{Shadow, nulls}
 use Rattle.shadow.specs.Exactness.{EachField, ProtectedSeen, ReturnedTold}
-use Rattle.shadow.specs.Meets.{Meets, ListsFields}
+use Rattle.shadow.specs.Meets.{Meets}
+use Rattle.shadow.specs.Pairs.{Pairwise}
 use Rattle.lu_pool.specs.Holders.{holder}
 use Rattle.host_core.specs.declared.turn.Turn.TheVariants as whose
-use Rattle.world3270.specs.Seen.{SeenLink, Seen}
+use Rattle.world3270.specs.Seen.{HostSeen, TerminalSeen, SeenLink, Seen}
 
 -- ---- (a) nobody else works in your name
 
--- A session is live on a connection that isn't lost, at both of whose ends somebody is, where the terminal is bound to an LU.
+-- A session is live on a connection that isn't lost, with both ends attached, whose terminal is bound to an LU.
 pub record IsLive (link : SeenLink) (lu : List ℕ) : Type 0 where
   pub up : link.lost ≡ false
-  pub host : link.host_here ≡ true
-  pub terminal : ℕ
-  pub held : link.term_here ≡ Some terminal
-  pub bound : link.bound ≡ Some lu
+  pub host : HostSeen
+  pub host_is : link.host ≡ Some host
+  pub terminal : TerminalSeen
+  pub terminal_is : link.terminal ≡ Some terminal
+  pub bound : terminal.bound ≡ Some lu
 
 -- no two live sessions have one LU
 abbrev pub OneSessionEach : Seen → Type 0
@@ -29,24 +31,26 @@ OneSessionEach world =
     (one other : ℕ) (lu : List ℕ) → IsLive (world.link one) lu → IsLive (world.link other) lu → one ≡ other
 
 -- the host's end agreed on that LU, and in the pool that very connection holds it
-pub record IsGranted (world : Seen) (number : ℕ) (lu : List ℕ) : Type 0 where
-  pub agreed : (world.link number).agreed ≡ Some lu
+pub record IsGranted (world : Seen) (number : ℕ) (host : HostSeen) (lu : List ℕ) : Type 0 where
+  pub agreed : host.agreed ≡ Some lu
   pub held : holder world.pool lu ≡ Some number
 
--- To whatever LU a terminal's end is bound, the host's end granted it: on each connection that the host hasn't left, lost or not.
+-- The host granted the LU that a terminal is bound to: on each connection with both ends attached, lost or not.
 abbrev pub BoundIsGranted : Seen → Type 0
 BoundIsGranted world =
-    (number : ℕ) (lu : List ℕ) → (world.link number).host_here ≡ true → (world.link number).bound ≡ Some lu → IsGranted world number lu
+    (number : ℕ) (host : HostSeen) (terminal : TerminalSeen) (lu : List ℕ) → (world.link number).host ≡ Some host
+    → (world.link number).terminal ≡ Some terminal → terminal.bound ≡ Some lu → IsGranted world number host lu
 
 -- ---- what the host knows, when it decides
 
 -- both ends are attached, the connection lost or not; the host holds the turn, and its last command is answered
 pub record IsHostsTurn (link : SeenLink) : Type 0 where
-  pub host : link.host_here ≡ true
-  pub terminal : ℕ
-  pub held : link.term_here ≡ Some terminal
-  pub turn : link.turn ≡ whose.Host
-  pub answered : link.pending ≡ None
+  pub host : HostSeen
+  pub host_is : link.host ≡ Some host
+  pub terminal : TerminalSeen
+  pub terminal_is : link.terminal ≡ Some terminal
+  pub turn : host.turn ≡ whose.Host
+  pub answered : host.pending ≡ None
 
 -- the operator's last key sent fields: Enter or a PF key
 abbrev pub SentFields : Aid → Type 0
@@ -56,47 +60,39 @@ SentFields NoAid = ⊥
 SentFields Clear = ⊥
 SentFields (Pa key) = ⊥
 
--- (b) The screen is one that the host's belief allows: its attributes, but for MDT, stand where the host believes them, and each
--- character that it believes to know is there. Where the screen has fields the host believes in them, and of each protected field it
--- knows the very text.
-pub record SeesTheScreen (link : SeenLink) : Type 0 where
-  pub meets : Meets link.shadow link.screen
-  pub lists : ListsFields link.shadow link.screen
-  pub protected : EachField ProtectedSeen link.shadow link.screen
+-- (b) The screen is one that the host's belief allows: its attributes, but for MDT, are where the host believes them, and so is each
+-- character that it believes to know. The host knows all fields of the screen, and the very text of each protected one.
+pub record SeesTheScreen (shadow : Shadow) (screen : Screen) : Type 0 where
+  pub meets : Meets shadow screen
+  pub protected : EachField ProtectedSeen shadow screen
 
--- (c) Of each field that was returned, a protected one too, the host has the text that stands there, nulls apart.
-abbrev pub KnowsTheReturned : SeenLink → Type 0
-KnowsTheReturned link = SentFields link.screen.aid → EachField ReturnedTold link.shadow link.screen
+-- (c) Of each field that was returned, a protected one too, the host has the text that the field has, nulls apart.
+abbrev pub KnowsTheReturned : Shadow → Screen → Type 0
+KnowsTheReturned shadow screen = SentFields screen.aid → EachField ReturnedTold shadow screen
 
--- an unprotected field's attribute, with MDT off
-abbrev pub IsUnmodified : Option Attribute → Type 0
-IsUnmodified None = ⊥
-IsUnmodified (Some attribute) = (attribute.protected ≡ false) × (attribute.mdt ≡ false)
+-- the attribute of an unprotected field with MDT off
+abbrev pub IsUnmodified : Attribute → Type 0
+IsUnmodified attribute = (attribute.protected ≡ false) × (attribute.mdt ≡ false)
 
--- the character that was left, or a null once Erase Input was pressed; of an attribute's own cell nothing is said
-abbrev pub IsKept : Bool → Cell → Cell → Type 0
-IsKept erased left (Attr now) = ⊤
-IsKept erased (Attr left) (Char now) = ⊥
-IsKept erased (Char left) (Char now) = now ≡ (if erased then 0 else left)
+-- A field of the screen, and the field that the host left at the same address: while it is unprotected with MDT off it has the text
+-- that was left, or nulls if Erase Input was pressed since.
+pub record IsAsLeft (erased : Bool) (left now : Field) : Type 0 where
+  pub same_place : now.place ≡ left.place
+  pub text : IsUnmodified now.attr → now.text ≡ (if erased then nulls (length left.text) else left.text)
 
--- each cell of an unprotected field with MDT off
-abbrev pub UnmodifiedIsKept : Bool → List Cell → List Cell → Type 0
-UnmodifiedIsKept erased left now =
-    (place : ℕ) → place < length now → IsUnmodified (attribute_over now place)
-    → IsKept erased (slice_index_or left place (Char 0)) (slice_index_or now place (Char 0))
+-- (d) Each unprotected field that wasn't returned has the text that the host left there, or nulls if Erase Input was pressed since.
+abbrev pub KeptTheUnreturned : TerminalSeen → Type 0
+KeptTheUnreturned terminal =
+    SentFields terminal.screen.aid → Pairwise (IsAsLeft terminal.erased) (fields terminal.left.cells) (fields terminal.screen.cells)
 
--- (d) Each unprotected field that wasn't returned has what the host left there, or nulls once Erase Input was pressed.
-abbrev pub KeptTheUnreturned : SeenLink → Type 0
-KeptTheUnreturned link = SentFields link.screen.aid → UnmodifiedIsKept link.erased link.left.cells link.screen.cells
-
-pub record Agrees (link : SeenLink) : Type 0 where
-  pub sees : SeesTheScreen link
-  pub returned : KnowsTheReturned link
-  pub unreturned : KeptTheUnreturned link
+pub record Agrees (host : HostSeen) (terminal : TerminalSeen) : Type 0 where
+  pub sees : SeesTheScreen host.shadow terminal.screen
+  pub returned : KnowsTheReturned host.shadow terminal.screen
+  pub unreturned : KeptTheUnreturned terminal
 
 -- ---- the headline
 
 pub record Headline (world : Seen) : Type 0 where
   pub one_session_each : OneSessionEach world
   pub bound_is_granted : BoundIsGranted world
-  pub agrees : (number : ℕ) → IsHostsTurn (world.link number) → Agrees (world.link number)
+  pub agrees : (number : ℕ) (turn : IsHostsTurn (world.link number)) → Agrees turn.host turn.terminal

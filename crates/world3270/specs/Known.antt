@@ -2,7 +2,7 @@
 use Rattle.datastream.specs.Laws.{OneInbound}
 use Rattle.host_core.specs.Laws.{PanelsAreShown, PanelsAskForScreens}
 use Rattle.shadow.specs.Laws.{PaintIsBounded}
-use Rattle.telnet_wire.specs.Laws.{OneDelivery, ReadingNothing, WrongIsFinal}
+use Rattle.telnet_wire.specs.Laws.{DeliveriesCompose, DeliveryGoesOn, NothingIsRest, OneDelivery, ReadingNothing, WrongIsFinal}
 use Rattle.tn3270e_msg.specs.Laws.{OneHeader, FaultIsNoHeader}
 use Rattle.world3270.specs.Always.{Always, HeadlineHolds, NobodyRefuses}
 use Rattle.world3270.specs.Forms.{FormsAreAwaited}
@@ -11,7 +11,7 @@ use Rattle.world3270.specs.Numbers.{NumbersFit}
 use Rattle.world3270.specs.Places.{EndsAgree, UpIsHeld}
 use Rattle.world3270.specs.Sendable.{AlwaysTyped, ScreensAreSendable, PaintsAreScreens, PaintsAreSpelt}
 use Rattle.world3270.specs.StandsEnds.{PaintStands}
-use Rattle.world3270.specs.StandsLinks.{BeginStands, PressStands, WhatComesMayCome, DownStands, HostSends, UpStands, LossStands, HostLeaves, TermLeaves}
+use Rattle.world3270.specs.StandsLinks.{BeginStands, PressStands, WhatComesMayCome, DownIsNotRefused, DownStands, HostSends, UpStands, LossStands, HostLeaves, TermLeaves}
 
 -- the laws of worlds over messages
 pub record KnownWorlds : Type 0 where
@@ -34,6 +34,7 @@ pub record KnownLinks : Type 0 where
   pub begin : BeginStands
   pub press : PressStands
   pub down : DownStands
+  pub not_refused : DownIsNotRefused
   pub sends : HostSends
   pub up : UpStands
   pub loss : LossStands
@@ -44,6 +45,9 @@ pub record KnownLinks : Type 0 where
   pub wrong_is_final : WrongIsFinal
   pub one_delivery : OneDelivery
   pub no_bytes : ReadingNothing
+  pub start : NothingIsRest
+  pub deliveries : DeliveriesCompose
+  pub delivery_goes_on : DeliveryGoesOn
   pub one_header : OneHeader
   pub fault_or_header : FaultIsNoHeader
   pub one_inbound : OneInbound

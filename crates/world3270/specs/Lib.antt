@@ -5,6 +5,7 @@ pub mod Placed
 pub mod Happens
 pub mod Seen
 pub mod Headline
+pub mod Unreturned
 pub mod Always
 pub mod History
 pub mod Occasions
@@ -37,6 +38,7 @@ pub mod Flows
 pub mod NoteTexts
 pub mod ByteSteps
 pub mod Standing
+pub mod Deliveries
 pub mod Refines
 pub mod SeenBytes
 pub mod ByteRuns

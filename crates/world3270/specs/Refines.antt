@@ -1,13 +1,14 @@
--- How the world over bytes follows the world over messages (our profile): whatever happens, the bytes stand for a world that a list of
--- events leads to.
-use Rattle.std.specs.Prelude.{◌≡◌, ◌<◌, ◌≤◌, ⊤, ℕ, List, [], ◌∷◌, ◌++◌, drop, replicate, take, All}
+-- How the world over bytes follows the world over messages (our profile): after each event the bytes represent a world that a list of
+-- events over messages leads to.
+use Rattle.std.specs.Prelude.{◌≡◌, ◌<◌, ◌≤◌, ⊤, ℕ, List, [], ◌∷◌, ◌++◌, Some, None, drop, take, All}
 use Rattle.lu_pool.specs.Pool.{IsPool}
 use Rattle.lu_pool.specs.declared.entry.Entry.{Entry}
 use Rattle.panels.specs.Panel.{Panels, AreSound}
 use Rattle.host_core.specs.Application.{application_of}
-use Rattle.world3270.specs.ByteRuns.{Runs}
+use Rattle.world3270.specs.ByteRuns.{Runs, refused_at}
 use Rattle.world3270.specs.ByteSteps.{Steps, has_place}
-use Rattle.world3270.specs.ByteWorld.{ByteWorld, new_byte_world}
+use Rattle.world3270.specs.ByteWorld.{ByteWorld, down_of, new_byte_world, up_of}
+use Rattle.world3270.specs.Deliveries.{AreDeliveries, host_rest, taken_by, terminal_rest}
 use Rattle.world3270.specs.Happens.{run}
 use Rattle.world3270.specs.Headline.{Headline}
 use Rattle.world3270.specs.Placed.{has_place as has_place_over_messages}
@@ -68,15 +69,14 @@ once event stepped.Skipped = event ∷ []
 once event (stepped.Part taken) = event ∷ []
 once event stepped.Memory = []
 
--- so many single deliveries
-abbrev pub Repeats : MessageEvent → List MessageEvent → Type 0
-Repeats event events = (count : ℕ) × (events ≡ replicate count event)
-
--- A delivery of bytes comes to single deliveries, as many as there were messages completed; each other event to itself.
-abbrev pub ComesTo : Event → Stepped → List MessageEvent → Type 0
-ComesTo (event.Up number count) answer events = Repeats (MessageEvent.Up number) events
-ComesTo (event.Down number count) answer events = Repeats (MessageEvent.Down number) events
-ComesTo event answer events = events ≡ once (message_event event) answer
+-- What an event that was answered so is over messages. A delivery of bytes: one delivery for each message whose last byte was taken. Any
+-- other event: itself once, or nothing if memory was refused.
+abbrev pub ComesTo : Event → ByteWorld → Stepped → List MessageEvent → Type 0
+ComesTo (event.Up number count) old answer events =
+    AreDeliveries (host_rest number old) (taken_by answer (take count (up_of number old))) (MessageEvent.Up number) events
+ComesTo (event.Down number count) old answer events =
+    AreDeliveries (terminal_rest number old) (taken_by answer (take count (down_of number old))) (MessageEvent.Down number) events
+ComesTo event old answer events = events ≡ once (message_event event) answer
 
 -- its key, name or text is one of those that there are
 abbrev pub IsReal : Event → Type 0
@@ -94,44 +94,50 @@ IsCounted event = ⊤
 abbrev pub BeginIsReached : Type 0
 BeginIsReached = (begin : Begin) → IsBegin begin → Reached begin [] (new_byte_world begin.panels begin.pool begin.terminals)
 
--- what more happens over messages, and the world then
-pub record GoesOn (begin : Begin) (events : List MessageEvent) (event : Event) (answer : Stepped) (new : ByteWorld) : Type 0 where
+-- what the event is over messages, and that the new bytes represent the world after it
+pub record GoesOn (begin : Begin) (events : List MessageEvent) (event : Event) (old : ByteWorld) (answer : Stepped) (new : ByteWorld) : Type 0 where
   pub more : List MessageEvent
-  pub comes_to : ComesTo event answer more
+  pub comes_to : ComesTo event old answer more
   pub reached : Reached begin (events ++ more) new
 
--- Whatever happens, the world stands for one after more events: those that it comes to.
+-- After each step the bytes represent the world after one event more, or after its deliveries.
 abbrev pub StepsGoOn : Type 0
 StepsGoOn = (begin : Begin) (events : List MessageEvent) (event : Event) (old : ByteWorld) (answer : Stepped) (new : ByteWorld)
-    → IsBegin begin → Reached begin events old → IsReal event → Steps event old answer new → GoesOn begin events event answer new
+    → IsBegin begin → Reached begin events old → IsReal event → Steps event old answer new → GoesOn begin events event old answer new
 
--- Events come to these, one after another.
-abbrev pub ComeTo : List Event → List MessageEvent → Type 0
-ComeTo [] more = more ≡ []
-ComeTo (event ∷ events) more =
-    (answer : Stepped) × (first : List MessageEvent) × (others : List MessageEvent) × (more ≡ first ++ others) × ComesTo event answer first × ComeTo events others
+-- These events happen one after another, from the old world to the new one, and memory is refused to none of them: what they are over
+-- messages, each by its own answer in the world in which it happens, after `before`.
+abbrev pub ComeTo : Begin → List MessageEvent → List Event → ByteWorld → ByteWorld → List MessageEvent → Type 0
+ComeTo begin before [] old new more = (new ≡ old) × (more ≡ [])
+ComeTo begin before (event ∷ events) old new more =
+    (answer : Stepped) × (next : ByteWorld) × (others : List MessageEvent) × Steps event old answer next × (refused_at answer ≡ None)
+    × (one : GoesOn begin before event old answer next) × (more ≡ one.more ++ others) × ComeTo begin (before ++ one.more) events next new others
 
--- what the next of these comes to, if there is one
-abbrev pub NextComesTo : List Event → List MessageEvent → Type 0
-NextComesTo [] more = more ≡ []
-NextComesTo (event ∷ events) more = (answer : Stepped) × ComesTo event answer more
+-- what the first of these is over messages, if there is one: memory was refused to it after this number of bytes
+abbrev pub NextComesTo : Begin → List MessageEvent → List Event → ℕ → ByteWorld → ByteWorld → List MessageEvent → Type 0
+NextComesTo begin before [] part old new more = (part ≡ 0) × (new ≡ old) × (more ≡ [])
+NextComesTo begin before (event ∷ events) part old new more =
+    (answer : Stepped) × Steps event old answer new × (refused_at answer ≡ Some part)
+    × (one : GoesOn begin before event old answer new) × (more ≡ one.more)
 
--- what more happens over messages where a list of events is run: what the whole ones come to, and the next, up to where memory was refused
-pub record RunGoesOn (begin : Begin) (before : List MessageEvent) (events : List Event) (ran : Ran) (new : ByteWorld) : Type 0 where
+-- A run is over messages what its whole events are, and then the next one, as far as it was taken.
+pub record RunGoesOn (begin : Begin) (before : List MessageEvent) (events : List Event) (old : ByteWorld) (ran : Ran) (new : ByteWorld) : Type 0 where
   pub first : List MessageEvent
   pub last : List MessageEvent
-  pub whole : ComeTo (take ran.whole events) first
-  pub next : NextComesTo (drop ran.whole events) last
+  pub mid : ByteWorld
+  pub whole : ComeTo begin before (take ran.whole events) old mid first
+  pub next : NextComesTo begin (before ++ first) (drop ran.whole events) ran.part mid new last
+  pub between : Reached begin (before ++ first) mid
   pub reached : Reached begin (before ++ (first ++ last)) new
 
 abbrev pub AreReal : List Event → Type 0
 AreReal [] = ⊤
 AreReal (event ∷ events) = IsReal event × AreReal events
 
--- Whatever list of events is run, the world stands for one after what they come to.
+-- After each run the bytes represent the world after what its events are over messages.
 abbrev pub RunsGoOn : Type 0
 RunsGoOn = (begin : Begin) (before : List MessageEvent) (events : List Event) (old : ByteWorld) (ran : Ran) (new : ByteWorld)
-    → IsBegin begin → Reached begin before old → AreReal events → Runs events old ran new → RunGoesOn begin before events ran new
+    → IsBegin begin → Reached begin before old → AreReal events → Runs events old ran new → RunGoesOn begin before events old ran new
 
 -- An event is skipped exactly where that over messages is.
 abbrev pub SkipsAreThose : Type 0
@@ -151,3 +157,16 @@ pub record IsReached (bytes : ByteWorld) : Type 0 where
 -- the headline holds of what is seen there
 abbrev pub HeadlineIsSeen : Type 0
 HeadlineIsSeen = (bytes : ByteWorld) → IsReached bytes → Headline (seen_bytes bytes)
+
+-- ---- what a caller of World has in hand
+
+-- The old bytes represent a world over messages; and whichever they represent, the new ones represent the world after what the event is
+-- over messages.
+pub record StepOverMessages (event : Event) (old : ByteWorld) (answer : Stepped) (new : ByteWorld) : Type 0 where
+  pub represents : IsReached old
+  pub goes_on : (begin : Begin) (events : List MessageEvent) → IsBegin begin → Reached begin events old → GoesOn begin events event old answer new
+
+-- the same of a run
+pub record RunOverMessages (events : List Event) (old : ByteWorld) (ran : Ran) (new : ByteWorld) : Type 0 where
+  pub represents : IsReached old
+  pub goes_on : (begin : Begin) (before : List MessageEvent) → IsBegin begin → Reached begin before old → RunGoesOn begin before events old ran new

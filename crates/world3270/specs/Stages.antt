@@ -1,15 +1,12 @@
 -- What is known of a connection at each of its moments, for proofs (our profile): the headline's invariant.
-use Rattle.std.specs.Prelude.{◌≡◌, ◌⊎◌, ◌<◌, ⊤, ℕ, Bool, false, List, [], length, slice_index_or, Option, Some, None, IsTrue, IsOkAnd}
+use Rattle.std.specs.Prelude.{◌≡◌, ◌<◌, ⊤, ℕ, Bool, false, List, [], length, Option, Some, None, IsTrue, IsOkAnd}
 use Rattle.codes3270.specs.Size.{Shape, cells_in}
 use Rattle.codes3270.specs.declared.attention.Aid.TheVariants.{NoAid, Clear}
-use Rattle.codes3270.specs.declared.attribute.Cell.{Cell}
-use Rattle.codes3270.specs.declared.attribute.Cell.TheVariants.{Char}
 use Rattle.datastream.specs.Fields.{fields}
 use Rattle.datastream.specs.Grammar.{CommandParts}
 use Rattle.datastream.specs.Held.{Held}
 use Rattle.datastream.specs.InboundFields.{buffer_data}
 use Rattle.datastream.specs.InboundText.{InboundParts}
-use Rattle.datastream.specs.Note.{IsProtectedChar}
 use Rattle.datastream.specs.Screen.{Screen}
 use Rattle.datastream.specs.Wanted.{WantedScreen}
 use Rattle.datastream.specs.declared.inbound_part.Form.TheVariants.{Modified}
@@ -29,9 +26,10 @@ use Rattle.host_core.specs.Laws.{IsPaintable}
 use Rattle.host_core.specs.NoteLaws.{HasMessageRow, TakesNotes, IsNoteOf}
 use Rattle.host_core.specs.declared.occasion.Occasion.{Occasion}
 use Rattle.host_core.specs.declared.occasion.Occasion.TheVariants as occasions
-use Rattle.world3270.specs.Headline.{SentFields, UnmodifiedIsKept}
+use Rattle.world3270.specs.Headline.{SentFields}
 use Rattle.world3270.specs.Moments.{Talking, Serving, Moment, IsAt}
 use Rattle.world3270.specs.Occasions.{IsOccasion, IsOpenBy, IsOpenFor, IsCleared}
+use Rattle.world3270.specs.Unreturned.{NotedSince, UnmodifiedIsKept}
 use Rattle.world3270.specs.View.{View}
 
 -- what the facts are about: the screen's shape, what the host believes of it and why it acts; the lock, the screen, and its history
@@ -93,11 +91,6 @@ pub record IsPainted (s : Scene) (command : CommandParts) (wanted : WantedScreen
   pub meets : Meets over s.screen
   pub closed : NothingIsOpen over
   pub paintable : IsPaintable s.shape over wanted
-
--- notes were written over protected characters alone; elsewhere stands what was left
-abbrev pub NotedSince : List Cell → List Cell → Type 0
-NotedSince left shown =
-    (place : ℕ) → IsProtectedChar shown place ⊎ (slice_index_or shown place (Char 0) ≡ slice_index_or left place (Char 0))
 
 -- The operator types, on the screen that the host's last write left, with the notes since then written over it: `shown`. That screen
 -- meets what will be believed once all that comes up is heard.

@@ -1,7 +1,7 @@
 -- What holds of queues and connections where bytes stand for messages: a connection over bytes stands for one over messages, whatever
 -- happens on it (our profile).
 use Rattle.std.specs.Prelude.{◌≡◌, ◌||◌, ⊤, ℕ, Bool, true, false, List, [], ◌∷◌, ◌++◌, Option, Some, None}
-use Rattle.std.specs.List.{AllByRecursion}
+use Rattle.std.specs.List.{AllByRecursion, list_any}
 use Rattle.codes3270.specs.Size.{model_2}
 use Rattle.datastream.specs.InboundFields.{IsSendable}
 use Rattle.keyboard.specs.declared.key.Key.{Key}
@@ -12,6 +12,7 @@ use Rattle.term_core.specs.Presses.{key_outcome}
 use Rattle.tn3270e_msg.specs.Header.{record_limit}
 use Rattle.host_core.specs.Messages.{ToTerminal, ToHost}
 use Rattle.host_core.specs.Session.{Conn, new_conn}
+use Rattle.world3270.specs.Always.{is_refusal}
 use Rattle.world3270.specs.Link.{Link, begun, sent, host_left, term_left, term_stepped}
 use Rattle.world3270.specs.Seats.{Seat, SeatTakesByte, SeatTakes, seated, seat_after_key}
 use Rattle.world3270.specs.Stands.{StandsDown, StandsUp, BytesStand, ByteLink, LinkStands}
@@ -120,6 +121,20 @@ pub record IsReady (bytes : ByteLink) (link : Link) : Type 0 where
 abbrev pub DownStands : Type 0
 DownStands = (bytes : ByteLink) (link : Link) (front behind : List ℕ) (new : Seat)
     → IsReady bytes link → bytes.down ≡ front ++ behind → SeatTakes bytes.seat front new → CameDown (fed new behind bytes) link
+
+-- what a terminal said to bytes: items behind what it had to send, none of which refuses a command
+pub record SaysOnlyPositive (old new : Seat) : Type 0 where
+  pub says : List WireItem
+  pub out : new.terminal.out ≡ old.terminal.out ++ sent_bytes says
+  pub fit : AllByRecursion (CanCome record_limit) says
+  pub sends : List ToHost
+  pub said : Pairwise StandsUp says sends
+  pub none : list_any is_refusal sends ≡ false
+
+-- A terminal refuses no command, whether or not anybody is at the other end.
+abbrev pub DownIsNotRefused : Type 0
+DownIsNotRefused = (bytes : ByteLink) (link : Link) (front behind : List ℕ) (new : Seat)
+    → IsReady bytes link → bytes.down ≡ front ++ behind → SeatTakes bytes.seat front new → SaysOnlyPositive bytes.seat new
 
 -- whether one of the messages is a paint that finds the terminal bound
 abbrev pub any_painted : TermEnd → List ToTerminal → Bool

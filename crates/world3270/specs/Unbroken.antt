@@ -1,17 +1,20 @@
 -- Nobody refuses a command, and neither end closes a connection for what comes to it, over bytes (our profile; responses are those of
 -- RFC 1647, section 10.4).
-use Rattle.std.specs.Prelude.{◌≡◌, ⊤, ℕ, true, List, ◌∷◌, ◌++◌}
-use Rattle.telnet_wire.specs.Items.{WireItem}
+use Rattle.std.specs.Prelude.{◌≡◌, ◌==◌, ⊤, ℕ, Bool, true, false, List, ◌∷◌, ◌++◌, Some}
+use Rattle.std.specs.List.{AllByRecursion}
+use Rattle.telnet_wire.specs.Items.{WireItem, CanCome, sent_bytes}
 use Rattle.telnet_wire.specs.Reading.{Delivers, nothing}
 use Rattle.term_core.specs.Says.{response}
 use Rattle.term_core.specs.declared.outcome.Outcome.{Outcome}
 use Rattle.term_core.specs.declared.outcome.Outcome.TheVariants.{DeviceEnd}
 use Rattle.tn3270e_msg.specs.Header.{record_limit}
 use Rattle.host_core.specs.State.{service_at}
+use Rattle.world3270.specs.Always.{NobodyRefuses}
 use Rattle.world3270.specs.ByteSteps.{Steps, is_lost}
-use Rattle.world3270.specs.ByteWorld.{ByteWorld, host_there, terminal_at, up_of}
-use Rattle.world3270.specs.Refines.{IsReached}
+use Rattle.world3270.specs.ByteWorld.{ByteWorld, host_there, sitting_at, terminal_at, up_of}
+use Rattle.world3270.specs.Refines.{Begin, GoesOn, IsBegin, IsReached, Reached, after}
 use Rattle.world3270.specs.Standing.{rest_of}
+use Rattle.world3270.specs.World.{Event as MessageEvent}
 use Rattle.world3270.specs.declared.event.Event.{Event}
 use Rattle.world3270.specs.declared.event.Event.TheVariants as event
 use Rattle.world3270.specs.declared.event.Stepped.{Stepped}
@@ -33,9 +36,53 @@ abbrev pub DeliveriesCloseNothing : Type 0
 DeliveriesCloseNothing = (event : Event) (old : ByteWorld) (answer : Stepped) (new : ByteWorld)
     → IsReached old → IsDelivery event → Steps event old answer new → (number : ℕ) → SameEnds number old new
 
+-- ---- ends that leave
+
+-- the host leaves a connection when it sees that it is lost, and every connection when it restarts
+abbrev pub host_leaves : ℕ → Event → Bool
+host_leaves number (event.HostSees at) = number == at
+host_leaves number event.RestartHost = true
+host_leaves number event = false
+
+-- a terminal leaves its connection when it sees that it is lost, and when it restarts
+abbrev pub terminal_leaves : ℕ → Event → Bool
+terminal_leaves terminal (event.TermSees at) = terminal == at
+terminal_leaves terminal (event.RestartTerm at) = terminal == at
+terminal_leaves terminal event = false
+
+-- each end that is at a connection is still there after the event, unless it leaves by one of these events
+pub record EndsStay (event : Event) (old new : ByteWorld) : Type 0 where
+  pub host : (number : ℕ) → host_leaves number event ≡ false → host_there number old ≡ true → host_there number new ≡ true
+  pub terminal : (terminal number : ℕ) → terminal_leaves terminal event ≡ false
+      → terminal_at number old.sittings ≡ Some terminal → terminal_at number new.sittings ≡ Some terminal
+
+-- In no step does an end close a connection by a cause: an end that has left saw a loss, or restarted.
+abbrev pub NobodyCloses : Type 0
+NobodyCloses = (begin : Begin) (events : List MessageEvent) (event : Event) (old : ByteWorld) (answer : Stepped) (new : ByteWorld)
+    → IsBegin begin → Reached begin events old → GoesOn begin events event old answer new → EndsStay event old new
+
+-- Over messages neither end has ever closed a connection by a cause, and no terminal has ever refused a command.
+abbrev pub NobodyHasRefused : Type 0
+NobodyHasRefused = (begin : Begin) (events : List MessageEvent) (bytes : ByteWorld)
+    → IsBegin begin → Reached begin events bytes → NobodyRefuses (after begin events)
+
+-- ---- responses
+
 -- Each response under way to a host that is there says that the command was carried out.
 abbrev pub NothingIsRefused : Type 0
 NothingIsRefused = (bytes : ByteWorld) (number sequence : ℕ) (outcome : Outcome) (before behind : List WireItem)
     → IsReached bytes → host_there number bytes ≡ true
     → Delivers record_limit (rest_of (service_at number bytes.host)) (up_of number bytes) (before ++ response sequence outcome ∷ behind) nothing
     → outcome ≡ DeviceEnd
+
+-- What a terminal said in a step: items behind what it had to send, and each response among them says that the command was carried out.
+pub record SaysNoRefusal (terminal : ℕ) (old new : ByteWorld) : Type 0 where
+  pub says : List WireItem
+  pub sent : (sitting_at terminal new).seat.terminal.out ≡ (sitting_at terminal old).seat.terminal.out ++ sent_bytes says
+  pub fit : AllByRecursion (CanCome record_limit) says
+  pub carried_out : (sequence : ℕ) (outcome : Outcome) (before behind : List WireItem) → says ≡ before ++ response sequence outcome ∷ behind → outcome ≡ DeviceEnd
+
+-- A terminal refuses nothing that comes to it, whether or not its host is still there to read the response.
+abbrev pub TerminalsRefuseNothing : Type 0
+TerminalsRefuseNothing = (terminal number count : ℕ) (old : ByteWorld) (answer : Stepped) (new : ByteWorld)
+    → IsReached old → terminal_at number old.sittings ≡ Some terminal → Steps (event.Down number count) old answer new → SaysNoRefusal terminal old new

@@ -19,10 +19,11 @@ ghost use Rattle.world3270.specs.Sendable.{AlwaysTyped, DataCanBeSpelt, PaintsAr
 ghost use Rattle.world3270.specs.Skipped.{SkippedChangesNothing};
 ghost use Rattle.world3270.specs.Stands.{StandsDown, StandsUp};
 ghost use Rattle.world3270.specs.StandsEnds.{PaintStands, TakesKeepSendable, TermPresses, TermTakes, WritesAreMarked};
-ghost use Rattle.world3270.specs.Unbroken.{DeliveriesCloseNothing, NothingIsRefused};
+ghost use Rattle.world3270.specs.Unbroken.{DeliveriesCloseNothing, NobodyCloses, NobodyHasRefused, NothingIsRefused, TerminalsRefuseNothing};
 ghost use Rattle.world3270.specs.StandsLinks.{
   BeginStands,
   BytesAreMarked,
+  DownIsNotRefused,
   DownStands,
   HostLeaves,
   HostSends,
@@ -214,6 +215,7 @@ pub fn bytes_stand_for_messages()
     ensures press { PressStands }
     ensures down { DownStands }
     ensures down_marked { BytesAreMarked }
+    ensures not_refused { DownIsNotRefused }
     ensures host_sends { HostSends }
     ensures up { UpStands }
     ensures loss { LossStands }
@@ -250,11 +252,11 @@ fn what_is_known()
     datastream::one_reading();
 }
 
-/// Does nothing: its contract says how the world over bytes follows the world over messages. A world that begins stands for one
-/// that begins. After each event it stands for the world after more events: single deliveries, as many as there were messages whose
-/// last byte came, or that one event. An event is skipped exactly where that over messages is. And the headline holds of
-/// what is seen of each such world. Whatever comes up or down, neither end closes a connection; and no response under way
-/// refuses a command.
+/// Does nothing: its contract says how the world over bytes follows the world over messages. Callers can apply it to a world in
+/// hand, by [`World::represents_messages`]. A world that begins represents one over messages that begins. After each event it
+/// represents the world after more events: one delivery for each item that the bytes complete at the receiver, or that one event.
+/// An event is skipped exactly if it is skipped over messages. The headline holds of what is seen of each such world. Bytes that come
+/// up or down close no connection; no end ever closes one by a cause; and no response refuses a command.
 pub fn bytes_follow_messages()
     ensures begin { BeginIsReached }
     ensures steps { StepsGoOn }
@@ -262,7 +264,10 @@ pub fn bytes_follow_messages()
     ensures skipped { SkipsAreThose }
     ensures headline { HeadlineIsSeen }
     ensures close_nothing { DeliveriesCloseNothing }
+    ensures nobody_closes { NobodyCloses }
+    ensures history { NobodyHasRefused }
     ensures none_refused { NothingIsRefused }
+    ensures say_no_refusal { TerminalsRefuseNothing }
 {
     what_is_known();
 }

@@ -64,8 +64,8 @@ impl NoteText {
         })
     }
 
-    /// Its characters.
-    pub(crate) fn text(&self) -> &[u8]
+    /// Its characters, at most 131.
+    pub fn text(&self) -> &[u8]
         ensures text { result.now ≡ self.now }
         ensures note { IsNoteText self.now }
     {

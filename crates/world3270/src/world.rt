@@ -5,6 +5,7 @@ ghost use Rattle.world3270.specs.ByteRuns.{Runs, refused_at};
 ghost use Rattle.world3270.specs.ByteSteps.{Steps};
 ghost use Rattle.world3270.specs.ByteWorld.{IsTerminalCount, down_of, new_byte_world, sitting_at, up_of};
 ghost use Rattle.world3270.specs.Headline.{Headline};
+ghost use Rattle.world3270.specs.Refines.{IsReached, RunOverMessages, StepOverMessages};
 ghost use Rattle.world3270.specs.SeenBytes.{seen_bytes};
 
 use crate::bytes_follow_messages;
@@ -111,9 +112,18 @@ impl World {
         bytes_follow_messages();
     }
 
-    /// An event happens, or is skipped; the world goes on standing for one over messages.
+    /// Does nothing: its contract says that the bytes of this world represent a world over messages, to which some list of events
+    /// leads. The laws of [`bytes_follow_messages`] apply to it.
+    pub fn represents_messages(&self)
+        ensures { IsReached self.now }
+    {
+        let _network = &self.network;
+    }
+
+    /// An event happens, or is skipped; the bytes represent a world over messages before it and after it.
     fn happen(&mut self, event: &Event) -> Stepped
-        ensures { Steps event.now self.old result self.new }
+        ensures steps { Steps event.now self.old result self.new }
+        ensures messages { StepOverMessages event.now self.old result self.new }
     {
         bytes_follow_messages();
         events_are_real(event);
@@ -123,6 +133,7 @@ impl World {
     /// An event happens, or is skipped where there is nothing for it to happen to.
     pub fn step(&mut self, event: Event) -> Stepped
         ensures steps { Steps event self.old result self.new }
+        ensures messages { StepOverMessages event self.old result self.new }
         ensures headline { Headline (seen_bytes self.new) }
     {
         let stepped = self.happen(&event);
@@ -133,8 +144,10 @@ impl World {
     /// Events happen one after another, up to the first for which memory is refused.
     pub fn run(&mut self, events: &[Event]) -> Ran
         ensures runs { Runs events.now self.old result self.new }
+        ensures messages { RunOverMessages events.now self.old result self.new }
         ensures headline { Headline (seen_bytes self.new) }
     {
+        self.represents_messages();
         for (whole, event) in events.iter().enumerate() {
             match refused_at(self.happen(event)) {
                 None => {}

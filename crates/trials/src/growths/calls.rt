@@ -1,10 +1,10 @@
 //! The calls that can answer want of memory, by name.
 use crate::growths::appending::Appends;
 use crate::growths::hosts::{
-    AGREED, Asked, Asks, Hosting, NO_ROOM_FOR_A_REPLY, OPENED, READY, Step,
+    AGREED, Asked, Asks, Hosting, NO_ROOM_FOR_A_COMMAND, NO_ROOM_FOR_A_REPLY, OPENED, READY, Step,
 };
 use crate::growths::making::{Maker, Makes};
-use crate::growths::story::{CLEAR, ENTER, PA1};
+use crate::growths::story::{CLEAR, ENTER};
 use crate::growths::terminals::{Attached, Does};
 use crate::growths::trial::{Came, try_on};
 use crate::growths::worlds::{Lets, Small};
@@ -23,7 +23,7 @@ pub(crate) enum Call {
 }
 
 /// Each with its name: the crate's, the call's, and in some cases on what.
-pub(crate) static CALLS: [(&str, Call); 46] = [
+pub(crate) static CALLS: [(&str, Call); 44] = [
     ("telnet_wire:Decoder::new", Call::Make(Makes::Decoder)),
     ("telnet_wire:put_record", Call::Append(Appends::Record)),
     ("telnet_wire:put_option", Call::Append(Appends::Option)),
@@ -89,21 +89,16 @@ pub(crate) static CALLS: [(&str, Call); 46] = [
     ),
     (
         "host_core:Host::act,agreed",
-        Call::Host(Asks::Act, AGREED, &[]),
+        Call::Host(Asks::Act, AGREED, &[Step::Fills(NO_ROOM_FOR_A_COMMAND)]),
     ),
     (
         "host_core:Host::act,enter",
         Call::Host(Asks::Act, READY, &[Step::Fed(ENTER)]),
     ),
     (
-        "host_core:Host::act,pa",
-        Call::Host(Asks::Act, READY, &[Step::Fed(PA1)]),
-    ),
-    (
         "host_core:Host::act,clear",
         Call::Host(Asks::Act, READY, &[Step::Fed(CLEAR)]),
     ),
-    ("host_core:Host::note", Call::Host(Asks::Note, READY, &[])),
     ("host_core:serve_turn", Call::Host(Asks::Serve, READY, &[])),
     ("term_core:screen_lines", Call::Make(Makes::ScreenLines)),
     (
@@ -131,7 +126,7 @@ pub(crate) static CALLS: [(&str, Call); 46] = [
     ),
     (
         "world3270:World::step,act",
-        Call::World(Lets::Step(7, Deed::Act(0))),
+        Call::World(Lets::Step(15, Deed::Act(0))),
     ),
     (
         "world3270:World::step,key",

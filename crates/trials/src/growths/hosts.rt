@@ -3,17 +3,16 @@ ghost use Rattle.std.specs.Prelude.{◌<◌};
 ghost use Rattle.host_core.specs.State.{most_connections};
 
 use crate::growths::story::{
-    DO_OTHER, DONE_0, ENTER, MANY, NOTE, PANELS, WANTS_LU, WANTS_RESPONSES, WILL_TN3270E,
-    with_options,
+    DO_OTHER, DONE_0, ENTER, MANY, PANELS, WANTS_LU, WANTS_RESPONSES, WILL_TN3270E, with_options,
 };
 use crate::growths::trial::{Answer, Trial};
 use crate::growths::wire::Wire;
 use crate::likeness::hosts_look_same;
 use crate::readers::read_host;
-use host_core::{Acted, Host, Phase, Served, serve_turn};
+use host_core::{Acted, Host, OUT_ROOM, Phase, Served, serve_turn};
 use std::alloc::Global;
 use std::io;
-use tn3270e_msg::{Fed, Stop};
+use tn3270e_msg::{Fed, REPLY_ROOM, Stop};
 
 /// The connection, and another one, to which nothing happens.
 const CONN: usize = 0;
@@ -27,7 +26,6 @@ pub(crate) enum Asks {
     /// Many bytes are fed.
     Feed,
     Act,
-    Note,
     /// A turn of serving, in which Enter comes.
     Serve,
 }
@@ -68,12 +66,13 @@ pub(crate) const AGREED: usize = 4;
 
 pub(crate) const READY: usize = 7;
 
-/// A connection begins with room for 19,224 bytes, in which the largest command fits, and no byte is taken without room for the
-/// largest reply, 516. With as many unsent bytes as these there is no room any more: for a reply in the first room, and for
-/// a command in the second, which is twice the first.
-pub(crate) const NO_ROOM_FOR_A_REPLY: usize = 19_224 - 516;
+/// How many bytes of a connection's room may wait to be sent while the largest reply fits behind them. Before a byte is taken that
+/// fits no more, the room is doubled.
+pub(crate) const NO_ROOM_FOR_A_REPLY: usize = OUT_ROOM - REPLY_ROOM;
 
-const NO_ROOM_FOR_A_COMMAND: usize = 19_224;
+/// The same of the largest command, 19,224 bytes, in the room that is doubled. A Read Buffer and a note are shorter than the largest
+/// reply, for which each byte that is taken leaves room: they never need more.
+pub(crate) const NO_ROOM_FOR_A_COMMAND: usize = 2 * OUT_ROOM - 19_224;
 
 /// A host before the call, and the bytes that it is to be fed.
 #[derive(Drop)]
@@ -182,7 +181,6 @@ impl Trial for Hosting {
             Asks::Open => open(&mut self.host, CONN),
             Asks::Feed => self.feed(),
             Asks::Act => answer_of(self.host.act(CONN)),
-            Asks::Note => answer_of(self.host.note(CONN, &NOTE)),
             Asks::Serve => self.serve(),
         }
     }

@@ -77,9 +77,7 @@ pub(crate) const ENTER: &[u8] = b"\x00\x00\x00\x00\x00\x7d\xc2\x6a\
 \x11\xc2\xe7\xc1\xd5\xd5\
 \x11\xc3\xf7\xc4\xf7\xff\xef";
 
-/// PA1, and Clear: each is sent alone.
-pub(crate) const PA1: &[u8] = b"\x00\x00\x00\x00\x00\x6c\xff\xef";
-
+/// Clear, which is sent alone.
 pub(crate) const CLEAR: &[u8] = b"\x00\x00\x00\x00\x00\x6d\xff\xef";
 
 /// `NOTE` in code page 037.

@@ -27,7 +27,7 @@ impl Links for Wire {
 
     ghost failures = { λ wire conn. 0 };
 
-    ghost gave = { λ before conn bytes answer after. ⊤ };
+    ghost gave = { λ before conn room bytes answer after. ⊤ };
 
     ghost took = { λ before conn bytes answer after. ⊤ };
 

@@ -51,7 +51,7 @@ impl Links for Clients {
 
     ghost failures = { λ clients. count_at clients.failures };
 
-    ghost gave = { λ before conn bytes answer after. ⊤ };
+    ghost gave = { λ before conn room bytes answer after. ⊤ };
 
     ghost took = { λ before conn bytes answer after. ⊤ };
 

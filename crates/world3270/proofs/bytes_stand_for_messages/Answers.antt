@@ -2,7 +2,7 @@ use Rattle.world3270.specs.Stands.{StandsDown, StandsUp}
 use Rattle.world3270.proofs.Stands.{paint_stands, term_takes, writes_are_marked, term_presses, nothing_stands, stands_compose, stands_go_on, begin_stands}
 use Rattle.world3270.proofs.StandsComing.{what_comes_may_come}
 use Rattle.world3270.proofs.StandsScreens.{takes_keep_sendable}
-use Rattle.world3270.proofs.StandsLinks.{history_follows, press_stands, down_stands, bytes_are_marked, host_sends, up_stands, loss_stands, host_leaves, term_leaves}
+use Rattle.world3270.proofs.StandsLinks.{history_follows, press_stands, down_stands, down_is_not_refused, bytes_are_marked, host_sends, up_stands, loss_stands, host_leaves, term_leaves}
 use Rattle.world3270.proofs.bytes_stand_for_messages.Goals as goal
 
 pub returns-clause-paint : goal.returns-clause-paint
@@ -79,6 +79,13 @@ returns-clause-down_marked c =
     let wire = c.one_reading-2.ensures in
     bytes_are_marked (term_takes messages.header messages.header_or_fault c.sent_is_read.ensures) takes_keep_sendable (stands_compose StandsUp wire.deliveries wire.written)
     (stands_go_on StandsDown wire.delivery_goes_on) wire.wrong_is_final (writes_are_marked messages.header messages.header_or_fault c.sent_is_read.ensures)
+
+pub returns-clause-not_refused : goal.returns-clause-not_refused
+returns-clause-not_refused c =
+    let messages = c.one_reading.ensures in
+    let wire = c.one_reading-2.ensures in
+    down_is_not_refused (term_takes messages.header messages.header_or_fault c.sent_is_read.ensures) takes_keep_sendable
+    (stands_go_on StandsDown wire.delivery_goes_on) wire.wrong_is_final
 
 pub returns-clause-host_sends : goal.returns-clause-host_sends
 returns-clause-host_sends c =

@@ -17,6 +17,7 @@ loop-taken-preserved c = record {
   running = c.in_default.ensures.left;
   holder = c.in_default.ensures.holds;
   others = others_compose c.args.number c.args.pool.now c.loop-taken.pool c.take_byte.new.pool c.loop-taken.invariant.others c.in_default.ensures.others;
+  capacity = omega arith;
   panel = c.in_default.ensures.panel ∙ c.loop-taken.invariant.panel;
   taken = byte_more c.args.number _ c.args.bytes.now c.loop-taken.taken c.loop-taken.pool c.loop-taken.decoder c.loop-taken.session c.loop-taken.out c.reserve.new.self _ (omega arith) c.reserve.ensures.items c.loop-taken.invariant.taken c.in_default.ensures.taken;
 }

@@ -1,4 +1,5 @@
-use Rattle.std.proofs.Common.{◌≡◌, take, None}
+use Rattle.std.proofs.Common.{◌≡◌, ◌≤◌, take, None}
+use Rattle.std.specs.Vec.{vec_capacity}
 use Rattle.tn3270e_msg.specs.HostTable.{granted}
 use Rattle.host_core.specs.Bytes.{TakesBytes}
 use Rattle.host_core.specs.Keeps.{IsRunning, OthersHold, counter_of}
@@ -10,6 +11,7 @@ invariant-loop-taken l = record {
   running : IsRunning l.decoder;
   holder : HoldsJust l.number l.pool (granted l.session.talk.state);
   others : OthersHold l.number l.initial.pool l.pool;
+  capacity : vec_capacity l.initial.out ≤ vec_capacity l.out;
   panel : l.session.panel ≡ l.initial.session.panel;
   taken : TakesBytes l.number (counter_of l.initial.pool l.initial.decoder l.initial.session None l.initial.out) (take l.taken l.bytes) (counter_of l.pool l.decoder l.session None l.out);
 }

@@ -6,12 +6,16 @@ use Rattle.host_core.specs.Sound.{HoldsJust}
 use Rattle.host_core.specs.declared.line.Connection.{Connection}
 use Rattle.host_core.specs.State.{lu_of}
 use Rattle.host_core.proofs.Hosts.{held_of_parts}
+use Rattle.host_core.proofs.LineActs.{room_of_open}
 use Rattle.host_core.proofs.line.Line.feed.Goals as goal
 
 pub feed-fed-requires-clause-holder : goal.feed-fed-requires-clause-holder
 feed-fed-requires-clause-holder c =
     held_of_parts c.args.number c.args.pool.now c.args.self.now c.self.inside.service _ _ (sym c.self.view_is)
     (ap (λ s. lu_of (service_of s)) c.in-Open.is ∙ ap (λ (x : Connection). granted x.session.talk.state) (sym c.deref_mut.ensures.value)) c.requires
+
+pub feed-fed-requires-clause-room : goal.feed-fed-requires-clause-room
+feed-fed-requires-clause-room c = room_of_open c.self.inside.service c.in-Open.connection c.self.inside.out c.in-Open.is c.self.invariant
 
 pub returns-in-Free-clause-held : goal.returns-in-Free-clause-held
 returns-in-Free-clause-held c =

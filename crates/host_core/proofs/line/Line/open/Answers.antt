@@ -1,4 +1,4 @@
-use Rattle.std.proofs.Common.{◌∙◌, ap, refl}
+use Rattle.std.proofs.Common.{◌∙◌, ap, refl, arith}
 use Rattle.telnet_wire.proofs.Running.{fresh_runs}
 use Rattle.tn3270e_msg.specs.Header.{record_limit}
 use Rattle.host_core.specs.declared.line.Connection.{Connection}
@@ -6,5 +6,10 @@ use Rattle.host_core.proofs.line.Line.open.Goals as goal
 
 pub invariant_of-self-2 : goal.invariant_of-self-2
 invariant_of-self-2 c =
-    fresh_runs record_limit c.in_ok-connection.connection.value.decoder record_limit
-    (ap (λ (x : Connection). x.decoder) c.in_ok-connection.ensures.ok ∙ c.in-Ok.ensures.made) refl
+    let made = c.in_ok-reserve.ensures.ok in
+    let kept = c.clear.ensures.capacity in
+    let put = c.put_option.ensures.capacity in (
+      fresh_runs record_limit c.in_ok-connection.connection.value.decoder record_limit
+          (ap (λ (x : Connection). x.decoder) c.in_ok-connection.ensures.ok ∙ c.in-Ok.ensures.made) refl,
+      omega (arith, made, kept, put),
+    )

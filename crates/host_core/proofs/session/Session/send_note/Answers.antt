@@ -6,10 +6,12 @@ use Rattle.telnet_wire.specs.Items.{Record, sent_bytes}
 use Rattle.host_core.proofs.NoteBytes.{note_is_kept, note_record_fits, note_sent}
 use Rattle.host_core.proofs.session.Session.send_note.Goals as goal
 
-pub send_record-requires-clause-short : goal.send_record-requires-clause-short
-send_record-requires-clause-short c =
+pub send_record-requires : goal.send_record-requires
+send_record-requires c =
+    let fits =
     note_record_fits c.self.inside.number c.args.text.now c.as_slice.result.now
-    (c.as_slice.ensures.value ∙ c.put_note.ensures.appended ∙ ap (λ (bytes : List ℕ). bytes ++ written (note_command model_2 c.args.text.now)) c.begin_record.ensures.begun)
+    (c.as_slice.ensures.value ∙ c.put_note.ensures.appended ∙ ap (λ (bytes : List ℕ). bytes ++ written (note_command model_2 c.args.text.now)) c.begin_record.ensures.begun) in
+    omega arith
 
 pub invariant_of-self : goal.invariant_of-self
 invariant_of-self c = (
@@ -19,10 +21,10 @@ invariant_of-self c = (
   c.self.invariant.2,
 )
 
-pub returns : goal.returns
-returns c =
+pub returns-clause-sent : goal.returns-clause-sent
+returns-clause-sent c =
     note_sent c.args.self.now _ c.args.text.now c.put_note.new.bytes.items c.args.out.now c.send_record.new.out
     (rw (← c.self.view_is) refl) c.requires.text
     (rw (← c.self.view_is) (c.put_note.ensures.appended ∙ ap (λ (bytes : List ℕ). bytes ++ written (note_command model_2 c.args.text.now)) c.begin_record.ensures.begun))
     (rw (← c.self.view_is, c.next_seq-self-inside.ensures) refl)
-    (c.send_record.ensures ∙ ap (λ (bytes : List ℕ). c.args.out.now.items ++ sent_bytes (Record bytes ∷ [])) c.as_slice.ensures.value)
+    (c.send_record.ensures.sent ∙ ap (λ (bytes : List ℕ). c.args.out.now.items ++ sent_bytes (Record bytes ∷ [])) c.as_slice.ensures.value)

@@ -1,10 +1,12 @@
 use Rattle.std.proofs.Common.{◌≡◌, ◌++◌, ◌∷◌, [], ℕ, List, ap, refl, arith, ◌∙◌, length}
+use Rattle.std.specs.Prelude.{unwrap_or}
 use Rattle.std.specs.Vec.{vec_capacity}
 use Rattle.codes3270.specs.Size.{cell_count, cells_in}
 use Rattle.shadow.specs.Paint.{paint_bytes}
 use Rattle.telnet_wire.proofs.Lengths.{ok_with_room}
 use Rattle.telnet_wire.specs.Items.{Record, sent_bytes}
 use Rattle.host_core.proofs.Paintings.{paint_is_kept, shows}
+use Rattle.host_core.specs.Acts.{wanted_by}
 use Rattle.host_core.specs.Application.{application_of}
 use Rattle.host_core.proofs.session.Session.show.Goals as goal
 
@@ -30,14 +32,15 @@ invariant_of-self c =
       c.self.invariant.2,
     )
 
-pub returns : goal.returns
-returns c =
+pub returns-clause-sent : goal.returns-clause-sent
+returns-clause-sent c =
     let laws = c.what_is_wanted_is_painted.ensures in
     let begun = rw c.unwrap.ensures at c.paint.ensures.painted in
     let sized : cells_in c.args.self.now.shape ≡ cell_count = rw (← c.self.view_is) refl in
-    shows (application_of c.args.panels.now) c.args.self.now _ cell_count c.args.panel c.args.message c.args.keep c.args.values c.put_fitting.new.wanted c.paint.new.out.items c.args.out.now c.send_record.new.out
-    sized c.put_fitting.ensures.screen.size c.put_fitting.ensures.wanted
+    shows (application_of c.args.panels.now) c.args.self.now _ cell_count c.args.panel c.args.message c.args.keep (unwrap_or c.args.changed c.args.self.now.values) c.put_fitting.new.wanted c.paint.new.out.items c.args.out.now c.send_record.new.out
+    sized c.put_fitting.ensures.screen.size
+    (c.put_fitting.ensures.wanted ∙ ap (wanted_by (application_of c.args.panels.now) c.args.self.now c.args.panel c.args.message c.args.keep) c.values_once-values.ensures)
     (laws.spelt c.args.self.now.shadow c.put_fitting.new.wanted c.put_fitting.ensures.screen)
     (rw (← c.self.view_is) (begun ∙ ap (λ (bytes : List ℕ). bytes ++ paint_bytes cell_count c.self.inside.shadow c.put_fitting.new.wanted) c.begin_record.ensures.begun))
-    (rw (← c.self.view_is, c.next_seq-self-inside.ensures) refl)
-    (c.send_record.ensures ∙ ap (λ (bytes : List ℕ). c.args.out.now.items ++ sent_bytes (Record bytes ∷ [])) c.as_slice.ensures.value)
+    (rw (← c.self.view_is, c.next_seq-self-inside.ensures, c.set_if_changed.ensures) refl)
+    (c.send_record.ensures.sent ∙ ap (λ (bytes : List ℕ). c.args.out.now.items ++ sent_bytes (Record bytes ∷ [])) c.as_slice.ensures.value)

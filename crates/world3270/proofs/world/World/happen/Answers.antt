@@ -1,3 +1,6 @@
+use Rattle.std.proofs.Common.{subst}
+use Rattle.world3270.specs.ByteWorld.{ByteWorld}
+use Rattle.world3270.specs.Refines.{StepOverMessages}
 use Rattle.world3270.proofs.Follows.{step_reaches}
 use Rattle.world3270.proofs.world.World.happen.Goals as goal
 
@@ -5,3 +8,13 @@ pub invariant_of-self : goal.invariant_of-self
 invariant_of-self c =
     step_reaches c.bytes_follow_messages.ensures.steps c.args.event.now c.self.inside.network c.happen.result c.happen.new.self
     c.events_are_real.ensures c.happen.ensures c.self.invariant
+
+pub returns-clause-messages : goal.returns-clause-messages
+returns-clause-messages c =
+    subst (λ (w : ByteWorld). StepOverMessages c.args.event.now w c.happen.result c.happen.new.self) c.self.view_is
+    (record {
+      represents = c.self.invariant;
+      goes_on = λ begin events is reached.
+          c.bytes_follow_messages.ensures.steps begin events c.args.event.now c.self.inside.network c.happen.result c.happen.new.self is reached
+          c.events_are_real.ensures c.happen.ensures;
+    })

@@ -1,0 +1,35 @@
+-- Fields that Enter and PF keys don't return, cell by cell (our profile): the headline says it field by field, its invariant so.
+use Rattle.std.specs.Prelude.{◌≡◌, ◌⊎◌, ◌<◌, ⊤, ℕ, Bool, if◌then◌else◌, List, length, slice_index_or, Option, Some, None}
+use Rattle.codes3270.specs.declared.attribute.Attr.{Attr as Attribute}
+use Rattle.codes3270.specs.declared.attribute.Cell.{Cell}
+use Rattle.codes3270.specs.declared.attribute.Cell.TheVariants.{Char, Attr}
+use Rattle.datastream.specs.Note.{IsProtectedChar}
+use Rattle.datastream.specs.Screen.{attribute_over, is_char_at}
+use Rattle.world3270.specs.Headline.{IsUnmodified}
+
+-- Two screens have attributes at the same addresses.
+pub record SamePlaces (left now : List Cell) : Type 0 where
+  pub size : length now ≡ length left
+  pub kinds : (place : ℕ) → is_char_at now place ≡ is_char_at left place
+
+-- a cell of an unmodified field
+abbrev pub IsInUnmodified : Option Attribute → Type 0
+IsInUnmodified None = ⊥
+IsInUnmodified (Some attribute) = IsUnmodified attribute
+
+-- the character that was left, or a null once Erase Input was pressed; of an attribute's own cell nothing is said
+abbrev pub IsKept : Bool → Cell → Cell → Type 0
+IsKept erased left (Attr now) = ⊤
+IsKept erased (Attr left) (Char now) = ⊥
+IsKept erased (Char left) (Char now) = now ≡ (if erased then 0 else left)
+
+-- each character of an unprotected field with MDT off is kept
+pub record UnmodifiedIsKept (erased : Bool) (left now : List Cell) : Type 0 where
+  pub places : SamePlaces left now
+  pub each : (place : ℕ) → place < length now → IsInUnmodified (attribute_over now place)
+      → IsKept erased (slice_index_or left place (Char 0)) (slice_index_or now place (Char 0))
+
+-- Notes were written over protected characters alone; each other cell is as it was left.
+pub record NotedSince (left shown : List Cell) : Type 0 where
+  pub places : SamePlaces left shown
+  pub each : (place : ℕ) → IsProtectedChar shown place ⊎ (slice_index_or shown place (Char 0) ≡ slice_index_or left place (Char 0))
