@@ -1,5 +1,5 @@
 -- How a run ends, from the ends of its parts.
-use Rattle.std.proofs.Common.{◌≡◌, ℕ, zero, suc, ◌+◌, ◌<◌, ◌≤◌, List, ◌++◌, length, take, Result, Ok, Err, IfErr, OnErr, IsUtf8, Option, None, Some, refl, sym, subst, arith, length-append}
+use Rattle.std.proofs.Common.{◌≡◌, ℕ, zero, suc, ◌+◌, ◌<◌, ◌≤◌, List, ◌++◌, length, take, Result, Ok, Err, IfOk, IfErr, OnErr, OnOk, IsUtf8, Option, None, Some, refl, sym, subst, arith, length-append}
 use Rattle.std.specs.Io.KnownBytes.{Consumes}
 use Rattle.std.proofs.KnownBytes.{Consumes-trans, Keeps-refl}
 use Rattle.std.proofs.lemmas.List.{length-take-le}
@@ -23,6 +23,12 @@ pub refused : {T : Type 0} → (text : Result T Fault) (old new : Input) (bytes 
     → OnErr text (IsUtf8 bytes → ⊥) → IfErr text (λ fault. RefusesInput fault old new)
 refused (Ok text) old new bytes whole is none = tt
 refused (Err fault) old new bytes whole is none = subst (λ f. RefusesInput f old new) (sym is) (no_text bytes whole none)
+
+-- what was read is text, and not too much
+pub accepted : {T : Type 0} → (bytes_of : T → List ℕ) → (text : Result T Fault) (old new : Input) (bytes : List ℕ) → ReadWhole old new bytes
+    → length bytes ≤ most_bytes → IfOk text (λ it. bytes_of it ≡ bytes) → OnOk text (IsUtf8 bytes) → IfOk text (λ it. IsInput old new (bytes_of it))
+accepted bytes_of (Ok it) old new bytes whole within is utf8 = subst (IsInput old new) (sym is) (record { read_whole = whole; within = within; utf8 = utf8 })
+accepted bytes_of (Err fault) old new bytes whole within is utf8 = tt
 
 -- what was read before, and now, is too much
 pub too_many : (first old new : Input) (bytes buffer : List ℕ) (count : ℕ) → Consumes first.left old.left bytes → Consumes old.left new.left (take count buffer)

@@ -8,6 +8,7 @@ pub mod Endings
 pub mod ReadsOn
 pub mod Waits
 pub mod RawCalls
+pub mod SocketCalls
 pub mod ScriptLines
 pub mod Happenings
 pub mod Rounds

@@ -1,5 +1,5 @@
 -- How answers of single calls are taken, by the bytes.
-use Rattle.std.proofs.Common.{◌≡◌, ◌<◌, ◌≤◌, ◌==◌, ◌⊎◌, inl, inr, ℕ, zero, suc, Bool, true, false, List, [], length, take, Result, Ok, Err, if◌then◌else◌, refl, ap, arith}
+use Rattle.std.proofs.Common.{◌≡◌, ◌<◌, ◌≤◌, ◌==◌, ◌⊎◌, inl, inr, ℕ, zero, suc, Bool, true, false, List, [], length, take, Result, Ok, Err, if◌then◌else◌, refl, ap, arith, ne_eqb}
 use Rattle.std.proofs.lemmas.Bool.{eqb-true}
 use Rattle.std.specs.IoError.{error_kind}
 use Rattle.std.specs.Io.{ReadsAtMost, WritesAtMost}
@@ -12,8 +12,8 @@ use Rattle.jobs3270.specs.Sockets.{GetsIn, TookSome}
 
 got_of_count : (none : Bool) (count : ℕ) (buffer : List ℕ) → (none ≡ true → count ≡ 0)
     → bytes_read (Ok count) buffer ≡ bytes_got (if none then read.Ended else read.Got count) buffer
-got_of_count true count buffer zero = ap (λ (n : ℕ). take n buffer) (zero refl)
-got_of_count false count buffer zero = refl
+got_of_count true count buffer none = ap (λ (n : ℕ). take n buffer) (none refl)
+got_of_count false count buffer none = refl
 
 got_of_error : (passing : Bool) (buffer : List ℕ) → [] ≡ bytes_got (if passing then read.NotNow else read.Failed) buffer
 got_of_error true buffer = refl
@@ -35,7 +35,7 @@ got_in_of_error false room = tt
 
 pub none_or_some : (count : ℕ) → ((count == 0) ≡ true) ⊎ (((count == 0) ≡ false) × (0 < count))
 none_or_some zero = inl refl
-none_or_some (suc count) = inr (refl, omega arith)
+none_or_some (suc count) = inr (ne_eqb (suc count) 0 (λ is. absurd (omega arith)), omega arith)
 
 pub got_in : (answer : Result ℕ Error) (buffer : List ℕ) → ReadsAtMost answer buffer → GetsIn (link_read answer) (length buffer)
 got_in (Ok count) buffer bound = got_in_of_count count (length buffer) bound.0 (none_or_some count)

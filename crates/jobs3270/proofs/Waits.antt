@@ -2,6 +2,7 @@
 use Rattle.std.proofs.Common.{◌≡◌, ◌<◌, ◌≤◌, ◌+◌, ◌∙◌, ◌⊎◌, inl, inr, ⊎_elim, ℕ, Bool, true, false, List, [], ◌∷◌, ◌++◌, length, take, drop, refl, sym, ap, subst, arith}
 use Rattle.std.proofs.lemmas.Bool.{true≢false}
 use Rattle.std.proofs.lemmas.List.{append-nil, append_assoc, take-append-drop}
+use Rattle.std.proofs.Math.Seq.{take-append-add}
 use Rattle.std.proofs.KnownBytes.{Appends-nil, Appends-trans}
 use Rattle.keyboard.specs.declared.key.Lock.{Lock}
 use Rattle.tn3270e_msg.specs.declared.cause.Stop.{Stop}
@@ -10,7 +11,7 @@ use Rattle.telnet_wire.specs.Items.{sent_bytes}
 use Rattle.term_core.specs.Bytes.{TakesByte, TakesBytes, goes_on, completes, breaks, link_after}
 use Rattle.term_core.specs.Feeds.{Feeds, IsAttached, StopsFor}
 use Rattle.term_core.specs.State.{Link, Terminal, Detached, Attached, Closed, lost, phase_of}
-use Rattle.jobs3270.specs.Counting.{CutShort, Output, Reads, Written, more}
+use Rattle.jobs3270.specs.Counting.{CutShort, Output, Reads, Written, bytes_given, more}
 use Rattle.jobs3270.specs.Operating.{IsSettled, is_settled}
 use Rattle.jobs3270.specs.Waits.{Exchanges, GaveOn, GoesOn, HasClosed, HasWaited, IsFed, SendsAll, ended, is_memory, most_waits, sound, unsent, wait_room}
 use Rattle.jobs3270.specs.declared.streams.Answer.{Answer}
@@ -82,11 +83,12 @@ is_fed old new bytes taken (ClosedStop cause) waits few takes stops going = reco
   whole = inr (closed_by new.link cause stops);
 }
 
--- ---- a wait
+-- a read that found the end or failed
+pub is_over : (answer : Answer) (buffer : List ℕ) → (answer ≡ Ended) ⊎ (answer ≡ Failed) → (bytes_given answer buffer ≡ []) × (GoesOn answer → ⊥)
+is_over answer buffer (inl is) = rw is (refl, λ on. on)
+is_over answer buffer (inr is) = rw is (refl, λ on. on)
 
-take_behind : (front back : List ℕ) (more : ℕ) → take (length front + more) (front ++ back) ≡ front ++ take more back
-take_behind [] back more = refl
-take_behind (x ∷ front) back more = ap (λ (rest : List ℕ). x ∷ rest) (take_behind front back more)
+-- ---- a wait
 
 module _ {D : Type 0} (gave : D → ℕ → List ℕ → Answer → D → Type 0) where
   -- A wait after so many reads: the terminal is what the bytes make of it, but for what is sent.
@@ -139,7 +141,7 @@ module _ {D : Type 0} (gave : D → ℕ → List ℕ → Answer → D → Type 0
     pub after_failure : (new : Terminal) (up_new : Output) → CutShort up_now up_new now.out → new ≡ lost now → HasWaited gave old new down_old down_now up_old up_new
     after_failure new up_new cut is = unsent count waiting.fed waiting.exchanges (record {
       count = length waiting.sent + cut.count;
-      appended = rw (waiting.out, take_behind waiting.sent now.out cut.count)
+      appended = rw (waiting.out, take-append-add waiting.sent now.out cut.count)
           (Appends-trans up_old.got up_now.got up_new.got waiting.sent (take cut.count now.out) waiting.written.appended cut.appended);
       failed = rw (← waiting.written.sound) cut.failed;
     }) (is ∙ ap lost waiting.same)
@@ -190,7 +192,7 @@ module _ {D : Type 0} (gave : D → ℕ → List ℕ → Answer → D → Type 0
         let none : before.rest ≡ [] = ⊎_elim (λ is. is) (λ closed. absurd (not_closed waiting.fed.link attached closed)) before.whole in
         let all : waiting.exchanges.bytes ≡ before.front = before.parted ∙ ap (λ (rest : List ℕ). before.front ++ rest) none ∙ append-nil before.front in
         let from : behind_sent waiting.sent now ≡ waiting.fed =
-            ap (behind_sent waiting.sent) waiting.same ∙ ap (λ (out : List ℕ). record waiting.fed { out = out }) (sym waiting.out) in
+        ap (behind_sent waiting.sent) waiting.same ∙ ap (λ (out : List ℕ). record waiting.fed { out = out }) (sym waiting.out) in
         record {
           fed = behind_sent waiting.sent new;
           exchanges = record {
@@ -211,3 +213,19 @@ module _ {D : Type 0} (gave : D → ℕ → List ℕ → Answer → D → Type 0
           out = refl;
           same = refl;
         }
+
+    -- a send that says whether it failed
+    pub after_unsent : (all_sent : Bool) (new : Terminal) (up_new : Output) → SendsAll all_sent now new up_now up_new → all_sent ≡ false
+        → HasWaited gave old new down_old down_now up_old up_new
+    after_unsent true new up_new sends none = absurd (true≢false none)
+    after_unsent false new up_new sends none = after_failure new up_new sends.0 sends.1
+
+    pub after_settled : (all_sent : Bool) (new : Terminal) (up_new : Output) → SendsAll all_sent now new up_now up_new → all_sent ≡ true → IsSettled new
+        → HasWaited gave old new down_old down_now up_old up_new
+    after_settled true new up_new sends all is = ends_soundly new up_new sends.0 sends.1 (inl is)
+    after_settled false new up_new sends all is = absurd (true≢false (sym all))
+
+    pub after_all : (all_sent : Bool) (new : Terminal) (up_new : Output) → SendsAll all_sent now new up_now up_new → all_sent ≡ true
+        → (Waiting count old new down_old down_now up_old up_new) × (new.out ≡ [])
+    after_all true new up_new sends all = (after_send new up_new sends.0 sends.1, ap (λ (t : Terminal). t.out) sends.1)
+    after_all false new up_new sends all = absurd (true≢false (sym all))

@@ -121,8 +121,8 @@ fn take(terminal: &mut Terminal, bytes: &[u8]) -> Result<(), AllocError>
     requires { is_settled (phase_of terminal.old.link) terminal.old.station.keyboard.lock ≡ false }
     ensures { OnOk result (IsFed terminal.old bytes.now terminal.new) }
 {
-    let stop = terminal.feed(bytes).stop;
-    if is_memory(stop) {
+    let fed = terminal.feed(bytes);
+    if is_memory(fed.stop) {
         return Err(AllocError);
     }
     Ok(())

@@ -3,7 +3,7 @@ ghost use Rattle.std.specs.Prelude.{◌≡◌, ◌<◌, false, IfOk, length, rep
 ghost use Rattle.host_core.specs.Serves.{GotWithin, TookWithin, bytes_got, taken_by};
 ghost use Rattle.host_core.specs.State.{most_connections};
 ghost use Rattle.jobs3270.specs.Refusals.{next_refusal, unheard};
-ghost use Rattle.jobs3270.specs.Sockets.{began_at, heard_at, is_connected, left, new_sockets, place_at, settled_at, told_at, unused, with_place, with_waiting};
+ghost use Rattle.jobs3270.specs.Sockets.{began_at, has_got, has_taken, heard_at, is_connected, left, new_sockets, place_at, settled_at, told_at, unused, with_place, with_waiting};
 
 use crate::place::Place;
 use crate::raw::{RawRead, RawWrite};
@@ -82,6 +82,20 @@ fn taken(answer: LinkWrite, bytes: &[u8]) -> &[u8]
         LinkWrite::NotNow => &[],
         LinkWrite::Failed => &[],
     }
+}
+
+/// Whether a read gave bytes.
+fn has_got(answer: LinkRead) -> bool
+    ensures { result ≡ has_got answer }
+{
+    matches!(answer, LinkRead::Got(_))
+}
+
+/// Whether a write took bytes.
+fn has_taken(answer: LinkWrite) -> bool
+    ensures { result ≡ has_taken answer }
+{
+    matches!(answer, LinkWrite::Took(_))
 }
 
 impl Sockets<TcpStream> {
@@ -174,22 +188,22 @@ impl<S: RawRead + RawWrite + Drop> Links for Sockets<S> {
     ghost took = { TakesAt S.write_took };
 
     fn read(&mut self, conn: usize, buffer: &mut [u8]) -> LinkRead {
-        if conn >= MOST_CONNECTIONS {
+        if conn >= self.places.len() {
             return LinkRead::NotNow;
         }
         let answer = self.places[conn].read(buffer);
         self.heard[conn].hear_terminal(got(answer, buffer));
-        self.moved |= matches!(answer, LinkRead::Got(_));
+        self.moved |= has_got(answer);
         answer
     }
 
     fn write(&mut self, conn: usize, bytes: &[u8]) -> LinkWrite {
-        if conn >= MOST_CONNECTIONS {
+        if conn >= self.places.len() {
             return LinkWrite::NotNow;
         }
         let answer = self.places[conn].write(bytes);
         self.heard[conn].hear_host(taken(answer, bytes));
-        self.moved |= matches!(answer, LinkWrite::Took(_));
+        self.moved |= has_taken(answer);
         answer
     }
 }

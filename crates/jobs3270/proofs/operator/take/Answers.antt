@@ -4,5 +4,5 @@ use Rattle.jobs3270.proofs.operator.take.Goals as goal
 
 pub returns : goal.returns
 returns c =
-    is_fed c.args.terminal.now c.feed.new.self c.args.bytes.now c.feed.result.taken c.feed.result.stop c.requires c.feed.ensures.few c.feed.ensures.takes c.feed.ensures.stops
+    is_fed c.args.terminal.now c.feed-fed.new.self c.args.bytes.now c.feed-fed.result.taken c.feed-fed.result.stop c.requires c.feed-fed.ensures.few c.feed-fed.ensures.takes c.feed-fed.ensures.stops
     (sym c.is_memory.ensures ∙ c.if-is_memory.false)

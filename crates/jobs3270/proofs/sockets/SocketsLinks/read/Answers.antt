@@ -1,19 +1,19 @@
-use Rattle.std.proofs.Common.{rules, ◌≡◌, ◌<◌, false, IfOk, length, replicate, take, ℕ, ◌+◌, ◌-◌, ◌*◌, ◌≤◌, ◌/◌, ◌%◌, Bool, true, nat_eq, nat_lt, List, [], ◌∷◌, ◌++◌, slice_index_or, slice_set, bit_and, bit_or, Fits, w8, w32, w64, Bor, MutBor}
-use Rattle.host_core.specs.Serves.{GotWithin, TookWithin, bytes_got, taken_by}
-use Rattle.host_core.specs.State.{most_connections}
-use Rattle.jobs3270.specs.Refusals.{next_refusal, unheard}
-use Rattle.jobs3270.specs.Sockets.{began_at, heard_at, is_connected, left, new_sockets, place_at, settled_at, told_at, unused, with_place, with_waiting, GivesAt, TakesAt, ends_at, failures_at}
+use Rattle.std.proofs.Common.{rules, ◌≡◌, ◌<◌, ◌≤◌, List, ℕ, length, subst, slice_index_or}
+use Rattle.host_core.specs.Serves.{bytes_got}
+use Rattle.jobs3270.specs.Refusals.{HostSays, TerminalSays}
+use Rattle.jobs3270.proofs.SocketCalls.{gives_at, gives_nothing, read_counts}
 use Rattle.jobs3270.proofs.sockets.SocketsLinks.read.Goals as goal
 
--- src/sockets.rt:179:13
-pub returns-then-conn-ge-MOST_CONNECTIONS-clause-gave :
-    goal.returns-then-conn-ge-MOST_CONNECTIONS-clause-gave
-returns-then-conn-ge-MOST_CONNECTIONS-clause-gave g c = ?
+pub returns-then-conn-ge-len-clause-gave : goal.returns-then-conn-ge-len-clause-gave
+returns-then-conn-ge-len-clause-gave g c = gives_nothing c.args.self.now c.args.conn (search rules) g.S.RawRead.read_gave (length c.args.buffer.now)
 
--- src/sockets.rt:177:5
 pub returns-clause-counts : goal.returns-clause-counts
-returns-clause-counts g c = ?
+returns-clause-counts g c =
+    read_counts c.args.self.now _ c.args.conn (search rules) c.read-answer.new.self (search rules) c.index_mut.result.now (search rules) g.S.RawRead.read_gave
+    (length c.read-answer.new.buffer) (bytes_got c.read-answer.result c.read-answer.new.buffer) c.read-answer.result c.read-answer.ensures.gives
 
--- src/sockets.rt:177:5
 pub returns-clause-gave : goal.returns-clause-gave
-returns-clause-gave g c = ?
+returns-clause-gave g c =
+    gives_at c.args.self.now _ c.args.conn (search rules) c.read-answer.new.self (search rules) c.index_mut.result.now (search rules) g.S.RawRead.read_gave
+    (length c.read-answer.new.buffer) (bytes_got c.read-answer.result c.read-answer.new.buffer) c.read-answer.result c.index_mut-2.result.now c.hear_terminal.new.self (search rules) (search rules) (search rules) (search rules)
+    c.read-answer.ensures.gives (subst (λ (bytes : List ℕ). TerminalSays c.index_mut-2.result.now bytes c.hear_terminal.new.self) c.got.ensures c.hear_terminal.ensures)

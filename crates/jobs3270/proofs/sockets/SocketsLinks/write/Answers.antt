@@ -1,19 +1,19 @@
-use Rattle.std.proofs.Common.{rules, ◌≡◌, ◌<◌, false, IfOk, length, replicate, take, ℕ, ◌+◌, ◌-◌, ◌*◌, ◌≤◌, ◌/◌, ◌%◌, Bool, true, nat_eq, nat_lt, List, [], ◌∷◌, ◌++◌, slice_index_or, slice_set, bit_and, bit_or, Fits, w8, w32, w64, Bor, MutBor}
-use Rattle.host_core.specs.Serves.{GotWithin, TookWithin, bytes_got, taken_by}
-use Rattle.host_core.specs.State.{most_connections}
-use Rattle.jobs3270.specs.Refusals.{next_refusal, unheard}
-use Rattle.jobs3270.specs.Sockets.{began_at, heard_at, is_connected, left, new_sockets, place_at, settled_at, told_at, unused, with_place, with_waiting, GivesAt, TakesAt, ends_at, failures_at}
+use Rattle.std.proofs.Common.{rules, ◌≡◌, ◌<◌, ◌≤◌, List, ℕ, length, subst, slice_index_or}
+use Rattle.host_core.specs.Serves.{bytes_got}
+use Rattle.jobs3270.specs.Refusals.{HostSays, TerminalSays}
+use Rattle.jobs3270.proofs.SocketCalls.{takes_at, takes_nothing, write_counts}
 use Rattle.jobs3270.proofs.sockets.SocketsLinks.write.Goals as goal
 
--- src/sockets.rt:189:13
-pub returns-then-conn-ge-MOST_CONNECTIONS-clause-took :
-    goal.returns-then-conn-ge-MOST_CONNECTIONS-clause-took
-returns-then-conn-ge-MOST_CONNECTIONS-clause-took g c = ?
+pub returns-then-conn-ge-len-clause-took : goal.returns-then-conn-ge-len-clause-took
+returns-then-conn-ge-len-clause-took g c = takes_nothing c.args.self.now c.args.conn (search rules) g.S.RawWrite.write_took c.args.bytes.now
 
--- src/sockets.rt:187:5
 pub returns-clause-counts : goal.returns-clause-counts
-returns-clause-counts g c = ?
+returns-clause-counts g c =
+    write_counts c.args.self.now _ c.args.conn (search rules) c.write-answer.new.self (search rules) c.index_mut.result.now (search rules) g.S.RawWrite.write_took
+    c.args.bytes.now c.write-answer.result c.write-answer.ensures.takes
 
--- src/sockets.rt:187:5
 pub returns-clause-took : goal.returns-clause-took
-returns-clause-took g c = ?
+returns-clause-took g c =
+    takes_at c.args.self.now _ c.args.conn (search rules) c.write-answer.new.self (search rules) c.index_mut.result.now (search rules) g.S.RawWrite.write_took
+    c.args.bytes.now c.write-answer.result c.index_mut-2.result.now c.hear_host.new.self (search rules) (search rules) (search rules) (search rules)
+    c.write-answer.ensures.takes (subst (λ (bytes : List ℕ). HostSays c.index_mut-2.result.now bytes c.hear_host.new.self) c.taken.ensures c.hear_host.ensures)
