@@ -4,8 +4,8 @@ use Rattle.jobs3270.specs.Refusals.{HostSays, TerminalSays}
 use Rattle.jobs3270.proofs.SocketCalls.{gives_at, gives_nothing, read_counts}
 use Rattle.jobs3270.proofs.sockets.SocketsLinks.read.Goals as goal
 
-pub returns-then-conn-ge-len-clause-gave : goal.returns-then-conn-ge-len-clause-gave
-returns-then-conn-ge-len-clause-gave g c = gives_nothing c.args.self.now c.args.conn (search rules) g.S.RawRead.read_gave (length c.args.buffer.now)
+pub returns-then-conn-len-clause-gave : goal.returns-then-conn-len-clause-gave
+returns-then-conn-len-clause-gave g c = gives_nothing c.args.self.now c.args.conn (search rules) g.S.RawRead.read_gave (length c.args.buffer.now)
 
 pub returns-clause-counts : goal.returns-clause-counts
 returns-clause-counts g c =

@@ -4,8 +4,8 @@ use Rattle.jobs3270.specs.Refusals.{HostSays, TerminalSays}
 use Rattle.jobs3270.proofs.SocketCalls.{takes_at, takes_nothing, write_counts}
 use Rattle.jobs3270.proofs.sockets.SocketsLinks.write.Goals as goal
 
-pub returns-then-conn-ge-len-clause-took : goal.returns-then-conn-ge-len-clause-took
-returns-then-conn-ge-len-clause-took g c = takes_nothing c.args.self.now c.args.conn (search rules) g.S.RawWrite.write_took c.args.bytes.now
+pub returns-then-conn-len-clause-took : goal.returns-then-conn-len-clause-took
+returns-then-conn-len-clause-took g c = takes_nothing c.args.self.now c.args.conn (search rules) g.S.RawWrite.write_took c.args.bytes.now
 
 pub returns-clause-counts : goal.returns-clause-counts
 returns-clause-counts g c =
