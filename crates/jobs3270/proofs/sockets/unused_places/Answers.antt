@@ -5,5 +5,5 @@ use Rattle.jobs3270.proofs.sockets.unused_places.Goals as goal
 
 pub loop-preserved : goal.loop-preserved
 loop-preserved g c =
-    c.in_ok-push.ensures.items ∙ ap₂ (λ (places : List (Place g.S.code)) (place : Place g.S.code). places ++ place ∷ []) c.loop.invariant c.unused.ensures
+    c.in_ok-push.ensures.items ∙ ap₂ (λ (places : List (Place g.row.S.Denot)) (place : Place g.row.S.Denot). places ++ place ∷ []) c.loop.invariant c.unused.ensures
     ∙ sym (replicate_next c.loop.counter unused)
