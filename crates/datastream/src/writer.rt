@@ -16,7 +16,7 @@ pub type Memory = AllocError;
 ///
 /// Every call leaves the vector as it was where it is refused memory, and succeeds where the vector has room. What the
 /// calls append is read again by [`read_command`](crate::read_command) as the orders that they name: see
-/// [`written_is_read`](crate::written_is_read).
+/// [`written_is_read`](crate::laws::written_is_read).
 #[derive(Drop)]
 pub struct CommandWriter<'a> {
     /// The vector that the calls append to. What stands in it already stays. It is public so that a caller's proof can

@@ -62,9 +62,9 @@ drop_all [] count is = ap (λ (n : ℕ). drop n []) is
 drop_all (x ∷ all) count is = ap (λ (n : ℕ). drop n (x ∷ all)) is ∙ drop_all all (length all) refl
 
 -- a terminal that waits is fed what it takes of the bytes
-pub is_fed : (old new : Terminal) (bytes : List ℕ) (taken : ℕ) (stop : Stop) → is_settled (phase_of old.link) old.station.keyboard.lock ≡ false
-    → taken ≤ length bytes → TakesBytes old (take taken bytes) new → StopsFor stop old bytes taken new → is_memory stop ≡ false → IsFed old bytes new
-is_fed old new bytes taken Going waits few takes stops going = record {
+pub is_fed : (room : ℕ) (old new : Terminal) (bytes : List ℕ) (taken : ℕ) (stop : Stop) → is_settled (phase_of old.link) old.station.keyboard.lock ≡ false
+    → taken ≤ length bytes → TakesBytes old (take taken bytes) new → StopsFor room stop old bytes taken new → is_memory stop ≡ false → IsFed old bytes new
+is_fed room old new bytes taken Going waits few takes stops going = record {
   front = take taken bytes;
   rest = drop taken bytes;
   parted = sym (take-append-drop taken bytes);
@@ -74,8 +74,8 @@ is_fed old new bytes taken Going waits few takes stops going = record {
       (λ none. absurd (not_detached old.link none.1 (waits_attached old.link _ waits)))
       stops;
 }
-is_fed old new bytes taken Memory waits few takes stops going = absurd (true≢false going)
-is_fed old new bytes taken (ClosedStop cause) waits few takes stops going = record {
+is_fed room old new bytes taken Memory waits few takes stops going = absurd (true≢false going)
+is_fed room old new bytes taken (ClosedStop cause) waits few takes stops going = record {
   front = take taken bytes;
   rest = drop taken bytes;
   parted = sym (take-append-drop taken bytes);

@@ -31,8 +31,8 @@ fn refusal_in(pressed: &Pressed) -> Option<Refusal>
 
 /// A key is pressed. Answers why it was refused, if it was.
 fn press_once(terminal: &mut Terminal, key: Key) -> Result<Option<Refusal>, AllocError>
-    ensures pressed { OnOk result (terminal.new ≡ after_key key terminal.old) }
-    ensures refusal { IfOk result (λ refusal. refusal ≡ refusal_in (answer_to_key key terminal.old)) }
+    ensures pressed { OnOk result (terminal.new.terminal ≡ after_key key terminal.old.terminal) }
+    ensures refusal { IfOk result (λ refusal. refusal ≡ refusal_in (answer_to_key key terminal.old.terminal)) }
 {
     match terminal.press(key) {
         Ok(pressed) => Ok(refusal_in(&pressed)),
@@ -50,8 +50,8 @@ fn put_refusal(text: &mut String, why: Refusal) -> Result<(), AllocError>
 
 /// A key is pressed, and `refused N` is added where it was.
 pub(crate) fn press(terminal: &mut Terminal, key: Key, text: &mut String) -> Result<(), AllocError>
-    ensures pressed { OnOk result (terminal.new ≡ after_key key terminal.old) }
-    ensures said { OnOk result (string_bytes text.new ≡ string_bytes text.old ++ said_of_key (answer_to_key key terminal.old)) }
+    ensures pressed { OnOk result (terminal.new.terminal ≡ after_key key terminal.old.terminal) }
+    ensures said { OnOk result (string_bytes text.new ≡ string_bytes text.old ++ said_of_key (answer_to_key key terminal.old.terminal)) }
 {
     match press_once(terminal, key)? {
         Some(why) => put_refusal(text, why),
@@ -65,8 +65,8 @@ pub(crate) fn type_text(
     typed: &str,
     text: &mut String,
 ) -> Result<(), AllocError>
-    ensures typed { OnOk result (terminal.new ≡ after_text (chars typed.now) terminal.old) }
-    ensures said { OnOk result (string_bytes text.new ≡ string_bytes text.old ++ said_of_text (chars typed.now) terminal.old) }
+    ensures typed { OnOk result (terminal.new.terminal ≡ after_text (chars typed.now) terminal.old.terminal) }
+    ensures said { OnOk result (string_bytes text.new ≡ string_bytes text.old ++ said_of_text (chars typed.now) terminal.old.terminal) }
 {
     for letter in typed.chars() {
         if let Some(why) = press_once(terminal, Key::Char(letter))? {
@@ -80,7 +80,7 @@ pub(crate) fn type_text(
 
 /// Whether there is nothing to wait for.
 fn is_settled(terminal: &Terminal) -> bool
-    ensures { result ≡ is_settled (phase_of terminal.now.link) terminal.now.station.keyboard.lock }
+    ensures { result ≡ is_settled (phase_of terminal.now.terminal.link) terminal.now.terminal.station.keyboard.lock }
 {
     match terminal.phase() {
         TermPhase::Bound(_) => terminal.lock() != Lock::Wait,
@@ -91,7 +91,7 @@ fn is_settled(terminal: &Terminal) -> bool
 
 /// Sends all that a terminal has to send, and returns true; or detaches the terminal if the write fails.
 fn send_all<U: Sink>(terminal: &mut Terminal, up: &mut U) -> bool
-    ensures { SendsAll result terminal.old terminal.new (U.seen up.old) (U.seen up.new) }
+    ensures { SendsAll result terminal.old.terminal terminal.new.terminal (U.seen up.old) (U.seen up.new) }
 {
     match up.write_all(terminal.out()) {
         Ok(()) => {
@@ -118,8 +118,8 @@ fn is_memory(stop: Stop) -> bool
 
 /// Feeds a terminal that waits all that a read gave.
 fn take(terminal: &mut Terminal, bytes: &[u8]) -> Result<(), AllocError>
-    requires { is_settled (phase_of terminal.old.link) terminal.old.station.keyboard.lock ≡ false }
-    ensures { OnOk result (IsFed terminal.old bytes.now terminal.new) }
+    requires { is_settled (phase_of terminal.old.terminal.link) terminal.old.terminal.station.keyboard.lock ≡ false }
+    ensures { OnOk result (IsFed terminal.old.terminal bytes.now terminal.new.terminal) }
 {
     let fed = terminal.feed(bytes);
     if is_memory(fed.stop) {
@@ -135,7 +135,7 @@ pub(crate) fn wait<D: Source, U: Sink>(
     down: &mut D,
     up: &mut U,
 ) -> Result<(), AllocError>
-    ensures { OnOk result (HasWaited D.gave terminal.old terminal.new down.old down.new (U.seen up.old) (U.seen up.new)) }
+    ensures { OnOk result (HasWaited D.gave terminal.old.terminal terminal.new.terminal down.old down.new (U.seen up.old) (U.seen up.new)) }
 {
     let mut chunk = [0; CHUNK];
     for _ in 0..MOST_READS {

@@ -30,7 +30,7 @@ pub struct Wire<D, U> {
 
 /// Adds the terminal's screen.
 pub(crate) fn show(alloc: Global, terminal: &Terminal, text: &mut String) -> Result<(), AllocError>
-    ensures { OnOk result (string_bytes text.new ≡ string_bytes text.old ++ screen_text terminal.now.station) }
+    ensures { OnOk result (string_bytes text.new ≡ string_bytes text.old ++ screen_text terminal.now.terminal.station) }
 {
     let screen = terminal.screen_text(alloc)?;
     text.push_str(screen.as_str())
@@ -38,7 +38,7 @@ pub(crate) fn show(alloc: Global, terminal: &Terminal, text: &mut String) -> Res
 
 /// Adds the terminal's phase.
 fn tell(terminal: &Terminal, text: &mut String) -> Result<(), AllocError>
-    ensures { OnOk result (string_bytes text.new ≡ string_bytes text.old ++ phase_line (phase_of terminal.now.link)) }
+    ensures { OnOk result (string_bytes text.new ≡ string_bytes text.old ++ phase_line (phase_of terminal.now.terminal.link)) }
 {
     put_phase(text, &terminal.phase())
 }
@@ -53,7 +53,7 @@ fn do_line<D: Source, U: Sink>(
     text: &mut String,
 ) -> Result<(), AllocError>
     ensures { OnOk result ((said : List ℕ)
-        × DoesLine D.gave asks line.now terminal.old terminal.new wire.old.down wire.new.down (U.seen wire.old.up) (U.seen wire.new.up) said
+        × DoesLine D.gave asks line.now terminal.old.terminal terminal.new.terminal wire.old.down wire.new.down (U.seen wire.old.up) (U.seen wire.new.up) said
         × (string_bytes text.new ≡ string_bytes text.old ++ said)) }
 {
     match asks {

@@ -108,7 +108,7 @@ impl Pool {
         free_each(&mut self.entries);
     }
 
-    /// Does nothing: its contract says that a pool has 1 to 64 LUs, each listed once, and that no connection holds two of them.
+    /// Law: a pool has 1 to 64 LUs, each listed once, and that no connection holds two of them.
     pub fn lus_are_listed_once(&self)
         ensures { IsPool self.now }
     {

@@ -188,6 +188,6 @@ impl Panel {
         // For its contract: all cells are there.
         let _whole = wanted.cells();
         let cursor = spoken.map_or(self.cursor, |field| field.extent.first_cell());
-        wanted.aim(cursor, message == Message::Fresh);
+        wanted.set_cursor_and_reset(cursor, message == Message::Fresh);
     }
 }

@@ -1,13 +1,19 @@
 -- A terminal is one machine: what it becomes and what it sends is a function of what it was and of the bytes, however they
 -- are cut into pieces (our profile: RFC 854 knows no pieces).
-use Rattle.std.specs.Prelude.{◌≡◌, ℕ, List, [], ◌∷◌, ◌++◌, None}
+use Rattle.std.specs.Prelude.{◌≡◌, ◌<◌, ◌≤◌, ℕ, List, [], ◌∷◌, ◌++◌, None, length}
+use Rattle.keyboard.specs.declared.key.Key.{Key}
 use Rattle.telnet_wire.specs.Items.{WireItem, sent_bytes}
 use Rattle.telnet_wire.specs.Reading.{Rest, IsRest, Delivers}
 use Rattle.tn3270e_msg.specs.TermTable.{Term}
 use Rattle.tn3270e_msg.specs.Header.{record_limit}
+use Rattle.tn3270e_msg.specs.declared.cause.Fed.{Fed}
+use Rattle.tn3270e_msg.specs.declared.cause.Stop.TheVariants.{Memory}
 use Rattle.term_core.specs.State.{Station, Terminal, Attached}
 use Rattle.term_core.specs.Items.{TakesItem}
 use Rattle.term_core.specs.Bytes.{TakesBytes, before_byte}
+use Rattle.term_core.specs.Feeds.{Feeds}
+use Rattle.term_core.specs.Presses.{LacksKeyRoom}
+use Rattle.term_core.specs.Room.{out_room, spare_room}
 
 -- bytes make one terminal of a terminal
 abbrev pub OneOutcome : Type 0
@@ -44,3 +50,15 @@ abbrev pub BytesAreItems : Type 0
 BytesAreItems = (old new : Terminal) (rest to : Rest) (talk after : Term) (bytes : List ℕ)
     → old.link ≡ Attached rest talk → IsRest record_limit rest → new.link ≡ Attached to after → TakesBytes old bytes new
     → IsByItems old rest talk bytes new to after
+
+-- ---- memory (our profile)
+
+-- A terminal with the room that it makes takes bytes until more than `spare_room` bytes wait to be sent. So if it had nothing
+-- to send, it takes at least the bytes through its first reply.
+abbrev pub FeedingHasRoom : Type 0
+FeedingHasRoom = (room : ℕ) (old new : Terminal) (bytes : List ℕ) (fed : Fed)
+    → out_room ≤ room → Feeds room old bytes fed new → fed.stop ≡ Memory → spare_room < length new.out
+
+-- A terminal with that room lacks room for a key only if more than `spare_room` bytes wait to be sent.
+abbrev pub KeysHaveRoom : Type 0
+KeysHaveRoom = (room : ℕ) (key : Key) (old : Terminal) → out_room ≤ room → LacksKeyRoom room key old → spare_room < length old.out

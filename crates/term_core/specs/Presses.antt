@@ -1,6 +1,6 @@
 -- What a terminal makes of a key: keyboard and screen change as GA23-0059-07 says on the keyboard, and what a key sends goes in
 -- a record (RFC 1647, section 8). That a terminal which isn't bound sends nothing is our profile.
-use Rattle.std.specs.Prelude.{ℕ, Bool, true, false, List, ◌++◌, Option, None, Some}
+use Rattle.std.specs.Prelude.{◌≡◌, ◌<◌, ◌+◌, ℕ, Bool, true, false, List, ◌++◌, Option, None, Some, length}
 use Rattle.codes3270.specs.Size.{columns}
 use Rattle.datastream.specs.Screen.{Screen}
 use Rattle.datastream.specs.Inbound.{read_modified}
@@ -11,6 +11,7 @@ use Rattle.keyboard.specs.declared.key.Pressed.TheVariants.{Done, Refused, Send}
 use Rattle.telnet_wire.specs.Items.{WireItem, sent_bytes}
 use Rattle.term_core.specs.State.{Station, Terminal, phase_of, is_bound}
 use Rattle.term_core.specs.Records.{data_sent, numbered}
+use Rattle.term_core.specs.Room.{data_room}
 
 -- the data that a key sends, by what the keyboard answers: a terminal that is bound sends its modified fields, another
 -- sends nothing
@@ -50,3 +51,22 @@ after_key key old =
 -- what the key is answered
 abbrev pub answer_to_key : Key → Terminal → Pressed
 answer_to_key key old = (key_outcome key old.station).answer
+
+-- The key sends data, and an output buffer of this capacity has less room left than the longest data takes.
+pub record LacksKeyRoom (room : ℕ) (key : Key) (old : Terminal) : Type 0 where
+  pub body : List ℕ
+  pub sends : data_of_key key (is_bound (phase_of old.link)) old.station ≡ Some body
+  pub full : room < length old.out + data_room
+
+-- ---- for private functions: the room that a key asks for
+
+-- whether what the keyboard answers sends
+abbrev pub is_sent : Pressed → Bool
+is_sent (Send aid) = true
+is_sent Done = false
+is_sent (Refused why) = false
+
+-- that of the longest data if it sends some, else none
+abbrev pub room_of : Option (List ℕ) → ℕ
+room_of None = 0
+room_of (Some body) = data_room

@@ -30,6 +30,12 @@ pub record Terminal : Type 0 where
   pub station : Station
   pub out : List ℕ  -- what it has to send
 
+-- A terminal as a program owns it, with the capacity of its output buffer: how many bytes may wait there unsent before the
+-- buffer has to grow.
+pub record Device : Type 0 where
+  pub terminal : Terminal
+  pub room : ℕ
+
 -- a screen that was left, with a keyboard that waits
 abbrev pub waiting : Screen → Station
 waiting screen = record { screen = screen; keyboard = fresh; number = 0; took_write = false }

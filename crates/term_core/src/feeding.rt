@@ -2,7 +2,7 @@
 ghost use Rattle.std.specs.Prelude.{◌≡◌, ◌≤◌, ◌++◌, None};
 ghost use Rattle.std.specs.Vec.{vec_capacity};
 ghost use Rattle.telnet_wire.specs.Items.{item_of, sent_bytes};
-ghost use Rattle.tn3270e_msg.specs.Talk.{items_sent, IsSending, closing};
+ghost use Rattle.tn3270e_msg.specs.Talk.{items_sent, IsOwnedMessage, closing};
 ghost use Rattle.term_core.specs.Room.{HasRoom};
 ghost use Rattle.term_core.specs.Bytes.{TakesByte};
 ghost use Rattle.term_core.specs.Feeds.{Feeds};
@@ -22,8 +22,9 @@ pub(crate) fn feed_attached(
     bytes: &[u8],
 ) -> Fed
     requires { IsRunning decoder.old }
-    ensures fed { Feeds (terminal_of decoder.old talk.old None station.old out.old) bytes.now result (terminal_of decoder.new talk.new (cause_of result.stop) station.new out.new) }
+    ensures fed { Feeds (vec_capacity out.new) (terminal_of decoder.old talk.old None station.old out.old) bytes.now result (terminal_of decoder.new talk.new (cause_of result.stop) station.new out.new) }
     ensures left { IsLeft (cause_of result.stop) decoder.new }
+    ensures capacity { vec_capacity out.old ≤ vec_capacity out.new }
 {
     for (taken, byte) in bytes.iter().enumerate() {
         if out.reserve(REPLY_ROOM).is_err() {
@@ -57,6 +58,7 @@ fn take_byte(
     requires room { HasRoom out.old }
     ensures taken { TakesByte (terminal_of decoder.old talk.old None station.old out.old) byte (terminal_of decoder.new talk.new result station.new out.new) }
     ensures left { IsLeft result decoder.new }
+    ensures capacity { vec_capacity out.old ≤ vec_capacity out.new }
 {
     station.begin_byte();
     match decoder.push(byte) {
@@ -74,7 +76,8 @@ fn take_item(
     item: &Item<'_>,
 ) -> Option<Cause>
     requires { HasRoom out.old }
-    ensures { ItemTaken talk.old station.old (item_of item.now) out.old out.new result talk.new station.new }
+    ensures taken { ItemTaken talk.old station.old (item_of item.now) out.old out.new result talk.new station.new }
+    ensures capacity { vec_capacity out.old ≤ vec_capacity out.new }
 {
     match item {
         Item::Record(bytes) => match talk.state() {

@@ -1,4 +1,4 @@
-//! How much room replies take.
+//! How much room a terminal's output takes.
 use codes3270::CELL_COUNT;
 
 /// The most bytes that a read gets: an AID, a cursor, and at most three bytes a cell.
@@ -7,5 +7,12 @@ const LONGEST_READING: usize = 3 + 3 * CELL_COUNT;
 /// The most bytes of a record that a terminal sends: a header and those.
 pub(crate) const RECORD_ROOM: usize = 5 + LONGEST_READING;
 
-/// The most bytes of a reply: such a record with each byte doubled, its end, and a response likewise.
-pub(crate) const REPLY_ROOM: usize = 2 * RECORD_ROOM + 2 + 14;
+/// The most bytes that such a record takes on the wire: each byte doubled, and its end.
+pub(crate) const DATA_ROOM: usize = 2 * RECORD_ROOM + 2;
+
+/// The most bytes of a reply: such a record, and a response.
+pub(crate) const REPLY_ROOM: usize = DATA_ROOM + 14;
+
+/// The capacity, in bytes, that a terminal gives its output buffer when it is made: the largest reply fits while up to 1,024
+/// bytes wait unsent.
+pub const OUT_ROOM: usize = REPLY_ROOM + 1024;

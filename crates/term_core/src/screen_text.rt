@@ -110,7 +110,7 @@ impl Terminal {
     /// The screen as text (our profile): its rows as `screen_lines` gives them, and a line `cursor N lock L aid XX`, where L
     /// is `free`, `wait` or `error`, followed by ` insert` in insert mode, and XX the AID's byte in hexadecimal.
     pub fn screen_text(&self, alloc: Global) -> Result<String, Memory>
-        ensures { IfOk result (λ text. string_bytes text ≡ screen_text self.now.station) }
+        ensures { IfOk result (λ text. string_bytes text ≡ screen_text self.now.terminal.station) }
     {
         let mut text = screen_lines(alloc, self.screen())?;
         put_status(&mut text, self.screen(), self.keyboard())?;

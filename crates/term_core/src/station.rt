@@ -9,16 +9,17 @@ ghost use Rattle.term_core.specs.State.{waiting};
 ghost use Rattle.term_core.specs.Bytes.{before_byte};
 ghost use Rattle.telnet_wire.specs.Items.{sent_bytes};
 ghost use Rattle.term_core.specs.Says.{response, data_record};
-ghost use Rattle.term_core.specs.Room.{HasRoom, HasRoomForResponse, longest_reading};
+ghost use Rattle.term_core.specs.Room.{HasRoom, HasRoomForData, HasRoomForResponse, data_room, longest_reading};
 ghost use Rattle.term_core.specs.Reads.{data_of, data_if};
 ghost use Rattle.term_core.specs.Records.{data_read, numbered, answer_of, obeyed};
 ghost use Rattle.term_core.specs.Over.{RecordTaken};
-ghost use Rattle.term_core.specs.Presses.{key_outcome, station_after_key, says_of_key};
+ghost use Rattle.term_core.specs.Presses.{data_of_key, is_sent, key_outcome, room_of, station_after_key, says_of_key};
 
 use crate::outcome::Outcome;
-use crate::room::RECORD_ROOM;
-use datastream::{Command, CommandCode, Sense, fields_both_ways, read_command};
-use keyboard::{Key, Keyboard, Pressed};
+use crate::room::{DATA_ROOM, RECORD_ROOM};
+use datastream::laws::fields_both_ways;
+use datastream::{Command, CommandCode, Sense, read_command};
+use keyboard::{Key, Keyboard, Lock, Pressed};
 use presentation::Screen;
 use std::alloc::Global;
 use std::marker::Model;
@@ -130,8 +131,8 @@ impl Station {
         self.took_write = false;
     }
 
-    /// Begins anew.
-    pub(crate) fn renew(&mut self)
+    /// Resets everything: a blank screen, and a keyboard that waits.
+    pub(crate) fn reset(&mut self)
         ensures { self.new ≡ waiting (blank_screen cell_count) }
     {
         self.screen = Screen::blank();
@@ -165,10 +166,10 @@ impl Station {
 
     /// Sends a record of data that wants no response.
     fn send(&mut self, reading: Reading, out: &mut Vec<u8>)
-        requires { HasRoom out.old }
+        requires { HasRoomForData out.old }
         ensures station { self.new ≡ numbered (Some (data_of reading self.old.screen)) self.old }
         ensures sent { out.new.items ≡ out.old.items ++ sent_bytes (data_record self.old.number (data_of reading self.old.screen) ∷ []) }
-        ensures room { HasRoomForResponse out.new }
+        ensures room { vec_len out.new ≤ vec_len out.old + data_room }
         ensures capacity { vec_capacity out.old ≤ vec_capacity out.new }
     {
         let header = Header {
@@ -227,12 +228,34 @@ impl Station {
         None
     }
 
-    /// Presses a key; where it sends on a bound terminal, its data is sent.
+    /// Whether a key would send, which the key and the lock decide.
+    fn sends(&self, key: &Key) -> bool
+        ensures { result ≡ is_sent (key_outcome key.now self.now).answer }
+    {
+        match self.keyboard.lock() {
+            Lock::Free => matches!(key, Key::Enter | Key::Pf(_) | Key::Pa(_) | Key::Clear),
+            Lock::Wait | Lock::Error => false,
+        }
+    }
+
+    /// How many bytes of room a key asks for: those of the longest data if it sends, and none if it doesn't.
+    pub(crate) fn room_for(&self, key: &Key, bound: bool) -> usize
+        ensures { result ≡ room_of (data_of_key key.now bound self.now) }
+    {
+        if bound && self.sends(key) {
+            DATA_ROOM
+        } else {
+            0
+        }
+    }
+
+    /// Presses a key. If it sends and the terminal is bound, its data is appended.
     pub(crate) fn press(&mut self, key: Key, bound: bool, out: &mut Vec<u8>) -> Pressed
-        requires { HasRoom out.old }
+        requires { vec_len out.old + room_of (data_of_key key bound self.old) ≤ vec_capacity out.old }
         ensures station { self.new ≡ station_after_key key bound self.old }
         ensures sent { out.new.items ≡ out.old.items ++ sent_bytes (says_of_key key bound self.old) }
         ensures answer { result ≡ (key_outcome key self.old).answer }
+        ensures capacity { vec_capacity out.old ≤ vec_capacity out.new }
     {
         let pressed = self.keyboard.press(&mut self.screen, key);
         if let Pressed::Send(_) = pressed {
@@ -244,7 +267,7 @@ impl Station {
     }
 }
 
-/// Does nothing: its contract says how long the data is that a read gets.
+/// Law: how long the data is that a read gets.
 fn readings_fit(screen: &Screen)
     ensures modified { (all : Bool) → length (read_modified all screen.now) ≤ longest_reading }
     ensures buffer { length (read_buffer screen.now) ≤ longest_reading }

@@ -1,13 +1,14 @@
 //! The terminal: a decoder, a talk, a station, and what is to be sent.
-ghost use Rattle.std.specs.Prelude.{◌≡◌, ◌≤◌, length, drop, IfOk, OnOk, OnErr};
+ghost use Rattle.std.specs.Prelude.{◌≡◌, ◌<◌, ◌≤◌, [], length, drop, IfOk, OnOk, OnErr};
 ghost use Rattle.telnet_wire.specs.Held.{fresh};
 ghost use Rattle.term_core.specs.State.{new_terminal, connected, lost, phase_of};
 ghost use Rattle.term_core.specs.Feeds.{Feeds};
-ghost use Rattle.term_core.specs.Presses.{after_key, answer_to_key};
+ghost use Rattle.term_core.specs.Presses.{LacksKeyRoom, after_key, answer_to_key};
+ghost use Rattle.term_core.specs.Room.{out_room};
 
 use crate::feeding::feed_attached;
 use crate::phase::TermPhase;
-use crate::room::REPLY_ROOM;
+use crate::room::OUT_ROOM;
 use crate::station::Station;
 use keyboard::{Key, Keyboard, Lock, Pressed};
 use presentation::Screen;
@@ -27,7 +28,12 @@ enum Attachment {
 /// A 3278 display terminal: Telnet bytes and keys come in, Telnet bytes and a screen go out.
 ///
 /// Contracts see its link (the rest of the stream and the talk, while it is attached), its station (screen, keyboard, the
-/// number of its next record, and what `took_write` answers) and what it has to send.
+/// number of its next record, and what `took_write` answers), what it has to send, and `room`, the capacity in bytes of the
+/// buffer that holds this.
+///
+/// `new` makes that buffer with room for the largest reply and 1,024 bytes more ([`OUT_ROOM`](crate::OUT_ROOM)), and only
+/// `lost` gives it away. So `press` and `feed` need memory only if more than that waits to be sent, or after a `lost` that
+/// wasn't followed by [`make_room`](Terminal::make_room).
 #[derive(Drop)]
 pub struct Terminal {
     attachment: Attachment,
@@ -37,13 +43,14 @@ pub struct Terminal {
 }
 
 impl Model for Terminal {
-    ghost use Rattle.term_core.specs.State.{Terminal as Kept};
+    ghost use Rattle.std.specs.Vec.{vec_capacity};
+    ghost use Rattle.term_core.specs.State.{Device};
 
-    ghost Value = { Kept };
+    ghost Value = { Device };
 
     ghost use Rattle.term_core.specs.Over.{link_of, IsSound};
 
-    ghost view = { λ t. record { link = link_of t.attachment t.decoder; station = t.station; out = t.out.items } };
+    ghost view = { λ t. record { terminal = record { link = link_of t.attachment t.decoder; station = t.station; out = t.out.items }; room = vec_capacity t.out } };
 
     ghost invariant = { λ t. IsSound t.attachment t.decoder };
 }
@@ -51,43 +58,62 @@ impl Model for Terminal {
 impl Terminal {
     /// A terminal that isn't attached: a blank screen, and a keyboard that waits.
     ///
-    /// It makes the room that its decoder and its records will need; what it sends takes memory later, in `feed` and
-    /// `press`.
+    /// It makes the room that its decoder, its records and its output will need.
     pub fn new(alloc: Global) -> Result<Terminal, Memory>
-        ensures { IfOk result (λ terminal. terminal ≡ new_terminal) }
+        ensures terminal { IfOk result (λ device. device.terminal ≡ new_terminal) }
+        ensures room { IfOk result (λ device. out_room ≤ device.room) }
     {
         let Ok(decoder) = Decoder::new(alloc, RECORD_LIMIT) else {
             return Err(AllocError);
         };
         let station = Station::new(alloc)?;
+        let out = Vec::with_capacity(alloc, OUT_ROOM)?;
         Ok(Terminal {
             attachment: Attachment::Detached,
             decoder,
             station,
-            out: Vec::new(alloc),
+            out,
         })
+    }
+
+    /// Makes room for the largest reply, as `new` does. Only `lost` takes that room away, and only if something was unsent.
+    ///
+    /// Nothing else changes. If the room is there, the call succeeds without memory.
+    pub fn make_room(&mut self) -> Result<(), Memory>
+        ensures terminal { self.new.terminal ≡ self.old.terminal }
+        ensures room { OnOk result (out_room ≤ self.new.room) }
+        ensures kept { self.old.room ≤ self.new.room }
+        ensures unchanged { OnErr result (self.new ≡ self.old) }
+        ensures full { OnErr result (self.old.room < out_room) }
+    {
+        let waiting = self.out.len();
+        self.out.reserve_exact(OUT_ROOM.saturating_sub(waiting))
     }
 
     /// Begins a connection, with a blank screen and a keyboard that waits; on it the terminal will ask for this LU, if one.
     ///
-    /// It may be called only in phase Idle. It takes no memory.
+    /// It may be called only in phase Idle. It takes no memory, and keeps the room of the output: after a `lost` call
+    /// `make_room` first.
     pub fn connected(&mut self, wanted: Option<Lu>)
-        requires { phase_of self.old.link ≡ TermPhase.Idle }
-        ensures { self.new ≡ connected wanted }
+        requires { phase_of self.old.terminal.link ≡ TermPhase.Idle }
+        ensures terminal { self.new.terminal ≡ connected wanted }
+        ensures room { self.new.room ≡ self.old.room }
     {
         self.decoder.reset();
-        self.station.renew();
+        self.station.reset();
         self.out.clear();
         self.attachment = Attachment::Attached(TermTalk::new(wanted));
     }
 
-    /// Takes bytes that came from the host, up to one for which there is no room or that closes the connection, and answers
-    /// how many it took and what stopped it. It stands as after these.
+    /// Takes bytes that came from the host, up to one that closes the connection, and answers how many it took and what
+    /// stopped it. The terminal is then as after these bytes.
     ///
-    /// Room for the largest reply is made before a byte is taken. A terminal that isn't attached takes nothing and answers
-    /// Going, one that has closed takes nothing and answers its cause.
+    /// Before each byte it makes room for the largest reply. It stops with Memory only if that room isn't there and memory is
+    /// refused: with the room that `new` makes, only while more than 1,024 bytes wait to be sent. A terminal that isn't
+    /// attached takes nothing and answers Going, one that has closed takes nothing and answers its cause.
     pub fn feed(&mut self, bytes: &[u8]) -> Fed
-        ensures { Feeds self.old bytes.now result self.new }
+        ensures fed { Feeds self.new.room self.old.terminal bytes.now result self.new.terminal }
+        ensures room { self.old.room ≤ self.new.room }
     {
         match &mut self.attachment {
             Attachment::Detached => Fed {
@@ -114,31 +140,36 @@ impl Terminal {
         }
     }
 
-    /// Presses a key, and answers what the keyboard answers. Where the key sends and the terminal is bound, its data is put
+    /// Presses a key, and answers what the keyboard answers. If the key sends and the terminal is bound, its data is put
     /// into `out`; in another phase nothing is.
     ///
-    /// Room for the data is made before the key acts: where memory is refused nothing has changed.
+    /// Before a key that sends acts, it makes room for the longest data. It answers Memory only if that room isn't there and
+    /// memory is refused; then nothing has changed. A key that sends nothing takes no memory.
     pub fn press(&mut self, key: Key) -> Result<Pressed, Memory>
-        ensures pressed { OnOk result (self.new ≡ after_key key self.old) }
-        ensures answer { IfOk result (λ answer. answer ≡ answer_to_key key self.old) }
+        ensures pressed { OnOk result (self.new.terminal ≡ after_key key self.old.terminal) }
+        ensures answer { IfOk result (λ answer. answer ≡ answer_to_key key self.old.terminal) }
         ensures unchanged { OnErr result (self.new ≡ self.old) }
+        ensures full { OnErr result (LacksKeyRoom self.old.room key self.old.terminal) }
+        ensures room { self.old.room ≤ self.new.room }
     {
         let bound = self.phase().is_bound();
-        self.out.reserve(REPLY_ROOM)?;
+        let room = self.station.room_for(&key, bound);
+        self.out.reserve(room)?;
         Ok(self.station.press(key, bound, &mut self.out))
     }
 
     /// What it has to send.
     pub fn out(&self) -> &[u8]
-        ensures { result.now ≡ self.now.out }
+        ensures { result.now ≡ self.now.terminal.out }
     {
         self.out.as_slice()
     }
 
     /// The first `count` bytes of `out` are sent, and dropped.
     pub fn sent(&mut self, count: usize)
-        requires { count ≤ length self.old.out }
-        ensures { self.new ≡ record self.old { out = drop count self.old.out } }
+        requires { count ≤ length self.old.terminal.out }
+        ensures terminal { self.new.terminal ≡ record self.old.terminal { out = drop count self.old.terminal.out } }
+        ensures room { self.new.room ≡ self.old.room }
     {
         let left = self.out.len() - count;
         self.out.rotate_left(count);
@@ -147,42 +178,51 @@ impl Terminal {
 
     /// The connection is lost: hands back what wasn't sent. The screen stays, the keyboard is new and waits, and the
     /// terminal is in phase Idle.
+    ///
+    /// What wasn't sent is handed back in the output buffer itself, so that no memory is taken. If all was sent, the terminal
+    /// keeps that buffer.
     pub fn lost(&mut self) -> Vec<u8>
-        ensures unsent { result.items ≡ self.old.out }
-        ensures lost { self.new ≡ lost self.old }
+        ensures unsent { result.items ≡ self.old.terminal.out }
+        ensures terminal { self.new.terminal ≡ lost self.old.terminal }
+        ensures room { self.old.terminal.out ≡ [] → self.new.room ≡ self.old.room }
     {
         self.station.wait();
         self.attachment = Attachment::Detached;
         let empty = Vec::new(*self.out.allocator());
-        std::mem::replace(&mut self.out, empty)
+        if self.out.is_empty() {
+            empty
+        } else {
+            std::mem::replace(&mut self.out, empty)
+        }
     }
 
-    /// Begins anew, as `new` made it.
+    /// Makes the terminal as `new` made it; the room of its output stays.
     pub fn restart(&mut self)
-        ensures { self.new ≡ new_terminal }
+        ensures terminal { self.new.terminal ≡ new_terminal }
+        ensures room { self.new.room ≡ self.old.room }
     {
-        self.station.renew();
+        self.station.reset();
         self.attachment = Attachment::Detached;
         self.out.clear();
     }
 
     /// The screen.
     pub fn screen(&self) -> &Screen
-        ensures { result.now ≡ self.now.station.screen }
+        ensures { result.now ≡ self.now.terminal.station.screen }
     {
         self.station.screen()
     }
 
     /// The keyboard's lock.
     pub fn lock(&self) -> Lock
-        ensures { result ≡ self.now.station.keyboard.lock }
+        ensures { result ≡ self.now.terminal.station.keyboard.lock }
     {
         self.station.keyboard().lock()
     }
 
     /// The keyboard.
     pub(crate) fn keyboard(&self) -> Keyboard
-        ensures { result ≡ self.now.station.keyboard }
+        ensures { result ≡ self.now.terminal.station.keyboard }
     {
         self.station.keyboard()
     }
@@ -190,14 +230,14 @@ impl Terminal {
     /// Whether the last byte that `feed` took completed a write with restore, which was applied, and no `connected`, `lost`
     /// or `restart` came since.
     pub fn took_write(&self) -> bool
-        ensures { result ≡ self.now.station.took_write }
+        ensures { result ≡ self.now.terminal.station.took_write }
     {
         self.station.took_write()
     }
 
     /// How far it is with its host.
     pub fn phase(&self) -> TermPhase
-        ensures { result ≡ phase_of self.now.link }
+        ensures { result ≡ phase_of self.now.terminal.link }
     {
         match &self.attachment {
             Attachment::Detached => TermPhase::Idle,

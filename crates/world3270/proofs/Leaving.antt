@@ -1,5 +1,5 @@
 -- An end leaves its connection by the events that make it leave, and by no other: first over messages, then over bytes.
-use Rattle.std.proofs.Common.{◌≡◌, ◌==◌, ℕ, Bool, true, false, Option, None, Some, List, ◌++◌, refl, ap, sym, subst, ◌∙◌, if◌then◌else◌}
+use Rattle.std.proofs.Common.{◌≡◌, ◌==◌, ℕ, Bool, true, false, Option, None, Some, List, ◌++◌, refl, sym, subst, ◌∙◌, if◌then◌else◌}
 use Rattle.std.proofs.lemmas.Bool.{and_parts, eqb-true}
 use Rattle.keyboard.specs.declared.key.Key.{Key}
 use Rattle.host_core.specs.Acts.{Sent, acted}
@@ -202,7 +202,7 @@ module _ (known : KnownWorlds) (begin : Begin) (events : List Event) (old : Byte
       ∙ over (HostIs number) it more keeps comes (sym (reached.stands.links number).host_here ∙ there)
 
   terminal_still : (it : Event) (more : List Event) (terminal number : ℕ) → TerminalKept app it terminal number → more ≡ once it answer → Reached begin (events ++ more) new
-      → terminal_at number old.sittings ≡ Some terminal → terminal_at number new.sittings ≡ Some terminal
+      → terminal_at number old.slots ≡ Some terminal → terminal_at number new.slots ≡ Some terminal
   terminal_still it more terminal number keeps comes reaches there =
       let before = facts_now known begin events old is reached in
       let behind = facts_now known begin (events ++ more) new is reaches in

@@ -4,5 +4,5 @@ use Rattle.jobs3270.proofs.operator.take.Goals as goal
 
 pub returns : goal.returns
 returns c =
-    is_fed c.args.terminal.now c.feed-fed.new.self c.args.bytes.now c.feed-fed.result.taken c.feed-fed.result.stop c.requires c.feed-fed.ensures.few c.feed-fed.ensures.takes c.feed-fed.ensures.stops
+    is_fed c.feed-fed.new.self.room c.args.terminal.now.terminal c.feed-fed.new.self.terminal c.args.bytes.now c.feed-fed.result.taken c.feed-fed.result.stop c.requires c.feed-fed.ensures.fed.few c.feed-fed.ensures.fed.takes c.feed-fed.ensures.fed.stops
     (sym c.is_memory.ensures ∙ c.if-is_memory.false)

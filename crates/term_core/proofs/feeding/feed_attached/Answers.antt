@@ -13,4 +13,5 @@ pub loop-taken-preserved : goal.loop-taken-preserved
 loop-taken-preserved c = record {
   running = c.in_default.ensures.left;
   taken = byte_more _ c.args.bytes.now c.loop-taken.taken c.loop-taken.decoder c.loop-taken.talk c.loop-taken.station c.loop-taken.out c.reserve.new.self _ (omega arith) c.reserve.ensures.items c.loop-taken.invariant.taken c.in_default.ensures.taken;
+  capacity = omega (arith, c.loop-taken.invariant.capacity, c.reserve.ensures.capacity, c.in_default.ensures.capacity);
 }

@@ -12,4 +12,4 @@ returns-in-Ok-More-clause-taken c =
 
 pub returns-in-Ok-Ready-clause-taken : goal.returns-in-Ok-Ready-clause-taken
 returns-in-Ok-Ready-clause-taken c =
-    byte_completes _ _ _ _ _ _ _ _ _ _ _ _ c.requires.running c.in-Ok-Ready.ensures.taken.0 c.item.ensures c.begin_byte.ensures c.take_item.ensures
+    byte_completes _ _ _ _ _ _ _ _ _ _ _ _ c.requires.running c.in-Ok-Ready.ensures.taken.0 c.item.ensures c.begin_byte.ensures c.take_item.ensures.taken
