@@ -1,5 +1,5 @@
 -- How a run ends, from the ends of its parts.
-use Rattle.std.proofs.Common.{◌≡◌, ℕ, zero, suc, ◌+◌, ◌<◌, ◌≤◌, List, ◌++◌, length, take, Result, Ok, Err, IfErr, OnErr, IsUtf8, Option, None, Some, refl, sym, subst, arith, length-append}
+use Rattle.std.proofs.Common.{◌≡◌, ℕ, zero, suc, ◌+◌, ◌<◌, ◌≤◌, List, ◌++◌, length, take, Result, Ok, Err, IfOk, IfErr, OnErr, OnOk, IsUtf8, Option, None, Some, refl, sym, subst, arith, length-append}
 use Rattle.std.specs.Io.KnownBytes.{Consumes}
 use Rattle.std.proofs.KnownBytes.{Consumes-trans, Keeps-refl}
 use Rattle.std.proofs.lemmas.List.{length-take-le}
@@ -24,6 +24,12 @@ pub refused : {T : Type 0} → (text : Result T Fault) (old new : Input) (bytes 
 refused (Ok text) old new bytes whole is none = tt
 refused (Err fault) old new bytes whole is none = subst (λ f. RefusesInput f old new) (sym is) (no_text bytes whole none)
 
+-- what was read is text, and not too much
+pub accepted : {T : Type 0} → (bytes_of : T → List ℕ) → (text : Result T Fault) (old new : Input) (bytes : List ℕ) → ReadWhole old new bytes
+    → length bytes ≤ most_bytes → IfOk text (λ it. bytes_of it ≡ bytes) → OnOk text (IsUtf8 bytes) → IfOk text (λ it. IsInput old new (bytes_of it))
+accepted bytes_of (Ok it) old new bytes whole within is utf8 = subst (IsInput old new) (sym is) (record { read_whole = whole; within = within; utf8 = utf8 })
+accepted bytes_of (Err fault) old new bytes whole within is utf8 = tt
+
 -- what was read before, and now, is too much
 pub too_many : (first old new : Input) (bytes buffer : List ℕ) (count : ℕ) → Consumes first.left old.left bytes → Consumes old.left new.left (take count buffer)
     → count ≤ length buffer → most_bytes < length bytes + count → NotRead first new
@@ -32,27 +38,28 @@ too_many first old new bytes buffer count before now within long =
     (let n = length-take-le count buffer within in let m = length-append bytes (take count buffer) in omega arith)
 
 -- where there is no input nothing is written
-pub without_input : (task : Task) (fault : Fault) (in_old in_new : Input) (out : Output) → RefusesInput fault in_old in_new → HasCause task (Some fault) in_old in_new out out
-without_input task InputNotRead in_old in_new out why = (why, record { kept = Keeps-refl out.got; sound = refl })
-without_input task (Panels fault) in_old in_new out why = absurd why
-without_input task (Pool fault) in_old in_new out why = absurd why
-without_input task (NotHex line) in_old in_new out why = absurd why
-without_input task (NotUnderstood line) in_old in_new out why = absurd why
-without_input task NoMemory in_old in_new out why = record { kept = Keeps-refl out.got; sound = refl }
-without_input task SocketFailed in_old in_new out why = absurd why
-without_input task TurnsOver in_old in_new out why = absurd why
-without_input task OutputFailed in_old in_new out why = absurd why
+pub without_input : (task : Task) (Came : List ℕ → Type 0) (fault : Fault) (in_old in_new : Input) (out : Output) → RefusesInput fault in_old in_new
+    → ((bytes : List ℕ) × Came bytes) → HasCause task Came (Some fault) in_old in_new out out
+without_input task Came InputNotRead in_old in_new out why came = (why, came, record { kept = Keeps-refl out.got; sound = refl })
+without_input task Came (Panels fault) in_old in_new out why came = absurd why
+without_input task Came (Pool fault) in_old in_new out why came = absurd why
+without_input task Came (NotHex line) in_old in_new out why came = absurd why
+without_input task Came (NotUnderstood line) in_old in_new out why came = absurd why
+without_input task Came NoMemory in_old in_new out why came = (came, record { kept = Keeps-refl out.got; sound = refl })
+without_input task Came SocketFailed in_old in_new out why came = absurd why
+without_input task Came TurnsOver in_old in_new out why came = absurd why
+without_input task Came OutputFailed in_old in_new out why came = absurd why
 
 -- where there is one the run ends as its printing does
-pub with_input : (task : Task) (ending : Option Fault) (in_old in_new : Input) (out_old out_new : Output) (text : List ℕ) → IsInput in_old in_new text
-    → EndsPrinting task ending text out_old out_new → HasCause task ending in_old in_new out_old out_new
-with_input task None in_old in_new out_old out_new text is ends = (text, is, ends)
-with_input task (Some InputNotRead) in_old in_new out_old out_new text is ends = absurd ends
-with_input task (Some (Panels fault)) in_old in_new out_old out_new text is ends = (text, is, ends)
-with_input task (Some (Pool fault)) in_old in_new out_old out_new text is ends = (text, is, ends)
-with_input task (Some (NotHex line)) in_old in_new out_old out_new text is ends = (text, is, ends)
-with_input task (Some (NotUnderstood line)) in_old in_new out_old out_new text is ends = (text, is, ends)
-with_input task (Some NoMemory) in_old in_new out_old out_new text is ends = ends
-with_input task (Some SocketFailed) in_old in_new out_old out_new text is ends = absurd ends
-with_input task (Some TurnsOver) in_old in_new out_old out_new text is ends = absurd ends
-with_input task (Some OutputFailed) in_old in_new out_old out_new text is ends = (text, is, ends)
+pub with_input : (task : Task) (Came : List ℕ → Type 0) (ending : Option Fault) (in_old in_new : Input) (out_old out_new : Output) (text : List ℕ) → IsInput in_old in_new text
+    → Came text → EndsPrinting task ending text out_old out_new → HasCause task Came ending in_old in_new out_old out_new
+with_input task Came None in_old in_new out_old out_new text is came ends = (text, is, came, ends)
+with_input task Came (Some InputNotRead) in_old in_new out_old out_new text is came ends = absurd ends
+with_input task Came (Some (Panels fault)) in_old in_new out_old out_new text is came ends = (text, is, came, ends)
+with_input task Came (Some (Pool fault)) in_old in_new out_old out_new text is came ends = (text, is, came, ends)
+with_input task Came (Some (NotHex line)) in_old in_new out_old out_new text is came ends = (text, is, came, ends)
+with_input task Came (Some (NotUnderstood line)) in_old in_new out_old out_new text is came ends = (text, is, came, ends)
+with_input task Came (Some NoMemory) in_old in_new out_old out_new text is came ends = ((text, came), ends)
+with_input task Came (Some SocketFailed) in_old in_new out_old out_new text is came ends = absurd ends
+with_input task Came (Some TurnsOver) in_old in_new out_old out_new text is came ends = absurd ends
+with_input task Came (Some OutputFailed) in_old in_new out_old out_new text is came ends = (text, is, came, ends)

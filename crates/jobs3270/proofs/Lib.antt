@@ -5,6 +5,10 @@ pub mod OnePage
 pub mod OneScript
 pub mod Known
 pub mod Endings
+pub mod ReadsOn
+pub mod Waits
+pub mod RawCalls
+pub mod SocketCalls
 pub mod ScriptLines
 pub mod Happenings
 pub mod Rounds

@@ -1,5 +1,5 @@
 -- The streams of a run: their bytes, where a stream knows them, and how often it ended or failed (our profile).
-use Rattle.std.specs.Prelude.{◌≡◌, ◌+◌, ◌-◌, ◌^◌, ◌<◌, ◌≤◌, ◌++◌, ◌∷◌, [], ⊤, ℕ, List, take, min, Option, None, Some, Result, Ok, Err}
+use Rattle.std.specs.Prelude.{◌≡◌, ◌+◌, ◌-◌, ◌^◌, ◌<◌, ◌≤◌, ◌++◌, ◌∷◌, [], ⊤, ℕ, zero, suc, List, take, min, Option, None, Some, Result, Ok, Err}
 use Rattle.std.specs.Io.KnownBytes.{Consumes, IsAtEnd, Appends, Keeps}
 use Rattle.jobs3270.specs.declared.streams.Answer.{Answer}
 use Rattle.jobs3270.specs.declared.streams.Answer.TheVariants.{Gave, Ended, Interrupted, Failed}
@@ -44,6 +44,19 @@ pub record Counts (answer : Answer) (old new : Input) : Type 0 where
   pub reads : new.reads ≡ more old.reads 1
   pub ends : new.ends ≡ ends_after answer old.ends
   pub failures : new.failures ≡ failures_after answer old.failures
+
+-- the bytes that a read gave
+abbrev pub bytes_given : Answer → List ℕ → List ℕ
+bytes_given (Gave count) buffer = take count buffer
+bytes_given Ended buffer = []
+bytes_given Interrupted buffer = []
+bytes_given Failed buffer = []
+
+-- So many reads, one after another, each into a buffer with room for `room` bytes, gave these bytes.
+abbrev pub Reads : {I : Type 0} → (gave : I → ℕ → List ℕ → Answer → I → Type 0) → (room count : ℕ) → I → List ℕ → I → Type 0
+Reads {I} gave room zero old bytes new = (bytes ≡ []) × (new ≡ old)
+Reads {I} gave room (suc count) old bytes new =
+    (mid : I) × (front back : List ℕ) × (answer : Answer) × Reads gave room count old front mid × gave mid room back answer new × (bytes ≡ front ++ back)
 
 -- ---- a sink
 

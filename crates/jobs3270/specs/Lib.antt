@@ -6,11 +6,14 @@ pub mod KeyNames
 pub mod ScriptLines
 pub mod TermLines
 pub mod Operating
+pub mod Waits
+pub mod DoneLines
 pub mod Happenings
 pub mod Plays
 pub mod Scripts
 pub mod Faults
 pub mod Counting
+pub mod RawCalls
 pub mod Counted
 pub mod Runs
 pub mod Words

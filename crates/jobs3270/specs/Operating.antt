@@ -1,4 +1,4 @@
--- What an operator does at a terminal and reads there, by the lines of a script, and when the host need not be waited for any longer (our profile).
+-- What an operator does at a terminal and reads there, and when the host need not be waited for any longer (our profile).
 use Rattle.std.specs.Prelude.{◌≡◌, ◌⊎◌, ℕ, Bool, true, false, List, [], ◌∷◌, ◌++◌, chars, Option, Some, None, is_some, if◌then◌else◌, codes}
 use Rattle.std.specs.Option.{option_map_or}
 use Rattle.std.specs.Fmt.{decimal}
@@ -10,15 +10,10 @@ use Rattle.keyboard.specs.declared.key.Pressed.{Pressed}
 use Rattle.keyboard.specs.declared.key.Pressed.TheVariants.{Done, Refused, Send}
 use Rattle.keyboard.specs.declared.key.Refusal.{Refusal}
 use Rattle.term_core.specs.Presses.{after_key, answer_to_key}
-use Rattle.term_core.specs.ScreenText.{newline, screen_text}
+use Rattle.term_core.specs.ScreenText.{newline}
 use Rattle.term_core.specs.State.{Terminal, phase_of}
 use Rattle.term_core.specs.declared.phase.TermPhase.{TermPhase}
 use Rattle.term_core.specs.declared.phase.TermPhase.TheVariants as phase
-use Rattle.jobs3270.specs.Counting.{Input, more}
-use Rattle.jobs3270.specs.PhaseText.{phase_line}
-use Rattle.jobs3270.specs.ScriptLines.{behind}
-use Rattle.jobs3270.specs.declared.term_line.TermAsks.{TermAsks}
-use Rattle.jobs3270.specs.declared.term_line.TermAsks.TheVariants as ask
 
 -- ---- keys
 
@@ -70,22 +65,3 @@ is_settled phase.Idle lock = true
 
 abbrev pub IsSettled : Terminal → Type 0
 IsSettled terminal = is_settled (phase_of terminal.link) terminal.station.keyboard.lock ≡ true
-
--- the most reads of one wait
-abbrev pub most_waits : ℕ
-most_waits = 1000
-
--- A wait ends where there is nothing to wait for, or after so many reads that all gave something, or nothing yet.
-abbrev pub HasWaited : Terminal → Input → Input → Type 0
-HasWaited terminal old new = IsSettled terminal ⊎ (new.reads ≡ more old.reads most_waits)
-
--- ---- a line is done
-
--- What a line asks for is done at the terminal, and this is said. `left` and `found` are what comes from the host, before and after.
-abbrev pub DoesLine : TermAsks → (line : List ℕ) (old new : Terminal) (left found : Input) (said : List ℕ) → Type 0
-DoesLine ask.Nothing line old new left found said = (new ≡ old) × (said ≡ [])
-DoesLine ask.Types line old new left found said = (new ≡ after_text (chars (behind line)) old) × (said ≡ said_of_text (chars (behind line)) old)
-DoesLine (ask.Presses key) line old new left found said = (new ≡ after_key key old) × (said ≡ said_of_key (answer_to_key key old))
-DoesLine ask.Waits line old new left found said = HasWaited new left found × (said ≡ [])
-DoesLine ask.Shows line old new left found said = (new ≡ old) × (said ≡ screen_text old.station)
-DoesLine ask.Tells line old new left found said = (new ≡ old) × (said ≡ phase_line (phase_of old.link))

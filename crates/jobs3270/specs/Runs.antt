@@ -3,7 +3,8 @@ use Rattle.std.specs.Prelude.{◌≡◌, ◌<◌, ◌≤◌, ◌++◌, ◌∷◌
 use Rattle.std.specs.Io.KnownBytes.{Consumes, IsAtEnd}
 use Rattle.jobs3270.specs.Faults.{status_of, fault_text}
 use Rattle.jobs3270.specs.Pages.{IsPage}
-use Rattle.jobs3270.specs.Counting.{Input, Output, more, Untouched, Written, CutShort}
+use Rattle.jobs3270.specs.Counting.{Input, Output, Reads, more, Untouched, Written, CutShort}
+use Rattle.jobs3270.specs.declared.streams.Answer.{Answer}
 use Rattle.jobs3270.specs.declared.fault.Fault.{Fault}
 use Rattle.jobs3270.specs.declared.fault.Fault.TheVariants.{InputNotRead, Panels, Pool, NotHex, NotUnderstood, NoMemory, SocketFailed, TurnsOver, OutputFailed}
 use Rattle.jobs3270.specs.declared.task.Task.{Task}
@@ -19,6 +20,16 @@ abbrev pub most_reads : ℕ
 most_reads = 65536
 
 -- ---- the input
+
+-- the room that each read of an input has
+abbrev pub piece_room : ℕ
+piece_room = 4096
+
+-- the reads of an input: how many there were, each with that room, and that they gave these bytes
+pub record InPieces {I : Type 0} (gave : I → ℕ → List ℕ → Answer → I → Type 0) (old new : I) (bytes : List ℕ) : Type 0 where
+  pub count : ℕ
+  pub few : count ≤ most_reads
+  pub reads : Reads gave piece_room count old bytes new
 
 -- these bytes were read, to the end, and no read failed
 pub record ReadWhole (old new : Input) (bytes : List ℕ) : Type 0 where
@@ -46,9 +57,9 @@ RefusesInput InputNotRead old new = NotRead old new
 RefusesInput NoMemory old new = ⊤
 RefusesInput _ old new = ⊥
 
--- the input was read, and is a text with this property
-abbrev pub OnInput : Input → Input → (List ℕ → Type 0) → Type 0
-OnInput old new Has = (text : List ℕ) × IsInput old new text × Has text
+-- The input was read, and is a text with this property. `Came` says of bytes that the reads gave them.
+abbrev pub OnInput : (Came : List ℕ → Type 0) → Input → Input → (List ℕ → Type 0) → Type 0
+OnInput Came old new Has = (text : List ℕ) × IsInput old new text × Came text × Has text
 
 -- ---- the output
 
@@ -90,10 +101,10 @@ EndsPrinting task (Some OutputFailed) text old new = WritesInPart task text old 
 -- ---- the end of a run
 
 -- what has happened where a run ends well, or by a fault
-abbrev pub HasCause : Task → Option Fault → (in_old in_new : Input) (out_old out_new : Output) → Type 0
-HasCause task (Some InputNotRead) in_old in_new out_old out_new = NotRead in_old in_new × Untouched out_old out_new
-HasCause task (Some NoMemory) in_old in_new out_old out_new = Untouched out_old out_new
-HasCause task ending in_old in_new out_old out_new = OnInput in_old in_new (λ text. EndsPrinting task ending text out_old out_new)
+abbrev pub HasCause : Task → (Came : List ℕ → Type 0) → Option Fault → (in_old in_new : Input) (out_old out_new : Output) → Type 0
+HasCause task Came (Some InputNotRead) in_old in_new out_old out_new = NotRead in_old in_new × ((bytes : List ℕ) × Came bytes) × Untouched out_old out_new
+HasCause task Came (Some NoMemory) in_old in_new out_old out_new = ((bytes : List ℕ) × Came bytes) × Untouched out_old out_new
+HasCause task Came ending in_old in_new out_old out_new = OnInput Came in_old in_new (λ text. EndsPrinting task ending text out_old out_new)
 
 -- how a call ends that may fail
 abbrev pub ending_of : Result Unit Fault → Option Fault
@@ -115,8 +126,8 @@ status_after None = 0
 status_after (Some fault) = status_of fault
 
 -- the end of a task's run: by which fault, if by one
-pub record IsEnd (task : Task) (in_old in_new : Input) (out_old out_new faults_old faults_new : Output) (status : ℕ) : Type 0 where
+pub record IsEnd (task : Task) (Came : List ℕ → Type 0) (in_old in_new : Input) (out_old out_new faults_old faults_new : Output) (status : ℕ) : Type 0 where
   pub ending : Option Fault
-  pub has_cause : HasCause task ending in_old in_new out_old out_new
+  pub has_cause : HasCause task Came ending in_old in_new out_old out_new
   pub is_told : IsTold ending faults_old faults_new
   pub status_is : status ≡ status_after ending

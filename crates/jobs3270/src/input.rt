@@ -1,6 +1,6 @@
 //! The input, read whole before anything is done with it.
-ghost use Rattle.std.specs.Prelude.{◌≡◌, IfOk, IfErr, IsUtf8, OnErr, OnOk, string_bytes};
-ghost use Rattle.jobs3270.specs.Runs.{IsInput, RefusesInput};
+ghost use Rattle.std.specs.Prelude.{◌≡◌, ℕ, List, IfOk, IfErr, IsUtf8, OnErr, OnOk, string_bytes};
+ghost use Rattle.jobs3270.specs.Runs.{InPieces, IsInput, RefusesInput};
 ghost use Rattle.jobs3270.specs.declared.fault.Fault.TheVariants.{InputNotRead};
 
 use crate::fault::Fault;
@@ -13,7 +13,7 @@ pub const MOST_BYTES: usize = 1_048_576;
 /// The most reads that an input may take, the one that finds its end among them.
 pub const MOST_READS: u32 = 65_536;
 
-/// How much one read asks for.
+/// The room that each read has.
 const CHUNK: usize = 4096;
 
 /// The text that bytes are in UTF-8.
@@ -30,10 +30,12 @@ fn text_of(bytes: Vec<u8>) -> Result<String, Fault>
 }
 
 /// The whole input as text. It is refused if a read fails, if it has more than `MOST_BYTES` bytes or takes more than
-/// `MOST_READS` reads, and if it isn't UTF-8.
+/// `MOST_READS` reads, and if it isn't UTF-8. Each read has room for 4,096 bytes.
 pub(crate) fn read_whole<I: Source>(alloc: Global, input: &mut I) -> Result<String, Fault>
     ensures whole { IfOk result (λ text. IsInput (I.seen input.old) (I.seen input.new) (string_bytes text)) }
     ensures fault { IfErr result (λ fault. RefusesInput fault (I.seen input.old) (I.seen input.new)) }
+    ensures pieces { IfOk result (λ text. InPieces I.gave input.old input.new (string_bytes text)) }
+    ensures refused_in_pieces { OnErr result ((bytes : List ℕ) × InPieces I.gave input.old input.new bytes) }
 {
     let mut bytes = Vec::new(alloc);
     let mut chunk = [0u8; CHUNK];

@@ -1,11 +1,11 @@
 //! An operator at a terminal: what keys do there, and when the host need not be waited for any longer.
-ghost use Rattle.std.specs.Prelude.{◌≡◌, ◌++◌, IfOk, OnOk, OnErr, [], chars, length, string_bytes};
+ghost use Rattle.std.specs.Prelude.{◌≡◌, ◌++◌, IfOk, OnOk, chars, false, string_bytes};
 ghost use Rattle.term_core.specs.Presses.{after_key, answer_to_key};
 ghost use Rattle.term_core.specs.State.{phase_of};
-ghost use Rattle.jobs3270.specs.Counting.{Writes};
-ghost use Rattle.jobs3270.specs.Operating.{HasWaited, after_text, is_settled, refusal_in, refusal_text, said_of_key, said_of_text};
+ghost use Rattle.jobs3270.specs.Operating.{after_text, is_settled, refusal_in, refusal_text, said_of_key, said_of_text};
+ghost use Rattle.jobs3270.specs.Waits.{HasWaited, IsFed, SendsAll, is_memory};
 
-use crate::streams::{Answer, Sink, Source, WriteFailed};
+use crate::streams::{Answer, Sink, Source};
 use keyboard::{Key, Lock, Pressed, Refusal};
 use std::alloc::AllocError;
 use term_core::{TermPhase, Terminal};
@@ -14,7 +14,7 @@ use tn3270e_msg::Stop;
 /// The most reads of one wait.
 const MOST_READS: usize = 1000;
 
-/// How much one read asks for.
+/// The room that each read has.
 const CHUNK: usize = 4096;
 
 // ---- keys
@@ -89,41 +89,64 @@ fn is_settled(terminal: &Terminal) -> bool
     }
 }
 
-/// Sends all that a terminal has to send.
-fn send<U: Sink>(terminal: &mut Terminal, up: &mut U) -> Result<(), WriteFailed>
-    ensures written { Writes result (U.seen up.old) (U.seen up.new) terminal.old.terminal.out }
-    ensures sent { OnOk result (terminal.new.terminal ≡ record terminal.old.terminal { out = [] }) }
-    ensures kept { OnErr result (terminal.new ≡ terminal.old) }
+/// Sends all that a terminal has to send, and returns true; or detaches the terminal if the write fails.
+fn send_all<U: Sink>(terminal: &mut Terminal, up: &mut U) -> bool
+    ensures { SendsAll result terminal.old.terminal terminal.new.terminal (U.seen up.old) (U.seen up.new) }
 {
-    up.write_all(terminal.out())?;
-    let count = terminal.out().len();
-    terminal.sent(count);
+    match up.write_all(terminal.out()) {
+        Ok(()) => {
+            let count = terminal.out().len();
+            terminal.sent(count);
+            true
+        }
+        Err(_) => {
+            terminal.lost();
+            false
+        }
+    }
+}
+
+/// Whether memory was refused.
+fn is_memory(stop: Stop) -> bool
+    ensures { result ≡ is_memory stop }
+{
+    match stop {
+        Stop::Memory => true,
+        Stop::Going | Stop::Closed(_) => false,
+    }
+}
+
+/// Feeds a terminal that waits all that a read gave.
+fn take(terminal: &mut Terminal, bytes: &[u8]) -> Result<(), AllocError>
+    requires { is_settled (phase_of terminal.old.terminal.link) terminal.old.terminal.station.keyboard.lock ≡ false }
+    ensures { OnOk result (IsFed terminal.old.terminal bytes.now terminal.new.terminal) }
+{
+    let fed = terminal.feed(bytes);
+    if is_memory(fed.stop) {
+        return Err(AllocError);
+    }
     Ok(())
 }
 
-/// Sends what a terminal has to send, and gives it what comes, until there is nothing to wait for, or for `MOST_READS` reads. A
-/// terminal whose connection ends, or fails, is detached from it.
+/// Sends all that a terminal has to send and feeds it all that is read, until there is nothing to wait for, or for `MOST_READS` reads.
+/// Nothing is left unsent then. A terminal whose connection ends or fails is detached from it.
 pub(crate) fn wait<D: Source, U: Sink>(
     terminal: &mut Terminal,
     down: &mut D,
     up: &mut U,
 ) -> Result<(), AllocError>
-    ensures { OnOk result (HasWaited terminal.new.terminal (D.seen down.old) (D.seen down.new)) }
+    ensures { OnOk result (HasWaited D.gave terminal.old.terminal terminal.new.terminal down.old down.new (U.seen up.old) (U.seen up.new)) }
 {
     let mut chunk = [0; CHUNK];
     for _ in 0..MOST_READS {
-        if send(terminal, up).is_err() {
-            terminal.lost();
+        if !send_all(terminal, up) {
+            return Ok(());
         }
         if is_settled(terminal) {
             return Ok(());
         }
         match down.read(&mut chunk) {
-            Answer::Gave(count) => {
-                if terminal.feed(&chunk[..count]).stop == Stop::Memory {
-                    return Err(AllocError);
-                }
-            }
+            Answer::Gave(count) => take(terminal, &chunk[..count])?,
             Answer::Interrupted => {}
             Answer::Ended | Answer::Failed => {
                 terminal.lost();
@@ -131,5 +154,6 @@ pub(crate) fn wait<D: Source, U: Sink>(
             }
         }
     }
+    let _ = send_all(terminal, up);
     Ok(())
 }

@@ -5,18 +5,37 @@ ghost use Rattle.lu_pool.specs.Reading.{IsFirstFault};
 ghost use Rattle.panels.specs.Defines.{IsReadFrom};
 ghost use Rattle.panels.specs.Panel.{Panels};
 ghost use Rattle.panels.specs.Passes.{IsReason};
-ghost use Rattle.jobs3270.specs.Runs.{EndsPrinting, ending_of};
+ghost use Rattle.jobs3270.specs.Runs.{EndsPrinting, InPieces, IsEnd, ending_of};
 ghost use Rattle.jobs3270.specs.Scripts.{HasNoWorld, IsApplicationOf, IsHostOf, IsScriptPage, IsWorldOf, ScriptsHaveOnePage, behind_line, is_at_mark, lus_of, mark_place, panel_text, script_text};
 ghost use Rattle.jobs3270.specs.declared.task.Task.TheVariants.{Script};
 
 use crate::fault::Fault;
 use crate::player::{TERMINALS, play};
-use crate::streams::Sink;
+use crate::streams::{Sink, Source};
+use crate::task::{Task, run};
 use host_core::Host;
 use lu_pool::{Pool, PoolFault};
 use panels::{PanelFault, PanelSet};
 use std::alloc::Global;
 use world3270::World;
+
+/// Serves the panels of an input to four terminals and does the commands of its script, one a line. The input is the panel text, a
+/// line `%%` and the script; the page is printed when the script has ended. A fault that ends the run is written to `faults` as one
+/// line.
+///
+/// Returns the exit status: 0 if the whole page was printed; 1 if the input can't be read (as for
+/// [`run_show`](crate::run_show)), if the panel text defines no panels, if their LUs are no pool, or if a line of the script isn't
+/// understood, after the output of the lines before it; 3 if a growth was refused; 6 if the output failed.
+pub fn run_script<I: Source, O: Sink, E: Sink>(
+    alloc: Global,
+    input: &mut I,
+    out: &mut O,
+    faults: &mut E,
+) -> u8
+    ensures { IsEnd Script (InPieces I.gave input.old input.new) (I.seen input.old) (I.seen input.new) (O.seen out.old) (O.seen out.new) (E.seen faults.old) (E.seen faults.new) result }
+{
+    run(alloc, Task::Script, input, out, faults)
+}
 
 /// Prints the page of a text.
 pub(crate) fn print_script<O: Sink>(alloc: Global, text: &str, out: &mut O) -> Result<(), Fault>

@@ -71,10 +71,10 @@ impl Seat {
     }
 
     /// Reads once; NotNow without a connection.
-    fn read(&self, buffer: &mut [u8]) -> LinkRead
+    fn read(&mut self, buffer: &mut [u8]) -> LinkRead
         ensures { GotWithin result (length buffer.new) }
     {
-        match &self.socket {
+        match &mut self.socket {
             Some(socket) => read_once(socket, buffer),
             None => LinkRead::NotNow,
         }
@@ -82,7 +82,10 @@ impl Seat {
 
     /// Hands what the terminal has to send to one write. Says whether that took some. A connection that failed is found so by a read.
     fn send(&mut self) -> bool {
-        let Some(socket) = &self.socket else {
+        if self.terminal.out().is_empty() {
+            return false;
+        }
+        let Some(socket) = &mut self.socket else {
             return false;
         };
         match write_once(socket, self.terminal.out()) {

@@ -261,13 +261,13 @@ fn selfrun<N: Net, I: Source, O: Sink>(
     play_and_write(net, alloc, &mut household, script, out)
 }
 
-/// Does the commands of a script as [`run`](crate::run) does, but at terminals that are joined to the host by sockets of this
+/// Does the commands of a script as [`run_script`](crate::run_script) does, but at terminals that are joined to the host by sockets of this
 /// machine. The script may have the commands `connect`, `type`, `key`, `lose`, `settle`, `show` and `status`. `lose` closes the
 /// terminal's socket, which the host sees in a later turn. `settle` takes turns, each a turn of the host in which each terminal is read
 /// and written once too, until one in which no byte crossed and the host didn't act. What ends the run early is told in one line of
 /// `faults`.
 ///
-/// Answers the exit status: 0 where all went well; 1, 3 and 6 as `run` does; 4 where the system refused a socket; 5 where so
+/// Answers the exit status: 0 where all went well; 1, 3 and 6 as `run_script` does; 4 where the system refused a socket; 5 where so
 /// many turns were used up, behind what was printed before.
 pub fn run_selfrun<N: Net, I: Source, O: Sink, E: Sink>(
     net: &N,

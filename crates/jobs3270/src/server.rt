@@ -47,7 +47,7 @@ impl Watcher for Unwatched {
 #[derive(Drop)]
 pub struct Server {
     host: Host,
-    sockets: Sockets,
+    sockets: Sockets<TcpStream>,
     listener: TcpListener,
     poll: Poll,
     events: Events,

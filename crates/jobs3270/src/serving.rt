@@ -63,7 +63,7 @@ fn host<N: Net, I: Source>(
 /// Serves the panels of an input at a port of this machine (127.0.0.1), 1024 to 65535, to the terminals that connect there, for so many
 /// turns, of at most 10 milliseconds each where nothing is to be done. What ends the run is told in one line of `faults`.
 ///
-/// Answers the exit status: 5 where the turns are over; 1 where the input can't be read (as with [`run`](crate::run)), where
+/// Answers the exit status: 5 where the turns are over; 1 where the input can't be read (as with [`run_show`](crate::run_show)), where
 /// it defines no panels, or where their LUs are no pool; 3 where a growth was refused; 4 where the system refused a socket, as where the
 /// port is taken.
 pub fn run_host<N: Net, I: Source, E: Sink>(

@@ -1,11 +1,30 @@
 //! `show`: commands in hexadecimal come in, the printed screen comes out.
-ghost use Rattle.jobs3270.specs.Runs.{EndsPrinting, ending_of};
+ghost use Rattle.jobs3270.specs.Runs.{EndsPrinting, InPieces, IsEnd, ending_of};
 ghost use Rattle.jobs3270.specs.declared.task.Task.TheVariants.{Show};
 
 use crate::fault::Fault;
 use crate::page::page_of;
-use crate::streams::Sink;
+use crate::streams::{Sink, Source};
+use crate::task::{Task, run};
 use std::alloc::Global;
+
+/// Applies the commands of an input, one a line in hexadecimal, in order to one blank screen, and prints that screen and
+/// the cursor. A command that is refused is reported in the output and changes nothing. A fault that ends the run is written to `faults`
+/// as one line.
+///
+/// Returns the exit status: 0 if the whole page was printed; 1 if the input can't be read, has more than `MOST_BYTES` bytes, takes
+/// more than `MOST_READS` reads, isn't UTF-8, or has a line that isn't hexadecimal; 3 if a growth was refused; 6 if the output
+/// failed.
+pub fn run_show<I: Source, O: Sink, E: Sink>(
+    alloc: Global,
+    input: &mut I,
+    out: &mut O,
+    faults: &mut E,
+) -> u8
+    ensures { IsEnd Show (InPieces I.gave input.old input.new) (I.seen input.old) (I.seen input.new) (O.seen out.old) (O.seen out.new) (E.seen faults.old) (E.seen faults.new) result }
+{
+    run(alloc, Task::Show, input, out, faults)
+}
 
 /// Prints the page of a text.
 pub(crate) fn print_page<O: Sink>(alloc: Global, text: &str, out: &mut O) -> Result<(), Fault>

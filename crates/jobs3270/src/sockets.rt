@@ -3,9 +3,10 @@ ghost use Rattle.std.specs.Prelude.{◌≡◌, ◌<◌, false, IfOk, length, rep
 ghost use Rattle.host_core.specs.Serves.{GotWithin, TookWithin, bytes_got, taken_by};
 ghost use Rattle.host_core.specs.State.{most_connections};
 ghost use Rattle.jobs3270.specs.Refusals.{next_refusal, unheard};
-ghost use Rattle.jobs3270.specs.Sockets.{began_at, heard_at, left, new_sockets, place_at, settled_at, told_at, unused, with_place, with_waiting};
+ghost use Rattle.jobs3270.specs.Sockets.{began_at, has_got, has_taken, heard_at, is_connected, left, new_sockets, place_at, settled_at, told_at, unused, with_place, with_waiting};
 
 use crate::place::Place;
+use crate::raw::{RawRead, RawWrite};
 use crate::refusals::{Refusal, Refusals};
 use host_core::{LinkRead, LinkWrite, Links, MOST_CONNECTIONS};
 use mio::net::TcpStream;
@@ -13,23 +14,23 @@ use std::alloc::{AllocError, Global};
 use std::marker::Model;
 use std::net::SocketAddr;
 
-/// The connections of a host over sockets, what is heard of each, and whether a byte crossed since that was asked last.
+/// The connections of a host over sockets of type `S`, what is heard of each, and whether a byte crossed since that was asked last.
 ///
 /// A read answers NotNow while more bytes wait to be sent on its connection than may. A read or a write that would raise a count
 /// above its last value answers NotNow too.
 #[derive(Drop)]
-pub(crate) struct Sockets {
-    places: Vec<Place>,
+pub(crate) struct Sockets<S> {
+    places: Vec<Place<S>>,
     heard: Vec<Refusals>,
     moved: bool,
 }
 
-impl Model for Sockets {
+impl<S> Model for Sockets<S> {
     ghost use Rattle.std.specs.Prelude.{◌≡◌, length};
     ghost use Rattle.host_core.specs.State.{most_connections};
     ghost use Rattle.jobs3270.specs.Sockets.{Sockets as Stand};
 
-    ghost Value = { Stand };
+    ghost Value = { Stand S };
 
     ghost view = { λ sockets. record { places = sockets.places.items; heard = sockets.heard.items; moved = sockets.moved } };
 
@@ -37,7 +38,7 @@ impl Model for Sockets {
 }
 
 /// So many numbers without connections.
-fn unused_places(alloc: Global) -> Result<Vec<Place>, AllocError>
+fn unused_places<S: RawRead + RawWrite + Drop>(alloc: Global) -> Result<Vec<Place<S>>, AllocError>
     ensures { IfOk result (λ places. places.items ≡ replicate most_connections unused) }
 {
     let mut places = Vec::with_capacity(alloc, MOST_CONNECTIONS)?;
@@ -83,9 +84,30 @@ fn taken(answer: LinkWrite, bytes: &[u8]) -> &[u8]
     }
 }
 
-impl Sockets {
+/// Whether a read gave bytes.
+fn has_got(answer: LinkRead) -> bool
+    ensures { result ≡ has_got answer }
+{
+    matches!(answer, LinkRead::Got(_))
+}
+
+/// Whether a write took bytes.
+fn has_taken(answer: LinkWrite) -> bool
+    ensures { result ≡ has_taken answer }
+{
+    matches!(answer, LinkWrite::Took(_))
+}
+
+impl Sockets<TcpStream> {
+    /// Where the peer of a number is, if it has a connection and that is known.
+    pub(crate) fn peer(&self, conn: usize) -> Option<SocketAddr> {
+        self.places.get(conn)?.peer()
+    }
+}
+
+impl<S: RawRead + RawWrite + Drop> Sockets<S> {
     /// No connection yet. An error where memory was refused.
-    pub(crate) fn new(alloc: Global) -> Result<Sockets, AllocError>
+    pub(crate) fn new(alloc: Global) -> Result<Sockets<S>, AllocError>
         ensures { IfOk result (λ sockets. sockets ≡ new_sockets) }
     {
         Ok(Sockets {
@@ -98,20 +120,15 @@ impl Sockets {
     /// Whether a number has a connection.
     pub(crate) fn is_connected(&self, conn: usize) -> bool
         requires { conn < most_connections }
-        ensures { result ≡ (place_at conn self.now).connected }
+        ensures { result ≡ is_connected (place_at conn self.now) }
     {
         self.places[conn].is_connected()
     }
 
-    /// Where the peer of a number is, if it has a connection and that is known.
-    pub(crate) fn peer(&self, conn: usize) -> Option<SocketAddr> {
-        self.places.get(conn)?.peer()
-    }
-
     /// A connection begins on a number.
-    pub(crate) fn begin(&mut self, conn: usize, socket: TcpStream)
+    pub(crate) fn begin(&mut self, conn: usize, socket: S)
         requires { conn < most_connections }
-        ensures { self.new ≡ began_at conn self.old }
+        ensures { self.new ≡ began_at conn socket self.old }
     {
         self.places[conn].begin(socket);
         self.heard[conn].begin();
@@ -159,34 +176,34 @@ impl Sockets {
     }
 }
 
-impl Links for Sockets {
+impl<S: RawRead + RawWrite + Drop> Links for Sockets<S> {
     ghost use Rattle.jobs3270.specs.Sockets.{GivesAt, TakesAt, ends_at, failures_at};
 
     ghost ends = { λ sockets conn. ends_at conn sockets };
 
     ghost failures = { λ sockets conn. failures_at conn sockets };
 
-    ghost gave = { λ before conn room bytes answer after. GivesAt before conn bytes answer after };
+    ghost gave = { GivesAt S.read_gave };
 
-    ghost took = { TakesAt };
+    ghost took = { TakesAt S.write_took };
 
     fn read(&mut self, conn: usize, buffer: &mut [u8]) -> LinkRead {
-        if conn >= MOST_CONNECTIONS {
+        if conn >= self.places.len() {
             return LinkRead::NotNow;
         }
         let answer = self.places[conn].read(buffer);
         self.heard[conn].hear_terminal(got(answer, buffer));
-        self.moved |= matches!(answer, LinkRead::Got(_));
+        self.moved |= has_got(answer);
         answer
     }
 
     fn write(&mut self, conn: usize, bytes: &[u8]) -> LinkWrite {
-        if conn >= MOST_CONNECTIONS {
+        if conn >= self.places.len() {
             return LinkWrite::NotNow;
         }
         let answer = self.places[conn].write(bytes);
         self.heard[conn].hear_host(taken(answer, bytes));
-        self.moved |= matches!(answer, LinkWrite::Took(_));
+        self.moved |= has_taken(answer);
         answer
     }
 }

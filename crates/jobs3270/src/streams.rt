@@ -1,10 +1,11 @@
 //! The streams of a run. They count how often they failed, so that a contract can tell whether a run that gave up had to.
-ghost use Rattle.std.specs.Prelude.{◌≡◌, ◌<◌, length};
+ghost use Rattle.std.specs.Prelude.{◌≡◌, ◌<◌, ℕ, List, length};
 ghost use Rattle.jobs3270.specs.Counted.{reader_in, writer_in};
-ghost use Rattle.jobs3270.specs.Counting.{Input, Output, GivesWithin, Gives, Counts, Writes, WritesLine};
+ghost use Rattle.jobs3270.specs.Counting.{Input, Output, GivesWithin, Gives, Counts, Writes, WritesLine, bytes_given};
 
+use crate::raw::RawRead;
 use std::fmt::Display;
-use std::io::{ErrorKind, Read, Write};
+use std::io::{ErrorKind, Write};
 
 /// What a read gave.
 #[derive(Clone, Copy)]
@@ -24,17 +25,25 @@ pub enum Answer {
 pub struct WriteFailed;
 
 /// What a run reads from.
+///
+/// `gave` relates the source before a read, the room in the buffer, the bytes that the read gave, its answer, and the source after
+/// it.
 pub trait Source {
+    ghost use Rattle.jobs3270.specs.declared.streams.Answer.{Answer};
+
     /// The bytes that reads will give from here on, where they are known; and how often it was read, found its end and
     /// failed. Reads alone raise these counts.
     ghost seen: { Self → Input };
+
+    ghost gave: { Self → ℕ → List ℕ → Answer → Self → Type 0 };
 
     /// Reads once, into a buffer that has room.
     fn read(&mut self, buffer: &mut [u8]) -> Answer
         requires { 0 < length buffer.old }
         ensures within { GivesWithin result (length buffer.new) }
         ensures bytes { Gives result (seen self.old).left (seen self.new).left buffer.new }
-        ensures counts { Counts result (seen self.old) (seen self.new) };
+        ensures counts { Counts result (seen self.old) (seen self.new) }
+        ensures gave { gave self.old (length buffer.new) (bytes_given result buffer.new) result self.new };
 }
 
 /// What a run writes to.
@@ -60,7 +69,7 @@ pub struct CountedReader<R> {
     failures: u64,
 }
 
-impl<R: Read> CountedReader<R> {
+impl<R: RawRead> CountedReader<R> {
     /// A reader that wasn't read yet.
     pub fn new(reader: R) -> CountedReader<R>
         ensures reader { reader_in result ≡ reader }
@@ -82,12 +91,16 @@ impl<R: Read> CountedReader<R> {
     }
 }
 
-impl<R: Read> Source for CountedReader<R> {
+impl<R: RawRead> Source for CountedReader<R> {
+    ghost use Rattle.jobs3270.specs.RawCalls.{IsAnswered};
+
     ghost seen = { λ s. record { left = R.remaining s.reader; reads = s.reads; ends = s.ends; failures = s.failures } };
+
+    ghost gave = { λ old room bytes answer new. IsAnswered R.read_gave old.reader room bytes answer new.reader };
 
     fn read(&mut self, buffer: &mut [u8]) -> Answer {
         self.reads = self.reads.saturating_add(1);
-        match self.reader.read(buffer) {
+        match self.reader.read_once(buffer) {
             Ok(0) => {
                 self.ends = self.ends.saturating_add(1);
                 Answer::Ended

@@ -1,7 +1,7 @@
 //! What the program does that reads its whole input, and opens no socket.
 ghost use Rattle.std.specs.Prelude.{◌≡◌};
 ghost use Rattle.jobs3270.specs.Faults.{status_of, fault_text};
-ghost use Rattle.jobs3270.specs.Runs.{EndsPrinting, HasCause, IsEnd, IsToldIn, ending_of};
+ghost use Rattle.jobs3270.specs.Runs.{EndsPrinting, HasCause, InPieces, IsEnd, IsToldIn, ending_of};
 
 use crate::fault::Fault;
 use crate::input::read_whole;
@@ -12,30 +12,22 @@ use std::alloc::Global;
 
 /// A task of a run that opens no socket.
 #[derive(Clone, Copy)]
-pub enum Task {
-    /// Serves the panels of a text to four terminals, and does the commands of a script, one a line: the terminals connect, and
-    /// type; bytes come, and are lost; screens are printed where the script asks for them. The input is the panel text, a line `%%`,
-    /// and the script; the page is printed when the script has ended.
+pub(crate) enum Task {
+    /// `run_script`'s.
     Script,
-    /// Applies the commands of an input, one a line in hexadecimal, in order to one blank screen, and prints that screen and
-    /// the cursor. A command that is refused is told and changes nothing.
+    /// `run_show`'s.
     Show,
 }
 
-/// Does a task. What ends the run early is told in one line of `faults`.
-///
-/// Answers the exit status: 0 where all went well; 1 where the input can't be read, has more than `MOST_BYTES` bytes, takes
-/// more than `MOST_READS` reads, or isn't UTF-8; 3 where a growth was refused; 6 where the output failed. It is 1, too, where a
-/// line of `Show` isn't hexadecimal, where the panel text of `Script` defines no panels, where their LUs are no pool, or where a
-/// line of its script isn't understood, behind what the lines before it print.
-pub fn run<I: Source, O: Sink, E: Sink>(
+/// Does a task and returns the exit status. A fault that ends the run is written to `faults` as one line.
+pub(crate) fn run<I: Source, O: Sink, E: Sink>(
     alloc: Global,
     task: Task,
     input: &mut I,
     out: &mut O,
     faults: &mut E,
 ) -> u8
-    ensures { IsEnd task (I.seen input.old) (I.seen input.new) (O.seen out.old) (O.seen out.new) (E.seen faults.old) (E.seen faults.new) result }
+    ensures { IsEnd task (InPieces I.gave input.old input.new) (I.seen input.old) (I.seen input.new) (O.seen out.old) (O.seen out.new) (E.seen faults.old) (E.seen faults.new) result }
 {
     match read_and_print(alloc, task, input, out) {
         Ok(()) => 0,
@@ -60,7 +52,7 @@ fn read_and_print<I: Source, O: Sink>(
     input: &mut I,
     out: &mut O,
 ) -> Result<(), Fault>
-    ensures { HasCause task (ending_of result) (I.seen input.old) (I.seen input.new) (O.seen out.old) (O.seen out.new) }
+    ensures { HasCause task (InPieces I.gave input.old input.new) (ending_of result) (I.seen input.old) (I.seen input.new) (O.seen out.old) (O.seen out.new) }
 {
     match read_whole(alloc, input) {
         Ok(text) => print(alloc, task, text.as_str(), out),

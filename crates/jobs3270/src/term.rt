@@ -2,7 +2,7 @@
 ghost use Rattle.std.specs.Prelude.{◌≡◌, ◌++◌, ℕ, List, OnOk, string_bytes};
 ghost use Rattle.term_core.specs.ScreenText.{screen_text};
 ghost use Rattle.term_core.specs.State.{phase_of};
-ghost use Rattle.jobs3270.specs.Operating.{DoesLine};
+ghost use Rattle.jobs3270.specs.DoneLines.{DoesLine};
 ghost use Rattle.jobs3270.specs.PhaseText.{phase_line};
 
 use crate::fault::Fault;
@@ -52,7 +52,8 @@ fn do_line<D: Source, U: Sink>(
     line: &str,
     text: &mut String,
 ) -> Result<(), AllocError>
-    ensures { OnOk result ((said : List ℕ) × DoesLine asks line.now terminal.old.terminal terminal.new.terminal (D.seen wire.old.down) (D.seen wire.new.down) said
+    ensures { OnOk result ((said : List ℕ)
+        × DoesLine D.gave asks line.now terminal.old.terminal terminal.new.terminal wire.old.down wire.new.down (U.seen wire.old.up) (U.seen wire.new.up) said
         × (string_bytes text.new ≡ string_bytes text.old ++ said)) }
 {
     match asks {
@@ -129,7 +130,7 @@ fn term<I: Source, O: Sink>(
 /// What ends the run early is told in one line of `faults`.
 ///
 /// Answers the exit status: 0 where all went well, whatever the host did; 1 where the input can't be read (as with
-/// [`run`](crate::run)), or where a line isn't understood, behind what the lines before it print; 3 where a growth was
+/// [`run_show`](crate::run_show)), or where a line isn't understood, behind what the lines before it print; 3 where a growth was
 /// refused; 4 where nothing listens on the port; 6 where the output failed.
 pub fn run_term<I: Source, O: Sink, E: Sink>(
     rt: &HostRuntime,

@@ -8,8 +8,8 @@ ghost use Rattle.jobs3270.specs.Runs.{IsToldIn};
 ghost use Rattle.jobs3270.specs.Words.{usage, words_refused};
 
 use jobs3270::{
-    CountedReader, CountedWriter, Fault, Job, Sink, Task, WordFault, end_by, run, run_host,
-    run_selfrun, run_serve, run_term, words,
+    CountedReader, CountedWriter, Fault, Job, Sink, WordFault, end_by, run_host, run_script,
+    run_selfrun, run_serve, run_show, run_term, words,
 };
 use std::env;
 use std::io::{self, ErrorKind};
@@ -65,8 +65,8 @@ fn main(rt: HostRuntime) -> ExitCode {
     let mut faults = CountedWriter::new(rt.stderr());
     let status = match given_job(&rt) {
         Ok(job) => match job {
-            Job::Script => run(alloc, Task::Script, &mut input, &mut out, &mut faults),
-            Job::Show => run(alloc, Task::Show, &mut input, &mut out, &mut faults),
+            Job::Script => run_script(alloc, &mut input, &mut out, &mut faults),
+            Job::Show => run_show(alloc, &mut input, &mut out, &mut faults),
             Job::Selfrun { turns } => {
                 run_selfrun(&rt, alloc, turns, &mut input, &mut out, &mut faults)
             }

@@ -1,6 +1,6 @@
 //! Runs of show and script whose input breaks off or is long, or whose output fails. A helper owns one run, and answers whether it ended so.
-use crate::jobs::memory::{Pieces, paper_with};
-use jobs3270::{CountedReader, MOST_BYTES, MOST_READS, Task, run};
+use crate::jobs::memory::{Paper, Pieces, paper_with};
+use jobs3270::{CountedReader, CountedWriter, MOST_BYTES, MOST_READS, run_script, run_show};
 use std::alloc::{AllocError, Global};
 
 #[derive(Drop)]
@@ -10,22 +10,61 @@ struct Outcome {
     faults: Vec<u8>,
 }
 
-/// What becomes of a task with this input, and room for so many bytes of output.
-fn run_with(alloc: Global, task: Task, input: Pieces<'_>, room: usize) -> Outcome {
-    let mut input = CountedReader::new(input);
-    let mut out = paper_with(alloc, room);
-    let mut faults = paper_with(alloc, usize::MAX);
-    let status = run(alloc, task, &mut input, &mut out, &mut faults);
-    Outcome {
-        status,
-        out: out.into_inner().text,
-        faults: faults.into_inner().text,
+/// The streams of a run.
+#[derive(Drop)]
+struct Streams<'a> {
+    input: CountedReader<Pieces<'a>>,
+    out: CountedWriter<Paper>,
+    faults: CountedWriter<Paper>,
+}
+
+impl<'a> Streams<'a> {
+    /// Streams with this input, and room for `room` bytes of output.
+    fn new(alloc: Global, input: Pieces<'a>, room: usize) -> Streams<'a> {
+        Streams {
+            input: CountedReader::new(input),
+            out: paper_with(alloc, room),
+            faults: paper_with(alloc, usize::MAX),
+        }
     }
+
+    fn outcome(self, status: u8) -> Outcome {
+        let Streams { out, faults, .. } = self;
+        Outcome {
+            status,
+            out: out.into_inner().text,
+            faults: faults.into_inner().text,
+        }
+    }
+}
+
+/// How `run_show` ends with this input, and room for `room` bytes of output.
+fn shown(alloc: Global, input: Pieces<'_>, room: usize) -> Outcome {
+    let mut streams = Streams::new(alloc, input, room);
+    let status = run_show(
+        alloc,
+        &mut streams.input,
+        &mut streams.out,
+        &mut streams.faults,
+    );
+    streams.outcome(status)
+}
+
+/// How `run_script` ends likewise.
+fn played(alloc: Global, input: Pieces<'_>, room: usize) -> Outcome {
+    let mut streams = Streams::new(alloc, input, room);
+    let status = run_script(
+        alloc,
+        &mut streams.input,
+        &mut streams.out,
+        &mut streams.faults,
+    );
+    streams.outcome(status)
 }
 
 /// Whether an input isn't read: nothing is printed, and one fault is told.
 fn is_not_read(alloc: Global, input: Pieces<'_>) -> bool {
-    let outcome = run_with(alloc, Task::Show, input, usize::MAX);
+    let outcome = shown(alloc, input, usize::MAX);
     outcome.status == 1
         && outcome.out.is_empty()
         && outcome.faults.as_slice() == b"input not read\n".as_slice()
@@ -43,7 +82,7 @@ fn front(bytes: &[u8], count: usize) -> &[u8] {
 }
 
 fn status_of(alloc: Global, input: Pieces<'_>) -> u8 {
-    run_with(alloc, Task::Show, input, usize::MAX).status
+    shown(alloc, input, usize::MAX).status
 }
 
 /// One byte more than may be read isn't; and of one byte a read, the last read that is allowed finds the end.
@@ -71,26 +110,21 @@ const REFUSED_AND_SHOWN: &[u8; 39] = b"F5\nF5 C3 11 40 40 1D 60 C8 C9 1D 40 13\n
 
 /// Whether a run ends by its writer, which has room for so much.
 fn fails_with_room(alloc: Global, room: usize) -> bool {
-    let outcome = run_with(alloc, Task::Show, Pieces::whole(REFUSED_AND_SHOWN), room);
+    let outcome = shown(alloc, Pieces::whole(REFUSED_AND_SHOWN), room);
     outcome.status == 6 && outcome.faults.as_slice() == b"output failed\n".as_slice()
 }
 
 /// Whatever room there is, a run ends by its writer, but where the whole page has room.
 pub(crate) fn output_that_fails_is_told(alloc: Global) -> bool {
-    let whole = run_with(
-        alloc,
-        Task::Show,
-        Pieces::whole(REFUSED_AND_SHOWN),
-        usize::MAX,
-    )
-    .out
-    .len();
+    let whole = shown(alloc, Pieces::whole(REFUSED_AND_SHOWN), usize::MAX)
+        .out
+        .len();
     for room in 0..whole {
         if !fails_with_room(alloc, room) {
             return false;
         }
     }
-    run_with(alloc, Task::Show, Pieces::whole(REFUSED_AND_SHOWN), whole).status == 0
+    shown(alloc, Pieces::whole(REFUSED_AND_SHOWN), whole).status == 0
 }
 
 /// Two lines of a script, of which the first prints `idle`, and the second isn't understood.
@@ -99,7 +133,7 @@ const TELLS_AND_STOPS: &[u8] =
 
 /// Whether it ends so where its writer has room for so much.
 fn script_ends(alloc: Global, room: usize, status: u8, faults: &[u8]) -> bool {
-    let outcome = run_with(alloc, Task::Script, Pieces::whole(TELLS_AND_STOPS), room);
+    let outcome = played(alloc, Pieces::whole(TELLS_AND_STOPS), room);
     outcome.status == status && outcome.faults.as_slice() == faults
 }
 

@@ -1,9 +1,12 @@
-use Rattle.std.proofs.Common.{rules, ◌≡◌, ◌<◌, ◌+◌, ◌-◌, ◌^◌, ◌∙◌, ◌++◌, ap, subst, sym, ℕ, List, min, length, take, arith}
+use Rattle.std.proofs.Common.{rules, ◌≡◌, ◌<◌, ◌+◌, ◌-◌, ◌^◌, ◌∙◌, ◌++◌, [], ap, refl, subst, sym, string_bytes, ℕ, List, min, length, take, arith}
 use Rattle.std.proofs.KnownBytes.{Consumes-kept, Consumes-trans}
 use Rattle.std.specs.Io.KnownBytes.{Consumes}
-use Rattle.jobs3270.specs.Counting.{more}
+use Rattle.jobs3270.specs.Counting.{Reads, more}
 use Rattle.jobs3270.specs.Runs.{read_failed}
-use Rattle.jobs3270.proofs.Endings.{reads_more, refused, too_many}
+use Rattle.jobs3270.proofs.Endings.{accepted, reads_more, refused, too_many}
+use Rattle.jobs3270.proofs.ReadsOn.{in_pieces, reads_nothing, reads_on, refused_in_pieces, text_in_pieces}
+use Rattle.std.proofs.lemmas.List.{append-nil}
+use Rattle.jobs3270.specs.declared.streams.Answer.TheVariants.{Gave, Ended, Interrupted, Failed}
 use Rattle.jobs3270.proofs.input.read_whole.Goals.{in-Gave+else-saturating_add-gt-MOST_BYTES+else-is_err, in-Interrupted}
 use Rattle.jobs3270.proofs.input.read_whole.Goals as goal
 
@@ -35,6 +38,7 @@ returns-in-Failed-clause-fault g c = read_failed (c.in-Failed.ensures.counts.fai
 
 pub loop-preserved : goal.loop-preserved
 loop-preserved g c =
+    let room : length c.read.new.buffer ≡ 4096 = search rules in
     let before = c.loop.invariant in
     let first = g.I.Source.seen c.args.input.now in
     let new = g.I.Source.seen c.read.new.self in
@@ -46,17 +50,75 @@ loop-preserved g c =
             consumed = subst (λ (bytes : List ℕ). Consumes first.left new.left bytes) (sym items)
                 (Consumes-trans first.left (g.I.Source.seen c.loop.input).left new.left c.loop.bytes.items came before.consumed w.in-Gave.ensures.bytes);
             within = search rules;
+            pieces = reads_on g.I.Source.gave 4096 c.loop.counter c.args.input.now c.loop.input c.read.new.self c.loop.bytes.items came _ (Gave w.in-Gave.count)
+                before.pieces (subst (λ (n : ℕ). g.I.Source.gave c.loop.input n (take w.in-Gave.count c.read.new.buffer) (Gave w.in-Gave.count) c.read.new.self) room w.in-Gave.ensures.gave) items;
             not_read = λ none. absurd (omega arith);
             read = λ some. reads_more _ _ _ c.loop.counter before.not_read before.read c.read.ensures.counts.reads;
             ends = w.in-Gave.ensures.counts.ends ∙ before.ends;
             failures = w.in-Gave.ensures.counts.failures ∙ before.failures;
           }
-      | in-Interrupted w ↦ record {
+      | in-Interrupted w ↦ let items : c.match-read.bytes.items ≡ c.loop.bytes.items = search rules in record {
         consumed = search rules;
         within = search rules;
+        pieces = subst (λ (all : List ℕ). Reads g.I.Source.gave 4096 (c.loop.counter + 1) c.args.input.now all c.read.new.self) (sym items)
+            (reads_nothing g.I.Source.gave 4096 c.loop.counter c.args.input.now c.loop.input c.read.new.self c.loop.bytes.items Interrupted
+            before.pieces (subst (λ (n : ℕ). g.I.Source.gave c.loop.input n [] Interrupted c.read.new.self) room w.in-Interrupted.ensures.gave));
         not_read = λ none. absurd (omega arith);
         read = λ some. reads_more _ _ _ c.loop.counter before.not_read before.read c.read.ensures.counts.reads;
         ends = w.in-Interrupted.ensures.counts.ends ∙ before.ends;
         failures = w.in-Interrupted.ensures.counts.failures ∙ before.failures;
       }
     ]
+
+pub returns-in-Ended-clause-pieces : goal.returns-in-Ended-clause-pieces
+returns-in-Ended-clause-pieces g c =
+    let room : length c.read.new.buffer ≡ 4096 = search rules in
+    text_in_pieces g.I.Source.gave string_bytes c.text_of.result c.args.input.now c.read.new.self c.loop.bytes.items c.text_of.ensures.text
+    (in_pieces g.I.Source.gave c.loop.counter c.args.input.now c.loop.input c.read.new.self c.loop.bytes.items [] c.loop.bytes.items Ended c.loop-test.true
+    c.loop.invariant.pieces (subst (λ (n : ℕ). g.I.Source.gave c.loop.input n [] Ended c.read.new.self) room c.in-Ended.ensures.gave) (sym (append-nil c.loop.bytes.items)))
+
+pub returns-in-Ended-clause-refused_in_pieces : goal.returns-in-Ended-clause-refused_in_pieces
+returns-in-Ended-clause-refused_in_pieces g c =
+    let room : length c.read.new.buffer ≡ 4096 = search rules in
+    refused_in_pieces g.I.Source.gave c.text_of.result c.args.input.now c.read.new.self c.loop.bytes.items
+    (in_pieces g.I.Source.gave c.loop.counter c.args.input.now c.loop.input c.read.new.self c.loop.bytes.items [] c.loop.bytes.items Ended c.loop-test.true
+    c.loop.invariant.pieces (subst (λ (n : ℕ). g.I.Source.gave c.loop.input n [] Ended c.read.new.self) room c.in-Ended.ensures.gave) (sym (append-nil c.loop.bytes.items)))
+
+pub returns-then-saturating_add-gt-MOST_BYTES-clause-refused_in_pieces : goal.returns-then-saturating_add-gt-MOST_BYTES-clause-refused_in_pieces
+returns-then-saturating_add-gt-MOST_BYTES-clause-refused_in_pieces g c =
+    let room : length c.read.new.buffer ≡ 4096 = search rules in
+    let came = take c.in-Gave.count c.read.new.buffer in (
+      c.loop.bytes.items ++ came,
+      in_pieces g.I.Source.gave c.loop.counter c.args.input.now c.loop.input c.read.new.self c.loop.bytes.items came _ (Gave c.in-Gave.count) c.loop-test.true
+          c.loop.invariant.pieces (subst (λ (n : ℕ). g.I.Source.gave c.loop.input n (take c.in-Gave.count c.read.new.buffer) (Gave c.in-Gave.count) c.read.new.self) room c.in-Gave.ensures.gave) refl,
+    )
+
+pub returns-in-Failed-clause-refused_in_pieces : goal.returns-in-Failed-clause-refused_in_pieces
+returns-in-Failed-clause-refused_in_pieces g c =
+    let room : length c.read.new.buffer ≡ 4096 = search rules in (
+  c.loop.bytes.items,
+  in_pieces g.I.Source.gave c.loop.counter c.args.input.now c.loop.input c.read.new.self c.loop.bytes.items [] c.loop.bytes.items Failed c.loop-test.true
+      c.loop.invariant.pieces (subst (λ (n : ℕ). g.I.Source.gave c.loop.input n [] Failed c.read.new.self) room c.in-Failed.ensures.gave) (sym (append-nil c.loop.bytes.items)),
+)
+
+pub returns-in-Ended-clause-whole : goal.returns-in-Ended-clause-whole
+returns-in-Ended-clause-whole g c =
+    let before = c.loop.invariant in
+    let counts = c.in-Ended.ensures.counts in
+    accepted string_bytes c.text_of.result (g.I.Source.seen c.args.input.now) (g.I.Source.seen c.read.new.self) c.loop.bytes.items
+    (record {
+      consumed = Consumes-kept (g.I.Source.seen c.args.input.now).left (g.I.Source.seen c.loop.input).left (g.I.Source.seen c.read.new.self).left c.loop.bytes.items
+          before.consumed c.in-Ended.ensures.bytes.0;
+      at_end = c.in-Ended.ensures.bytes.1;
+      ended = rw (← before.ends) counts.ends;
+      sound = counts.failures ∙ before.failures;
+    })
+    before.within c.text_of.ensures.text c.text_of.ensures.utf8
+
+pub returns-then-is_err-clause-refused_in_pieces : goal.returns-then-is_err-clause-refused_in_pieces
+returns-then-is_err-clause-refused_in_pieces g c =
+    let room : length c.read.new.buffer ≡ 4096 = search rules in
+    let came = take c.in-Gave.count c.read.new.buffer in
+    (c.loop.bytes.items ++ came,
+    in_pieces g.I.Source.gave c.loop.counter c.args.input.now c.loop.input c.read.new.self c.loop.bytes.items came _ (Gave c.in-Gave.count) c.loop-test.true
+    c.loop.invariant.pieces (subst (λ (n : ℕ). g.I.Source.gave c.loop.input n (take c.in-Gave.count c.read.new.buffer) (Gave c.in-Gave.count) c.read.new.self) room c.in-Gave.ensures.gave) refl)

@@ -4,6 +4,6 @@ use Rattle.jobs3270.specs.Sockets.{Place, unused}
 use Rattle.jobs3270.proofs.sockets.unused_places.Goals as goal
 
 pub loop-preserved : goal.loop-preserved
-loop-preserved c =
-    c.in_ok-push.ensures.items ∙ ap₂ (λ (places : List Place) (place : Place). places ++ place ∷ []) c.loop.invariant c.unused.ensures
+loop-preserved g c =
+    c.in_ok-push.ensures.items ∙ ap₂ (λ (places : List (Place g.row.S.Denot)) (place : Place g.row.S.Denot). places ++ place ∷ []) c.loop.invariant c.unused.ensures
     ∙ sym (replicate_next c.loop.counter unused)

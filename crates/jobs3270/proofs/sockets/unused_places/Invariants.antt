@@ -3,4 +3,4 @@ use Rattle.jobs3270.specs.Sockets.{unused}
 use Rattle.jobs3270.proofs.sockets.unused_places.Given as goal
 
 abbrev pub invariant-loop : goal.invariant-loop
-invariant-loop l = l.places.items ≡ replicate l.counter unused
+invariant-loop g l = l.places.items ≡ replicate l.counter unused

@@ -1,0 +1,73 @@
+//! Single calls of readers and writers, and what they answered.
+ghost use Rattle.std.specs.Prelude.{ℕ, List, length};
+ghost use Rattle.std.specs.Io.{ReadsAtMost, WritesAtMost};
+ghost use Rattle.std.specs.Io.KnownBytes.{ReadConsumes, WriteAppends};
+ghost use Rattle.jobs3270.specs.RawCalls.{bytes_read};
+
+use std::io::{self, Read, Write};
+
+/// What is read by single calls that a contract can name.
+///
+/// `read_gave` relates the reader before a call, the room in the buffer, the bytes that the call put there, its answer, and the
+/// reader after the call. Code that is generic over readers has a `read_gave` only from a call, so its contract can say that it made
+/// that call, and how it took the answer.
+pub trait RawRead {
+    ghost use Rattle.std.specs.Prelude.{Option, Result};
+    ghost use Rattle.std.specs.declared.io.Error.{Error};
+
+    /// The bytes that calls give from here on, if they are known.
+    ghost remaining: { Self → Option (List ℕ) };
+
+    ghost read_gave: { Self → ℕ → List ℕ → Result ℕ Error → Self → Type 0 };
+
+    /// Reads once.
+    fn read_once(&mut self, buffer: &mut [u8]) -> io::Result<usize>
+        ensures bound { ReadsAtMost result buffer.new }
+        ensures bytes { ReadConsumes (remaining self.old) (remaining self.new) result buffer.new }
+        ensures gave { read_gave self.old (length buffer.new) (bytes_read result buffer.new) result self.new };
+}
+
+/// What is written to by single calls that a contract can name.
+///
+/// `write_took` relates the writer before a call, the bytes that the call was given, its answer, and the writer after the call.
+pub trait RawWrite {
+    ghost use Rattle.std.specs.Prelude.{Option, Result};
+    ghost use Rattle.std.specs.declared.io.Error.{Error};
+
+    /// The bytes that the writer holds, if they are known.
+    ghost contents: { Self → Option (List ℕ) };
+
+    ghost write_took: { Self → List ℕ → Result ℕ Error → Self → Type 0 };
+
+    /// Writes once.
+    fn write_once(&mut self, bytes: &[u8]) -> io::Result<usize>
+        ensures bound { WritesAtMost result bytes.now }
+        ensures bytes { WriteAppends (contents self.old) (contents self.new) result bytes.now }
+        ensures took { write_took self.old bytes.now result self.new };
+}
+
+// std's contracts of `read` and `write` say nothing of what was answered but its bounds, so neither do these relations.
+
+impl<R: Read> RawRead for R {
+    ghost use Rattle.std.specs.Prelude.{⊤};
+
+    ghost remaining = { R.remaining };
+
+    ghost read_gave = { λ _ _ _ _ _. ⊤ };
+
+    fn read_once(&mut self, buffer: &mut [u8]) -> io::Result<usize> {
+        self.read(buffer)
+    }
+}
+
+impl<W: Write> RawWrite for W {
+    ghost use Rattle.std.specs.Prelude.{⊤};
+
+    ghost contents = { W.contents };
+
+    ghost write_took = { λ _ _ _ _. ⊤ };
+
+    fn write_once(&mut self, bytes: &[u8]) -> io::Result<usize> {
+        self.write(bytes)
+    }
+}
