@@ -23,7 +23,7 @@ pub(crate) enum Call {
 }
 
 /// Each with its name: the crate's, the call's, and in some cases on what.
-pub(crate) static CALLS: [(&str, Call); 44] = [
+pub(crate) static CALLS: [(&str, Call); 41] = [
     ("telnet_wire:Decoder::new", Call::Make(Makes::Decoder)),
     ("telnet_wire:put_record", Call::Append(Appends::Record)),
     ("telnet_wire:put_option", Call::Append(Appends::Option)),
@@ -108,10 +108,6 @@ pub(crate) static CALLS: [(&str, Call); 44] = [
     ("term_core:Terminal::new", Call::Make(Makes::Terminal)),
     ("term_core:Terminal::feed", Call::Terminal(Does::Feed)),
     (
-        "term_core:Terminal::press,char",
-        Call::Terminal(Does::PressChar),
-    ),
-    (
         "term_core:Terminal::press,enter",
         Call::Terminal(Does::PressEnter),
     ),
@@ -121,20 +117,12 @@ pub(crate) static CALLS: [(&str, Call); 44] = [
         Call::World(Lets::Step(0, Deed::Connect(0, ""))),
     ),
     (
-        "world3270:World::step,down",
-        Call::World(Lets::Step(1, Deed::Down(0, usize::MAX))),
+        "world3270:World::step,reconnect",
+        Call::World(Lets::Reconnect),
     ),
     (
         "world3270:World::step,act",
         Call::World(Lets::Step(15, Deed::Act(0))),
-    ),
-    (
-        "world3270:World::step,key",
-        Call::World(Lets::Step(9, Deed::Letter(0, 'A'))),
-    ),
-    (
-        "world3270:World::step,note-down",
-        Call::World(Lets::Step(13, Deed::Down(0, usize::MAX))),
     ),
     ("world3270:World::run", Call::World(Lets::Run)),
 ];

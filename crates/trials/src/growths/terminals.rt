@@ -1,6 +1,6 @@
 //! A terminal: refused memory it stands as before, or as after the bytes that it took.
 use crate::growths::story::{
-    DO_OTHER, DO_TN3270E, IS_LU, IS_RESPONSES, MANY, PAINT, READ_BUFFER, SEND_TYPE, with_options,
+    DO_TN3270E, IS_LU, IS_RESPONSES, PAINT, READ_BUFFER, SEND_TYPE, with_options,
 };
 use crate::growths::trial::{Answer, Trial};
 use crate::likeness::terminals_look_same;
@@ -15,7 +15,7 @@ use tn3270e_msg::{Lu, Stop};
 pub(crate) enum Does {
     /// A whole talk, a panel, its reading, and many bytes, from the first on.
     Feed,
-    PressChar,
+    /// Enter, while the answer to the reading waits to be sent: with that, the room that the terminal made isn't enough.
     PressEnter,
 }
 
@@ -29,10 +29,6 @@ static STORY: [&[u8]; 6] = [
     READ_BUFFER,
 ];
 
-/// The first room that a terminal makes is for one reply, the largest, 11,552 bytes; the second is twice that. With as many
-/// unsent bytes as this there is no room for a reply any more.
-const NO_ROOM: usize = 11_552;
-
 /// A terminal before the call, and the bytes that it is to be fed.
 #[derive(Drop)]
 pub(crate) struct Attached {
@@ -42,7 +38,7 @@ pub(crate) struct Attached {
     taken: usize,
 }
 
-/// What happens before the call: a key comes behind the story, and behind options until there is no room for a reply.
+/// What happens before the call: a key is pressed after the story.
 fn prepare(terminal: &mut Terminal, does: Does) {
     if terminal.phase() == TermPhase::Idle {
         terminal.connected(Lu::read(b"PNL01"));
@@ -50,14 +46,8 @@ fn prepare(terminal: &mut Terminal, does: Does) {
     if let Does::Feed = does {
         return;
     }
-    for line in &STORY[..STORY.len() - 1] {
+    for line in &STORY {
         terminal.feed(line);
-    }
-    for _ in 0..MANY {
-        if terminal.out().len() > NO_ROOM {
-            return;
-        }
-        terminal.feed(DO_OTHER);
     }
 }
 
@@ -100,7 +90,6 @@ impl Trial for Attached {
     fn call(&mut self) -> Answer {
         match self.does {
             Does::Feed => self.feed(),
-            Does::PressChar => press(&mut self.terminal, Key::Char('A')),
             Does::PressEnter => press(&mut self.terminal, Key::Enter),
         }
     }
@@ -111,7 +100,7 @@ impl Trial for Attached {
         self.taken = count;
     }
 
-    /// What was typed is sent, and what is shown is read.
+    /// Enter is pressed, and what is shown is read.
     fn go_on(&mut self) {
         press(&mut self.terminal, Key::Enter);
         self.terminal.feed(READ_BUFFER);

@@ -40,11 +40,22 @@ static STORY: [Deed<'static>; 18] = [
     UP,
 ];
 
+/// A terminal connects, and its connection is lost while it has something to send.
+static LOSS: [Deed<'static>; 5] = [
+    Deed::Connect(TERMINAL, ""),
+    DOWN,
+    Deed::Lose(CONN),
+    Deed::HostSees(CONN),
+    Deed::TermSees(TERMINAL),
+];
+
 /// A call on a world.
 #[derive(Clone, Copy)]
 pub(crate) enum Lets {
     /// So many events of the story, and then this one.
     Step(usize, Deed<'static>),
+    /// A terminal connects behind a loss, in which it gave away the room of its output.
+    Reconnect,
     /// The whole story.
     Run,
 }
@@ -67,11 +78,17 @@ fn story(alloc: Global) -> Result<Vec<Event>, Fault> {
 }
 
 /// What happens before the call.
+fn before(lets: Lets) -> &'static [Deed<'static>] {
+    match lets {
+        Lets::Step(count, _) => STORY.get(..count).unwrap_or(&[]),
+        Lets::Reconnect => &LOSS,
+        Lets::Run => &[],
+    }
+}
+
 fn prepare(town: &mut Town, lets: Lets) -> Result<(), Fault> {
-    if let Lets::Step(count, _) = lets {
-        for deed in STORY.get(..count).unwrap_or(&[]) {
-            step(town, deed)?;
-        }
+    for deed in before(lets) {
+        step(town, deed)?;
     }
     Ok(())
 }
@@ -127,6 +144,7 @@ impl Trial for Small {
     fn call(&mut self) -> Answer {
         match self.lets {
             Lets::Step(_, deed) => step_once(&mut self.town, &deed),
+            Lets::Reconnect => step_once(&mut self.town, &Deed::Connect(TERMINAL, "")),
             Lets::Run => self.run(),
         }
     }
