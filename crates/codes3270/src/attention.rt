@@ -131,7 +131,7 @@ impl Aid {
     }
 }
 
-/// Where a code stands in a list.
+/// The position of a code in a list.
 fn place_of(codes: &[u8], byte: u8) -> Option<usize>
     ensures place { result ≡ position (λ code. code == byte) codes.now }
     ensures in_range { IfSome result (λ place. place < length codes.now) }

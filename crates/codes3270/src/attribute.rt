@@ -150,7 +150,7 @@ impl Cell {
     }
 
     /// Whether it has the attribute of an unprotected field.
-    pub fn is_open(self) -> bool
+    pub fn is_unprotected_attribute(self) -> bool
         ensures { result ≡ is_open_attribute self }
     {
         match self {

@@ -36,7 +36,7 @@ pub fn to_latin1(code: u8) -> Option<char>
     }
 }
 
-/// Where a character stands in `CHARACTERS`.
+/// The position of a character in `CHARACTERS`.
 fn place_of(character: char) -> Option<usize>
     ensures place { result ≡ position (λ c. c == character) characters }
     ensures in_range { IfSome result (λ place. place < 191) }

@@ -1,6 +1,7 @@
-//! What holds of the codes for every value, for proofs that name no call.
-ghost use Rattle.std.specs.Prelude.{◌≡◌, ◌<◌, ◌≤◌, ◌↔◌, ℕ, Some, ◌/◌, ◌%◌};
-ghost use Rattle.codes3270.specs.Size.{cell_count};
+//! Laws of codes and sizes: each is the contract of a function that does nothing. Proofs of
+//! other crates use them; no program calls them, and the root doesn't export them.
+ghost use Rattle.std.specs.Prelude.{◌≡◌, ◌*◌, ◌<◌, ◌≤◌, ◌↔◌, ℕ, Some, ◌/◌, ◌%◌};
+ghost use Rattle.codes3270.specs.Size.{rows, columns, cell_count, model_2, cells_in};
 ghost use Rattle.codes3270.specs.Address.{address_of};
 ghost use Rattle.codes3270.specs.SixBit.{six_bit_code};
 ghost use Rattle.codes3270.specs.Attribute.{attr_of, attr_byte};
@@ -11,8 +12,10 @@ ghost use Rattle.codes3270.specs.declared.attribute.Attr.{Attr};
 ghost use Rattle.codes3270.specs.declared.write_control.Wcc.{Wcc};
 ghost use Rattle.codes3270.specs.declared.attention.Aid.{Aid};
 
-/// Law: what is written is read back, the code page's two directions are inverse, and characters have the codes from 0x40 to
-/// 0xFE. The call does nothing.
+use crate::{CELL_COUNT, CELLS, COLUMNS, ROWS};
+
+/// Law: what is written is read back, the code page's two directions are inverse, and characters
+/// have the codes from 0x40 to 0xFE.
 pub const fn code_laws()
     ensures addresses { (address : ℕ) → address < cell_count →
         address_of (six_bit_code (address / 64)) (six_bit_code (address % 64)) ≡ address }
@@ -21,4 +24,15 @@ pub const fn code_laws()
     ensures aids { (aid : Aid) → IsRealAid aid → aid_of (byte_of_aid aid) ≡ Some aid }
     ensures characters { (code character : ℕ) → (character_of code ≡ Some character) ↔ (code_of character ≡ Some code) }
     ensures range { (code character : ℕ) → code_of character ≡ Some code → (0x40 ≤ code) × (code ≤ 0xFE) }
+{}
+
+/// Law: these constants are the numbers that contracts name, those numbers are the model's, and the
+/// rows fill the screen.
+pub const fn size_laws()
+    ensures rows { ROWS ≡ rows }
+    ensures columns { COLUMNS ≡ columns }
+    ensures cells { CELLS ≡ cell_count }
+    ensures length { CELL_COUNT ≡ cell_count }
+    ensures filled { cell_count ≡ rows * columns }
+    ensures model { (rows ≡ model_2.rows) × (columns ≡ model_2.columns) × (cell_count ≡ cells_in model_2) }
 {}

@@ -14,7 +14,7 @@ use Rattle.datastream.specs.declared.inbound_part.InboundFault.{InboundFault}
 use Rattle.datastream.specs.Grammar.{start_field, set_buffer_address}
 use Rattle.datastream.specs.InboundText.{IsPart, AreParts}
 use Rattle.datastream.specs.InboundReading.{and_parts as and_others, part_at, parts_within, parts_in, begins_no_address}
-use Rattle.datastream.specs.InboundFields.{Returned, lead, returned, cells_sent, cell_of_part, IsStorableCell}
+use Rattle.datastream.specs.InboundFields.{Returned, leading_text, returned, cells_sent, cell_of_part, IsStorableCell}
 use Rattle.codes3270.specs.declared.attribute.Cell.{Cell}
 use Rattle.codes3270.specs.declared.attribute.Cell.TheVariants.{Char as CharCell, Attr as AttrCell}
 use Rattle.std.specs.Prelude.{All, ◌==◌, not}
@@ -61,7 +61,7 @@ returned_past_lead (Attr attr ∷ parts) = refl
 
 -- a text's first characters are the parts' lead, and the rest is the other parts
 abbrev IsSplit : Form → List Part → List ℕ → Type 0
-IsSplit form parts text = (take (prefix_len is_storable text) text ≡ lead parts) × AreParts form (past_lead parts) (drop (prefix_len is_storable text) text)
+IsSplit form parts text = (take (prefix_len is_storable text) text ≡ leading_text parts) × AreParts form (past_lead parts) (drop (prefix_len is_storable text) text)
 
 more_in_prefix : (char : ℕ) (rest : List ℕ) → is_storable char ≡ true → prefix_len is_storable (char ∷ rest) ≡ suc (prefix_len is_storable rest)
 more_in_prefix char rest is = cond_when (is_storable char) (1 + prefix_len is_storable rest) 0 is ∙ omega arith
@@ -82,9 +82,9 @@ none_before (char ∷ rest) = cases (is_storable char) refl (none_before rest)
 pub from_start : (text : List ℕ) → prefix_len is_storable text ≡ 0 → text ≡ drop (prefix_len is_storable text) text
 from_start text start = ap (λ (n : ℕ). drop n text) (sym start)
 
-split_at : (form : Form) (parts : List Part) (text : List ℕ) (n : ℕ) → prefix_len is_storable text ≡ n → (take n text ≡ lead parts) × AreParts form (past_lead parts) (drop n text) → IsSplit form parts text
+split_at : (form : Form) (parts : List Part) (text : List ℕ) (n : ℕ) → prefix_len is_storable text ≡ n → (take n text ≡ leading_text parts) × AreParts form (past_lead parts) (drop n text) → IsSplit form parts text
 split_at form parts text n is split =
-    subst (λ k. (take k text ≡ lead parts) × AreParts form (past_lead parts) (drop k text)) (sym is) split
+    subst (λ k. (take k text ≡ leading_text parts) × AreParts form (past_lead parts) (drop k text)) (sym is) split
 
 pub split : (form : Form) (parts : List Part) (text : List ℕ) → AreParts form parts text → IsSplit form parts text
 split form [] text is = subst (λ t. IsSplit form [] t) (sym is) (refl, refl)
@@ -201,12 +201,12 @@ next_field text fields mark high low rest are is_fields is =
         let are : AreParts Modified next.others rest = subst (λ b. AreParts Modified next.others b) (sym same.2) next.are in
         let divided : IsSplit Modified next.others rest = split Modified next.others rest are in
         let others : List ℕ = drop (prefix_len is_storable rest) rest in
-        let found : returned (parts_in Modified text) ≡ record { first = next.address; text = lead next.others } ∷ returned next.others =
+        let found : returned (parts_in Modified text) ≡ record { first = next.address; text = leading_text next.others } ∷ returned next.others =
         ap returned (sym is_parts) ∙ sym (returned_past_lead parts) ∙ ap returned next.parts_are in
         let left : returned (parts_in Modified others) ≡ returned next.others = returned_in (past_lead next.others) others divided.1 ∙ returned_past_lead next.others in
         record {
           in_range = rw value next.in_range;
-          returned_are = found ∙ same_step next.address (address_of high low) (lead next.others) (take (prefix_len is_storable rest) rest) (returned next.others) (returned (parts_in Modified others)) (sym value) (sym divided.0) (sym left);
+          returned_are = found ∙ same_step next.address (address_of high low) (leading_text next.others) (take (prefix_len is_storable rest) rest) (returned next.others) (returned (parts_in Modified others)) (sym value) (sym divided.0) (sym left);
           rest = are_fields (past_lead next.others) others divided.1;
         }
 

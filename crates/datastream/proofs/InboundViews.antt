@@ -11,7 +11,7 @@ use Rattle.datastream.specs.declared.inbound_part.Form.TheVariants.{Modified, Al
 use Rattle.datastream.specs.declared.inbound_part.Part.{Part}
 use Rattle.datastream.specs.declared.inbound_part.Part.TheVariants.{At, Char, Attr}
 use Rattle.datastream.specs.InboundText.{IsProperPart, is_text_char}
-use Rattle.datastream.specs.InboundFields.{Returned, lead, returned, cells_sent, field_parts, parts_of_fields, parts_of_cells, PartsAreFields, IsProperReturned}
+use Rattle.datastream.specs.InboundFields.{Returned, leading_text, returned, cells_sent, field_parts, parts_of_fields, parts_of_cells, PartsAreFields, IsProperReturned}
 
 -- ---- which parts a form has not
 
@@ -32,7 +32,7 @@ address_in_range Buffer address other proper = absurd (other refl)
 
 -- ---- from parts to fields and back
 
-pub fields_joined : (form : Form) (parts : List Part) → (form ≡ Buffer → ⊥) → All (IsProperPart form) parts → parts_of_fields (lead parts) (returned parts) ≡ parts
+pub fields_joined : (form : Form) (parts : List Part) → (form ≡ Buffer → ⊥) → All (IsProperPart form) parts → parts_of_fields (leading_text parts) (returned parts) ≡ parts
 fields_joined form [] other proper = refl
 fields_joined form (At address ∷ parts) other proper =
     ap (λ ps. At address ∷ ps) (fields_joined form parts other (All-tail (IsProperPart form) (At address) parts proper))
@@ -40,11 +40,11 @@ fields_joined form (Char char ∷ parts) other proper =
     ap (λ ps. Char char ∷ ps) (fields_joined form parts other (All-tail (IsProperPart form) (Char char) parts proper))
 fields_joined form (Attr attr ∷ parts) other proper = no_attribute form attr other (All-head (IsProperPart form) (Attr attr) parts proper)
 
-lead_of_fields : (fields : List Returned) → lead (flat_map field_parts fields) ≡ []
+lead_of_fields : (fields : List Returned) → leading_text (flat_map field_parts fields) ≡ []
 lead_of_fields [] = refl
 lead_of_fields (field ∷ fields) = refl
 
-pub lead_again : (chars : List ℕ) (fields : List Returned) → lead (parts_of_fields chars fields) ≡ chars
+pub lead_again : (chars : List ℕ) (fields : List Returned) → leading_text (parts_of_fields chars fields) ≡ chars
 lead_again [] fields = lead_of_fields fields
 lead_again (char ∷ chars) fields = ap (λ cs. char ∷ cs) (lead_again chars fields)
 
@@ -58,7 +58,7 @@ same_fields first s t xs ys e f = rw (e, f) refl
 fields_again : (fields : List Returned) → returned (flat_map field_parts fields) ≡ fields
 fields_again [] = refl
 fields_again (field ∷ fields) =
-    same_fields field.first (lead (parts_of_fields field.text fields)) field.text (returned (parts_of_fields field.text fields)) fields
+    same_fields field.first (leading_text (parts_of_fields field.text fields)) field.text (returned (parts_of_fields field.text fields)) fields
     (lead_again field.text fields)
     (returned_past field.text (flat_map field_parts fields) ∙ fields_again fields)
 
@@ -87,11 +87,11 @@ parts_are_fields = record {
 
 -- ---- fields of proper parts
 
-pub lead_proper : (form : Form) (parts : List Part) → (form ≡ Buffer → ⊥) → All (IsProperPart form) parts → All (λ char. is_text_char char ≡ true) (lead parts)
+pub lead_proper : (form : Form) (parts : List Part) → (form ≡ Buffer → ⊥) → All (IsProperPart form) parts → All (λ char. is_text_char char ≡ true) (leading_text parts)
 lead_proper form [] other proper = All-nil (λ char. is_text_char char ≡ true)
 lead_proper form (At address ∷ parts) other proper = All-nil (λ char. is_text_char char ≡ true)
 lead_proper form (Char char ∷ parts) other proper =
-    All-cons (λ c. is_text_char c ≡ true) char (lead parts) (text_char form char other (All-head (IsProperPart form) (Char char) parts proper))
+    All-cons (λ c. is_text_char c ≡ true) char (leading_text parts) (text_char form char other (All-head (IsProperPart form) (Char char) parts proper))
     (lead_proper form parts other (All-tail (IsProperPart form) (Char char) parts proper))
 lead_proper form (Attr attr ∷ parts) other proper = All-nil (λ char. is_text_char char ≡ true)
 
@@ -99,7 +99,7 @@ pub returned_proper : (form : Form) (parts : List Part) → (form ≡ Buffer →
 returned_proper form [] other proper = All-nil IsProperReturned
 returned_proper form (At address ∷ parts) other proper =
     let others : All (IsProperPart form) parts = All-tail (IsProperPart form) (At address) parts proper in
-    All-cons IsProperReturned (record { first = address; text = lead parts }) (returned parts)
+    All-cons IsProperReturned (record { first = address; text = leading_text parts }) (returned parts)
     (record { first = address_in_range form address other (All-head (IsProperPart form) (At address) parts proper); text = lead_proper form parts other others })
     (returned_proper form parts other others)
 returned_proper form (Char char ∷ parts) other proper = returned_proper form parts other (All-tail (IsProperPart form) (Char char) parts proper)

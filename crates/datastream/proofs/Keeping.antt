@@ -10,7 +10,7 @@ use Rattle.codes3270.specs.Attribute.{attr_of}
 use Rattle.codes3270.specs.declared.attribute.Attr.{Attr as Attribute}
 use Rattle.datastream.specs.declared.wanted.Want.{Want}
 use Rattle.datastream.specs.declared.wanted.Want.TheVariants.{Char, Attr, Keep}
-use Rattle.datastream.specs.Rows.{bit_of, has_bit, kept, Marks, AreBits}
+use Rattle.datastream.specs.CellBits.{bit_of, has_bit, kept, Marks, AreBits}
 use Rattle.datastream.specs.Wanted.{IsProper, is_attribute, is_character, byte_of, want_kept, want_by, AreKept}
 
 -- ---- one word

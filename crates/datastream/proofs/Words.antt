@@ -8,7 +8,7 @@ use Rattle.std.proofs.lemmas.Bool.Decides.{nat_tests}
 use Rattle.std.proofs.lemmas.List.{get_or-set_same, get_or-set_other}
 use Rattle.std.proofs.lemmas.Nat.{shr-shr}
 use Rattle.std.proofs.lemmas.Nat.Bits.{bit_at-zero, bit_at-lt, bit_at_and, bit_at_or, bit_at_not, bit_at_ones, bit_at_ones_above, bit_at-trailing_zeros, bit_at_above}
-use Rattle.datastream.specs.Rows.{bit_of, has_bit, is_within}
+use Rattle.datastream.specs.CellBits.{bit_of, has_bit, is_within}
 
 -- ---- the bits of a word from one on
 

@@ -1,4 +1,4 @@
--- Inbound data (GA23-0059-07 on inbound data streams) by fields: what came before any address, each field that came with its
+-- Inbound data (GA23-0059-07 on inbound data streams) by fields: the characters before any address, each returned field with its
 -- first address and its text, and the cells of a buffer.
 use Rattle.std.specs.Prelude.{◌≡◌, ⊤, ◌+◌, ◌%◌, ◌<◌, ℕ, Bool, true, false, List, [], ◌∷◌, ◌++◌, length, map, filter, All, Option, Some, None, if◌then◌else◌}
 use Rattle.std.specs.List.{flat_map, list_all}
@@ -29,16 +29,16 @@ pub record IsProperReturned (field : Returned) : Type 0 where
 -- ---- from parts to fields
 
 -- the characters before any address or attribute
-abbrev pub lead : List Part → List ℕ
-lead [] = []
-lead (At address ∷ parts) = []
-lead (Char char ∷ parts) = char ∷ lead parts
-lead (Attr attr ∷ parts) = []
+abbrev pub leading_text : List Part → List ℕ
+leading_text [] = []
+leading_text (At address ∷ parts) = []
+leading_text (Char char ∷ parts) = char ∷ leading_text parts
+leading_text (Attr attr ∷ parts) = []
 
 -- each address with the characters up to the next one
 abbrev pub returned : List Part → List Returned
 returned [] = []
-returned (At address ∷ parts) = record { first = address; text = lead parts } ∷ returned parts
+returned (At address ∷ parts) = record { first = address; text = leading_text parts } ∷ returned parts
 returned (Char char ∷ parts) = returned parts
 returned (Attr attr ∷ parts) = returned parts
 
@@ -60,7 +60,7 @@ abbrev pub field_parts : Returned → List Part
 field_parts field = At field.first ∷ map Char field.text
 
 abbrev pub parts_of_fields : List ℕ → List Returned → List Part
-parts_of_fields lead returned = map Char lead ++ flat_map field_parts returned
+parts_of_fields leading_text returned = map Char leading_text ++ flat_map field_parts returned
 
 abbrev pub part_of_cell : Cell → Part
 part_of_cell (CharCell char) = Char char
@@ -72,8 +72,8 @@ parts_of_cells cells = map part_of_cell cells
 -- The two views are one: parts of modified fields are those of their fields, the parts of a buffer those of its cells, and
 -- fields or cells come back from their parts.
 pub record PartsAreFields : Type 0 where
-  pub joined : (form : Form) (parts : List Part) → (form ≡ Buffer → ⊥) → All (IsProperPart form) parts → parts_of_fields (lead parts) (returned parts) ≡ parts
-  pub lead_back : (chars : List ℕ) (fields : List Returned) → lead (parts_of_fields chars fields) ≡ chars
+  pub joined : (form : Form) (parts : List Part) → (form ≡ Buffer → ⊥) → All (IsProperPart form) parts → parts_of_fields (leading_text parts) (returned parts) ≡ parts
+  pub lead_back : (chars : List ℕ) (fields : List Returned) → leading_text (parts_of_fields chars fields) ≡ chars
   pub returned_back : (chars : List ℕ) (fields : List Returned) → returned (parts_of_fields chars fields) ≡ fields
   pub cells_joined : (parts : List Part) → All (IsProperPart Buffer) parts → parts_of_cells (cells_sent parts) ≡ parts
   pub cells_back : (cells : List Cell) → cells_sent (parts_of_cells cells) ≡ cells

@@ -20,6 +20,6 @@ pub mod InboundText
 pub mod InboundReading
 pub mod InboundFields
 pub mod InboundReturned
-pub mod Rows
+pub mod CellBits
 pub mod Wanted
 pub mod Senses

@@ -3,7 +3,7 @@ use Rattle.std.specs.Prelude.{◌≡◌, ◌<◌, ℕ, Bool, true, false, IsTrue
 use Rattle.codes3270.specs.Attribute.{attr_of, attr_byte}
 use Rattle.codes3270.specs.Size.{cell_count}
 use Rattle.codes3270.specs.Storable.{is_storable}
-use Rattle.datastream.specs.Rows.{has_bit, kept, Marks}
+use Rattle.datastream.specs.CellBits.{has_bit, kept, Marks}
 use Rattle.datastream.specs.declared.wanted.Want.{Want}
 use Rattle.datastream.specs.declared.wanted.Want.TheVariants.{Char, Attr, Keep}
 

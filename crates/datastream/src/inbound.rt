@@ -8,7 +8,7 @@ ghost use Rattle.datastream.specs.declared.inbound_part.Form.TheVariants.{Modifi
 ghost use Rattle.datastream.specs.declared.inbound_part.InboundFault.{InboundFault as Fault};
 ghost use Rattle.datastream.specs.InboundText.{AreParts, InboundParts, IsInbound, IsSent, IsNoInbound, IsProperPart, is_text_char, stands_alone};
 ghost use Rattle.datastream.specs.InboundReading.{parts_in};
-ghost use Rattle.datastream.specs.InboundFields.{lead, returned, cells_sent, IsProperReturned, IsStorableCell};
+ghost use Rattle.datastream.specs.InboundFields.{leading_text, returned, cells_sent, IsProperReturned, IsStorableCell};
 
 use crate::inbound_fields::{ReturnedFields, count_characters};
 use crate::inbound_part::{Form, InboundFault};
@@ -24,7 +24,7 @@ pub struct Inbound<'a> {
     cursor: Option<Addr>,
     text: &'a [u8],
     /// How many characters the text begins with, counted once.
-    lead: usize,
+    leading_text: usize,
 }
 
 impl<'a> Model for Inbound<'a> {
@@ -41,8 +41,8 @@ impl<'a> Model for Inbound<'a> {
     ghost invariant = { λ inbound.
         IsSent (record { form = inbound.form; aid = inbound.aid; cursor = inbound.cursor; parts = parts_in inbound.form inbound.text.now })
         × AreParts inbound.form (parts_in inbound.form inbound.text.now) inbound.text.now
-        × (inbound.lead ≡ prefix_len is_storable inbound.text.now)
-        × (inbound.lead ≤ length inbound.text.now) };
+        × (inbound.leading_text ≡ prefix_len is_storable inbound.text.now)
+        × (inbound.leading_text ≤ length inbound.text.now) };
 }
 
 impl<'a> Inbound<'a> {
@@ -90,12 +90,12 @@ impl<'a> Inbound<'a> {
     }
 
     /// The characters before any address. In a buffer, those before the first attribute.
-    pub fn lead(&self) -> &'a [u8]
-        ensures lead { result.now ≡ lead self.now.parts }
+    pub fn leading_text(&self) -> &'a [u8]
+        ensures leading_text { result.now ≡ leading_text self.now.parts }
         ensures proper { (self.now.form ≡ Buffer → ⊥) → Each (λ char. is_text_char char ≡ true) result.now }
         ensures sent { IsSent self.now }
     {
-        &self.text[..self.lead]
+        &self.text[..self.leading_text]
     }
 
     /// The fields that came, each with the address of its first cell. A buffer has none: its cells are its parts.
@@ -128,7 +128,7 @@ impl<'a> Inbound<'a> {
         ensures start { prefix_len is_storable result.now ≡ 0 }
         ensures fields { returned (parts_in Modified result.now) ≡ returned self.now.parts }
     {
-        let fields = &self.text[self.lead..];
+        let fields = &self.text[self.leading_text..];
         match self.form {
             Form::Modified => fields,
             Form::All => fields,
@@ -158,14 +158,14 @@ fn inbound_of(bytes: &[u8], form: Form) -> Result<Inbound<'_>, InboundFault>
         return Err(InboundFault::BadAid);
     };
     if is_alone(form, &aid) {
-        alone_inbound(form, aid, *byte, rest)
+        short_read(form, aid, *byte, rest)
     } else {
         long_inbound(form, aid, *byte, rest)
     }
 }
 
 /// The data that has its AID alone, of which `rest` is what follows the AID's byte.
-fn alone_inbound(form: Form, aid: Aid, byte: u8, rest: &[u8]) -> Result<Inbound<'_>, InboundFault>
+fn short_read(form: Form, aid: Aid, byte: u8, rest: &[u8]) -> Result<Inbound<'_>, InboundFault>
     requires known { aid_of byte ≡ Some aid }
     requires alone { stands_alone form aid ≡ true }
     ensures { MatchResult result (λ inbound. (inbound.form ≡ form) × IsInbound inbound (byte ∷ rest.now)) (λ fault. IsNoInbound form fault (byte ∷ rest.now)) }
@@ -176,7 +176,7 @@ fn alone_inbound(form: Form, aid: Aid, byte: u8, rest: &[u8]) -> Result<Inbound<
             aid,
             cursor: None,
             text: rest,
-            lead: 0,
+            leading_text: 0,
         })
     } else {
         Err(InboundFault::BadForm)
@@ -201,7 +201,7 @@ fn long_inbound(form: Form, aid: Aid, byte: u8, rest: &[u8]) -> Result<Inbound<'
         aid,
         cursor: Some(cursor),
         text,
-        lead: count_characters(text),
+        leading_text: count_characters(text),
     })
 }
 

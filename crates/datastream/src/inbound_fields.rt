@@ -38,7 +38,7 @@ impl<'a> Model for ReturnedFields<'a> {
 
     ghost view = { λ fields. returned (parts_in Modified fields.text.now) };
 
-    // No character stands before the first address.
+    // There is no character before the first address.
     ghost invariant = { λ fields. AreParts Modified (parts_in Modified fields.text.now) fields.text.now × (prefix_len is_storable fields.text.now ≡ 0) };
 }
 

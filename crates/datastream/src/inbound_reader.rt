@@ -90,7 +90,7 @@ impl<'a> Iterator for Cells<'a> {
     }
 }
 
-// Each of these reads what stands at the front of the bytes, and answers the bytes behind it too.
+// Each of these reads the item at the front of the bytes, and also answers the bytes after it.
 
 /// An address, behind its order's code.
 fn address_part_of(bytes: &[u8]) -> Result<(Part, &[u8]), InboundFault>

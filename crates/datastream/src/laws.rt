@@ -1,39 +1,42 @@
-//! Laws of the definitions in `specs/`, for proofs in the crates above. Each is the contract of a function that does nothing.
+//! Laws of commands, inbound data, fields and notes: each is the contract of a function that does nothing. Proofs of
+//! other crates use them; no program calls them, and the root doesn't export them.
+ghost use Rattle.datastream.specs.InboundFields.{PartsAreFields, SentIsRead};
 ghost use Rattle.datastream.specs.FieldLaws.{EachCellHasOneField, FieldsAreListed, FieldsAscend, FieldsTakeAll, Unformatted};
 ghost use Rattle.datastream.specs.HeldLaws.{EraseInputHolds, HeldAtFirst, HeldComposes, HeldIsRound};
 ghost use Rattle.datastream.specs.Laws.{OneCommand, OneInbound, OnlyByPlace, TabsByPlace, WrittenIsRead};
 ghost use Rattle.datastream.specs.NoteLaws.{HeldStaysProtected, NoteKeepsBounds, NoteKeepsForm, NoteKeepsHeld, NoteKeepsSendable, NoteLeavesUnprotected, NotesCompose, ProtectedAreCharacters};
 ghost use Rattle.datastream.specs.SpanLaws.{DistancesLead, SpansAreSteps};
 
-/// Does nothing: its contract says that what a [`CommandWriter`](crate::CommandWriter) wrote in any calls is the command
-/// of the orders that the calls name.
+/// Law: what a [`CommandWriter`](crate::CommandWriter) wrote in any calls is the command of the
+/// orders that the calls name.
 pub fn written_is_read()
     ensures { WrittenIsRead }
 {}
 
-/// Does nothing: its contract says that bytes spell one command at most, and are one inbound data of each form at most.
+/// Law: bytes spell one command at most, and are one inbound data of each form at most.
 pub fn one_reading()
     ensures command { OneCommand }
     ensures inbound { OneInbound }
 {}
 
-/// Does nothing: its contract says that a write's orders act one after another, and that a program tab nulls just behind
-/// data, and behind another one that nulled up to the last cell.
+/// Law: a write's orders act one after another, and that a program tab nulls just behind data, and
+/// behind another one that nulled up to the last cell.
 pub fn tabs_by_place()
     ensures by_place { TabsByPlace }
     ensures only { OnlyByPlace }
 {}
 
-/// Does nothing: its contract says that the addresses which Repeat to Address and Erase Unprotected to Address act on are
-/// those that single steps lead to, from the current address up to the stop, round the end; all of them where the two are
-/// equal.
+/// Law: the addresses which Repeat to Address and Erase Unprotected to Address act on are those
+/// that single steps lead to, from the current address up to the stop, round the end; all of them
+/// where the two are equal.
 pub fn spans_are_steps()
     ensures steps { SpansAreSteps }
     ensures lead { DistancesLead }
 {}
 
-/// Does nothing: its contract says that the two views of fields agree (GA23-0059-07 on fields): the list of fields by the
-/// addresses of their attributes, and for each cell the attribute that stands nearest before it, round the end.
+/// Law: the two views of fields agree (GA23-0059-07 on fields): the list of fields by the addresses
+/// of their attributes, and for each cell the attribute that stands nearest before it, round the
+/// end.
 pub fn fields_both_ways()
     ensures ascend { FieldsAscend }
     ensures listed { FieldsAreListed }
@@ -42,8 +45,8 @@ pub fn fields_both_ways()
     ensures all_cells { FieldsTakeAll }
 {}
 
-/// Does nothing: its contract says what operator keys keep of the screen that the last write left, by place and by a
-/// walk, and that what keys keep one after another is kept since the write.
+/// Law: what operator keys keep of the screen that the last write left, by place and by a walk, and
+/// that what keys keep one after another is kept since the write.
 pub fn kept_since_the_write()
     ensures round { HeldIsRound }
     ensures at_first { HeldAtFirst }
@@ -51,9 +54,9 @@ pub fn kept_since_the_write()
     ensures erase_input { EraseInputHolds }
 {}
 
-/// Does nothing: its contract says what a note keeps, a Write of characters over characters: size, cursor and AID of the
-/// screen, its attributes and all other cells; and over characters of protected fields all unprotected ones, and what keys
-/// kept since the write before.
+/// Law: what a note keeps, a Write of characters over characters: size, cursor and AID of the
+/// screen, its attributes and all other cells; and over characters of protected fields all
+/// unprotected ones, and what keys kept since the write before.
 pub fn what_a_note_keeps()
     ensures bounds { NoteKeepsBounds }
     ensures form { NoteKeepsForm }
@@ -63,4 +66,14 @@ pub fn what_a_note_keeps()
     ensures still_protected { HeldStaysProtected }
     ensures characters { ProtectedAreCharacters }
     ensures composes { NotesCompose }
+{}
+
+/// Law: the parts of inbound data and its fields or cells are one and the same.
+pub fn parts_are_fields()
+    ensures { PartsAreFields }
+{}
+
+/// Law: what a screen's read writes is read as exactly that screen's data.
+pub fn sent_is_read()
+    ensures { SentIsRead }
 {}

@@ -20,41 +20,35 @@
 //! `specs/` has the definitions: `Grammar` says which bytes are commands and where others go wrong, `Writing` what is
 //! written, `InboundText` which bytes are inbound data, `Screen`, `Fields` and `Span` what a screen is, `Meaning` what a
 //! command makes of it, `Inbound` what is sent of it, `Held` what keys keep of it, `Note` which writes put characters over
-//! characters alone, and `Laws` with its like what joins these. The functions [`written_is_read`] and those beside it have
+//! characters alone, and `Laws` with its like what joins these. The functions [`laws::written_is_read`] and those beside it have
 //! the laws as their contracts.
 #![tactic(auto)]
 
+mod cell_bits;
 mod command;
 mod command_code;
 mod fault;
 mod inbound;
 mod inbound_fields;
-mod inbound_laws;
 mod inbound_part;
 mod inbound_reader;
-mod laws;
+pub mod laws;
 mod order;
 mod order_codes;
 mod orders;
-mod row;
 mod wanted;
 mod writer;
 
+pub use cell_bits::CellBits;
 pub use command::{Command, read_command};
 pub use command_code::CommandCode;
 pub use fault::{CommandFault, Sense};
 pub use inbound::{Inbound, read_inbound};
 pub use inbound_fields::{ReturnedField, ReturnedFields};
-pub use inbound_laws::{parts_are_fields, sent_is_read};
 pub use inbound_part::{Form, InboundFault, Part};
 pub use inbound_reader::{Cells, Parts};
-pub use laws::{
-    fields_both_ways, kept_since_the_write, one_reading, spans_are_steps, tabs_by_place,
-    what_a_note_keeps, written_is_read,
-};
 pub use order::Order;
 pub use order_codes::{SET_BUFFER_ADDRESS, START_FIELD};
 pub use orders::Orders;
-pub use row::Row;
 pub use wanted::{Want, Wanted, Wants};
 pub use writer::{CommandWriter, Memory};

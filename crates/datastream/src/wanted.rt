@@ -1,12 +1,12 @@
 //! What a screen is wanted to be.
 ghost use Rattle.std.specs.Prelude.{◌≡◌, ◌<◌, ◌≤◌, ◌+◌, ◌*◌, ◌++◌, All, false, length, map, replicate, drop, slice_get, slice_set, slice_index_or, Some};
 ghost use Rattle.codes3270.specs.Size.{cell_count};
-ghost use Rattle.datastream.specs.Rows.{word_count, AreBits};
+ghost use Rattle.datastream.specs.CellBits.{word_count, AreBits};
 ghost use Rattle.datastream.specs.Wanted.{IsProper, WantedScreen, want_kept};
 ghost use Rattle.datastream.specs.declared.wanted.Want.TheVariants.{Keep};
 ghost use Rattle.datastream.specs.Wanted.{is_attribute as is_attribute_wanted, is_character as is_character_wanted, byte_of as byte_wanted};
 
-use crate::row::Row;
+use crate::cell_bits::CellBits;
 use codes3270::{Addr, Attr, CELL_COUNT, attr_code};
 use std::marker::Model;
 
@@ -29,14 +29,14 @@ pub enum Want {
 pub struct Wanted {
     /// Characters, and the codes of attributes; null where the cell is kept.
     bytes: [u8; CELL_COUNT],
-    attributes: Row,
-    characters: Row,
+    attributes: CellBits,
+    characters: CellBits,
     cursor: Addr,
     reset: bool,
 }
 
 impl Model for Wanted {
-    ghost use Rattle.datastream.specs.Rows.{kept};
+    ghost use Rattle.datastream.specs.CellBits.{kept};
     ghost use Rattle.datastream.specs.Wanted.{WantedScreen, IsScreen, AreKept, want_by};
 
     ghost Value = { WantedScreen };
@@ -94,8 +94,8 @@ impl Wanted {
         let _position = cursor.get();
         Wanted {
             bytes: same_bytes(byte_of(want)),
-            attributes: Row::all(is_attribute(want)),
-            characters: Row::all(is_character(want)),
+            attributes: CellBits::all(is_attribute(want)),
+            characters: CellBits::all(is_character(want)),
             cursor,
             reset: false,
         }
@@ -114,8 +114,8 @@ impl Wanted {
         self.characters.put(cell, is_character(want));
     }
 
-    /// Wants the cursor at an address, and all fields marked as unmodified first, or not.
-    pub fn aim(&mut self, cursor: Addr, reset: bool)
+    /// Sets where the cursor is wanted, and whether MDT of all fields is reset first.
+    pub fn set_cursor_and_reset(&mut self, cursor: Addr, reset: bool)
         ensures { self.new ≡ record self.old { cursor = cursor; reset = reset } }
     {
         let _position = cursor.get();

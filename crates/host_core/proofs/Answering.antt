@@ -7,7 +7,7 @@ use Rattle.host_core.specs.Acts.{Act}
 use Rattle.host_core.specs.Answering.{BelievesNoSooner, BelievesNotesNoSooner, CommandsAreNumbered, NotesAreNumbered, number_of, OnlyItsResponse}
 use Rattle.host_core.specs.Messages.{Verdict}
 use Rattle.host_core.specs.Session.{Conn, Pending}
-use Rattle.host_core.specs.Takes.{Step, closed_by, if_answers, once_agreed, quiet, refused, response_came, verdict_came}
+use Rattle.host_core.specs.Takes.{HostStep, closed_by, if_answers, once_agreed, quiet, refused, response_came, verdict_came}
 
 pub believes_no_sooner : BelievesNoSooner
 believes_no_sooner app conn Act.Read = refl
@@ -30,7 +30,7 @@ differs number pending other = by_test (number == pending) refl
     by_test true e = absurd (other (ap Some (sym (eqb-true number pending e))))
     by_test false e = refl
 
-no_answer : (number pending : ℕ) (step : Step) (conn : Conn) → (Some pending ≡ Some number → ⊥) → if_answers (number == pending) step conn ≡ closed_by BadResponse conn
+no_answer : (number pending : ℕ) (step : HostStep) (conn : Conn) → (Some pending ≡ Some number → ⊥) → if_answers (number == pending) step conn ≡ closed_by BadResponse conn
 no_answer number pending step conn other = ap (λ b. if_answers b step conn) (differs number pending other)
 
 answers : (number pending : ℕ) (command : CommandParts) (verdict : Verdict) (conn : Conn) → (Some pending ≡ Some number → ⊥)

@@ -21,7 +21,7 @@ use Rattle.host_core.specs.Keeps.{IsLeft, IsRunning, ItemTaken, OthersHold, clai
 use Rattle.host_core.specs.Sound.{HoldsJust}
 use Rattle.host_core.specs.Session.{Conn}
 use Rattle.host_core.specs.State.{Service}
-use Rattle.host_core.specs.Takes.{Step, freed_if}
+use Rattle.host_core.specs.Takes.{HostStep, freed_if}
 
 -- ---- the pool
 
@@ -82,13 +82,13 @@ pub byte_completes : (number : ℕ) (pool mid left : List Entry) (held after : H
     → IsRunning held → Takes held byte after → after.ready ≡ Some item → ItemTaken number pool old item before out closes mid new → left ≡ freed_if number closes mid
     → TakesByte number (counter_of pool held old None before) byte (counter_of left after new closes out)
 byte_completes number pool mid left held after old new before out byte item closes running takes ready taken freed =
-    let step : Step = taken.step in
+    let step : HostStep = taken.step in
     TakesByte.completes held.rest after.rest old item step refl
     (delivers_item record_limit held after byte item running takes ready) taken.takes
     (ap (λ (p : List Entry). counter_of p after new closes out) (freed ∙ ap (freed_if number closes) taken.pool_is)
-    ∙ ap (λ (c : Option Cause). record { pool = freed_if number c (granted_if number step.grants pool); line = record { service = service_after after.rest new c; out = out.items } }) taken.ends
-    ∙ ap (λ (conn : Conn). record { pool = freed_if number step.closes (granted_if number step.grants pool); line = record { service = service_after after.rest conn step.closes; out = out.items } }) taken.conn
-    ∙ ap (λ (bytes : List ℕ). record { pool = freed_if number step.closes (granted_if number step.grants pool); line = record { service = service_after after.rest step.conn step.closes; out = bytes } }) taken.sent)
+    ∙ ap (λ (c : Option Cause). record { pool = freed_if number c (granted_if number step.grants pool); connection = record { service = service_after after.rest new c; out = out.items } }) taken.ends
+    ∙ ap (λ (conn : Conn). record { pool = freed_if number step.closes (granted_if number step.grants pool); connection = record { service = service_after after.rest conn step.closes; out = out.items } }) taken.conn
+    ∙ ap (λ (bytes : List ℕ). record { pool = freed_if number step.closes (granted_if number step.grants pool); connection = record { service = service_after after.rest step.conn step.closes; out = bytes } }) taken.sent)
 
 -- ---- bytes
 
@@ -108,6 +108,6 @@ pub byte_more : (number : ℕ) (start : Counter) (bytes : List ℕ) (place : ℕ
     → TakesByte number (counter_of pool held conn None roomy) (get_or bytes place 0) new → TakesBytes number start (take (place + 1) bytes) new
 byte_more number start bytes place pool held conn out roomy new below same taken more =
     let as_before : counter_of pool held conn None roomy ≡ counter_of pool held conn None out =
-    ap (λ (sent : List ℕ). record { pool = pool; line = record { service = Service.Open held.rest conn; out = sent } }) same in
+    ap (λ (sent : List ℕ). record { pool = pool; connection = record { service = Service.Open held.rest conn; out = sent } }) same in
     up_to_one_more number start bytes place (counter_of pool held conn None out) new below taken
     (subst (λ (from : Counter). TakesByte number from (get_or bytes place 0) new) as_before more)

@@ -27,11 +27,11 @@ if_may : (may : Bool) (sent : Sent) (old : Conn) (before after : Vec ℕ Global)
 if_may may sent old before after new is on = rw is on
 
 pub acts : (app : Application) (act : Act) (old new : Conn) (before roomy after : Vec ℕ Global) → may_act old.turn old.pending (is_agreed old.talk.state) ≡ true
-    → act ≡ act_on app old old.occasion → roomy.items ≡ before.items → IsSentOn (done app old act) roomy after new
+    → act ≡ act_on app old old.turn_reason → roomy.items ≡ before.items → IsSentOn (done app old act) roomy after new
     → DoesOn (acted app old) old before IsSent new after
 acts app act old new before roomy after may is same on =
-    if_may (may_act old.turn old.pending (is_agreed old.talk.state)) (done app old (act_on app old old.occasion)) old before after new may
-    (sent_behind (done app old (act_on app old old.occasion)) before roomy after new same (subst (λ (a : Act). IsSentOn (done app old a) roomy after new) is on))
+    if_may (may_act old.turn old.pending (is_agreed old.talk.state)) (done app old (act_on app old old.turn_reason)) old before after new may
+    (sent_behind (done app old (act_on app old old.turn_reason)) before roomy after new same (subst (λ (a : Act). IsSentOn (done app old a) roomy after new) is on))
 
 pub notes : (text : List ℕ) (old new : Conn) (before roomy after : Vec ℕ Global) → may_note old.turn old.pending (is_agreed old.talk.state) ≡ true
     → roomy.items ≡ before.items → IsSentOn (noted_as text old) roomy after new
@@ -51,12 +51,12 @@ room_of_sent app conn (chosen.Show panel message keep changed) = refl
 
 -- the room didn't do for what there is to do
 pub acts_without_room : (app : Application) (act : Chosen) (old : Conn) (before after : Vec ℕ Global) (room : ℕ) → may_act old.turn old.pending (is_agreed old.talk.state) ≡ true
-    → act_of old.values act ≡ act_on app old old.occasion → room ≡ room_of act → vec_capacity before < vec_len before + room → after.items ≡ before.items
+    → act_of old.values act ≡ act_on app old old.turn_reason → room ≡ room_of act → vec_capacity before < vec_len before + room → after.items ≡ before.items
     → DoesOn (acted app old) old before NoMemory old after
 acts_without_room app act old before after room may is size short same =
-    let asked : room ≡ room_for (done app old (act_on app old old.occasion)).message =
+    let asked : room ≡ room_for (done app old (act_on app old old.turn_reason)).message =
     size ∙ sym (room_of_sent app old act) ∙ ap (λ (a : Act). room_for (done app old a).message) is in
-    if_wanted (may_act old.turn old.pending (is_agreed old.talk.state)) (done app old (act_on app old old.occasion)) old before after may same
+    if_wanted (may_act old.turn old.pending (is_agreed old.talk.state)) (done app old (act_on app old old.turn_reason)) old before after may same
     (WantsMemory.room (subst (λ (n : ℕ). vec_capacity before < vec_len before + n) asked short))
 
 changed_values : (app : Application) (conn : Conn) (act : Act) → ChangesValues conn.values act → (done app conn act).conn.values ≢ conn.values
@@ -65,10 +65,10 @@ changed_values app conn (Act.Show panel message keep values) changes = changes
 
 -- values change
 pub acts_without_values : (app : Application) (old : Conn) (before : Vec ℕ Global) → may_act old.turn old.pending (is_agreed old.talk.state) ≡ true
-    → ChangesValues old.values (act_on app old old.occasion) → DoesOn (acted app old) old before NoMemory old before
+    → ChangesValues old.values (act_on app old old.turn_reason) → DoesOn (acted app old) old before NoMemory old before
 acts_without_values app old before may changes =
-    if_wanted (may_act old.turn old.pending (is_agreed old.talk.state)) (done app old (act_on app old old.occasion)) old before before may refl
-    (WantsMemory.values (changed_values app old (act_on app old old.occasion) changes))
+    if_wanted (may_act old.turn old.pending (is_agreed old.talk.state)) (done app old (act_on app old old.turn_reason)) old before before may refl
+    (WantsMemory.values (changed_values app old (act_on app old old.turn_reason) changes))
 
 pub notes_without_room : (text : List ℕ) (old : Conn) (before after : Vec ℕ Global) → may_note old.turn old.pending (is_agreed old.talk.state) ≡ true
     → vec_capacity before < vec_len before + note_room → after.items ≡ before.items → DoesOn (noted text old) old before NoMemory old after

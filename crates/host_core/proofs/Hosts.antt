@@ -6,60 +6,60 @@ use Rattle.lu_pool.specs.Pool.{Holds, HoldsNone, OneHolder}
 use Rattle.lu_pool.specs.declared.entry.Entry.{Entry}
 use Rattle.panels.specs.Panel.{Panels}
 use Rattle.host_core.specs.Keeps.{OthersHold}
-use Rattle.host_core.specs.Lines.{service_of}
-use Rattle.host_core.specs.declared.line.Service.{Service as Kept}
+use Rattle.host_core.specs.Connections.{service_of}
+use Rattle.host_core.specs.declared.connection.Service.{Service as Kept}
 use Rattle.host_core.specs.Session.{agreed_lu}
 use Rattle.host_core.specs.Sound.{HoldsJust, IsShown, IsSound, NobodyShares}
-use Rattle.host_core.specs.State.{Service, Line, Host, most_connections, unused, line_at, service_at, lu_of, phase_of, phase_agreed}
+use Rattle.host_core.specs.State.{Service, Connection, Host, most_connections, unused, connection_at, service_at, lu_of, phase_of, phase_agreed}
 use Rattle.host_core.specs.declared.phase.Phase.TheVariants as phase
 
 -- a host with another pool, and another line at a number
-abbrev pub changed : ℕ → List Entry → Line → Host → Host
-changed number pool line host = record { panels = host.panels; pool = pool; lines = set host.lines number line }
+abbrev pub changed : ℕ → List Entry → Connection → Host → Host
+changed number pool connection host = record { panels = host.panels; pool = pool; connections = set host.connections number connection }
 
 -- ---- lines
 
-pub line_there : (number : ℕ) (lines : List Line) (line : Line) → number < length lines → get_or (set lines number line) number unused ≡ line
-line_there number lines line below = get_or-set_same lines number line unused below
+pub connection_there : (number : ℕ) (connections : List Connection) (connection : Connection) → number < length connections → get_or (set connections number connection) number unused ≡ connection
+connection_there number connections connection below = get_or-set_same connections number connection unused below
 
 -- what holds of the line at a number, and of the others, holds of each
-at_each : (P : ℕ → Line → Type 0) (number : ℕ) (lines : List Line) (line : Line) → number < length lines → P number line
-    → ((other : ℕ) → other ≢ number → P other (get_or lines other unused)) → (other : ℕ) → P other (get_or (set lines number line) other unused)
-at_each P number lines line below here others other = by_test (other == number) refl
+at_each : (P : ℕ → Connection → Type 0) (number : ℕ) (connections : List Connection) (connection : Connection) → number < length connections → P number connection
+    → ((other : ℕ) → other ≢ number → P other (get_or connections other unused)) → (other : ℕ) → P other (get_or (set connections number connection) other unused)
+at_each P number connections connection below here others other = by_test (other == number) refl
   where
-    by_test : (b : Bool) → (other == number) ≡ b → P other (get_or (set lines number line) other unused)
+    by_test : (b : Bool) → (other == number) ≡ b → P other (get_or (set connections number connection) other unused)
     by_test true e =
-        subst (λ (n : ℕ). P n (get_or (set lines number line) n unused)) (sym (eqb-true other number e))
-        (subst (P number) (sym (line_there number lines line below)) here)
+        subst (λ (n : ℕ). P n (get_or (set connections number connection) n unused)) (sym (eqb-true other number e))
+        (subst (P number) (sym (connection_there number connections connection below)) here)
     by_test false e =
         let ne : other ≢ number = eqb-false other number e in
-        subst (P other) (sym (get_or-set_other lines number other line unused ne)) (others other ne)
+        subst (P other) (sym (get_or-set_other connections number other connection unused ne)) (others other ne)
 
 -- ---- hosts
 
-pub changed_sound : (number : ℕ) (pool : List Entry) (line : Line) (host : Host) → number < most_connections → IsSound host
-    → HoldsJust number pool (lu_of line.service) → OthersHold number host.pool pool → IsShown (length host.panels.panels) line.service
-    → IsSound (changed number pool line host)
-changed_sound number pool line host below sound here others shown =
-    let inside : number < length host.lines = subst (λ (n : ℕ). number < n) (sym sound.lines) below in
+pub changed_sound : (number : ℕ) (pool : List Entry) (connection : Connection) (host : Host) → number < most_connections → IsSound host
+    → HoldsJust number pool (lu_of connection.service) → OthersHold number host.pool pool → IsShown (length host.panels.panels) connection.service
+    → IsSound (changed number pool connection host)
+changed_sound number pool connection host below sound here others shown =
+    let inside : number < length host.connections = subst (λ (n : ℕ). number < n) (sym sound.connections) below in
     record {
-      lines = length-set host.lines number line ∙ sound.lines;
-      held = at_each (λ n l. HoldsJust n pool (lu_of l.service)) number host.lines line inside here
+      connections = length-set host.connections number connection ∙ sound.connections;
+      held = at_each (λ n l. HoldsJust n pool (lu_of l.service)) number host.connections connection inside here
           (λ other ne. λ lu. (λ h. (sound.held other lu).0 ((others other lu ne).0 h), λ e. (others other lu ne).1 ((sound.held other lu).1 e)));
-      shown = at_each (λ n l. IsShown (length host.panels.panels) l.service) number host.lines line inside shown (λ other ne. sound.shown other);
+      shown = at_each (λ n l. IsShown (length host.panels.panels) l.service) number host.connections connection inside shown (λ other ne. sound.shown other);
     }
 
 pub others_stay : (number : ℕ) (pool : List Entry) → OthersHold number pool pool
 others_stay number pool other lu ne = (λ h. h, λ h. h)
 
 -- the LU that the line had
-pub held_here : (number : ℕ) (line old : Line) (host : Host) → IsSound host → old ≡ line_at number host → lu_of line.service ≡ lu_of old.service
-    → HoldsJust number host.pool (lu_of line.service)
-held_here number line old host sound is same =
-    subst (HoldsJust number host.pool) (sym (same ∙ ap (λ (l : Line). lu_of l.service) is)) (sound.held number)
+pub held_here : (number : ℕ) (connection old : Connection) (host : Host) → IsSound host → old ≡ connection_at number host → lu_of connection.service ≡ lu_of old.service
+    → HoldsJust number host.pool (lu_of connection.service)
+held_here number connection old host sound is same =
+    subst (HoldsJust number host.pool) (sym (same ∙ ap (λ (l : Connection). lu_of l.service) is)) (sound.held number)
 
-pub held_at_line : (number : ℕ) (old : Line) (host : Host) → IsSound host → old ≡ line_at number host → HoldsJust number host.pool (lu_of old.service)
-held_at_line number old host sound is = held_here number old old host sound is refl
+pub held_at_connection : (number : ℕ) (old : Connection) (host : Host) → IsSound host → old ≡ connection_at number host → HoldsJust number host.pool (lu_of old.service)
+held_at_connection number old host sound is = held_here number old old host sound is refl
 
 pub unshared : (host : Host) → IsSound host → OneHolder host.pool → NobodyShares host
 unshared host sound holder one other lu granted also = holder lu one other ((sound.held one lu).1 granted) ((sound.held other lu).1 also)
@@ -74,30 +74,30 @@ free_phase (Service.Open rest conn) e = absurd (by_lu (agreed_lu conn.talk.state
     by_lu (Some lu) e = cc
 free_phase (Service.Closed cause) e = absurd (cc)
 
-pub is_free : (number : ℕ) (host now : Host) (line : Line) → host ≡ now → line ≡ line_at number host → phase_of (service_at number now) ≡ phase.Free
-    → line.service ≡ Service.Free
-is_free number host now line same at free =
-    ap (λ (l : Line). l.service) at ∙ free_phase (service_at number host) (subst (λ (h : Host). phase_of (service_at number h) ≡ phase.Free) (sym same) free)
+pub is_free : (number : ℕ) (host now : Host) (connection : Connection) → host ≡ now → connection ≡ connection_at number host → phase_of (service_at number now) ≡ phase.Free
+    → connection.service ≡ Service.Free
+is_free number host now connection same at free =
+    ap (λ (l : Connection). l.service) at ∙ free_phase (service_at number host) (subst (λ (h : Host). phase_of (service_at number h) ≡ phase.Free) (sym same) free)
 
-pub shown_here : (number : ℕ) (old : Line) (host : Host) → IsSound host → old ≡ line_at number host → IsShown (length host.panels.panels) old.service
-shown_here number old host sound is = subst (λ (l : Line). IsShown (length host.panels.panels) l.service) (sym is) (sound.shown number)
+pub shown_here : (number : ℕ) (old : Connection) (host : Host) → IsSound host → old ≡ connection_at number host → IsShown (length host.panels.panels) old.service
+shown_here number old host sound is = subst (λ (l : Connection). IsShown (length host.panels.panels) l.service) (sym is) (sound.shown number)
 
-other_default : (lines : List Line) (number : ℕ) (one other : Line) → number < length lines → get_or lines number one ≡ get_or lines number other
+other_default : (connections : List Connection) (number : ℕ) (one other : Connection) → number < length connections → get_or connections number one ≡ get_or connections number other
 other_default [] number one other below = absurd (omega arith)
-other_default (line ∷ lines) zero one other below = refl
-other_default (line ∷ lines) (suc number) one other below = other_default lines number one other (omega arith)
+other_default (connection ∷ connections) zero one other below = refl
+other_default (connection ∷ connections) (suc number) one other below = other_default connections number one other (omega arith)
 
 -- a line that is looked up by its number
-pub line_got : (number : ℕ) (host : Host) (old : Line) → number < most_connections → IsSound host → old ≡ get_or host.lines number old → old ≡ line_at number host
-line_got number host old below sound got =
-    got ∙ other_default host.lines number old unused (subst (λ (n : ℕ). number < n) (sym sound.lines) below)
+pub connection_got : (number : ℕ) (host : Host) (old : Connection) → number < most_connections → IsSound host → old ≡ get_or host.connections number old → old ≡ connection_at number host
+connection_got number host old below sound got =
+    got ∙ other_default host.connections number old unused (subst (λ (n : ℕ). number < n) (sym sound.connections) below)
 
 -- what holds of a line and of what becomes of it holds of the host's
-pub moved : (P : Line → Line → Type 0) (number : ℕ) (pool : List Entry) (old new : Line) (host : Host) → number < most_connections → IsSound host
-    → old ≡ get_or host.lines number old → P old new → P (line_at number host) (line_at number (changed number pool new host))
+pub moved : (P : Connection → Connection → Type 0) (number : ℕ) (pool : List Entry) (old new : Connection) (host : Host) → number < most_connections → IsSound host
+    → old ≡ get_or host.connections number old → P old new → P (connection_at number host) (connection_at number (changed number pool new host))
 moved P number pool old new host below sound got holds =
-    subst (λ (l : Line). P l (line_at number (changed number pool new host))) (line_got number host old below sound got)
-    (subst (P old) (sym (line_there number host.lines new (subst (λ (n : ℕ). number < n) (sym sound.lines) below))) holds)
+    subst (λ (l : Connection). P l (connection_at number (changed number pool new host))) (connection_got number host old below sound got)
+    (subst (P old) (sym (connection_there number host.connections new (subst (λ (n : ℕ). number < n) (sym sound.connections) below))) holds)
 
 -- ---- what is given back
 
@@ -124,34 +124,34 @@ all_unused (suc count) = ap suc (all_unused count)
 pub held_by_none : (number : ℕ) (pool : List Entry) → HoldsNone pool number → HoldsJust number pool None
 held_by_none number pool none lu = (λ h. absurd (none lu h), λ e. absurd (cc))
 
-one_put : (index : ℕ) (old : List Line) (line : Line) → line ≡ unused → index < length old
-    → set (replicate index unused ++ drop index old) index line ≡ replicate (suc index) unused ++ drop (suc index) old
-one_put zero [] line is below = absurd (omega arith)
-one_put zero (first ∷ old) line is below = ap (λ l. l ∷ old) is
-one_put (suc index) [] line is below = absurd (omega arith)
-one_put (suc index) (first ∷ old) line is below = ap (λ ls. unused ∷ ls) (one_put index old line is (omega arith))
+one_put : (index : ℕ) (old : List Connection) (connection : Connection) → connection ≡ unused → index < length old
+    → set (replicate index unused ++ drop index old) index connection ≡ replicate (suc index) unused ++ drop (suc index) old
+one_put zero [] connection is below = absurd (omega arith)
+one_put zero (first ∷ old) connection is below = ap (λ l. l ∷ old) is
+one_put (suc index) [] connection is below = absurd (omega arith)
+one_put (suc index) (first ∷ old) connection is below = ap (λ ls. unused ∷ ls) (one_put index old connection is (omega arith))
 
-pub one_more_unused : (index : ℕ) (old lines : List Line) (line : Line) → line ≡ unused → index < length old → lines ≡ replicate index unused ++ drop index old
-    → set lines index line ≡ replicate (index + 1) unused ++ drop (index + 1) old
-one_more_unused index old lines line is below so_far =
+pub one_more_unused : (index : ℕ) (old connections : List Connection) (connection : Connection) → connection ≡ unused → index < length old → connections ≡ replicate index unused ++ drop index old
+    → set connections index connection ≡ replicate (index + 1) unused ++ drop (index + 1) old
+one_more_unused index old connections connection is below so_far =
     let next : index + 1 ≡ suc index = omega arith in
-    ap (λ ls. set ls index line) so_far ∙ one_put index old line is below ∙ sym (ap (λ n. replicate n unused ++ drop n old) next)
+    ap (λ ls. set ls index connection) so_far ∙ one_put index old connection is below ∙ sym (ap (λ n. replicate n unused ++ drop n old) next)
 
 -- a host whose numbers are all free, where nobody holds an LU
-pub unused_sound : (panels : Panels) (pool : List Entry) (lines : List Line) → lines ≡ replicate most_connections unused → ((number : ℕ) → HoldsNone pool number)
-    → IsSound (record { panels = panels; pool = pool; lines = lines })
-unused_sound panels pool lines are nobody =
-    let there : (number : ℕ) → get_or lines number unused ≡ unused = λ number. ap (λ (ls : List Line). get_or ls number unused) are ∙ always_unused most_connections number in
+pub unused_sound : (panels : Panels) (pool : List Entry) (connections : List Connection) → connections ≡ replicate most_connections unused → ((number : ℕ) → HoldsNone pool number)
+    → IsSound (record { panels = panels; pool = pool; connections = connections })
+unused_sound panels pool connections are nobody =
+    let there : (number : ℕ) → get_or connections number unused ≡ unused = λ number. ap (λ (ls : List Connection). get_or ls number unused) are ∙ always_unused most_connections number in
     record {
-      lines = ap length are ∙ all_unused most_connections;
-      held = λ number. subst (λ (l : Line). HoldsJust number pool (lu_of l.service)) (sym (there number)) (held_by_none number pool (nobody number));
-      shown = λ number. subst (λ (l : Line). IsShown (length panels.panels) l.service) (sym (there number)) tt;
+      connections = ap length are ∙ all_unused most_connections;
+      held = λ number. subst (λ (l : Connection). HoldsJust number pool (lu_of l.service)) (sym (there number)) (held_by_none number pool (nobody number));
+      shown = λ number. subst (λ (l : Connection). IsShown (length panels.panels) l.service) (sym (there number)) tt;
     }
 
 -- ---- a line
 
 -- what is held of a line is held of its parts
-pub held_of_parts : (number : ℕ) (pool : List Entry) (now : Line) (service : Kept) (out : List ℕ) (held : Option (List ℕ))
+pub held_of_parts : (number : ℕ) (pool : List Entry) (now : Connection) (service : Kept) (out : List ℕ) (held : Option (List ℕ))
     → now ≡ record { service = service_of service; out = out } → lu_of (service_of service) ≡ held
     → HoldsJust number pool (lu_of now.service) → HoldsJust number pool held
-held_of_parts number pool now service out held is same h = subst (HoldsJust number pool) (ap (λ (l : Line). lu_of l.service) is ∙ same) h
+held_of_parts number pool now service out held is same h = subst (HoldsJust number pool) (ap (λ (l : Connection). lu_of l.service) is ∙ same) h

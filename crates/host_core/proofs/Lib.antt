@@ -6,7 +6,7 @@ pub mod Notes
 pub mod MessageRows
 pub mod KeptWhole
 pub mod Hosts
-pub mod LineActs
+pub mod ConnectionActs
 pub mod Turns
 pub mod Commands
 pub mod Wanting

@@ -96,15 +96,15 @@ note_is_kept number text sent is begun =
     plain_behind number Write quiet (note_orders model_2 text) sent (inl refl) (note_spelt model_2 text shaped_2 is) (note_plain model_2 text) begun
 
 pub note_sent : (conn new : Conn) (text sent : List ℕ) (before after : Vec ℕ Global) → conn.shape ≡ model_2 → IsNoteText text
-    → sent ≡ write_record conn.number Write quiet (note_orders model_2 text)
-    → new ≡ record conn { pending = pending_in (unanswered.Noting conn.number) sent; number = next_number conn.number }
+    → sent ≡ write_record conn.next_seq Write quiet (note_orders model_2 text)
+    → new ≡ record conn { pending = pending_in (unanswered.Noting conn.next_seq) sent; next_seq = next_number conn.next_seq }
     → after.items ≡ before.items ++ sent_bytes (Record sent ∷ [])
     → IsSentOn (noted_as text conn) before after new
 note_sent conn new text sent before after shape is begun changed put = record {
-  conn = changed ∙ ap (λ (command : CommandParts). record conn { pending = Pending.Noting conn.number command; number = next_number conn.number })
-      (note_again conn.number text sent is begun ∙ ap (λ (s : Shape). note_command s text) (sym shape));
+  conn = changed ∙ ap (λ (command : CommandParts). record conn { pending = Pending.Noting conn.next_seq command; next_seq = next_number conn.next_seq })
+      (note_again conn.next_seq text sent is begun ∙ ap (λ (s : Shape). note_command s text) (sym shape));
   bytes = put ∙ ap (λ (bytes : List ℕ). before.items ++ sent_bytes (Record bytes ∷ []))
-      (begun ∙ ap (λ (s : Shape). write_record conn.number Write quiet (note_orders s text)) (sym shape));
+      (begun ∙ ap (λ (s : Shape). write_record conn.next_seq Write quiet (note_orders s text)) (sym shape));
 }
 
 -- ---- its length

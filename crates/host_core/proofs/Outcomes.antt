@@ -21,7 +21,7 @@ use Rattle.host_core.specs.Items.{IsOther, TakesItem, TakesRecord, TakesRecordIf
 use Rattle.host_core.specs.Machine.{OneOutcome, PiecesCompose, PiecesPart}
 use Rattle.host_core.specs.Session.{Conn, is_agreed}
 use Rattle.host_core.specs.State.{Service}
-use Rattle.host_core.specs.Takes.{Answers, Step, data_came, form_awaited, response_came, talked}
+use Rattle.host_core.specs.Takes.{Answers, HostStep, data_came, form_awaited, response_came, talked}
 
 -- ---- a record
 
@@ -44,7 +44,7 @@ module _ (one_header : OneHeader) (fault_or_header : FaultIsNoHeader) (one_heari
   same_body : (bytes : List ℕ) (header other : Header) (body rest : List ℕ) → Begins bytes header body → Begins bytes other rest → body ≡ rest
   same_body bytes header other body rest first second = (one_header bytes header other body rest first second).1
 
-  one_record : (conn : Conn) (bytes : List ℕ) (step other : Step) → TakesRecord conn bytes step → TakesRecord conn bytes other → step ≡ other
+  one_record : (conn : Conn) (bytes : List ℕ) (step other : HostStep) → TakesRecord conn bytes step → TakesRecord conn bytes other → step ≡ other
   one_record conn bytes step other (TakesRecord.no_header fault1 has1 e1) (TakesRecord.no_header fault2 has2 e2) =
       e1 ∙ sym e2
   one_record conn bytes step other (TakesRecord.no_header fault1 has1 e1) (TakesRecord.dropped header2 body2 begins2 kind2 e2) =
@@ -99,15 +99,15 @@ module _ (one_header : OneHeader) (fault_or_header : FaultIsNoHeader) (one_heari
 
   -- ---- an item
 
-  one_record_if : (agreed : Bool) (conn : Conn) (bytes : List ℕ) (step other : Step) → TakesRecordIf agreed conn bytes step → TakesRecordIf agreed conn bytes other → step ≡ other
+  one_record_if : (agreed : Bool) (conn : Conn) (bytes : List ℕ) (step other : HostStep) → TakesRecordIf agreed conn bytes step → TakesRecordIf agreed conn bytes other → step ≡ other
   one_record_if true conn bytes step other first second = one_record conn bytes step other first second
   one_record_if false conn bytes step other first second = first ∙ sym second
 
-  one_talk : (pool : Answers) (conn : Conn) (item : WireItem) (step other : Step) → Talks pool conn item step → Talks pool conn item other → step ≡ other
+  one_talk : (pool : Answers) (conn : Conn) (item : WireItem) (step other : HostStep) → Talks pool conn item step → Talks pool conn item other → step ≡ other
   one_talk pool conn item step other first second =
       first.2 ∙ ap (λ (comes : Comes). talked pool conn conn.talk comes) (one_hearing item first.0 second.0 first.1 second.1) ∙ sym second.2
 
-  one_item : (pool : Answers) (conn : Conn) (item : WireItem) (step other : Step) → TakesItem pool conn item step → TakesItem pool conn item other → step ≡ other
+  one_item : (pool : Answers) (conn : Conn) (item : WireItem) (step other : HostStep) → TakesItem pool conn item step → TakesItem pool conn item other → step ≡ other
   one_item pool conn (Record bytes) step other first second = one_record_if (is_agreed conn.talk.state) conn bytes step other first second
   one_item pool conn (Opt verb code) step other first second = one_talk pool conn (Opt verb code) step other first second
   one_item pool conn (Sub bytes) step other first second = one_talk pool conn (Sub bytes) step other first second
@@ -133,34 +133,34 @@ module _ (one_header : OneHeader) (fault_or_header : FaultIsNoHeader) (one_heari
 
   one_byte : (number : ℕ) (old new other : Counter) (byte : ℕ) → TakesByte number old byte new → TakesByte number old byte other → new ≡ other
   one_byte number old new other byte (TakesByte.goes_on rest to conn e d n) (TakesByte.goes_on rest' to' conn' e' d' n') =
-      let parts = same_open old.line.service rest rest' conn conn' e e' in
+      let parts = same_open old.connection.service rest rest' conn conn' e e' in
       let same = one_delivery record_limit rest (byte ∷ []) [] [] to to' d (from_same rest rest' to' byte [] parts.0 d') in
-      n ∙ ap (λ (r : Rest). record { pool = old.pool; line = record { service = Service.Open r conn; out = old.line.out } }) same.1
-      ∙ ap (λ (c : Conn). record { pool = old.pool; line = record { service = Service.Open to' c; out = old.line.out } }) parts.1 ∙ sym n'
+      n ∙ ap (λ (r : Rest). record { pool = old.pool; connection = record { service = Service.Open r conn; out = old.connection.out } }) same.1
+      ∙ ap (λ (c : Conn). record { pool = old.pool; connection = record { service = Service.Open to' c; out = old.connection.out } }) parts.1 ∙ sym n'
   one_byte number old new other byte (TakesByte.goes_on rest to conn e d n) (TakesByte.completes rest' to' conn' item' step' e' d' i' n') =
-      let parts = same_open old.line.service rest rest' conn conn' e e' in
+      let parts = same_open old.connection.service rest rest' conn conn' e e' in
       absurd (nothing_or_item item' (one_delivery record_limit rest (byte ∷ []) [] (item' ∷ []) to to' d (from_same rest rest' to' byte (item' ∷ []) parts.0 d')).0)
   one_byte number old new other byte (TakesByte.goes_on rest to conn e d n) (TakesByte.breaks rest' conn' fault' e' w' n') =
-      let parts = same_open old.line.service rest rest' conn conn' e e' in
+      let parts = same_open old.connection.service rest rest' conn conn' e e' in
       absurd (read_or_wrong rest' to byte [] fault' (from_same rest' rest to byte [] (sym parts.0) d) w')
   one_byte number old new other byte (TakesByte.completes rest to conn item step e d i n) (TakesByte.goes_on rest' to' conn' e' d' n') =
-      let parts = same_open old.line.service rest rest' conn conn' e e' in
+      let parts = same_open old.connection.service rest rest' conn conn' e e' in
       absurd (nothing_or_item item (one_delivery record_limit rest (byte ∷ []) [] (item ∷ []) to' to (from_same rest rest' to' byte [] parts.0 d') d).0)
   one_byte number old new other byte (TakesByte.completes rest to conn item step e d i n) (TakesByte.completes rest' to' conn' item' step' e' d' i' n') =
-      let parts = same_open old.line.service rest rest' conn conn' e e' in
+      let parts = same_open old.connection.service rest rest' conn conn' e e' in
       let same = one_delivery record_limit rest (byte ∷ []) (item ∷ []) (item' ∷ []) to to' d (from_same rest rest' to' byte (item' ∷ []) parts.0 d') in
       let taken : TakesItem (answer_to old.pool) conn item step' =
       subst (λ (x : WireItem). TakesItem (answer_to old.pool) conn x step') (sym (same_head item item' same.0))
       (subst (λ (c : Conn). TakesItem (answer_to old.pool) c item' step') (sym parts.1) i') in
-      n ∙ ap (λ (r : Rest). stepped number r step old) same.1 ∙ ap (λ (s : Step). stepped number to' s old) (one_item (answer_to old.pool) conn item step step' i taken) ∙ sym n'
+      n ∙ ap (λ (r : Rest). stepped number r step old) same.1 ∙ ap (λ (s : HostStep). stepped number to' s old) (one_item (answer_to old.pool) conn item step step' i taken) ∙ sym n'
   one_byte number old new other byte (TakesByte.completes rest to conn item step e d i n) (TakesByte.breaks rest' conn' fault' e' w' n') =
-      let parts = same_open old.line.service rest rest' conn conn' e e' in
+      let parts = same_open old.connection.service rest rest' conn conn' e e' in
       absurd (read_or_wrong rest' to byte (item ∷ []) fault' (from_same rest' rest to byte (item ∷ []) (sym parts.0) d) w')
   one_byte number old new other byte (TakesByte.breaks rest conn fault e w n) (TakesByte.goes_on rest' to' conn' e' d' n') =
-      let parts = same_open old.line.service rest rest' conn conn' e e' in
+      let parts = same_open old.connection.service rest rest' conn conn' e e' in
       absurd (read_or_wrong rest to' byte [] fault (from_same rest rest' to' byte [] parts.0 d') w)
   one_byte number old new other byte (TakesByte.breaks rest conn fault e w n) (TakesByte.completes rest' to' conn' item' step' e' d' i' n') =
-      let parts = same_open old.line.service rest rest' conn conn' e e' in
+      let parts = same_open old.connection.service rest rest' conn conn' e e' in
       absurd (read_or_wrong rest to' byte (item' ∷ []) fault (from_same rest rest' to' byte (item' ∷ []) parts.0 d') w)
   one_byte number old new other byte (TakesByte.breaks rest conn fault e w n) (TakesByte.breaks rest' conn' fault' e' w' n') = n ∙ sym n'
 

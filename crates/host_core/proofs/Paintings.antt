@@ -51,21 +51,21 @@ paint_is_kept size number shadow wanted sent spelt plain begun =
 -- the connection once a panel is shown
 shown_conn : Conn → ℕ → Message → Values → Pending → Conn
 shown_conn conn panel message values pending =
-    record conn { turn = whose.Terminal; pending = pending; number = next_number conn.number; panel = panel; message = message; values = values }
+    record conn { turn = whose.Terminal; pending = pending; next_seq = next_number conn.next_seq; panel = panel; message = message; values = values }
 
 pub shows : (app : Application) (conn new : Conn) (size panel : ℕ) (message : Message) (keep : Bool) (values : Values) (wanted : WantedScreen) (sent : List ℕ) (before after : Vec ℕ Global)
     → cells_in conn.shape ≡ size → length wanted.cells ≡ size → wanted ≡ wanted_by app conn panel message keep values
-    → IsCommand (paint size conn.shadow wanted) (paint_bytes size conn.shadow wanted) → sent ≡ paint_record size conn.number conn.shadow wanted
-    → new ≡ record conn { turn = whose.Terminal; pending = pending_in (unanswered.Writing conn.number) sent; number = next_number conn.number; panel = panel; message = message; values = values }
+    → IsCommand (paint size conn.shadow wanted) (paint_bytes size conn.shadow wanted) → sent ≡ paint_record size conn.next_seq conn.shadow wanted
+    → new ≡ record conn { turn = whose.Terminal; pending = pending_in (unanswered.Writing conn.next_seq) sent; next_seq = next_number conn.next_seq; panel = panel; message = message; values = values }
     → after.items ≡ before.items ++ sent_bytes (Record sent ∷ [])
     → IsSentOn (done app conn (Act.Show panel message keep values)) before after new
 unfolding shown_conn
 shows app conn new size panel message keep values wanted sent before after sized cells chosen spelt begun is put = record {
-  conn = is ∙ ap (λ (command : CommandParts). shown_conn conn panel message values (Pending.Writing conn.number command))
-      (paint_again size conn.number conn.shadow wanted sent spelt begun
+  conn = is ∙ ap (λ (command : CommandParts). shown_conn conn panel message values (Pending.Writing conn.next_seq command))
+      (paint_again size conn.next_seq conn.shadow wanted sent spelt begun
       ∙ ap (λ (n : ℕ). paint n conn.shadow wanted) (sym sized)
       ∙ ap (λ (w : WantedScreen). paint (cells_in conn.shape) conn.shadow w) chosen);
   bytes = put ∙ ap (λ (bytes : List ℕ). before.items ++ sent_bytes (Record bytes ∷ []))
-      (begun ∙ ap (λ (n : ℕ). paint_record n conn.number conn.shadow wanted) (sym cells))
-      ∙ ap (λ (w : WantedScreen). before.items ++ sent_bytes (item_sent (ToTerminal.Paint conn.number w conn.shadow) ∷ [])) chosen;
+      (begun ∙ ap (λ (n : ℕ). paint_record n conn.next_seq conn.shadow wanted) (sym cells))
+      ∙ ap (λ (w : WantedScreen). before.items ++ sent_bytes (item_sent (ToTerminal.Paint conn.next_seq w conn.shadow) ∷ [])) chosen;
 }

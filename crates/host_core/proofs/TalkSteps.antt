@@ -12,7 +12,7 @@ use Rattle.telnet_wire.specs.Items.{WireItem, Record, Opt, Sub, Other, item_of, 
 use Rattle.telnet_wire.specs.declared.wire.Item.{Item}
 use Rattle.telnet_wire.specs.declared.wire.Item.TheVariants as lent
 use Rattle.tn3270e_msg.specs.Device.{device_of}
-use Rattle.tn3270e_msg.specs.HostTable.{host_line, named_line, request_line, answer_line, granted, IsAsking, HostTakes, HostAnswered}
+use Rattle.tn3270e_msg.specs.HostTable.{host_transition, named_transition, request_transition, answer_transition, granted, IsAsking, HostTakes, HostAnswered}
 use Rattle.tn3270e_msg.specs.Lu.{lu_of}
 use Rattle.tn3270e_msg.specs.Message.{Name, Connect, Associate}
 use Rattle.tn3270e_msg.specs.Talk.{Talk, Comes, follow, sayings, items_sent, closing}
@@ -20,15 +20,15 @@ use Rattle.tn3270e_msg.specs.declared.cause.Cause.{Cause}
 use Rattle.tn3270e_msg.specs.declared.cause.Cause.TheVariants.{TooMany}
 use Rattle.tn3270e_msg.specs.declared.reply.After.TheVariants.{Close as CloseAfter, Going}
 use Rattle.tn3270e_msg.specs.declared.device.Device.{Device}
-use Rattle.tn3270e_msg.specs.declared.functions.Wants.TheVariants.{ResponsesAlone, ResponsesAndMore, NoResponses}
-use Rattle.tn3270e_msg.specs.declared.hearing.Line.{Line}
-use Rattle.tn3270e_msg.specs.declared.hearing.Line.TheVariants.{Stays, Goes, Refuses, Closes}
+use Rattle.tn3270e_msg.specs.declared.functions.FunctionsOffer.TheVariants.{ResponsesAlone, ResponsesAndMore, NoResponses}
+use Rattle.tn3270e_msg.specs.declared.hearing.Transition.{Transition}
+use Rattle.tn3270e_msg.specs.declared.hearing.Transition.TheVariants.{Stays, Goes, Refuses, Closes}
 use Rattle.tn3270e_msg.specs.declared.host_talk.HostState.{HostState}
 use Rattle.tn3270e_msg.specs.declared.host_talk.HostState.TheVariants as at
 use Rattle.tn3270e_msg.specs.declared.reply.Reason.{Reason}
 use Rattle.tn3270e_msg.specs.declared.reply.Reply.{Reply}
 use Rattle.tn3270e_msg.specs.declared.reply.Reply.TheVariants as reply
-use Rattle.tn3270e_msg.specs.declared.reply.Sending.TheVariants as sent
+use Rattle.tn3270e_msg.specs.declared.reply.OwnedMessage.TheVariants as sent
 use Rattle.host_core.specs.Items.{TakesItem, TakesRecord, TakesRecordIf, Talks}
 use Rattle.host_core.specs.Keeps.{ItemTaken, OthersHold, silent}
 use Rattle.host_core.specs.Sound.{HoldsJust}
@@ -36,7 +36,7 @@ use Rattle.host_core.specs.Parts.{TalkTaken}
 use Rattle.host_core.specs.Messages.{ToTerminal}
 use Rattle.host_core.specs.Says.{item_sent}
 use Rattle.host_core.specs.Session.{Conn, is_agreed}
-use Rattle.host_core.specs.Takes.{Answers, Step, asked, granted_by, quiet, replied, talked, talked_on, with_talk}
+use Rattle.host_core.specs.Takes.{Answers, HostStep, asked, granted_by, quiet, replied, talked, talked_on, with_talk}
 
 -- ---- the table
 
@@ -49,115 +49,115 @@ abbrev AsksNothing : Reply → Type 0
 AsksNothing (reply.AskPool name) = ⊥
 AsksNothing _ = ⊤
 
-abbrev KeepsGrant : HostState → Line HostState → Type 0
+abbrev KeepsGrant : HostState → Transition HostState → Type 0
 KeepsGrant state (Stays reply) = AsksNothing reply
 KeepsGrant state (Goes next reply) = GoesFrom state next reply
 KeepsGrant state (Refuses next sending) = granted next ≡ granted state
 KeepsGrant state (Closes cause) = ⊤
 
-named_keeps : (device : Device) (lu : Option (List ℕ)) → KeepsGrant at.Asked (named_line device lu)
+named_keeps : (device : Device) (lu : Option (List ℕ)) → KeepsGrant at.Asked (named_transition device lu)
 named_keeps device None = refl
 named_keeps device (Some lu) = (tt, refl)
 
-request_keeps : (device : Option Device) (name : Option Name) → KeepsGrant at.Asked (request_line device name)
+request_keeps : (device : Option Device) (name : Option Name) → KeepsGrant at.Asked (request_transition device name)
 request_keeps None name = refl
 request_keeps (Some device) None = (tt, refl)
 request_keeps (Some device) (Some (Connect name)) = named_keeps device (lu_of name)
 request_keeps (Some device) (Some (Associate name)) = refl
 
 -- each line of the table
-line_keeps : (state : HostState) (comes : Comes) → KeepsGrant state (host_line state comes)
-line_keeps at.Offered Comes.Will = refl
-line_keeps at.Offered Comes.Wont = tt
-line_keeps at.Offered Comes.Do = tt
-line_keeps at.Offered Comes.Dont = tt
-line_keeps at.Offered (Comes.OtherWill code) = tt
-line_keeps at.Offered (Comes.OtherDo code) = tt
-line_keeps at.Offered Comes.SendsType = tt
-line_keeps at.Offered (Comes.RequestsType kind name) = tt
-line_keeps at.Offered (Comes.IsType kind name) = tt
-line_keeps at.Offered (Comes.RejectsType reason) = tt
-line_keeps at.Offered (Comes.RequestsFunctions wants) = tt
-line_keeps at.Offered (Comes.IsFunctions wants) = tt
-line_keeps at.Offered Comes.BreaksForm = tt
-line_keeps at.Offered Comes.NoTalk = tt
-line_keeps at.Asked Comes.Will = tt
-line_keeps at.Asked Comes.Wont = tt
-line_keeps at.Asked Comes.Do = tt
-line_keeps at.Asked Comes.Dont = tt
-line_keeps at.Asked (Comes.OtherWill code) = tt
-line_keeps at.Asked (Comes.OtherDo code) = tt
-line_keeps at.Asked Comes.SendsType = tt
-line_keeps at.Asked (Comes.RequestsType kind name) = request_keeps (device_of kind) name
-line_keeps at.Asked (Comes.IsType kind name) = tt
-line_keeps at.Asked (Comes.RejectsType reason) = tt
-line_keeps at.Asked (Comes.RequestsFunctions wants) = tt
-line_keeps at.Asked (Comes.IsFunctions wants) = tt
-line_keeps at.Asked Comes.BreaksForm = tt
-line_keeps at.Asked Comes.NoTalk = tt
-line_keeps (at.Asking device) Comes.Will = tt
-line_keeps (at.Asking device) Comes.Wont = tt
-line_keeps (at.Asking device) Comes.Do = tt
-line_keeps (at.Asking device) Comes.Dont = tt
-line_keeps (at.Asking device) (Comes.OtherWill code) = tt
-line_keeps (at.Asking device) (Comes.OtherDo code) = tt
-line_keeps (at.Asking device) Comes.SendsType = tt
-line_keeps (at.Asking device) (Comes.RequestsType kind name) = tt
-line_keeps (at.Asking device) (Comes.IsType kind name) = tt
-line_keeps (at.Asking device) (Comes.RejectsType reason) = tt
-line_keeps (at.Asking device) (Comes.RequestsFunctions wants) = tt
-line_keeps (at.Asking device) (Comes.IsFunctions wants) = tt
-line_keeps (at.Asking device) Comes.BreaksForm = tt
-line_keeps (at.Asking device) Comes.NoTalk = tt
-line_keeps (at.Named device lu) Comes.Will = tt
-line_keeps (at.Named device lu) Comes.Wont = tt
-line_keeps (at.Named device lu) Comes.Do = tt
-line_keeps (at.Named device lu) Comes.Dont = tt
-line_keeps (at.Named device lu) (Comes.OtherWill code) = tt
-line_keeps (at.Named device lu) (Comes.OtherDo code) = tt
-line_keeps (at.Named device lu) Comes.SendsType = tt
-line_keeps (at.Named device lu) (Comes.RequestsType kind name) = tt
-line_keeps (at.Named device lu) (Comes.IsType kind name) = tt
-line_keeps (at.Named device lu) (Comes.RejectsType reason) = tt
-line_keeps (at.Named device lu) (Comes.RequestsFunctions ResponsesAlone) = refl
-line_keeps (at.Named device lu) (Comes.RequestsFunctions ResponsesAndMore) = refl
-line_keeps (at.Named device lu) (Comes.RequestsFunctions NoResponses) = tt
-line_keeps (at.Named device lu) (Comes.IsFunctions wants) = tt
-line_keeps (at.Named device lu) Comes.BreaksForm = tt
-line_keeps (at.Named device lu) Comes.NoTalk = tt
-line_keeps (at.Countered device lu) Comes.Will = tt
-line_keeps (at.Countered device lu) Comes.Wont = tt
-line_keeps (at.Countered device lu) Comes.Do = tt
-line_keeps (at.Countered device lu) Comes.Dont = tt
-line_keeps (at.Countered device lu) (Comes.OtherWill code) = tt
-line_keeps (at.Countered device lu) (Comes.OtherDo code) = tt
-line_keeps (at.Countered device lu) Comes.SendsType = tt
-line_keeps (at.Countered device lu) (Comes.RequestsType kind name) = tt
-line_keeps (at.Countered device lu) (Comes.IsType kind name) = tt
-line_keeps (at.Countered device lu) (Comes.RejectsType reason) = tt
-line_keeps (at.Countered device lu) (Comes.RequestsFunctions ResponsesAlone) = refl
-line_keeps (at.Countered device lu) (Comes.RequestsFunctions ResponsesAndMore) = refl
-line_keeps (at.Countered device lu) (Comes.RequestsFunctions NoResponses) = tt
-line_keeps (at.Countered device lu) (Comes.IsFunctions ResponsesAlone) = refl
-line_keeps (at.Countered device lu) (Comes.IsFunctions ResponsesAndMore) = tt
-line_keeps (at.Countered device lu) (Comes.IsFunctions NoResponses) = tt
-line_keeps (at.Countered device lu) Comes.BreaksForm = tt
-line_keeps (at.Countered device lu) Comes.NoTalk = tt
-line_keeps (at.Agreed device lu) Comes.Will = tt
-line_keeps (at.Agreed device lu) Comes.Wont = tt
-line_keeps (at.Agreed device lu) Comes.Do = tt
-line_keeps (at.Agreed device lu) Comes.Dont = tt
-line_keeps (at.Agreed device lu) (Comes.OtherWill code) = tt
-line_keeps (at.Agreed device lu) (Comes.OtherDo code) = tt
-line_keeps (at.Agreed device lu) Comes.SendsType = tt
-line_keeps (at.Agreed device lu) (Comes.RequestsType kind name) = tt
-line_keeps (at.Agreed device lu) (Comes.IsType kind name) = tt
-line_keeps (at.Agreed device lu) (Comes.RejectsType reason) = tt
-line_keeps (at.Agreed device lu) (Comes.RequestsFunctions wants) = tt
-line_keeps (at.Agreed device lu) (Comes.IsFunctions wants) = tt
-line_keeps (at.Agreed device lu) Comes.BreaksForm = tt
-line_keeps (at.Agreed device lu) Comes.NoTalk = tt
-line_keeps (at.Closed cause) comes = tt
+transition_keeps : (state : HostState) (comes : Comes) → KeepsGrant state (host_transition state comes)
+transition_keeps at.Offered Comes.Will = refl
+transition_keeps at.Offered Comes.Wont = tt
+transition_keeps at.Offered Comes.Do = tt
+transition_keeps at.Offered Comes.Dont = tt
+transition_keeps at.Offered (Comes.OtherWill code) = tt
+transition_keeps at.Offered (Comes.OtherDo code) = tt
+transition_keeps at.Offered Comes.SendsType = tt
+transition_keeps at.Offered (Comes.RequestsType kind name) = tt
+transition_keeps at.Offered (Comes.IsType kind name) = tt
+transition_keeps at.Offered (Comes.RejectsType reason) = tt
+transition_keeps at.Offered (Comes.RequestsFunctions wants) = tt
+transition_keeps at.Offered (Comes.IsFunctions wants) = tt
+transition_keeps at.Offered Comes.BreaksForm = tt
+transition_keeps at.Offered Comes.NoTalk = tt
+transition_keeps at.Asked Comes.Will = tt
+transition_keeps at.Asked Comes.Wont = tt
+transition_keeps at.Asked Comes.Do = tt
+transition_keeps at.Asked Comes.Dont = tt
+transition_keeps at.Asked (Comes.OtherWill code) = tt
+transition_keeps at.Asked (Comes.OtherDo code) = tt
+transition_keeps at.Asked Comes.SendsType = tt
+transition_keeps at.Asked (Comes.RequestsType kind name) = request_keeps (device_of kind) name
+transition_keeps at.Asked (Comes.IsType kind name) = tt
+transition_keeps at.Asked (Comes.RejectsType reason) = tt
+transition_keeps at.Asked (Comes.RequestsFunctions wants) = tt
+transition_keeps at.Asked (Comes.IsFunctions wants) = tt
+transition_keeps at.Asked Comes.BreaksForm = tt
+transition_keeps at.Asked Comes.NoTalk = tt
+transition_keeps (at.Asking device) Comes.Will = tt
+transition_keeps (at.Asking device) Comes.Wont = tt
+transition_keeps (at.Asking device) Comes.Do = tt
+transition_keeps (at.Asking device) Comes.Dont = tt
+transition_keeps (at.Asking device) (Comes.OtherWill code) = tt
+transition_keeps (at.Asking device) (Comes.OtherDo code) = tt
+transition_keeps (at.Asking device) Comes.SendsType = tt
+transition_keeps (at.Asking device) (Comes.RequestsType kind name) = tt
+transition_keeps (at.Asking device) (Comes.IsType kind name) = tt
+transition_keeps (at.Asking device) (Comes.RejectsType reason) = tt
+transition_keeps (at.Asking device) (Comes.RequestsFunctions wants) = tt
+transition_keeps (at.Asking device) (Comes.IsFunctions wants) = tt
+transition_keeps (at.Asking device) Comes.BreaksForm = tt
+transition_keeps (at.Asking device) Comes.NoTalk = tt
+transition_keeps (at.Named device lu) Comes.Will = tt
+transition_keeps (at.Named device lu) Comes.Wont = tt
+transition_keeps (at.Named device lu) Comes.Do = tt
+transition_keeps (at.Named device lu) Comes.Dont = tt
+transition_keeps (at.Named device lu) (Comes.OtherWill code) = tt
+transition_keeps (at.Named device lu) (Comes.OtherDo code) = tt
+transition_keeps (at.Named device lu) Comes.SendsType = tt
+transition_keeps (at.Named device lu) (Comes.RequestsType kind name) = tt
+transition_keeps (at.Named device lu) (Comes.IsType kind name) = tt
+transition_keeps (at.Named device lu) (Comes.RejectsType reason) = tt
+transition_keeps (at.Named device lu) (Comes.RequestsFunctions ResponsesAlone) = refl
+transition_keeps (at.Named device lu) (Comes.RequestsFunctions ResponsesAndMore) = refl
+transition_keeps (at.Named device lu) (Comes.RequestsFunctions NoResponses) = tt
+transition_keeps (at.Named device lu) (Comes.IsFunctions wants) = tt
+transition_keeps (at.Named device lu) Comes.BreaksForm = tt
+transition_keeps (at.Named device lu) Comes.NoTalk = tt
+transition_keeps (at.Countered device lu) Comes.Will = tt
+transition_keeps (at.Countered device lu) Comes.Wont = tt
+transition_keeps (at.Countered device lu) Comes.Do = tt
+transition_keeps (at.Countered device lu) Comes.Dont = tt
+transition_keeps (at.Countered device lu) (Comes.OtherWill code) = tt
+transition_keeps (at.Countered device lu) (Comes.OtherDo code) = tt
+transition_keeps (at.Countered device lu) Comes.SendsType = tt
+transition_keeps (at.Countered device lu) (Comes.RequestsType kind name) = tt
+transition_keeps (at.Countered device lu) (Comes.IsType kind name) = tt
+transition_keeps (at.Countered device lu) (Comes.RejectsType reason) = tt
+transition_keeps (at.Countered device lu) (Comes.RequestsFunctions ResponsesAlone) = refl
+transition_keeps (at.Countered device lu) (Comes.RequestsFunctions ResponsesAndMore) = refl
+transition_keeps (at.Countered device lu) (Comes.RequestsFunctions NoResponses) = tt
+transition_keeps (at.Countered device lu) (Comes.IsFunctions ResponsesAlone) = refl
+transition_keeps (at.Countered device lu) (Comes.IsFunctions ResponsesAndMore) = tt
+transition_keeps (at.Countered device lu) (Comes.IsFunctions NoResponses) = tt
+transition_keeps (at.Countered device lu) Comes.BreaksForm = tt
+transition_keeps (at.Countered device lu) Comes.NoTalk = tt
+transition_keeps (at.Agreed device lu) Comes.Will = tt
+transition_keeps (at.Agreed device lu) Comes.Wont = tt
+transition_keeps (at.Agreed device lu) Comes.Do = tt
+transition_keeps (at.Agreed device lu) Comes.Dont = tt
+transition_keeps (at.Agreed device lu) (Comes.OtherWill code) = tt
+transition_keeps (at.Agreed device lu) (Comes.OtherDo code) = tt
+transition_keeps (at.Agreed device lu) Comes.SendsType = tt
+transition_keeps (at.Agreed device lu) (Comes.RequestsType kind name) = tt
+transition_keeps (at.Agreed device lu) (Comes.IsType kind name) = tt
+transition_keeps (at.Agreed device lu) (Comes.RejectsType reason) = tt
+transition_keeps (at.Agreed device lu) (Comes.RequestsFunctions wants) = tt
+transition_keeps (at.Agreed device lu) (Comes.IsFunctions wants) = tt
+transition_keeps (at.Agreed device lu) Comes.BreaksForm = tt
+transition_keeps (at.Agreed device lu) Comes.NoTalk = tt
+transition_keeps (at.Closed cause) comes = tt
 
 -- what comes of a line: the pool is asked from where nothing is granted; else what is granted stays, unless the talk closes
 abbrev AfterReply : HostState → HostState → Reply → Type 0
@@ -182,15 +182,15 @@ goes_after state next reply.Agreed goes = λ going. goes
 goes_after state next (reply.Refused reason) goes = λ going. goes
 goes_after state next (reply.Close cause) goes = λ going. goes
 
-abbrev AfterLine : HostState → Talk HostState × Reply → Type 0
-AfterLine state next = AfterReply state next.0.state next.1
+abbrev AfterTransition : HostState → Talk HostState × Reply → Type 0
+AfterTransition state next = AfterReply state next.0.state next.1
 
-followed : (old : Talk HostState) (line : Line HostState) → KeepsGrant old.state line → AfterLine old.state (follow at.Closed old line)
+followed : (old : Talk HostState) (transition : Transition HostState) → KeepsGrant old.state transition → AfterTransition old.state (follow at.Closed old transition)
 followed old (Stays answer) keeps = stays_after old.state answer keeps
 followed old (Goes next answer) keeps = goes_after old.state next answer keeps
 followed old (Refuses next sending) keeps = by_test (old.refusals_left - 1 == 0)
   where
-    by_test : (b : Bool) → AfterLine old.state (if b
+    by_test : (b : Bool) → AfterTransition old.state (if b
         then (record { state = at.Closed TooMany; refusals_left = 0 }, reply.Sub sending (CloseAfter TooMany))
         else (record { state = next; refusals_left = old.refusals_left - 1 }, reply.Sub sending Going))
     by_test true = λ going. absurd (cc)
@@ -199,7 +199,7 @@ followed old (Closes cause) keeps = λ going. absurd (cc)
 
 taken_after : (old new : Talk HostState) (item : WireItem) (answer : Reply) → HostTakes old item answer new → AfterReply old.state new.state answer
 taken_after old new item answer takes =
-    subst (AfterLine old.state) (sym takes.gives) (followed old (host_line old.state takes.comes) (line_keeps old.state takes.comes))
+    subst (AfterTransition old.state) (sym takes.gives) (followed old (host_transition old.state takes.comes) (transition_keeps old.state takes.comes))
 
 pub awaits_answer : (old new : Talk HostState) (item : WireItem) (name : Option (List ℕ)) → HostTakes old item (reply.AskPool name) new → IsAsking new.state
 awaits_answer old new item name takes = (taken_after old new item (reply.AskPool name) takes).0
@@ -278,7 +278,7 @@ comes_to : (pool : Answers) (conn : Conn) (old new : Talk HostState) (item : Wir
 comes_to pool conn old new item answer takes is =
     ap (λ (next : Talk HostState × Reply). talked_on pool conn next.0 next.1) takes.gives ∙ ap (λ (talk : Talk HostState). talked pool conn talk takes.comes) (sym is)
 
-with_closes : (step : Step) (closes : Option Cause) → closes ≡ step.closes → record step { closes = closes } ≡ step
+with_closes : (step : HostStep) (closes : Option Cause) → closes ≡ step.closes → record step { closes = closes } ≡ step
 with_closes step closes is = ap (λ (c : Option Cause). record step { closes = c }) is
 
 pub replies : (number : ℕ) (pool : List Entry) (old new : Talk HostState) (item : WireItem) (answer : Reply) (before after : Vec ℕ Global) (closes : Option Cause)
@@ -325,7 +325,7 @@ replies_by_pool number pool left old mid new item name answer said before after 
 abbrev granted_after : Talk HostState × Reply → Option (List ℕ)
 granted_after next = granted next.0.state
 
-granted_then : (device : Device) (mid : Talk HostState) (answer : Result (List ℕ) Reason) → granted_after (follow at.Closed mid (answer_line device answer)) ≡ granted_by answer
+granted_then : (device : Device) (mid : Talk HostState) (answer : Result (List ℕ) Reason) → granted_after (follow at.Closed mid (answer_transition device answer)) ≡ granted_by answer
 granted_then device mid (Ok lu) = refl
 granted_then device mid (Err reason) = by_test (mid.refusals_left - 1 == 0)
   where
@@ -366,7 +366,7 @@ not_record (lent.Opt verb code) other bytes e = cc
 not_record (lent.Sub lain) other bytes e = cc
 not_record (lent.Other code) other bytes e = cc
 
-for_talk : (pool : Answers) (conn : Conn) (item : WireItem) (step : Step) → ((bytes : List ℕ) → item ≡ Record bytes → ⊥) → Talks pool conn item step → TakesItem pool conn item step
+for_talk : (pool : Answers) (conn : Conn) (item : WireItem) (step : HostStep) → ((bytes : List ℕ) → item ≡ Record bytes → ⊥) → Talks pool conn item step → TakesItem pool conn item step
 for_talk pool conn (Record bytes) step other talks = absurd (other bytes refl)
 for_talk pool conn (Opt verb code) step other talks = talks
 for_talk pool conn (Sub bytes) step other talks = talks
@@ -387,7 +387,7 @@ talk_taken number pool left before old new talk item said out closes other same 
       sent = taken.sent;
     })
 
-if_agreed : (state : HostState) (device : Device) (lu bytes : List ℕ) (old : Conn) (step : Step) → state ≡ at.Agreed device lu → TakesRecord old bytes step → TakesRecordIf (is_agreed state) old bytes step
+if_agreed : (state : HostState) (device : Device) (lu bytes : List ℕ) (old : Conn) (step : HostStep) → state ≡ at.Agreed device lu → TakesRecord old bytes step → TakesRecordIf (is_agreed state) old bytes step
 if_agreed state device lu bytes old step agreed takes = rw agreed takes
 
 before_agreement : (state : HostState) (bytes : List ℕ) (old : Conn) → ((device : Device) (lu : List ℕ) → state ≡ at.Agreed device lu → ⊥) → TakesRecordIf (is_agreed state) old bytes (quiet old)
@@ -399,7 +399,7 @@ before_agreement (at.Countered device lu) bytes old other = refl
 before_agreement (at.Agreed device lu) bytes old other = absurd (other device lu refl)
 before_agreement (at.Closed cause) bytes old other = refl
 
-of_record : (pool : Answers) (conn : Conn) (item : WireItem) (bytes : List ℕ) (step : Step) → item ≡ Record bytes → TakesRecordIf (is_agreed conn.talk.state) conn bytes step → TakesItem pool conn item step
+of_record : (pool : Answers) (conn : Conn) (item : WireItem) (bytes : List ℕ) (step : HostStep) → item ≡ Record bytes → TakesRecordIf (is_agreed conn.talk.state) conn bytes step → TakesItem pool conn item step
 of_record pool conn item bytes step is takes = rw is takes
 
 none_sent : (bytes : List ℕ) → bytes ≡ bytes ++ sent_bytes []

@@ -2,11 +2,11 @@
 use Rattle.std.proofs.Common.{◌≡◌, ◌==◌, ℕ, true, false, List, [], length, ap, sym, ◌∙◌}
 use Rattle.std.proofs.lemmas.List.{set-get_or}
 use Rattle.host_core.specs.Serves.{sent_from}
-use Rattle.host_core.specs.State.{Host, Line, unused}
+use Rattle.host_core.specs.State.{Host, Connection, unused}
 
 -- where a write took nothing the host stays
 pub none_sent : (conn : ℕ) (host : Host) → host ≡ sent_from conn 0 host
-none_sent conn host = sym (ap (λ (lines : List Line). record host { lines = lines }) (set-get_or host.lines conn unused))
+none_sent conn host = sym (ap (λ (connections : List Connection). record host { connections = connections }) (set-get_or host.connections conn unused))
 
 -- what isn't of length 0 isn't nothing
 pub is_some_out : (bytes out : List ℕ) → bytes ≡ out → (length bytes == 0) ≡ false → out ≡ [] → ⊥

@@ -23,8 +23,8 @@ use Rattle.host_core.specs.Application.{Application}
 use Rattle.host_core.specs.Messages.{ToTerminal}
 use Rattle.host_core.specs.declared.turn.Turn.{Turn}
 use Rattle.host_core.specs.declared.turn.Turn.TheVariants as whose
-use Rattle.host_core.specs.declared.occasion.Occasion.{Occasion}
-use Rattle.host_core.specs.declared.occasion.Occasion.TheVariants as occasions
+use Rattle.host_core.specs.declared.turn_reason.TurnReason.{TurnReason}
+use Rattle.host_core.specs.declared.turn_reason.TurnReason.TheVariants as turn_reasons
 use Rattle.host_core.specs.Session.{Conn, Pending, is_agreed}
 
 -- what the host may do: read the whole screen, or show a panel with a message, with these values of fields; with `keep`, fields
@@ -110,10 +110,10 @@ after_key app conn aid buffered =
     else led app conn (learned conn.shadow (app.fields conn.panel) conn.values) aid (app.next conn.panel aid)
 
 -- at agreement the first panel; after a refusal the same panel, whole
-abbrev pub act_on : Application → Conn → Occasion → Act
-act_on app conn occasions.Agreement = Act.Show app.start Fresh false conn.values
-act_on app conn (occasions.Key aid buffered) = after_key app conn aid buffered
-act_on app conn occasions.Refusal = Act.Show conn.panel (repeated conn.message) false conn.values
+abbrev pub act_on : Application → Conn → TurnReason → Act
+act_on app conn turn_reasons.Agreement = Act.Show app.start Fresh false conn.values
+act_on app conn (turn_reasons.Key aid buffered) = after_key app conn aid buffered
+act_on app conn turn_reasons.Refusal = Act.Show conn.panel (repeated conn.message) false conn.values
 
 -- ---- what is sent
 
@@ -132,21 +132,21 @@ pub record Sent : Type 0 where
 -- what is believed stays as it is until the command is answered
 abbrev pub done : Application → Conn → Act → Sent
 done app conn Act.Read = record {
-  conn = record conn { pending = Pending.Reading conn.number; number = next_number conn.number };
-  message = ToTerminal.ReadBuffer conn.number;
+  conn = record conn { pending = Pending.Reading conn.next_seq; next_seq = next_number conn.next_seq };
+  message = ToTerminal.ReadBuffer conn.next_seq;
 }
 done app conn (Act.Show panel message keep values) =
     let wanted = wanted_by app conn panel message keep values in
     record {
       conn = record conn {
         turn = whose.Terminal;
-        pending = Pending.Writing conn.number (paint (cells_in conn.shape) conn.shadow wanted);
-        number = next_number conn.number;
+        pending = Pending.Writing conn.next_seq (paint (cells_in conn.shape) conn.shadow wanted);
+        next_seq = next_number conn.next_seq;
         panel = panel;
         message = message;
         values = values;
       };
-      message = ToTerminal.Paint conn.number wanted conn.shadow;
+      message = ToTerminal.Paint conn.next_seq wanted conn.shadow;
     }
 
 -- it acts in its turn, once the session is agreed and its last command answered
@@ -159,4 +159,4 @@ may_act whose.Terminal pending agreed = false
 
 abbrev pub acted : Application → Conn → Option Sent
 acted app conn =
-    if may_act conn.turn conn.pending (is_agreed conn.talk.state) then Some (done app conn (act_on app conn conn.occasion)) else None
+    if may_act conn.turn conn.pending (is_agreed conn.talk.state) then Some (done app conn (act_on app conn conn.turn_reason)) else None

@@ -34,9 +34,9 @@ number_in (ToTerminal.Note number command) = Some number
 
 -- A command carries its connection's number, by which its response is awaited; the number behind it is for the next one.
 pub record IsNumbered (old : Conn) (sent : Sent) : Type 0 where
-  pub carried : number_in sent.message ≡ Some old.number
-  pub awaited : number_of sent.conn.pending ≡ Some old.number
-  pub next : sent.conn.number ≡ next_number old.number
+  pub carried : number_in sent.message ≡ Some old.next_seq
+  pub awaited : number_of sent.conn.pending ≡ Some old.next_seq
+  pub next : sent.conn.next_seq ≡ next_number old.next_seq
 
 abbrev pub CommandsAreNumbered : Type 0
 CommandsAreNumbered = (app : Application) (conn : Conn) (act : Act) → IsNumbered conn (done app conn act)

@@ -8,7 +8,7 @@ use Rattle.host_core.specs.Notes.{noted}
 use Rattle.host_core.specs.Rooms.{out_room, room_for}
 use Rattle.host_core.specs.Says.{item_sent}
 use Rattle.host_core.specs.Session.{Conn}
-use Rattle.host_core.specs.State.{Service, Line}
+use Rattle.host_core.specs.State.{Service, Connection}
 use Rattle.host_core.specs.declared.acted.Acted.{Acted}
 use Rattle.host_core.specs.declared.acted.Acted.TheVariants.{Sent as IsSent, Nothing, Memory}
 
@@ -30,8 +30,8 @@ with_conn conn (Service.Open rest old) = Service.Open rest conn
 with_conn conn (Service.Closed cause) = Service.Closed cause
 
 -- what is sent stands behind what is still to be sent
-abbrev pub sent_on : Sent → Line → Line
-sent_on sent line = record { service = with_conn sent.conn line.service; out = line.out ++ sent_bytes (item_sent sent.message ∷ []) }
+abbrev pub sent_on : Sent → Connection → Connection
+sent_on sent connection = record { service = with_conn sent.conn connection.service; out = connection.out ++ sent_bytes (item_sent sent.message ∷ []) }
 
 abbrev pub values_of : Service → Values
 values_of Service.Free = []
@@ -40,12 +40,12 @@ values_of (Service.Closed cause) = []
 
 -- Memory can be wanted for two reasons alone: the bytes that wait leave less of the room that a connection keeps than the command
 -- may take, or the values of fields change.
-pub data MayWantMemory (sent : Sent) (old : Line) : Type 0 where
+pub data MayWantMemory (sent : Sent) (old : Connection) : Type 0 where
   room : out_room < length old.out + room_for sent.message → MayWantMemory sent old
   values : sent.conn.values ≢ values_of old.service → MayWantMemory sent old
 
 -- If there is something to do it is done, or memory is refused and nothing has changed.
-abbrev pub Does : Option Sent → Line → Acted → Line → Type 0
+abbrev pub Does : Option Sent → Connection → Acted → Connection → Type 0
 Does None old answer new = (answer ≡ Nothing) × (new ≡ old)
 Does (Some sent) old IsSent new = new ≡ sent_on sent old
 Does (Some sent) old Memory new = (new ≡ old) × MayWantMemory sent old

@@ -13,7 +13,7 @@ use Rattle.tn3270e_msg.specs.declared.header.DataType.{DataType}
 use Rattle.tn3270e_msg.specs.declared.header.DataType.TheVariants.{Data3270, Response}
 use Rattle.host_core.specs.Messages.{Verdict}
 use Rattle.host_core.specs.Session.{Conn, is_agreed}
-use Rattle.host_core.specs.Takes.{Answers, Step, quiet, closed_by, form_awaited, data_came, response_came, talked}
+use Rattle.host_core.specs.Takes.{Answers, HostStep, quiet, closed_by, form_awaited, data_came, response_came, talked}
 
 -- what the flag of a response says
 abbrev pub verdict_of : ℕ → Verdict
@@ -27,7 +27,7 @@ IsOther _ = ⊤
 
 -- A record comes, once both ends agreed. Without a header the host closes; data is read in the form that it awaits; of a response the
 -- header counts alone; other types are dropped.
-pub data TakesRecord (conn : Conn) (bytes : List ℕ) (step : Step) : Type 0 where
+pub data TakesRecord (conn : Conn) (bytes : List ℕ) (step : HostStep) : Type 0 where
   no_header : (fault : HeadFault) → HasFault bytes fault → step ≡ closed_by BadRecord conn → TakesRecord conn bytes step
   dropped : (header : Header) (body : List ℕ) → Begins bytes header body → IsOther header.kind → step ≡ quiet conn → TakesRecord conn bytes step
   no_data : (header : Header) (body : List ℕ) (fault : InboundFault) → Begins bytes header body → header.kind ≡ Data3270
@@ -39,15 +39,15 @@ pub data TakesRecord (conn : Conn) (bytes : List ℕ) (step : Step) : Type 0 whe
       → step ≡ response_came header.seq (verdict_of header.flag) conn.pending conn → TakesRecord conn bytes step
 
 -- before agreement records are dropped
-abbrev pub TakesRecordIf : Bool → Conn → List ℕ → Step → Type 0
+abbrev pub TakesRecordIf : Bool → Conn → List ℕ → HostStep → Type 0
 TakesRecordIf true conn bytes step = TakesRecord conn bytes step
 TakesRecordIf false conn bytes step = step ≡ quiet conn
 
 -- all else is for the talk
-abbrev pub Talks : Answers → Conn → WireItem → Step → Type 0
+abbrev pub Talks : Answers → Conn → WireItem → HostStep → Type 0
 Talks pool conn item step = (comes : Comes) × Hears item comes × (step ≡ talked pool conn conn.talk comes)
 
-abbrev pub TakesItem : Answers → Conn → WireItem → Step → Type 0
+abbrev pub TakesItem : Answers → Conn → WireItem → HostStep → Type 0
 TakesItem pool conn (Record bytes) step = TakesRecordIf (is_agreed conn.talk.state) conn bytes step
 TakesItem pool conn (Opt verb code) step = Talks pool conn (Opt verb code) step
 TakesItem pool conn (Sub bytes) step = Talks pool conn (Sub bytes) step

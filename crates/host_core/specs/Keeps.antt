@@ -25,7 +25,7 @@ use Rattle.host_core.specs.Items.{TakesItem}
 use Rattle.host_core.specs.Rooms.{command_room, read_buffer_room, room_for}
 use Rattle.host_core.specs.Says.{item_sent}
 use Rattle.host_core.specs.Session.{Conn, Pending}
-use Rattle.host_core.specs.Takes.{Step, pool_after}
+use Rattle.host_core.specs.Takes.{HostStep, pool_after}
 use Rattle.host_core.specs.declared.acting.Act.{Act as Chosen}
 use Rattle.host_core.specs.declared.acting.Act.TheVariants as chosen
 use Rattle.host_core.specs.declared.acted.Acted.{Acted}
@@ -69,12 +69,12 @@ IsKept (unanswered.Noting number) sent = IsPlainWrite (drop 5 sent)
 -- ---- what comes
 
 -- a step that says and grants nothing
-abbrev pub silent : Conn → Option Cause → Step
+abbrev pub silent : Conn → Option Cause → HostStep
 silent conn closes = record { conn = conn; sends = []; grants = None; closes = closes }
 
 -- An item is taken: what it says is put behind what is there. Where the connection closes its LU is still held.
 pub record ItemTaken (number : ℕ) (pool : List Entry) (old : Conn) (item : WireItem) (before after : Vec ℕ Global) (closes : Option Cause) (left : List Entry) (new : Conn) : Type 0 where
-  pub step : Step
+  pub step : HostStep
   pub takes : TakesItem (answer_to pool) old item step
   pub conn : new ≡ step.conn
   pub ends : closes ≡ step.closes
@@ -103,7 +103,7 @@ IsLeft (Some cause) held = ⊤
 
 -- the counter of these parts; the connection is open unless there is a cause
 abbrev pub counter_of : List Entry → Held → Conn → Option Cause → Vec ℕ Global → Counter
-counter_of pool held conn closes out = record { pool = pool; line = record { service = service_after held.rest conn closes; out = out.items } }
+counter_of pool held conn closes out = record { pool = pool; connection = record { service = service_after held.rest conn closes; out = out.items } }
 
 abbrev pub cause_of : Stop → Option Cause
 cause_of Going = None

@@ -19,6 +19,6 @@ pub mod Laws
 pub mod Rooms
 pub mod Keeps
 pub mod Parts
-pub mod Lines
+pub mod Connections
 pub mod Choices
 pub mod Learning

@@ -51,8 +51,8 @@ abbrev pub noted_as : List ℕ → Conn → Sent
 noted_as text conn =
     let command = note_command conn.shape text in
     record {
-      conn = record conn { pending = Pending.Noting conn.number command; number = next_number conn.number };
-      message = ToTerminal.Note conn.number command;
+      conn = record conn { pending = Pending.Noting conn.next_seq command; next_seq = next_number conn.next_seq };
+      message = ToTerminal.Note conn.next_seq command;
     }
 
 abbrev pub noted : List ℕ → Conn → Option Sent

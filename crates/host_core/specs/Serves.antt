@@ -5,7 +5,7 @@ use Rattle.tn3270e_msg.specs.declared.cause.Stop.TheVariants.{Memory as FeedMemo
 use Rattle.host_core.specs.Application.{application_of}
 use Rattle.host_core.specs.Does.{Does, acted_by}
 use Rattle.host_core.specs.Feeds.{Feeds, counter_at, with_counter}
-use Rattle.host_core.specs.State.{Host, line_at, service_at, with_line}
+use Rattle.host_core.specs.State.{Host, connection_at, service_at, with_connection}
 use Rattle.host_core.specs.declared.acted.Acted.{Acted}
 use Rattle.host_core.specs.declared.acted.Acted.TheVariants.{Memory as ActMemory}
 use Rattle.host_core.specs.declared.links.LinkRead.{LinkRead}
@@ -77,8 +77,8 @@ pub record FeedsHost (conn : ℕ) (old : Host) (bytes : List ℕ) (fed : Fed) (n
 
 -- the host acts
 pub record ActsHost (conn : ℕ) (old : Host) (answer : Acted) (new : Host) : Type 0 where
-  pub does : Does (acted_by (application_of old.panels) (service_at conn old)) (line_at conn old) answer (line_at conn new)
-  pub others : new ≡ with_line conn (line_at conn new) old
+  pub does : Does (acted_by (application_of old.panels) (service_at conn old)) (connection_at conn old) answer (connection_at conn new)
+  pub others : new ≡ with_connection conn (connection_at conn new) old
 
 -- The host is fed bytes, and then acts; false where memory was refused it for the one or the other.
 pub data Responds (conn : ℕ) (old : Host) (bytes : List ℕ) (sound : Bool) (new : Host) : Type 0 where
@@ -90,7 +90,7 @@ pub data Responds (conn : ℕ) (old : Host) (bytes : List ℕ) (sound : Bool) (n
 
 -- so many bytes of what there was to send were sent
 abbrev pub sent_from : ℕ → ℕ → Host → Host
-sent_from conn count host = with_line conn (record (line_at conn host) { out = drop count (line_at conn host).out }) host
+sent_from conn count host = with_connection conn (record (connection_at conn host) { out = drop count (connection_at conn host).out }) host
 
 -- a read that the connection doesn't end at
 abbrev pub GoesOn : LinkRead → Type 0
@@ -117,8 +117,8 @@ module _ {L : Type 0} (gave : L → ℕ → ℕ → List ℕ → LinkRead → L 
 
   -- What there is to send is handed to one write, and what that took is dropped; where there is nothing to send, nothing is written.
   pub data SendsOut (conn : ℕ) (host : Host) (old : L) (new_host : Host) (new : L) : Type 0 where
-    nothing : (line_at conn host).out ≡ [] → new_host ≡ host → new ≡ old → SendsOut conn host old new_host new
-    handed : (wrote : LinkWrite) → (line_at conn host).out ≢ [] → took old conn (line_at conn host).out wrote new → new_host ≡ sent_from conn (taken_by wrote) host
+    nothing : (connection_at conn host).out ≡ [] → new_host ≡ host → new ≡ old → SendsOut conn host old new_host new
+    handed : (wrote : LinkWrite) → (connection_at conn host).out ≢ [] → took old conn (connection_at conn host).out wrote new → new_host ≡ sent_from conn (taken_by wrote) host
         → SendsOut conn host old new_host new
 
   -- One read, into a buffer of read_room bytes; if it ended or failed nothing else. Else the host is fed what was read, acts, and

@@ -6,8 +6,8 @@ use Rattle.shadow.specs.Belief.{Shadow}
 use Rattle.panels.specs.declared.message.Message.{Message}
 use Rattle.panels.specs.declared.message.Message.TheVariants.{Fresh}
 use Rattle.panels.specs.Screen.{Values}
-use Rattle.host_core.specs.declared.occasion.Occasion.{Occasion}
-use Rattle.host_core.specs.declared.occasion.Occasion.TheVariants.{Agreement}
+use Rattle.host_core.specs.declared.turn_reason.TurnReason.{TurnReason}
+use Rattle.host_core.specs.declared.turn_reason.TurnReason.TheVariants.{Agreement}
 use Rattle.host_core.specs.declared.turn.Turn.{Turn}
 use Rattle.host_core.specs.declared.turn.Turn.TheVariants.{Host}
 use Rattle.tn3270e_msg.specs.Talk.{Talk}
@@ -27,12 +27,12 @@ pub record Conn : Type 0 where
   pub shape : Shape  -- of the terminal's screen, as the host's last erase set it
   pub turn : Turn
   pub pending : Pending
-  pub number : ℕ  -- of the next command
+  pub next_seq : ℕ  -- of the next command
   pub shadow : Shadow
   pub panel : ℕ  -- the one that is shown
   pub message : Message  -- and with what message
   pub values : Values  -- of the fields
-  pub occasion : Occasion
+  pub turn_reason : TurnReason
 
 -- at the begin of a connection, when the host has offered TN3270E, to a screen of this shape
 abbrev pub new_conn : Shape → Conn
@@ -41,12 +41,12 @@ new_conn shape = record {
   shape = shape;
   turn = Host;
   pending = Pending.Nothing;
-  number = 0;
+  next_seq = 0;
   shadow = Shadow.NothingKnown;
   panel = 0;
   message = Fresh;
   values = [];
-  occasion = Agreement;
+  turn_reason = Agreement;
 }
 
 -- both ends agreed

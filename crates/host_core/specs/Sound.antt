@@ -23,7 +23,7 @@ abbrev pub PanelsAreShown : Host → Type 0
 PanelsAreShown host = (number : ℕ) → IsShown (length host.panels.panels) (service_at number host)
 
 pub record IsSound (host : Host) : Type 0 where
-  pub lines : length host.lines ≡ most_connections
+  pub connections : length host.connections ≡ most_connections
   pub held : LusAreHeld host
   pub shown : PanelsAreShown host
 

@@ -24,14 +24,14 @@ pub data Service : Type 0 where
   Closed : Cause → Service
 
 -- with what the host has to send on it
-pub record Line : Type 0 where
+pub record Connection : Type 0 where
   pub service : Service
   pub out : List ℕ
 
 pub record Host : Type 0 where
   pub panels : Panels
   pub pool : List Entry
-  pub lines : List Line  -- by their numbers
+  pub connections : List Connection  -- by their numbers
 
 -- the numbers that there are
 abbrev pub most_connections : ℕ
@@ -39,11 +39,11 @@ most_connections = 64
 
 -- ---- a number
 
-abbrev pub unused : Line
+abbrev pub unused : Connection
 unused = record { service = Service.Free; out = [] }
 
 -- TN3270E is offered at once, to a model 2
-abbrev pub opened : Line
+abbrev pub opened : Connection
 opened = record { service = Service.Open nothing (new_conn model_2); out = sent_bytes (Opt Do 40 ∷ []) }
 
 abbrev pub phase_agreed : Option (List ℕ) → Phase
@@ -79,20 +79,20 @@ shadow_of (Service.Closed cause) = Shadow.NothingKnown
 
 -- ---- the host
 
-abbrev pub line_at : ℕ → Host → Line
-line_at number host = slice_index_or host.lines number unused
+abbrev pub connection_at : ℕ → Host → Connection
+connection_at number host = slice_index_or host.connections number unused
 
 abbrev pub service_at : ℕ → Host → Service
-service_at number host = (line_at number host).service
+service_at number host = (connection_at number host).service
 
 -- the host with another line at a number
-abbrev pub with_line : ℕ → Line → Host → Host
-with_line number line host = record host { lines = slice_set host.lines number line }
+abbrev pub with_connection : ℕ → Connection → Host → Host
+with_connection number connection host = record host { connections = slice_set host.connections number connection }
 
 -- as it begins: each LU is free, and so is each number
 abbrev pub new_host : Panels → List Entry → Host
-new_host panels pool = record { panels = panels; pool = all_free pool; lines = replicate most_connections unused }
+new_host panels pool = record { panels = panels; pool = all_free pool; connections = replicate most_connections unused }
 
 -- a connection is given up: its number is free, and so is its LU
 abbrev pub given_up : ℕ → Host → Host
-given_up number host = with_line number unused (record host { pool = given_back number host.pool })
+given_up number host = with_connection number unused (record host { pool = given_back number host.pool })

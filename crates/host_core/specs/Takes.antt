@@ -16,7 +16,7 @@ use Rattle.shadow.specs.Heard.{heard}
 use Rattle.shadow.specs.Taken.{taken}
 use Rattle.shadow.specs.declared.fault.HeardFault.{HeardFault}
 use Rattle.tn3270e_msg.specs.Talk.{Talk, Comes, follow, says, sayings, closing}
-use Rattle.tn3270e_msg.specs.HostTable.{host_line, answer_line}
+use Rattle.tn3270e_msg.specs.HostTable.{host_transition, answer_transition}
 use Rattle.tn3270e_msg.specs.declared.cause.Cause.{Cause}
 use Rattle.tn3270e_msg.specs.declared.cause.Cause.TheVariants.{BadInbound, BadResponse, Negative as NegativeCause}
 use Rattle.tn3270e_msg.specs.declared.host_talk.HostState.{HostState}
@@ -27,21 +27,21 @@ use Rattle.tn3270e_msg.specs.declared.reply.Reply.TheVariants as reply
 use Rattle.host_core.specs.Messages.{ToTerminal, ToHost, Verdict}
 use Rattle.host_core.specs.declared.turn.Turn.{Turn}
 use Rattle.host_core.specs.declared.turn.Turn.TheVariants as whose
-use Rattle.host_core.specs.declared.occasion.Occasion.{Occasion}
-use Rattle.host_core.specs.declared.occasion.Occasion.TheVariants as occasions
+use Rattle.host_core.specs.declared.turn_reason.TurnReason.{TurnReason}
+use Rattle.host_core.specs.declared.turn_reason.TurnReason.TheVariants as turn_reasons
 use Rattle.host_core.specs.Session.{Conn, Pending, is_agreed}
 
-pub record Step : Type 0 where
+pub record HostStep : Type 0 where
   pub conn : Conn
   pub sends : List ToTerminal
   pub grants : Option (List ℕ)
   pub closes : Option Cause
 
 -- it sends nothing
-abbrev pub quiet : Conn → Step
+abbrev pub quiet : Conn → HostStep
 quiet conn = record { conn = conn; sends = []; grants = None; closes = None }
 
-abbrev pub closed_by : Cause → Conn → Step
+abbrev pub closed_by : Cause → Conn → HostStep
 closed_by cause conn = record { conn = conn; sends = []; grants = None; closes = Some cause }
 
 -- ---- the talk
@@ -49,7 +49,7 @@ closed_by cause conn = record { conn = conn; sends = []; grants = None; closes =
 abbrev pub with_talk : Conn → Talk HostState → Conn
 with_talk conn talk = record conn { talk = talk }
 
-abbrev pub replied : Conn → Option (List ℕ) → Talk HostState × Reply → Step
+abbrev pub replied : Conn → Option (List ℕ) → Talk HostState × Reply → HostStep
 replied conn grants talked = record {
   conn = with_talk conn talked.0;
   sends = map ToTerminal.TalksDown (sayings talked.1);
@@ -66,17 +66,17 @@ granted_by (Ok lu) = Some lu
 granted_by (Err reason) = None
 
 -- the talk asks the pool, and goes on with its answer
-abbrev pub asked : Conn → Talk HostState → Result (List ℕ) Reason → HostState → Step
-asked conn talk answer (Asking device) = replied conn (granted_by answer) (follow Closed talk (answer_line device answer))
+abbrev pub asked : Conn → Talk HostState → Result (List ℕ) Reason → HostState → HostStep
+asked conn talk answer (Asking device) = replied conn (granted_by answer) (follow Closed talk (answer_transition device answer))
 asked conn talk answer _ = quiet conn
 
-abbrev pub talked_on : Answers → Conn → Talk HostState → Reply → Step
+abbrev pub talked_on : Answers → Conn → Talk HostState → Reply → HostStep
 talked_on pool conn talk (reply.AskPool name) = asked conn talk (pool name) talk.state
 talked_on pool conn talk reply = replied conn None (talk, reply)
 
 -- something comes to the talk, as its table names it
-abbrev pub talked : Answers → Conn → Talk HostState → Comes → Step
-talked pool conn talk comes = let next = follow Closed talk (host_line talk.state comes) in talked_on pool conn next.0 next.1
+abbrev pub talked : Answers → Conn → Talk HostState → Comes → HostStep
+talked pool conn talk comes = let next = follow Closed talk (host_transition talk.state comes) in talked_on pool conn next.0 next.1
 
 -- ---- data
 
@@ -92,38 +92,38 @@ form_awaited (Pending.Noting number command) = Modified
 form_awaited Pending.Nothing = Modified
 
 -- what was heard is believed, and the turn is the host's; what still waits for an answer then
-abbrev pub believed : Occasion → Pending → Conn → Result Shadow HeardFault → Step
-believed occasion pending conn (Ok shadow) =
-    quiet (record conn { shadow = shadow; turn = whose.Host; pending = pending; occasion = occasion })
-believed occasion pending conn (Err fault) = closed_by BadInbound conn
+abbrev pub believed : TurnReason → Pending → Conn → Result Shadow HeardFault → HostStep
+believed turn_reason pending conn (Ok shadow) =
+    quiet (record conn { shadow = shadow; turn = whose.Host; pending = pending; turn_reason = turn_reason })
+believed turn_reason pending conn (Err fault) = closed_by BadInbound conn
 
 -- the key that was pressed last, and its screen was read
-abbrev pub once_read : Occasion → Occasion
-once_read (occasions.Key aid buffered) = occasions.Key aid true
-once_read occasions.Agreement = occasions.Agreement
-once_read occasions.Refusal = occasions.Refusal
+abbrev pub once_read : TurnReason → TurnReason
+once_read (turn_reasons.Key aid buffered) = turn_reasons.Key aid true
+once_read turn_reasons.Agreement = turn_reasons.Agreement
+once_read turn_reasons.Refusal = turn_reasons.Refusal
 
 -- the answer to Read Buffer
-abbrev pub buffer_came : InboundParts → Form → Conn → Step
-buffer_came parts Buffer conn = believed (once_read conn.occasion) Pending.Nothing conn (hears parts conn)
+abbrev pub buffer_came : InboundParts → Form → Conn → HostStep
+buffer_came parts Buffer conn = believed (once_read conn.turn_reason) Pending.Nothing conn (hears parts conn)
 buffer_came parts Modified conn = closed_by BadInbound conn
 buffer_came parts AllModified conn = closed_by BadInbound conn
 
 -- a key was pressed; a note that isn't answered yet still waits
-abbrev pub key_came : InboundParts → Aid → Conn → Step
+abbrev pub key_came : InboundParts → Aid → Conn → HostStep
 key_came parts NoAid conn = closed_by BadInbound conn
-key_came parts Enter conn = believed (occasions.Key Enter false) conn.pending conn (hears parts conn)
-key_came parts Clear conn = believed (occasions.Key Clear false) conn.pending conn (hears parts conn)
-key_came parts (Pf key) conn = believed (occasions.Key (Pf key) false) conn.pending conn (hears parts conn)
-key_came parts (Pa key) conn = believed (occasions.Key (Pa key) false) conn.pending conn (hears parts conn)
+key_came parts Enter conn = believed (turn_reasons.Key Enter false) conn.pending conn (hears parts conn)
+key_came parts Clear conn = believed (turn_reasons.Key Clear false) conn.pending conn (hears parts conn)
+key_came parts (Pf key) conn = believed (turn_reasons.Key (Pf key) false) conn.pending conn (hears parts conn)
+key_came parts (Pa key) conn = believed (turn_reasons.Key (Pa key) false) conn.pending conn (hears parts conn)
 
-abbrev pub key_data_came : InboundParts → Form → Conn → Step
+abbrev pub key_data_came : InboundParts → Form → Conn → HostStep
 key_data_came parts Modified conn = key_came parts parts.aid conn
 key_data_came parts AllModified conn = closed_by BadInbound conn
 key_data_came parts Buffer conn = closed_by BadInbound conn
 
 -- While a read is pending, data is its answer. Otherwise it is a key's, in the terminal's turn with nothing pending but a note.
-abbrev pub data_came : InboundParts → Turn → Pending → Conn → Step
+abbrev pub data_came : InboundParts → Turn → Pending → Conn → HostStep
 data_came parts turn (Pending.Reading number) conn = buffer_came parts parts.form conn
 data_came parts turn (Pending.Writing number command) conn = closed_by BadInbound conn
 data_came parts whose.Host Pending.Nothing conn = closed_by BadInbound conn
@@ -140,27 +140,27 @@ answered command conn = record conn { shadow = taken (cells_in conn.shape) comma
 -- the command was refused: nothing is known any more
 abbrev pub refused : Conn → Conn
 refused conn =
-    record conn { shadow = Shadow.NothingKnown; turn = whose.Host; pending = Pending.Nothing; occasion = occasions.Refusal }
+    record conn { shadow = Shadow.NothingKnown; turn = whose.Host; pending = Pending.Nothing; turn_reason = turn_reasons.Refusal }
 
 -- after the refusal of an erase the host has nothing left to try
-abbrev pub write_refused : CommandParts → Conn → Step
+abbrev pub write_refused : CommandParts → Conn → HostStep
 write_refused command conn = if is_erase command.code then closed_by NegativeCause conn else quiet (refused conn)
 
-abbrev pub if_answers : Bool → Step → Conn → Step
+abbrev pub if_answers : Bool → HostStep → Conn → HostStep
 if_answers true step conn = step
 if_answers false step conn = closed_by BadResponse conn
 
 -- a write was answered
-abbrev pub verdict_came : CommandParts → Verdict → Conn → Step
+abbrev pub verdict_came : CommandParts → Verdict → Conn → HostStep
 verdict_came command Verdict.Positive conn = quiet (answered command conn)
 verdict_came command Verdict.Negative conn = write_refused command conn
 
 -- the response to a read can only refuse it
-abbrev pub read_verdict_came : Bool → Verdict → Conn → Step
+abbrev pub read_verdict_came : Bool → Verdict → Conn → HostStep
 read_verdict_came answers Verdict.Positive conn = closed_by BadResponse conn
 read_verdict_came answers Verdict.Negative conn = if_answers answers (quiet (refused conn)) conn
 
-abbrev pub response_came : ℕ → Verdict → Pending → Conn → Step
+abbrev pub response_came : ℕ → Verdict → Pending → Conn → HostStep
 response_came number verdict Pending.Nothing conn = closed_by BadResponse conn
 response_came number verdict (Pending.Writing pending command) conn = if_answers (number == pending) (verdict_came command verdict conn) conn
 response_came number verdict (Pending.Noting pending command) conn = if_answers (number == pending) (verdict_came command verdict conn) conn
@@ -169,11 +169,11 @@ response_came number verdict (Pending.Reading pending) conn = read_verdict_came 
 -- ---- any message
 
 -- before agreement records are dropped
-abbrev pub once_agreed : Bool → Step → Conn → Step
+abbrev pub once_agreed : Bool → HostStep → Conn → HostStep
 once_agreed true step conn = step
 once_agreed false step conn = quiet conn
 
-abbrev pub took : Answers → Conn → ToHost → Step
+abbrev pub took : Answers → Conn → ToHost → HostStep
 took pool conn (ToHost.TalksUp saying) = talked pool conn conn.talk (says saying)
 took pool conn (ToHost.Data parts) = once_agreed (is_agreed conn.talk.state) (data_came parts conn.turn conn.pending conn) conn
 took pool conn (ToHost.Response number verdict) = once_agreed (is_agreed conn.talk.state) (response_came number verdict conn.pending conn) conn
@@ -186,5 +186,5 @@ freed_if number None pool = pool
 freed_if number (Some cause) pool = given_back number pool
 
 -- what a step of the connection with this number makes of the pool
-abbrev pub pool_after : ℕ → Step → List Entry → List Entry
+abbrev pub pool_after : ℕ → HostStep → List Entry → List Entry
 pool_after number step pool = freed_if number step.closes (granted_if number step.grants pool)

@@ -15,12 +15,12 @@ ghost use Rattle.host_core.specs.Session.{is_agreed};
 
 use crate::acted::Acted;
 use crate::learning::{first_missing, is_in_doubt, learned};
-use crate::occasion::Occasion;
 use crate::pending::Pending;
 use crate::room::{COMMAND_ROOM, READ_BUFFER_ROOM};
 use crate::sending::panel_in;
 use crate::session::Session;
 use crate::turn::Turn;
+use crate::turn_reason::TurnReason;
 use codes3270::Aid;
 use panels::{Field, Message, Next, PanelSet, Values};
 use shadow::Shadow;
@@ -81,7 +81,7 @@ fn unless_missing(
     }
 }
 
-/// Does nothing: its contract says that an identifier is a key's, or none's.
+/// Law: an identifier is a key's, or none's.
 fn aid_is_real(aid: &Aid)
     ensures { IsKey aid.now }
 {
@@ -183,14 +183,14 @@ impl Session {
     /// the values of fields.
     pub(crate) fn act_on(&self, panels: &PanelSet) -> Result<Act, Memory>
         requires { self.now.panel < length panels.now.panels }
-        ensures act { IfOk result (λ act. act_of self.now.values act ≡ act_on (application_of panels.now) self.now self.now.occasion) }
+        ensures act { IfOk result (λ act. act_of self.now.values act ≡ act_on (application_of panels.now) self.now self.now.turn_reason) }
         ensures can_be_done { IfOk result (CanBeDone (length panels.now.panels)) }
-        ensures memory { OnErr result (ChangesValues self.now.values (act_on (application_of panels.now) self.now self.now.occasion)) }
+        ensures memory { OnErr result (ChangesValues self.now.values (act_on (application_of panels.now) self.now self.now.turn_reason)) }
     {
-        match self.occasion {
-            Occasion::Agreement => Ok(Act::Show(panels.start(), Message::Fresh, false, None)),
-            Occasion::Key(aid, buffered) => self.after_key(panels, &aid, buffered),
-            Occasion::Refusal => Ok(Act::Show(self.panel, repeated(self.message), false, None)),
+        match self.turn_reason {
+            TurnReason::Agreement => Ok(Act::Show(panels.start(), Message::Fresh, false, None)),
+            TurnReason::Key(aid, buffered) => self.after_key(panels, &aid, buffered),
+            TurnReason::Refusal => Ok(Act::Show(self.panel, repeated(self.message), false, None)),
         }
     }
 

@@ -5,11 +5,11 @@ ghost use Rattle.host_core.specs.Does.{Does, acted_by, noted_by};
 ghost use Rattle.host_core.specs.Feeds.{Feeds, counter_at, with_counter};
 ghost use Rattle.host_core.specs.Notes.{IsNoteText};
 ghost use Rattle.host_core.specs.Sound.{IsSound, NobodyShares};
-ghost use Rattle.host_core.specs.State.{new_host, most_connections, opened, unused, given_up, line_at, service_at, with_line, phase_of, turn_of, pending_of, shadow_of};
+ghost use Rattle.host_core.specs.State.{new_host, most_connections, opened, unused, given_up, connection_at, service_at, with_connection, phase_of, turn_of, pending_of, shadow_of};
 ghost use Rattle.host_core.specs.declared.phase.Phase.TheVariants as phase;
 
 use crate::acted::Acted;
-use crate::line::Line;
+use crate::connection::Connection;
 use crate::phase::Phase;
 use crate::turn::Turn;
 use lu_pool::Pool;
@@ -31,7 +31,7 @@ pub const MOST_CONNECTIONS: usize = 64;
 pub struct Host {
     panels: PanelSet,
     pool: Pool,
-    lines: Vec<Line>,
+    connections: Vec<Connection>,
     // What is believed of a screen on a number that isn't open.
     nothing_known: Shadow,
 }
@@ -44,29 +44,29 @@ impl Model for Host {
 
     ghost Value = { Stands };
 
-    ghost view = { λ host. record { panels = host.panels; pool = host.pool; lines = host.lines.items } };
+    ghost view = { λ host. record { panels = host.panels; pool = host.pool; connections = host.connections.items } };
 
-    ghost invariant = { λ host. IsSound (record { panels = host.panels; pool = host.pool; lines = host.lines.items })
+    ghost invariant = { λ host. IsSound (record { panels = host.panels; pool = host.pool; connections = host.connections.items })
         × (host.nothing_known ≡ NothingKnown) };
 }
 
 /// So many numbers, all free.
-fn unused_lines(alloc: Global) -> Result<Vec<Line>, Memory>
-    ensures { IfOk result (λ lines. lines.items ≡ replicate most_connections unused) }
+fn unused_connections(alloc: Global) -> Result<Vec<Connection>, Memory>
+    ensures { IfOk result (λ connections. connections.items ≡ replicate most_connections unused) }
 {
-    let mut lines = Vec::with_capacity(alloc, MOST_CONNECTIONS)?;
+    let mut connections = Vec::with_capacity(alloc, MOST_CONNECTIONS)?;
     for _ in 0..MOST_CONNECTIONS {
-        lines.push(Line::unused(alloc))?;
+        connections.push(Connection::unused(alloc))?;
     }
-    Ok(lines)
+    Ok(connections)
 }
 
 /// Frees each number.
-fn clear_each(lines: &mut Vec<Line>)
-    ensures { lines.new.items ≡ replicate (length lines.old.items) unused }
+fn clear_each(connections: &mut Vec<Connection>)
+    ensures { connections.new.items ≡ replicate (length connections.old.items) unused }
 {
-    for index in 0..lines.len() {
-        lines[index].clear();
+    for index in 0..connections.len() {
+        connections[index].clear();
     }
 }
 
@@ -75,13 +75,13 @@ impl Host {
     pub fn new(alloc: Global, panels: PanelSet, pool: Pool) -> Result<Host, Memory>
         ensures { IfOk result (λ host. host ≡ new_host panels pool) }
     {
-        let lines = unused_lines(alloc)?;
+        let connections = unused_connections(alloc)?;
         let mut pool = pool;
         pool.free_all();
         Ok(Host {
             panels,
             pool,
-            lines,
+            connections,
             nothing_known: Shadow::blank(),
         })
     }
@@ -91,11 +91,11 @@ impl Host {
     pub fn open(&mut self, conn: usize) -> Result<(), Memory>
         requires number { conn < most_connections }
         requires free { phase_of (service_at conn self.old) ≡ phase.Free }
-        ensures opened { OnOk result (self.new ≡ with_line conn opened self.old) }
+        ensures opened { OnOk result (self.new ≡ with_connection conn opened self.old) }
         ensures unchanged { OnErr result (self.new ≡ self.old) }
     {
         let _first = self.panels.start();
-        self.lines[conn].open()
+        self.connections[conn].open()
     }
 
     /// Takes bytes that came on a connection, up to one for which there is no room or that closes the connection, and answers
@@ -109,7 +109,7 @@ impl Host {
         ensures fed { Feeds conn (counter_at conn self.old) bytes.now result (counter_at conn self.new) }
         ensures others { self.new ≡ with_counter conn (counter_at conn self.new) self.old }
     {
-        self.lines[conn].feed(&mut self.pool, conn, bytes)
+        self.connections[conn].feed(&mut self.pool, conn, bytes)
     }
 
     /// Does what the host does in its turn: it reads the screen, or shows a panel. Nothing if it isn't the host's turn, a command
@@ -119,10 +119,10 @@ impl Host {
     /// takes (1,024 bytes may wait), or if a field's known text isn't its value yet, so that values change.
     pub fn act(&mut self, conn: usize) -> Acted
         requires number { conn < most_connections }
-        ensures acted { Does (acted_by (application_of self.old.panels) (service_at conn self.old)) (line_at conn self.old) result (line_at conn self.new) }
-        ensures others { self.new ≡ with_line conn (line_at conn self.new) self.old }
+        ensures acted { Does (acted_by (application_of self.old.panels) (service_at conn self.old)) (connection_at conn self.old) result (connection_at conn self.new) }
+        ensures others { self.new ≡ with_connection conn (connection_at conn self.new) self.old }
     {
-        self.lines[conn].act(&self.panels)
+        self.connections[conn].act(&self.panels)
     }
 
     /// Sends a note, of at most 131 characters of code page 037, into the last row while the operator has the turn. What is
@@ -132,37 +132,37 @@ impl Host {
     pub fn note(&mut self, conn: usize, text: &[u8]) -> Acted
         requires number { conn < most_connections }
         requires text { IsNoteText text.now }
-        ensures noted { Does (noted_by text.now (service_at conn self.old)) (line_at conn self.old) result (line_at conn self.new) }
-        ensures others { self.new ≡ with_line conn (line_at conn self.new) self.old }
+        ensures noted { Does (noted_by text.now (service_at conn self.old)) (connection_at conn self.old) result (connection_at conn self.new) }
+        ensures others { self.new ≡ with_connection conn (connection_at conn self.new) self.old }
     {
-        self.lines[conn].note(text)
+        self.connections[conn].note(text)
     }
 
     /// What there is to send on a connection.
     pub fn out(&self, conn: usize) -> &[u8]
         requires number { conn < most_connections }
-        ensures { result.now ≡ (line_at conn self.now).out }
+        ensures { result.now ≡ (connection_at conn self.now).out }
     {
-        self.lines[conn].out()
+        self.connections[conn].out()
     }
 
     /// The first `count` bytes of `out` were sent, and are dropped.
     pub fn sent(&mut self, conn: usize, count: usize)
         requires number { conn < most_connections }
-        requires count { count ≤ length (line_at conn self.old).out }
-        ensures { self.new ≡ with_line conn (record (line_at conn self.old) { out = drop count (line_at conn self.old).out }) self.old }
+        requires count { count ≤ length (connection_at conn self.old).out }
+        ensures { self.new ≡ with_connection conn (record (connection_at conn self.old) { out = drop count (connection_at conn self.old).out }) self.old }
     {
-        self.lines[conn].sent(count);
+        self.connections[conn].sent(count);
     }
 
     /// A connection is lost, or its peer left: frees its number and its LU, and hands back what wasn't sent.
     pub fn closed(&mut self, conn: usize) -> Vec<u8>
         requires number { conn < most_connections }
-        ensures unsent { result.items ≡ (line_at conn self.old).out }
+        ensures unsent { result.items ≡ (connection_at conn self.old).out }
         ensures closed { self.new ≡ given_up conn self.old }
     {
         self.pool.give_back(conn);
-        self.lines[conn].close()
+        self.connections[conn].close()
     }
 
     /// How far the host is with the terminal of a number.
@@ -170,7 +170,7 @@ impl Host {
         requires number { conn < most_connections }
         ensures { result ≡ phase_of (service_at conn self.now) }
     {
-        self.lines[conn].phase()
+        self.connections[conn].phase()
     }
 
     /// Whose turn it is on a connection: the host's before agreement, and on a number that is free or closed.
@@ -178,7 +178,7 @@ impl Host {
         requires number { conn < most_connections }
         ensures { result ≡ turn_of (service_at conn self.now) }
     {
-        self.lines[conn].turn()
+        self.connections[conn].turn()
     }
 
     /// The number of the command that waits for its answer, if one does.
@@ -186,7 +186,7 @@ impl Host {
         requires number { conn < most_connections }
         ensures { result ≡ pending_of (service_at conn self.now) }
     {
-        self.lines[conn].pending()
+        self.connections[conn].pending()
     }
 
     /// What is believed of the screen of a connection: nothing where the number isn't open.
@@ -194,7 +194,7 @@ impl Host {
         requires number { conn < most_connections }
         ensures { result.now ≡ shadow_of (service_at conn self.now) }
     {
-        match self.lines[conn].shadow() {
+        match self.connections[conn].shadow() {
             Some(shadow) => shadow,
             None => &self.nothing_known,
         }
@@ -204,12 +204,13 @@ impl Host {
     pub fn restart(&mut self)
         ensures { self.new ≡ new_host self.old.panels self.old.pool }
     {
-        clear_each(&mut self.lines);
+        clear_each(&mut self.connections);
         self.pool.free_all();
     }
 
-    /// Does nothing: its contract says what holds of each host. An LU is held for a connection exactly while it is granted
-    /// there, so no two connections are granted one; and each connection is shown a panel that there is.
+    /// Law: what holds of each host. An LU is held for a connection exactly while it is granted
+    /// there, so no two connections are granted one; and each connection is shown a panel that
+    /// there is.
     pub fn hosts_are_sound(&self)
         ensures sound { IsSound self.now }
         ensures unshared { NobodyShares self.now }

@@ -1,34 +1,35 @@
-//! Laws of the definitions in `specs/`, for proofs in the crates above.
+//! Laws of hosts over bytes: each is the contract of a function that does nothing. Proofs of
+//! other crates use them; no program calls them, and the root doesn't export them.
 ghost use Rattle.host_core.specs.Answering.{BelievesNoSooner, BelievesNotesNoSooner, CommandsAreNumbered, NotesAreNumbered, OnlyItsResponse};
 ghost use Rattle.host_core.specs.Laws.{ActsFit, PanelsAreShown, PanelsAskForScreens, ScreensAreWanted};
 ghost use Rattle.host_core.specs.NoteLaws.{HeldTakesNotes, NotesAreNotes, NotesAreOverCharacters, NotesOverwrite, NotesWriteProtected, PaintsTakeNotes, SameAttributesTakeNotes};
 ghost use Rattle.host_core.specs.Machine.{OneOutcome, PiecesCompose, PiecesPart};
 
-use datastream::{kept_since_the_write, written_is_read};
-use panels::{kept_fields_are_whole, the_last_row_is_for_messages};
-use shadow::what_a_note_leaves;
+use datastream::laws::{kept_since_the_write, written_is_read};
+use panels::laws::{kept_fields_are_whole, the_last_row_is_for_messages};
+use shadow::laws::what_a_note_leaves;
 
-/// Does nothing: its contract says that what a connection's bytes make of the pool and of the connection's line is a function of
+/// Law: what a connection's bytes make of the pool and of the connection's line is a function of
 /// what these were and of the bytes, however they are cut into pieces.
 pub fn one_machine()
     ensures outcome { OneOutcome }
     ensures compose { PiecesCompose }
     ensures part { PiecesPart }
 {
-    telnet_wire::one_reading();
-    tn3270e_msg::one_reading();
-    datastream::one_reading();
+    telnet_wire::laws::one_reading();
+    tn3270e_msg::laws::one_reading();
+    datastream::laws::one_reading();
 }
 
-/// Does nothing: its contract says that whatever a host does, it paints what fits its belief.
+/// Law: whatever a host does, it paints what fits its belief.
 pub fn what_is_shown_fits()
     ensures { ActsFit }
 {}
 
-/// Does nothing: its contract says that panels whose cursors are on the screen, and no two of whose items share a cell, are an
-/// application: each screen that they ask for has the model 2's shape, with its last row for messages, keeps whole fields or
-/// none, and is the one of its panel cell by cell. Where panels and values
-/// have characters alone that a cell can hold, so have the screens.
+/// Law: panels whose cursors are on the screen, and no two of whose items share a cell, are an
+/// application: each screen that they ask for has the model 2's shape, with its last row for
+/// messages, keeps whole fields or none, and is the one of its panel cell by cell. Where panels and
+/// values have characters alone that a cell can hold, so have the screens.
 pub fn panels_are_shown()
     ensures application { PanelsAreShown }
     ensures wanted { ScreensAreWanted }
@@ -38,9 +39,10 @@ pub fn panels_are_shown()
     kept_fields_are_whole();
 }
 
-/// Does nothing: its contract says that what a host shows changes its belief no sooner than it is answered; that a command
-/// carries the connection's number, by which its response is awaited, and the next command the number behind it; and that a
-/// response with another number than the pending command's closes the connection.
+/// Law: what a host shows changes its belief no sooner than it is answered; that a command carries
+/// the connection's number, by which its response is awaited, and the next command the number
+/// behind it; and that a response with another number than the pending command's closes the
+/// connection.
 pub fn what_is_shown_is_answered()
     ensures no_sooner { BelievesNoSooner }
     ensures notes_no_sooner { BelievesNotesNoSooner }
@@ -49,9 +51,9 @@ pub fn what_is_shown_is_answered()
     ensures only_its { OnlyItsResponse }
 {}
 
-/// Does nothing: its contract says which screens a note may be written on: those whose last row is for messages, as on each
-/// screen that is painted and on what keys leave of it; and those without fields. There it writes over characters of that
-/// protected field, or of none.
+/// Law: which screens a note may be written on: those whose last row is for messages, as on each
+/// screen that is painted and on what keys leave of it; and those without fields. There it writes
+/// over characters of that protected field, or of none.
 pub fn notes_are_written()
     ensures notes { NotesAreNotes }
     ensures overwrites { NotesOverwrite }

@@ -14,7 +14,8 @@ ghost use Rattle.host_core.specs.Learning.{SetsNothing, is_news};
 
 use codes3270::Addr;
 use panels::{Field, Values};
-use shadow::{Fact, Shadow, what_is_believed_can_be_stored};
+use shadow::laws::what_is_believed_can_be_stored;
+use shadow::{Fact, Shadow};
 use std::alloc::{AllocError, Global};
 use telnet_wire::Memory;
 

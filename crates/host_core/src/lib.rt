@@ -31,20 +31,19 @@
 //!
 //! [`serve_turn`] does a turn of this on connections of any kind, by the trait [`Links`]: a read, an act, and a write.
 //! `specs/State` says what a host is, `Feeds`, `Bytes`, `Items` and `Takes` what bytes make of it, `Does` and `Acts` what it does in its
-//! turn, `Notes` what a note is, and `Serves` what a turn of serving is. [`one_machine`] and the other laws have what follows from
+//! turn, `Notes` what a note is, and `Serves` what a turn of serving is. [`laws::one_machine`] and the other laws have what follows from
 //! these as their contracts. Whole dialogues, byte for byte, stand in the `stdin` of the repository's `trials3270`.
 #![tactic(auto)]
 
 mod acted;
 mod acting;
+mod connection;
 mod feeding;
 mod host;
-mod laws;
+pub mod laws;
 mod learning;
-mod line;
 mod links;
 mod noting;
-mod occasion;
 mod pending;
 mod phase;
 mod records;
@@ -54,16 +53,13 @@ mod serving;
 mod session;
 mod talking;
 mod turn;
+mod turn_reason;
 
 pub use acted::Acted;
 pub use datastream::Memory;
 pub use host::{Host, MOST_CONNECTIONS};
-pub use laws::{
-    notes_are_written, one_machine, panels_are_shown, what_is_shown_fits, what_is_shown_is_answered,
-};
 pub use links::{LinkRead, LinkWrite, Links};
 pub use lu_pool::{Pool, PoolFault};
-pub use occasion::Occasion;
 pub use panels::{PanelFault, PanelSet};
 pub use phase::Phase;
 pub use room::OUT_ROOM;
@@ -71,3 +67,4 @@ pub use serving::{READ_ROOM, Served, serve_turn};
 pub use shadow::{Fact, Shadow};
 pub use tn3270e_msg::{Cause, Fed, Lu, Stop};
 pub use turn::Turn;
+pub use turn_reason::TurnReason;

@@ -121,11 +121,11 @@ impl Session {
         ensures sent { IsSentOn (noted_as text.now self.old) out.old out.new self.new }
         ensures capacity { vec_capacity out.old ≤ vec_capacity out.new }
     {
-        begin_record(&mut self.sent, ALWAYS_RESPONSE, self.number);
+        begin_record(&mut self.sent, ALWAYS_RESPONSE, self.next_seq);
         put_note(&mut self.sent, text);
         send_record(self.sent.as_slice(), out);
-        self.pending = Pending::Noting(self.number);
-        self.number = next_seq(self.number);
+        self.pending = Pending::Noting(self.next_seq);
+        self.next_seq = next_seq(self.next_seq);
     }
 
     /// Sends a note with a text, cut to the row, if one may be sent.

@@ -8,23 +8,24 @@ ghost use Rattle.host_core.specs.Keeps.{IsPlainWrite, command_in, silent};
 ghost use Rattle.host_core.specs.Parts.{IsWrite, write_of};
 ghost use Rattle.host_core.specs.Takes.{believed, buffer_came, data_came, form_awaited, hears, key_data_came, once_read, refused, response_came, verdict_came};
 
-use crate::occasion::Occasion;
 use crate::pending::Pending;
 use crate::session::Session;
 use crate::turn::Turn;
+use crate::turn_reason::TurnReason;
 use codes3270::Aid;
 use datastream::{Command, CommandCode, Form, Inbound, read_command, read_inbound};
-use shadow::{Shadow, what_is_believed_can_be_stored};
+use shadow::Shadow;
+use shadow::laws::what_is_believed_can_be_stored;
 use tn3270e_msg::{Cause, DataType, Header, POSITIVE, read_header};
 
 /// The screen of the key that was pressed last was read.
-fn once_read(occasion: Occasion) -> Occasion
-    ensures { result ≡ once_read occasion }
+fn once_read(turn_reason: TurnReason) -> TurnReason
+    ensures { result ≡ once_read turn_reason }
 {
-    match occasion {
-        Occasion::Key(aid, _) => Occasion::Key(aid, true),
-        Occasion::Agreement => Occasion::Agreement,
-        Occasion::Refusal => Occasion::Refusal,
+    match turn_reason {
+        TurnReason::Key(aid, _) => TurnReason::Key(aid, true),
+        TurnReason::Agreement => TurnReason::Agreement,
+        TurnReason::Refusal => TurnReason::Refusal,
     }
 }
 
@@ -105,7 +106,7 @@ impl Session {
         let Form::Buffer = inbound.form() else {
             return Some(Cause::BadInbound);
         };
-        let cause = self.believe(inbound, once_read(self.occasion));
+        let cause = self.believe(inbound, once_read(self.turn_reason));
         if cause.is_none() {
             self.pending = Pending::Nothing;
         }
@@ -123,13 +124,13 @@ impl Session {
         };
         match inbound.aid() {
             Aid::NoAid => Some(Cause::BadInbound),
-            aid => self.believe(inbound, Occasion::Key(aid, false)),
+            aid => self.believe(inbound, TurnReason::Key(aid, false)),
         }
     }
 
     /// Believes what came, so that the turn is the host's for this reason; what waits for an answer still does.
-    fn believe(&mut self, inbound: &Inbound<'_>, occasion: Occasion) -> Option<Cause>
-        ensures came { silent self.new result ≡ believed occasion self.old.pending self.old (hears inbound.now self.old) }
+    fn believe(&mut self, inbound: &Inbound<'_>, turn_reason: TurnReason) -> Option<Cause>
+        ensures came { silent self.new result ≡ believed turn_reason self.old.pending self.old (hears inbound.now self.old) }
         ensures talk { self.new.talk ≡ self.old.talk }
         ensures panel { self.new.panel ≡ self.old.panel }
     {
@@ -140,7 +141,7 @@ impl Session {
             return Some(Cause::BadInbound);
         }
         self.turn = Turn::Host;
-        self.occasion = occasion;
+        self.turn_reason = turn_reason;
         None
     }
 
@@ -198,6 +199,6 @@ impl Session {
         self.shadow = Shadow::blank();
         self.turn = Turn::Host;
         self.pending = Pending::Nothing;
-        self.occasion = Occasion::Refusal;
+        self.turn_reason = TurnReason::Refusal;
     }
 }

@@ -22,7 +22,7 @@ use crate::turn::Turn;
 use codes3270::Wcc;
 use datastream::{CommandCode, CommandWriter, Want, Wanted};
 use panels::{Message, Panel, PanelSet, Values};
-use shadow::what_is_wanted_is_painted;
+use shadow::laws::what_is_wanted_is_painted;
 use telnet_wire::put_record;
 use tn3270e_msg::{ALWAYS_RESPONSE, DataType, ERROR_RESPONSE, Header, header_bytes, next_seq};
 
@@ -97,11 +97,11 @@ impl Session {
         ensures sent { (app : Application) → IsSentOn (done app self.old Doing.Read) out.old out.new self.new }
         ensures capacity { vec_capacity out.old ≤ vec_capacity out.new }
     {
-        begin_record(&mut self.sent, ERROR_RESPONSE, self.number);
+        begin_record(&mut self.sent, ERROR_RESPONSE, self.next_seq);
         put_read_buffer(&mut self.sent);
         send_record(self.sent.as_slice(), out);
-        self.pending = Pending::Reading(self.number);
-        self.number = next_seq(self.number);
+        self.pending = Pending::Reading(self.next_seq);
+        self.next_seq = next_seq(self.next_seq);
     }
 
     /// Puts the screen that is wanted: one that keeps fields where that fits what is believed, else a whole one.
@@ -184,12 +184,12 @@ impl Session {
         let mut wanted = Wanted::filled(Want::Keep);
         let values = self.values_once(&changed);
         self.put_fitting(&mut wanted, panels, panel, message, keep, values);
-        begin_record(&mut self.sent, ALWAYS_RESPONSE, self.number);
+        begin_record(&mut self.sent, ALWAYS_RESPONSE, self.next_seq);
         self.shadow.paint(&mut self.sent, &wanted).unwrap();
         send_record(self.sent.as_slice(), out);
         self.turn = Turn::Terminal;
-        self.pending = Pending::Writing(self.number);
-        self.number = next_seq(self.number);
+        self.pending = Pending::Writing(self.next_seq);
+        self.next_seq = next_seq(self.next_seq);
         self.panel = panel;
         self.message = message;
         set_if_changed(&mut self.values, changed);

@@ -3,10 +3,10 @@ ghost use Rattle.std.specs.Prelude.{◌≡◌, IfOk};
 ghost use Rattle.codes3270.specs.Size.{model_2};
 ghost use Rattle.host_core.specs.Session.{agreed_lu, new_conn};
 
-use crate::occasion::Occasion;
 use crate::pending::Pending;
 use crate::room::RECORD_ROOM;
 use crate::turn::Turn;
+use crate::turn_reason::TurnReason;
 use panels::{Message, Values};
 use shadow::Shadow;
 use std::alloc::Global;
@@ -22,12 +22,12 @@ pub(crate) struct Session {
     pub(crate) talk: HostTalk,
     pub(crate) turn: Turn,
     pub(crate) pending: Pending,
-    pub(crate) number: u16,
+    pub(crate) next_seq: u16,
     pub(crate) shadow: Shadow,
     pub(crate) panel: usize,
     pub(crate) message: Message,
     pub(crate) values: Values,
-    pub(crate) occasion: Occasion,
+    pub(crate) turn_reason: TurnReason,
     // The record that was sent last, its header first; it has room for the largest.
     pub(crate) sent: Vec<u8>,
     // For the texts of fields.
@@ -49,12 +49,12 @@ impl Model for Session {
       shape = model_2;
       turn = s.turn;
       pending = pending_in s.pending s.sent.items;
-      number = s.number;
+      next_seq = s.next_seq;
       shadow = s.shadow;
       panel = s.panel;
       message = s.message;
       values = s.values;
-      occasion = s.occasion;
+      turn_reason = s.turn_reason;
     } };
 
     ghost invariant = { λ s. IsKept s.pending s.sent.items × (record_room ≤ vec_capacity s.sent) × CanBeStored s.shadow };
@@ -70,12 +70,12 @@ impl Session {
             talk: HostTalk::new(),
             turn: Turn::Host,
             pending: Pending::Nothing,
-            number: 0,
+            next_seq: 0,
             shadow: Shadow::blank(),
             panel: 0,
             message: Message::Fresh,
             values: Values::new(alloc),
-            occasion: Occasion::Agreement,
+            turn_reason: TurnReason::Agreement,
             sent,
             alloc,
         })

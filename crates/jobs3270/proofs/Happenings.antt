@@ -5,7 +5,7 @@ use Rattle.tn3270e_msg.specs.declared.cause.Stop.{Stop}
 use Rattle.tn3270e_msg.specs.declared.cause.Stop.TheVariants as stop
 use Rattle.world3270.specs.ByteRuns.{AllHappen, refused_at}
 use Rattle.world3270.specs.ByteSteps.{Connects, Happens, HappensIf, Presses, Steps, GoesDown, ConnectsIf, down_came, has_place, host_gone, host_gone_below, host_gone_if, host_told, saw_loss, terminal_anew, terminal_gone_if, terminal_told}
-use Rattle.world3270.specs.ByteWorld.{ByteWorld, Sitting, alone, host_there, is_senders, new_sitting, sitting_at, terminal_at, ways_at, with_sitting}
+use Rattle.world3270.specs.ByteWorld.{ByteWorld, TerminalSlot, alone, host_there, is_senders, new_slot, slot_at, terminal_at, transits_at, with_slot}
 use Rattle.world3270.specs.declared.event.Event.{Event}
 use Rattle.world3270.specs.declared.event.Event.TheVariants as event
 use Rattle.world3270.specs.declared.event.Stepped.{Stepped}
@@ -27,13 +27,13 @@ are_one_run (first ∷ others) old new all = (first.answer, all.0, all.1, all.2,
 -- ---- a world keeps its terminals
 
 abbrev AsMany : ByteWorld → ByteWorld → Type 0
-AsMany old new = length new.sittings ≡ length old.sittings
+AsMany old new = length new.slots ≡ length old.slots
 
 as_many : (made old new : ByteWorld) → new ≡ made → AsMany old made → AsMany old new
-as_many made old new is same = ap (λ (w : ByteWorld). length w.sittings) is ∙ same
+as_many made old new is same = ap (λ (w : ByteWorld). length w.slots) is ∙ same
 
-one_sits : (terminal : ℕ) (sitting : Sitting) (old : ByteWorld) → AsMany old (with_sitting terminal sitting old)
-one_sits terminal sitting old = length-set old.sittings terminal sitting
+one_sits : (terminal : ℕ) (slot : TerminalSlot) (old : ByteWorld) → AsMany old (with_slot terminal slot old)
+one_sits terminal slot old = length-set old.slots terminal slot
 
 host_leaves_if : (there : Bool) (number : ℕ) (old : ByteWorld) → AsMany old (if there then host_gone number old else old)
 host_leaves_if true number old = refl
@@ -78,39 +78,39 @@ came_down : (at : Option ℕ) (number : ℕ) (bytes : List ℕ) (old : ByteWorld
     → GoesDown at number bytes old answer new → AsMany old new
 came_down None number bytes old answer new comes = absurd comes
 came_down (Some terminal) number bytes old answer new comes =
-    let seated : ByteWorld = with_sitting terminal (record (sitting_at terminal old) { seat = comes.seat }) old in
+    let newly_tracked : ByteWorld = with_slot terminal (record (slot_at terminal old) { tracked = comes.tracked }) old in
     as_many _ old new comes.leaves
-    (terminal_is_gone comes.fed.stop terminal number (down_came comes.fed.taken number seated)
-    ∙ host_is_told (is_senders (ways_at number seated).down) comes.fed.taken number seated ∙ one_sits terminal _ old)
+    (terminal_is_gone comes.fed.stop terminal number (down_came comes.fed.taken number newly_tracked)
+    ∙ host_is_told (is_senders (transits_at number newly_tracked).down) comes.fed.taken number newly_tracked ∙ one_sits terminal _ old)
 
 sees : (terminal : ℕ) (at : Option ℕ) (old : ByteWorld) → AsMany old (saw_loss terminal at old)
 sees terminal None old = refl
-sees terminal (Some number) old = one_sits terminal (alone (sitting_at terminal old)) old
+sees terminal (Some number) old = one_sits terminal (alone (slot_at terminal old)) old
 
 begins_anew : (terminal : ℕ) (at : Option ℕ) (old : ByteWorld) → AsMany old (terminal_anew terminal at old)
-begins_anew terminal None old = one_sits terminal new_sitting old
-begins_anew terminal (Some number) old = one_sits terminal new_sitting old
+begins_anew terminal None old = one_sits terminal new_slot old
+begins_anew terminal (Some number) old = one_sits terminal new_slot old
 
 happens : (event : Event) (old : ByteWorld) (answer : Stepped) (new : ByteWorld) → Happens event old answer new → AsMany old new
 happens (event.Key terminal key) old answer new made = pressed terminal key old answer new made
 happens (event.Up number count) old answer new comes =
     as_many _ old new comes.leaves
-    (host_is_gone comes.fed.stop number _ ∙ terminal_is_told (is_senders (ways_at number old).up) comes.fed.taken (terminal_at number old.sittings) _)
-happens (event.Down number count) old answer new comes = came_down (terminal_at number old.sittings) number _ old answer new comes
+    (host_is_gone comes.fed.stop number _ ∙ terminal_is_told (is_senders (transits_at number old).up) comes.fed.taken (terminal_at number old.slots) _)
+happens (event.Down number count) old answer new comes = came_down (terminal_at number old.slots) number _ old answer new comes
 happens (event.Act number) old answer new acts = as_many _ old new acts.leaves refl
 happens (event.Note number text) old answer new acts = as_many _ old new acts.leaves refl
 happens (event.Lose number) old answer new is = as_many _ old new is.1 refl
 happens (event.HostSees number) old answer new is = as_many _ old new is.1 refl
-happens (event.TermSees terminal) old answer new is = as_many _ old new is.1 (sees terminal (sitting_at terminal old).at old)
+happens (event.TermSees terminal) old answer new is = as_many _ old new is.1 (sees terminal (slot_at terminal old).at old)
 happens (event.Connect terminal wanted) old answer new made = connects terminal wanted _ old answer new made
-happens (event.RestartTerm terminal) old answer new is = as_many _ old new is.1 (begins_anew terminal (sitting_at terminal old).at old)
+happens (event.RestartTerm terminal) old answer new is = as_many _ old new is.1 (begins_anew terminal (slot_at terminal old).at old)
 happens event.RestartHost old answer new is = as_many _ old new is.1 (host_leaves_all _ old)
 
 happens_if : (place : Bool) (event : Event) (old : ByteWorld) (answer : Stepped) (new : ByteWorld) → HappensIf place event old answer new → AsMany old new
 happens_if true event old answer new made = happens event old answer new made
 happens_if false event old answer new same = as_many old old new same.1 refl
 
-pub sittings_stay : (happenings : List Happening) (old new : ByteWorld) → TakePlace happenings old new → length new.sittings ≡ length old.sittings
-sittings_stay [] old new none = as_many old old new none refl
-sittings_stay (first ∷ others) old new all =
-    sittings_stay others all.0 new all.3 ∙ happens_if (has_place first.event old) first.event old first.answer all.0 all.1
+pub slots_stay : (happenings : List Happening) (old new : ByteWorld) → TakePlace happenings old new → length new.slots ≡ length old.slots
+slots_stay [] old new none = as_many old old new none refl
+slots_stay (first ∷ others) old new all =
+    slots_stay others all.0 new all.3 ∙ happens_if (has_place first.event old) first.event old first.answer all.0 all.1

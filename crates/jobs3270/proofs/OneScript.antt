@@ -151,7 +151,7 @@ module _ (steps_are_one : StepsAreOne) where
       → Plays number lines old happenings printed m new → Plays number lines old rival text n other → (printed ≡ text) × (m ≡ n)
   one_playing [] number old new other happenings rival printed text m n is also = (is.1 ∙ sym also.1, is.2 ∙ sym also.2)
   one_playing (line ∷ lines) number old new other happenings rival printed text m n is also =
-      one_next (asked (length old.sittings) line) number line lines old new other happenings rival printed text m n
+      one_next (asked (length old.slots) line) number line lines old new other happenings rival printed text m n
       (λ mid back rest behind after here there. one_playing lines (number + 1) mid new other back rest behind after m n here there) is also
 
 -- ---- the world that a script begins with

@@ -10,7 +10,7 @@ use Rattle.jobs3270.specs.Happenings.{Happening, TakePlace, answer_text}
 use Rattle.jobs3270.specs.Plays.{IsPlayed, Plays, PlaysNext, PrintsLine, asked, terminal_count}
 use Rattle.jobs3270.specs.declared.script_line.Asks.{Asks}
 use Rattle.jobs3270.specs.declared.script_line.Asks.TheVariants as ask
-use Rattle.jobs3270.proofs.Happenings.{are_one_run, sittings_stay, takes_place, then_take_place}
+use Rattle.jobs3270.proofs.Happenings.{are_one_run, slots_stay, takes_place, then_take_place}
 
 -- ---- what is played takes place
 
@@ -29,7 +29,7 @@ plays_take_place : (number : ℕ) (lines : List (List ℕ)) (old : ByteWorld) (h
     → Plays number lines old happenings printed stopped new → TakePlace happenings old new
 plays_take_place number [] old happenings printed stopped new plays = subst (λ (some : List Happening). TakePlace some old new) (sym plays.0) plays.3
 plays_take_place number (line ∷ others) old happenings printed stopped new plays =
-    next_takes_place (asked (length old.sittings) line) number line others old happenings printed stopped new
+    next_takes_place (asked (length old.slots) line) number line others old happenings printed stopped new
     (λ mid back behind. plays_take_place (number + 1) others mid back behind stopped new) plays
 
 -- ---- a line
@@ -51,7 +51,7 @@ pub record Played (script : List ℕ) (number : ℕ) (left : List (List ℕ)) (o
   pub happenings : List Happening
   pub printed : List ℕ
   pub is_printed : behind ≡ before ++ printed
-  pub terminals : length now.sittings ≡ terminal_count
+  pub terminals : length now.slots ≡ terminal_count
   pub with_others : (others : List Happening) (rest : List ℕ) (stopped : Option ℕ) (new : ByteWorld) → Plays number left now others rest stopped new
       → Plays 1 (lines_of script) old (happenings ++ others) (printed ++ rest) stopped new
 
@@ -60,7 +60,7 @@ abbrev pub PlayEnds : List ℕ → ByteWorld → Option ℕ → ByteWorld → Li
 PlayEnds script old stopped new before behind = (printed : List ℕ) × IsPlayed script old printed stopped new × (behind ≡ before ++ printed)
 
 pub nothing_played : (script : List ℕ) (number : ℕ) (left : List (List ℕ)) (old : ByteWorld) (before : List ℕ) → number ≡ 1 → left ≡ lines_of script
-    → length old.sittings ≡ terminal_count → Played script number left old old before before
+    → length old.slots ≡ terminal_count → Played script number left old old before before
 nothing_played script number left old before first whole terminals = record {
   happenings = [];
   printed = [];
@@ -96,7 +96,7 @@ module _ (script : List ℕ) (number : ℕ) (left : List (List ℕ)) (old now : 
         → PlaysNext found number line (λ mid back behind. Plays (number + 1) others mid back behind stopped new) now happenings printed stopped new
         → Plays number left now happenings printed stopped new
     plays_on found happenings printed stopped new asks plays =
-        let here : asked (length now.sittings) line ≡ found = ap (λ (terminals : ℕ). asked terminals line) played.terminals ∙ asks in
+        let here : asked (length now.slots) line ≡ found = ap (λ (terminals : ℕ). asked terminals line) played.terminals ∙ asks in
         subst (λ (lines : List (List ℕ)). Plays number lines now happenings printed stopped new) (sym is)
         (subst (λ (some : Option Asks). PlaysNext some number line (λ mid back behind. Plays (number + 1) others mid back behind stopped new) now happenings printed stopped new)
         (sym here) plays)
@@ -110,7 +110,7 @@ module _ (script : List ℕ) (number : ℕ) (left : List (List ℕ)) (old now : 
       happenings = played.happenings ++ does.happenings;
       printed = played.printed ++ does.said;
       is_printed = does.printed ∙ ap (λ (text : List ℕ). text ++ does.said) played.is_printed ∙ append_assoc before played.printed does.said;
-      terminals = sittings_stay does.happenings now mid does.plays.take_place ∙ played.terminals;
+      terminals = slots_stay does.happenings now mid does.plays.take_place ∙ played.terminals;
       with_others = λ back rest stopped new plays.
           let behind : Plays (number + 1) others mid back rest stopped new =
           subst (λ (n : ℕ). Plays n others mid back rest stopped new) counted plays in

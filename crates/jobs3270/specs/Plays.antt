@@ -3,7 +3,7 @@ use Rattle.std.specs.Prelude.{◌≡◌, ◌+◌, ℕ, Bool, true, nat_lt, lengt
 use Rattle.term_core.specs.ScreenText.{screen_text}
 use Rattle.term_core.specs.State.{Terminal, phase_of}
 use Rattle.world3270.specs.ByteRuns.{AllHappen}
-use Rattle.world3270.specs.ByteWorld.{ByteWorld, sitting_at}
+use Rattle.world3270.specs.ByteWorld.{ByteWorld, slot_at}
 use Rattle.jobs3270.specs.Happenings.{AreRounds, AreTyped, Happening, TakePlace, answers_text, events_of, most_rounds}
 use Rattle.jobs3270.specs.HexLines.{lines_of}
 use Rattle.jobs3270.specs.PhaseText.{phase_line}
@@ -46,7 +46,7 @@ AreAsked (ask.Shows terminal) line happenings = happenings ≡ []
 AreAsked (ask.Tells terminal) line happenings = happenings ≡ []
 
 abbrev pub terminal_of : ℕ → ByteWorld → Terminal
-terminal_of terminal world = (sitting_at terminal world).seat.terminal
+terminal_of terminal world = (slot_at terminal world).tracked.terminal
 
 -- what is said of that, and of the world behind it
 abbrev pub said_of : Asks → List Happening → ByteWorld → List ℕ
@@ -83,7 +83,7 @@ PlaysNext (Some asks) number line Others old happenings printed stopped new =
 abbrev pub Plays : ℕ → List (List ℕ) → ByteWorld → List Happening → List ℕ → Option ℕ → ByteWorld → Type 0
 Plays number [] old happenings printed stopped new = (happenings ≡ []) × (printed ≡ []) × (stopped ≡ None) × (new ≡ old)
 Plays number (line ∷ lines) old happenings printed stopped new =
-    PlaysNext (asked (length old.sittings) line) number line (λ mid back behind. Plays (number + 1) lines mid back behind stopped new)
+    PlaysNext (asked (length old.slots) line) number line (λ mid back behind. Plays (number + 1) lines mid back behind stopped new)
     old happenings printed stopped new
 
 -- A script is played, up to its first line that isn't understood, if there is one; and all that happens is one run of events.

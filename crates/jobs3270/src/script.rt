@@ -64,8 +64,8 @@ fn page_of_script(alloc: Global, input: &str) -> Result<ScriptPage, Fault>
 pub fn a_script_has_one_page()
     ensures { ScriptsHaveOnePage }
 {
-    panels::a_text_defines_its_panels_once();
-    world3270::one_machine();
+    panels::laws::a_text_defines_its_panels_once();
+    world3270::laws::one_machine();
 }
 
 // ---- the two parts of an input

@@ -55,7 +55,7 @@ abbrev pub within_row : ℕ → ℕ → List ℕ → List ℕ
 within_row columns at text = take (columns - at % columns) text
 
 -- where the cursor goes from a cell that was typed into; the next cell may hold an attribute: from that of an autoskip field
--- (protected and numeric) to the next start, from any other to the cell behind it
+-- (protected and numeric) to the next start, from any other to the cell after it
 abbrev pub past_attribute : Option Attribute → List Cell → ℕ → ℕ
 past_attribute None cells next = next
 past_attribute (Some attribute) cells next =

@@ -1,4 +1,4 @@
-//! Keys, and what comes of pressing one.
+//! Keys, and the answers to them.
 ghost use Rattle.std.specs.Prelude.{◌≡◌};
 ghost use Rattle.keyboard.specs.Names.{refusal_number};
 
@@ -56,7 +56,7 @@ pub enum Lock {
     Free,
     /// It waits for the host. No key ends that.
     Wait,
-    /// A key was refused, and Reset has to be pressed first.
+    /// A key was refused, and Reset must be pressed first.
     Error,
 }
 

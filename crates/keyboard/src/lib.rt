@@ -6,21 +6,17 @@
 //!
 //! `specs/` has the definitions: `Keys` says what each key makes of keyboard and screen, `Edits` what typing and erasing
 //! make of a field's text, `Places` where the cursor goes, `Leaves` what stays of the cells, and `Laws`, `Sending` and
-//! `Sendable` what joins these. The functions [`keys_keep_what_was_left`], [`what_keys_leave_can_be_sent`],
-//! [`keys_are_real`], [`locks_hold`], [`sent_keys_wait`], [`keys_go_to_the_nearest`] and [`edits_rewrite_the_text`] have the
+//! `Sendable` what joins these. The functions [`laws::keys_keep_what_was_left`], [`laws::what_keys_leave_can_be_sent`],
+//! [`laws::keys_are_real`], [`laws::locks_hold`], [`laws::sent_keys_wait`], [`laws::keys_go_to_the_nearest`] and [`laws::edits_rewrite_the_text`] have the
 //! laws as their contracts.
 #![tactic(auto)]
 
 mod edits;
 mod key;
 mod keyboard;
-mod laws;
+pub mod laws;
 mod places;
 
 pub use codes3270::{PaNo, PfNo};
 pub use key::{Key, Lock, Pressed, Refusal};
 pub use keyboard::Keyboard;
-pub use laws::{
-    edits_rewrite_the_text, keys_are_real, keys_go_to_the_nearest, keys_keep_what_was_left,
-    locks_hold, sent_keys_wait, what_keys_leave_can_be_sent,
-};

@@ -33,7 +33,7 @@ fn is_start(screen: &Screen, at: Addr) -> bool
     requires { length screen.now.cells ≡ cell_count }
     ensures { result ≡ is_start_at screen.now.cells at }
 {
-    screen.cell(at.backward(1)).is_open() && is_character_at(screen, at)
+    screen.cell(at.backward(1)).is_unprotected_attribute() && is_character_at(screen, at)
 }
 
 /// The first start behind a cell, round the end; its own is the last. 0 if there is none.

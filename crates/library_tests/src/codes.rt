@@ -2,10 +2,11 @@
 //!
 //! A helper says of a table whether all of it is right.
 use crate::{Tried, all_so, at, prints};
+use codes3270::laws::{code_laws, size_laws};
 use codes3270::{
     Addr, AddrFault, Aid, Attr, CELL_COUNT, CELLS, COLUMNS, Cell, Display, PaNo, PfNo, ROWS, Wcc,
-    addr_from_bytes, addr_to_bytes, aid_byte, aid_from_byte, attr_code, code_laws, from_latin1,
-    size_laws, storable, to_latin1,
+    addr_from_bytes, addr_to_bytes, aid_byte, aid_from_byte, attr_code, from_latin1, storable,
+    to_latin1,
 };
 use std::alloc::Global;
 
@@ -401,7 +402,7 @@ fn controls_have_no_character() -> bool {
 /// Whether a cell holds a character, or this attribute, which is of an unprotected field or not.
 fn cell_agrees(cell: Cell, attribute: Option<Attr>, is_open: bool) -> bool {
     cell.is_character() == attribute.is_none()
-        && cell.is_open() == is_open
+        && cell.is_unprotected_attribute() == is_open
         && cell.attribute() == attribute
 }
 

@@ -4,10 +4,12 @@
 use crate::bytes::{Adds, Room, is_added};
 use crate::{Tried, all_so, at, prints};
 use codes3270::{Addr, Attr, CELL_COUNT, CELLS, COLUMNS, Wcc};
+use datastream::laws::{
+    fields_both_ways, kept_since_the_write, one_reading, spans_are_steps, tabs_by_place,
+    what_a_note_keeps, written_is_read,
+};
 use datastream::{
-    Command, CommandCode, CommandFault, CommandWriter, Memory, Order, Want, Wanted,
-    fields_both_ways, kept_since_the_write, one_reading, read_command, spans_are_steps,
-    tabs_by_place, what_a_note_keeps, written_is_read,
+    Command, CommandCode, CommandFault, CommandWriter, Memory, Order, Want, Wanted, read_command,
 };
 use std::alloc::Global;
 
@@ -370,7 +372,7 @@ fn example(reset: bool) -> Wanted {
     let mut wanted = Wanted::filled(Want::Keep);
     wanted.put(0, Want::Attr(Attr::from_code(0x60)));
     wanted.put(CELL_COUNT - 1, Want::Char(0xC1));
-    wanted.aim(at(7), reset);
+    wanted.set_cursor_and_reset(at(7), reset);
     wanted
 }
 

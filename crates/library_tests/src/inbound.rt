@@ -2,7 +2,8 @@
 use crate::bytes::{Run, spelt};
 use crate::{Tried, all_so, at, prints};
 use codes3270::{Addr, Attr, CELL_COUNT, Cell, aid_byte};
-use datastream::{Form, Inbound, InboundFault, Part, parts_are_fields, read_inbound, sent_is_read};
+use datastream::laws::{parts_are_fields, sent_is_read};
+use datastream::{Form, Inbound, InboundFault, Part, read_inbound};
 use std::alloc::Global;
 
 /// A returned field: its first address and its text.
@@ -91,7 +92,7 @@ fn has(inbound: &Inbound<'_>, form: Form, outcome: &Outcome) -> bool {
         Outcome::Fields(aid, place, lead, fields) => {
             aid_byte(inbound.aid()) == *aid
                 && cursor == *place
-                && inbound.lead() == *lead
+                && inbound.leading_text() == *lead
                 && has_fields(inbound, fields)
         }
         Outcome::Parts(parts) => has_parts(inbound, parts),

@@ -3,10 +3,11 @@
 mod by_search;
 
 use crate::Tried;
-use keyboard::{
-    Key, Refusal, edits_rewrite_the_text, keys_are_real, keys_go_to_the_nearest,
-    keys_keep_what_was_left, locks_hold, sent_keys_wait, what_keys_leave_can_be_sent,
+use keyboard::laws::{
+    edits_rewrite_the_text, keys_are_real, keys_go_to_the_nearest, keys_keep_what_was_left,
+    locks_hold, sent_keys_wait, what_keys_leave_can_be_sent,
 };
+use keyboard::{Key, Refusal};
 use std::alloc::Global;
 
 fn refusals_have_numbers() -> bool {

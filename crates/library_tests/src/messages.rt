@@ -3,10 +3,11 @@ use crate::bytes::{Adds, Room, is_added};
 use crate::{Tried, all_so, prints};
 use std::alloc::Global;
 use telnet_wire::put_record;
+use tn3270e_msg::laws::{flag_laws, one_reading};
 use tn3270e_msg::{
     ALWAYS_RESPONSE, DataType, Device, ERROR_RESPONSE, HeadFault, Header, Lu, NEGATIVE,
-    NO_RESPONSE, POSITIVE, SubFault, flag_laws, header_bytes, next_seq, one_reading,
-    put_sub_message, read_header, read_sub,
+    NO_RESPONSE, POSITIVE, SubFault, header_bytes, next_seq, put_sub_message, read_header,
+    read_sub,
 };
 
 // ---- rows

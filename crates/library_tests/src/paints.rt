@@ -58,7 +58,7 @@ fn put_text(wanted: &mut Wanted, from: u16, text: &[u8]) {
 fn with_text(shadow: &Shadow, from: u16, text: &[u8], cursor: u16, reset: bool) -> Wanted {
     let mut wanted = wanted_again(shadow);
     put_text(&mut wanted, from, text);
-    wanted.aim(at(cursor), reset);
+    wanted.set_cursor_and_reset(at(cursor), reset);
     wanted
 }
 
@@ -71,7 +71,7 @@ fn again(shadow: &Shadow) -> Wanted {
 fn keeping(to: u16) -> Wanted {
     let mut wanted = wanted_again(&sign_on());
     keep(&mut wanted, 167, to);
-    wanted.aim(at(167), false);
+    wanted.set_cursor_and_reset(at(167), false);
     wanted
 }
 
@@ -81,7 +81,7 @@ fn sign_on_again(message: &[u8]) -> Wanted {
     keep(&mut wanted, 167, 175);
     keep(&mut wanted, 247, 251);
     put_text(&mut wanted, 1841, message);
-    wanted.aim(at(167), false);
+    wanted.set_cursor_and_reset(at(167), false);
     wanted
 }
 
@@ -280,7 +280,7 @@ fn greeting() -> Wanted {
     put(&mut wanted, 7, Want::Attr(label));
     put_text(&mut wanted, 8, &[0xC1, 0xD5, 0xD5]);
     put(&mut wanted, 1840, Want::Attr(Attr::from_code(0xF8)));
-    wanted.aim(Addr::first(), true);
+    wanted.set_cursor_and_reset(Addr::first(), true);
     wanted
 }
 
@@ -334,7 +334,7 @@ fn typed_again(shadow: &Shadow) -> Wanted {
     let mut wanted = wanted_again(shadow);
     keep(&mut wanted, 1, 3);
     put_text(&mut wanted, 1841, NOT_ACTIVE);
-    wanted.aim(at(1), false);
+    wanted.set_cursor_and_reset(at(1), false);
     wanted
 }
 

@@ -3,7 +3,8 @@
 use crate::Tried;
 use std::alloc::Global;
 use telnet_wire::{Item, Verb};
-use tn3270e_msg::{Cause, Device, HostTalk, Lu, Reply, TermTalk, talks_agree};
+use tn3270e_msg::laws::talks_agree;
+use tn3270e_msg::{Cause, Device, HostTalk, Lu, Reply, TermTalk};
 
 const CLOSED: Reply = Reply::Close(Cause::NoTn3270e);
 

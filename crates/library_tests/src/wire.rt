@@ -5,9 +5,9 @@
 use crate::Tried;
 use crate::bytes::{Adds, Room, Run, are_all, is_added, spelt};
 use std::alloc::Global;
+use telnet_wire::laws::one_reading;
 use telnet_wire::{
-    Decoder, Item, Step, Verb, WireFault, one_reading, put_option, put_record, put_sub,
-    put_sub_parts,
+    Decoder, Item, Step, Verb, WireFault, put_option, put_record, put_sub, put_sub_parts,
 };
 
 /// The data bytes that a record of a TN3270E session may have.

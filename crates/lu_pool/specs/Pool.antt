@@ -30,11 +30,11 @@ OneLu pool = (conn : ℕ) (lu other : List ℕ) → Holds pool conn lu → Holds
 abbrev pub AreLus : List Entry → Type 0
 AreLus pool = (place : ℕ) (at : Entry) → slice_get pool place ≡ Some at → IsTrue (is_lu at.lu)
 
--- no LU stands at two places
+-- no LU has two entries
 abbrev pub ListedOnce : List Entry → Type 0
 ListedOnce pool = (place other : ℕ) (at there : Entry) → slice_get pool place ≡ Some at → slice_get pool other ≡ Some there → at.lu ≡ there.lu → place ≡ other
 
--- no connection stands at two places
+-- no connection has two entries
 abbrev pub HeldOnce : List Entry → Type 0
 HeldOnce pool = (place other conn : ℕ) (at there : Entry) → slice_get pool place ≡ Some at → slice_get pool other ≡ Some there
     → at.holder ≡ Some conn → there.holder ≡ Some conn → place ≡ other

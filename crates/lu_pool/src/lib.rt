@@ -9,42 +9,11 @@
 //! pool after a change). What follows of these is in `HolderLaws`.
 #![tactic(auto)]
 
-ghost use Rattle.lu_pool.specs.HolderLaws.{PoolsAreSound, StaysSoundFree, StaysSoundGranted, StaysSoundBack, NobodyHolds, AnswersWhatIsFree, AnswersNames, AnswersTheName, GrantIsHeld, OthersStay, OthersKeep, BackIsFree, GrantsOneEntry, FreesOneEntry, GrantMakesPool, FreeMakesPool, BelowWhenFree, BelowWhenGranted, BelowWhenBack, AllBackIsAllFree};
-
 mod entry;
 mod fault;
+pub mod laws;
 mod places;
 mod pool;
 
 pub use fault::PoolFault;
 pub use pool::Pool;
-
-/// Laws: a pool is a map from LUs to the connections that hold them. What it answers is free, is the LU that was asked for, and
-/// is held once it is granted; granting and giving back change one entry, and no other pool comes of them. The call does nothing.
-pub fn the_pool_is_a_map()
-    ensures sound { PoolsAreSound }
-    ensures sound_free { StaysSoundFree }
-    ensures sound_granted { StaysSoundGranted }
-    ensures sound_back { StaysSoundBack }
-    ensures nobody { NobodyHolds }
-    ensures free { AnswersWhatIsFree }
-    ensures names { AnswersNames }
-    ensures asked { AnswersTheName }
-    ensures held { GrantIsHeld }
-    ensures others_stay { OthersStay }
-    ensures others_keep { OthersKeep }
-    ensures back { BackIsFree }
-    ensures grants { GrantsOneEntry }
-    ensures frees { FreesOneEntry }
-    ensures grant_makes { GrantMakesPool }
-    ensures free_makes { FreeMakesPool }
-{}
-
-/// Laws: those who hold an LU stay among the first connections, as many as there may be; once each of these gave back, all are
-/// free. The call does nothing.
-pub fn holders_stay_below()
-    ensures free { BelowWhenFree }
-    ensures granted { BelowWhenGranted }
-    ensures back { BelowWhenBack }
-    ensures all_back { AllBackIsAllFree }
-{}

@@ -1,4 +1,4 @@
-//! Where an entry stands in a pool.
+//! The position of an entry in a pool.
 ghost use Rattle.std.specs.Prelude.{◌≡◌, ℕ, List, Option, Some, None, Ok, Err, IfOk, IfErr, is_none, position, slice_get, slice_set, ◌<◌, vec_len};
 ghost use Rattle.std.specs.Option.{option_copied};
 ghost use Rattle.std.specs.Str.{bytes_eq};

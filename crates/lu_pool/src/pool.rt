@@ -99,7 +99,7 @@ impl Pool {
         }
     }
 
-    /// Frees every LU, as where a host starts anew.
+    /// Frees every LU, for example when a host restarts.
     pub fn free_all(&mut self)
         ensures becomes { self.new ≡ all_free self.old }
         ensures nobody { (conn : ℕ) → HoldsNone self.new conn }
@@ -108,7 +108,7 @@ impl Pool {
         free_each(&mut self.entries);
     }
 
-    /// Does nothing: its contract says that a pool has 1 to 64 LUs, each listed once, and that no connection holds two of them.
+    /// Law: a pool has 1 to 64 LUs, each listed once, and that no connection holds two of them.
     pub fn lus_are_listed_once(&self)
         ensures { IsPool self.now }
     {

@@ -17,7 +17,7 @@ use Rattle.panels.specs.Keys.{key_names, name_of_key, IsKey}
 use Rattle.panels.specs.Panel.{PanelParts, target_of, Panels}
 use Rattle.panels.specs.Passes.{IsFaultless}
 
--- how many fields stand in the panels before one; a field's number over the whole text counts them
+-- the number of fields in the panels before one; a field's number over the whole text counts them
 abbrev pub fields_before : ℕ → List DraftPanel → ℕ
 fields_before zero panels = 0
 fields_before (suc p) panels = fields_before p panels + option_map_or (λ panel. length panel.fields) (slice_get panels p) 0

@@ -145,7 +145,7 @@ place_of (Keys p) = place.Panel p
 abbrev pub IsFaulty : TreeFault → Part → DraftText → Type 0
 IsFaulty fault part draft = IsTrue (is_part part draft.panels) × HasFault fault part draft
 
--- a fault stands at a place of the text
+-- a fault is at a place of the text
 abbrev pub Stands : TreeFault → At → DraftText → Type 0
 Stands fault at_place draft = (part : Part) × (place_of part ≡ at_place) × IsFaulty fault part draft
 

@@ -32,7 +32,7 @@ is_field_name name = is_name is_field_letter name
 abbrev pub first_of : ℤ → ℤ → ℤ
 first_of row column = ((row -ℤ pos 1) *ℤ pos columns) +ℤ (column -ℤ pos 1)
 
--- the address of an item's first character; its attribute stands before it
+-- the address of an item's first character; its attribute is before it
 abbrev pub first_cell : DraftItem → ℤ
 first_cell item = first_of item.row item.column
 

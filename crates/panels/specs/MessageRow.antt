@@ -21,7 +21,7 @@ pub record HasMessageRow (screen : WantedScreen) : Type 0 where
 abbrev pub PanelsLeaveTheRow : Type 0
 PanelsLeaveTheRow = (panel : PanelParts) (values : Values) (message : Message) (keep : Bool) → HasMessageRow (screen_of panel values message keep)
 
--- what stands in it is the message, with nulls behind it
+-- it contains the message, with nulls after it
 abbrev pub TheRowIsTheMessage : Type 0
 TheRowIsTheMessage =
     (panel : PanelParts) (values : Values) (message : Message) (keep : Bool) (cell : ℕ) → message_start ≤ cell → cell < cell_count

@@ -10,7 +10,7 @@ use Rattle.panels.specs.declared.fault.Part.{Part}
 use Rattle.panels.specs.declared.fault.At.{At}
 use Rattle.panels.specs.Faults.{Stands, IsFaulty, faults_of, IsCleanIn}
 
--- the fault stands at the place, and no earlier pass than the one that looks for it has one
+-- the fault is at the place, and no earlier pass than the one that looks for it has one
 pub record IsFirst (fault : TreeFault) (place : At) (draft : DraftText) : Type 0 where
   pub pass : ℕ
   pub looked_for : Contains (faults_of pass) fault

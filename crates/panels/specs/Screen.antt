@@ -48,7 +48,7 @@ abbrev pub is_fresh : Message → Bool
 is_fresh Fresh = true
 is_fresh _ = false
 
--- what a field is written with: its fill where the panel is shown anew, else its value, or its fill if it has none
+-- what a field is written with: its fill if the panel is fresh, else its value, or its fill if it has none
 abbrev pub field_content : Values → Message → Field → List ℕ
 field_content values message field = if is_fresh message then field.fill else unwrap_or (value_of values field.number) field.fill
 
@@ -116,7 +116,7 @@ wanted_cell panel values message keep cell =
     (option_or (message_cell panel.fields message cell) (first_some (stopper_cell cell) panel.fields))))
     (want.Char 0)
 
--- the cursor is at the panel's own place, or at the first cell of the field that has to be filled in
+-- the cursor is at the panel's own place, or at the first cell of the field that must be filled in
 abbrev pub wanted_cursor : PanelParts → Message → ℕ
 wanted_cursor panel (Required number) = option_map_or (λ field. field.extent.first) (field_numbered number panel.fields) panel.cursor
 wanted_cursor panel _ = panel.cursor

@@ -79,7 +79,7 @@ is_known rules key = list_any (λ rule. bytes_eq rule.key key) rules
 abbrev pub breaks_keys : List Rule → Members → Bool
 breaks_keys rules table = list_any (λ key. not (is_known rules key)) (keys table)
 
--- nothing stands there, or no table in an array that has to have some
+-- nothing is there, or no table in an array that must have some
 abbrev pub is_lacking : Kind → Option Data → Bool
 is_lacking kind None = true
 is_lacking kind.Tables (Some (tree.array no_items)) = true

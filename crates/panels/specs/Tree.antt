@@ -1,4 +1,4 @@
--- What stands at the keys of a table (our profile).
+-- The values of a table's keys (our profile).
 use Rattle.std.specs.Prelude.{ℕ, ℤ, pos, Bool, false, List, [], ◌∷◌, Option, option_and_then, is_some, unwrap_or}
 use Rattle.toml.specs.Data as tree
 use Rattle.toml.specs.Data.{Items, no_items, item, Members, no_members, member, get_member, as_array, as_str, as_integer, as_bool, as_table}

@@ -42,7 +42,7 @@ kind_turn (Text p i) = 1
 kind_turn (Field p i) = 2
 kind_turn (Keys p) = 3
 
--- texts, and fields, as they stand in the text
+-- texts, and fields, in the order of the text
 abbrev pub item_turn : Part → ℕ
 item_turn (Text p i) = i
 item_turn (Field p i) = i
@@ -75,7 +75,7 @@ IsSooner _ _ = ⊥
 abbrev pub IsClearTo : List ℕ → DraftText → Type 0
 IsClearTo turn draft = (fault : TreeFault) (part : Part) → IsSooner (turn_of fault part) turn → ¬ IsFaulty fault part draft
 
--- the fault stands at the place, and none stands whose turn is sooner
+-- the fault is at the place, and there is none whose turn is sooner
 pub record IsFirstFault (fault : TreeFault) (place : At) (draft : DraftText) : Type 0 where
   pub part : Part
   pub at_place : place_of part ≡ place

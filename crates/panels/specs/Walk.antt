@@ -12,11 +12,11 @@ use Rattle.panels.specs.Turns.{pass_of, panel_turn, kind_turn, item_turn}
 abbrev pub turn_at : ℕ → Part → List ℕ
 turn_at pass part = pass ∷ panel_turn part ∷ kind_turn part ∷ item_turn part ∷ 0 ∷ []
 
--- no fault of a pass stands in a table
+-- a table has no fault of a pass
 abbrev pub IsCleanAt : ℕ → Part → DraftText → Type 0
 IsCleanAt pass part draft = (fault : TreeFault) → pass_of fault ≡ pass → ¬ IsFaulty fault part draft
 
--- the first of a list's faults that stands in a table
+-- the first of a list's faults that a table has
 pub record IsFirstListed (faults : List TreeFault) (part : Part) (draft : DraftText) (fault : TreeFault) : Type 0 where
   pub turn : ℕ
   pub listed : slice_get faults turn ≡ Some fault

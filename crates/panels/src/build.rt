@@ -15,7 +15,7 @@ use codes3270::Addr;
 use std::alloc::{AllocError, Global};
 
 impl<'a> Draft<'a> {
-    /// How many fields stand in the panels before one.
+    /// The number of fields in the panels before one.
     fn fields_before(&self, panel: usize) -> usize
         requires faultless { IsFaultless self.now }
         requires there { panel < length self.now.panels }

@@ -30,7 +30,7 @@ pub enum TreeFault {
     TooMany,
 }
 
-/// Where a table stands in a panel text. Panels, texts and fields count from 0, in the order of the text.
+/// The place of a table in a panel text. Panels, texts and fields count from 0, in the order of the text.
 #[derive(Clone, Copy, Debug, PartialEq, Eq)]
 pub enum At {
     Top,

@@ -1,26 +1,28 @@
-//! What holds of all panels' screens.
+//! Laws of panels: each is the contract of a function that does nothing. Proofs of
+//! other crates use them; no program calls them, and the root doesn't export them.
 ghost use Rattle.panels.specs.Defines.{DefinesOnce};
 ghost use Rattle.panels.specs.KeptFields.{FieldsAreKeptWhole, NothingElseIsKept};
 ghost use Rattle.panels.specs.MessageRow.{PanelsLeaveTheRow, TheRowIsTheMessage, TheRoomIsTheRow};
 
-/// Does nothing: its contract says that on each screen that a panel asks for the last row is a protected field with the message:
-/// its attribute stands first, and then come characters, to the end of the row. So a text as long as the room can be written
-/// there while the operator types, and no field of the panel changes.
+/// Law: on each screen that a panel asks for the last row is a protected field with the message:
+/// its attribute stands first, and then come characters, to the end of the row. So a text as long
+/// as the room can be written there while the operator types, and no field of the panel changes.
 pub fn the_last_row_is_for_messages()
     ensures left { PanelsLeaveTheRow }
     ensures message { TheRowIsTheMessage }
     ensures room { TheRoomIsTheRow }
 {}
 
-/// Does nothing: its contract says that each screen that a panel asks for keeps whole fields, or none. With what was typed to be
-/// kept, Keep stands at each character of each field, between the field's attribute and another; elsewhere, and on other screens,
-/// it stands nowhere. For this no two items of the panel may share a cell, as `PanelSet::panels_are_sound` says of all panels.
+/// Law: each screen that a panel asks for keeps whole fields, or none. With what was typed to be
+/// kept, there is a Keep at each character of each field, between the field's attribute and another;
+/// elsewhere, and on other screens, it stands nowhere. For this no two items of the panel may share
+/// a cell, as `PanelSet::panels_are_sound` says of all panels.
 pub fn kept_fields_are_whole()
     ensures whole { FieldsAreKeptWhole }
     ensures nothing_else { NothingElseIsKept }
 {}
 
-/// Does nothing: its contract says that a text defines its panels once: what is read of it is told by the text alone.
+/// Law: a text defines its panels once: what is read from it is a function of the text.
 pub fn a_text_defines_its_panels_once()
     ensures { DefinesOnce }
 {}

@@ -37,7 +37,7 @@ mod fault;
 mod field_name;
 mod index;
 mod items;
-mod laws;
+pub mod laws;
 mod message;
 mod names;
 mod next;
@@ -54,9 +54,6 @@ pub use characters::Characters;
 pub use extent::Extent;
 pub use fault::{At, PanelFault, TreeFault};
 pub use field_name::FieldName;
-pub use laws::{
-    a_text_defines_its_panels_once, kept_fields_are_whole, the_last_row_is_for_messages,
-};
 pub use message::Message;
 pub use next::Next;
 pub use panel::{Field, Panel};

@@ -62,7 +62,7 @@ impl<'a> Draft<'a> {
         }
     }
 
-    /// The first field with a name: its panel, and where it stands there.
+    /// The first field with a name: its panel, and its position there.
     pub(crate) fn field_named(&self, name: &str) -> Option<(usize, usize)>
         ensures { MatchOption result (¬ NamesField name.now self.now.panels) (λ at. name_at (part.Field at.0 at.1) self.now.panels ≡ Some name.now) }
     {

@@ -19,7 +19,7 @@ impl Panel {
     pub fn next(&self, aid: Aid) -> Next
         ensures { result ≡ next_of self.now aid }
     {
-        // Where the key stands in `KEY_NAMES`.
+        // The position of the key in `KEY_NAMES`.
         let place = match aid {
             Aid::NoAid => return Next::Again,
             Aid::Enter => 0,

@@ -33,11 +33,11 @@ pub struct Field {
     pub extent: Extent,
     pub numeric: bool,
     pub hidden: bool,
-    /// Whether it has to be filled in before Enter.
+    /// Whether it must be filled in before Enter.
     pub required: bool,
     /// Whether its attribute says from the start that it is modified.
     pub marked: bool,
-    /// What it is written with where the panel is shown anew.
+    /// What it is written with if the panel is shown fresh.
     pub fill: Characters,
 }
 

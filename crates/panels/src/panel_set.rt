@@ -60,9 +60,9 @@ impl PanelSet {
         self.panels.as_slice().get(index)
     }
 
-    /// Does nothing: its contract says that the first panel and each key's target are there, that each panel's cursor is on the
-    /// screen, that all its texts and fills are characters that a cell can hold, that no two of its items share a cell, and that no
-    /// two of its fields have the same number.
+    /// Law: the first panel and each key's target are there, that each panel's cursor is on the
+    /// screen, that all its texts and fills are characters that a cell can hold, that no two of its
+    /// items share a cell, and that no two of its fields have the same number.
     pub fn panels_are_sound(&self)
         ensures { AreSound self.now }
     {

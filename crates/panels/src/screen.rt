@@ -80,7 +80,7 @@ fn put_texts(wanted: &mut Wanted, values: &Values, texts: &[TextItem])
     }
 }
 
-/// Puts the cells of a field: its attribute, and behind it its value, or its fill; with `keep` the attribute alone.
+/// Puts the cells of a field: its attribute, and after it its value, or its fill; with `keep` the attribute alone.
 fn put_field(wanted: &mut Wanted, values: &Values, message: Message, keep: bool, field: &Field)
     ensures { IsPut (λ cell. field_cell values.now message keep cell field.now) wanted.old.cells wanted.new.cells }
 {
@@ -160,7 +160,7 @@ impl Panel {
     }
 
     /// The screen that the panel asks for, with the values of fields and a message. With `keep` the fields that the
-    /// operator sees are left as they are; a panel that is shown anew has none of these.
+    /// operator sees are left as they are; a fresh panel has none of these.
     pub fn wanted(&self, values: &Values, message: Message, keep: bool) -> Wanted
         requires { (message ≡ Fresh) → keep ≡ false }
         ensures wanted { IsWantedOf self.now values.now message keep result }
@@ -188,6 +188,6 @@ impl Panel {
         // For its contract: all cells are there.
         let _whole = wanted.cells();
         let cursor = spoken.map_or(self.cursor, |field| field.extent.first_cell());
-        wanted.aim(cursor, message == Message::Fresh);
+        wanted.set_cursor_and_reset(cursor, message == Message::Fresh);
     }
 }

@@ -1,4 +1,4 @@
-//! What stands at the keys of a table.
+//! The values of a table's keys.
 ghost use Rattle.std.specs.Prelude.{◌≡◌, option_map};
 ghost use Rattle.toml.specs.View.{view, items_view, table_view};
 ghost use Rattle.toml.specs.Data.{get_member};

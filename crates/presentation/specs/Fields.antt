@@ -16,10 +16,10 @@ listed_fields cells = map listed (fields cells)
 
 -- ---- the same list, as a walk over the cells finds it
 
--- the field whose attribute stands at an address
+-- the field whose attribute is at an address
 abbrev pub field_of : List Cell → ℕ → Field
 field_of cells at = record { attr = at; length = length (field_text cells at) }
 
--- the fields whose attributes stand at an address or behind it, by address
+-- the fields whose attributes are at an address or after it, by address
 abbrev pub fields_from : List Cell → ℕ → List Field
 fields_from cells from = map (field_of cells) (attribute_places cells from)

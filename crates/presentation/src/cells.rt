@@ -140,7 +140,9 @@ fn first_open(cells: &[PackedCell]) -> Option<usize>
     ensures place { result ≡ position is_open_attribute cells.now }
     ensures in_range { IfSome result (λ place. place < length cells.now) }
 {
-    cells.iter().position(|cell| cell.is_open())
+    cells
+        .iter()
+        .position(|cell| cell.is_unprotected_attribute())
 }
 
 /// Where a PT goes from `at`: behind the next unprotected attribute up to the last cell, else 0.
@@ -154,7 +156,7 @@ pub(crate) fn tab_stop_from(cells: &[PackedCell], at: Addr) -> Addr
     }
 }
 
-/// Whether no attribute stands in a list of cells.
+/// Whether there is no attribute in a list of cells.
 pub(crate) fn has_only_characters(cells: &[PackedCell]) -> bool
     ensures { result ≡ list_all is_char cells.now }
 {
@@ -190,7 +192,7 @@ pub(crate) fn reset_open_mdt(cells: &mut [PackedCell])
 fn without_open_mdt(cell: PackedCell) -> PackedCell
     ensures { result ≡ open_unmodified cell }
 {
-    if cell.is_open() {
+    if cell.is_unprotected_attribute() {
         without_mdt(cell)
     } else {
         cell
@@ -228,5 +230,5 @@ fn first_start(cells: &[PackedCell]) -> Option<usize>
 fn is_start_behind(before: PackedCell, cell: PackedCell) -> bool
     ensures { result ≡ is_start (before, cell) }
 {
-    before.is_open() && cell.is_character()
+    before.is_unprotected_attribute() && cell.is_character()
 }

@@ -84,9 +84,9 @@ impl PackedCell {
     }
 
     /// Whether it has the attribute of an unprotected field.
-    pub(crate) fn is_open(self) -> bool
+    pub(crate) fn is_unprotected_attribute(self) -> bool
         ensures { result ≡ is_open_attribute self }
     {
-        self.get().is_open()
+        self.get().is_unprotected_attribute()
     }
 }

@@ -53,7 +53,7 @@ fn put_text(out: &mut Vec<u8>, cells: &[PackedCell]) -> Result<(), Memory>
     Ok(())
 }
 
-/// The text of the field whose attribute stands at `at`, round the end, without nulls.
+/// The text of the field whose attribute is at `at`, round the end, without nulls.
 fn put_field_text(out: &mut Vec<u8>, cells: &[PackedCell], at: Addr) -> Result<(), Memory>
     requires { length cells.now ≡ cell_count }
     ensures { AppendsSome out.old out.new result (without_nulls (field_text cells.now at)) }

@@ -34,29 +34,29 @@ impl Applied {
     }
 }
 
-/// Where a write is: the address, and whether a PT nulls that comes next.
+/// The position of a write: the current address, and whether a PT as the next order nulls.
 #[derive(Clone, Copy)]
-struct Pen {
+struct WritePosition {
     address: Addr,
     nulls: bool,
 }
 
-impl Pen {
+impl WritePosition {
     /// At an address behind data.
-    const fn after_data(address: Addr) -> Pen
+    const fn after_data(address: Addr) -> WritePosition
         ensures { result ≡ record { address = address; nulls = true } }
     {
-        Pen {
+        WritePosition {
             address,
             nulls: true,
         }
     }
 
     /// At an address behind any other order.
-    const fn moved_to(address: Addr) -> Pen
+    const fn moved_to(address: Addr) -> WritePosition
         ensures { result ≡ record { address = address; nulls = false } }
     {
-        Pen {
+        WritePosition {
             address,
             nulls: false,
         }
@@ -146,41 +146,44 @@ impl Buffer {
         ensures { let draft : Draft = record { screen = self.old; address = self.old.cursor } in
             self.new ≡ (all_ordered orders.entry false draft).screen }
     {
-        let mut pen = Pen::moved_to(self.cursor);
+        let mut position = WritePosition::moved_to(self.cursor);
         for order in orders {
-            pen = self.obey(order, pen);
+            position = self.execute(order, position);
         }
     }
 
     /// One order of a write.
-    fn obey(&mut self, order: Order, pen: Pen) -> Pen
+    fn execute(&mut self, order: Order, position: WritePosition) -> WritePosition
         requires { IsProper order }
-        ensures draft { let draft : Draft = record { screen = self.old; address = pen.address } in
-            record { screen = self.new; address = result.address } ≡ ordered order pen.nulls draft }
-        ensures nulls { let draft : Draft = record { screen = self.old; address = pen.address } in
-            result.nulls ≡ nulls_after order pen.nulls draft }
+        ensures draft { let draft : Draft = record { screen = self.old; address = position.address } in
+            record { screen = self.new; address = result.address } ≡ ordered order position.nulls draft }
+        ensures nulls { let draft : Draft = record { screen = self.old; address = position.address } in
+            result.nulls ≡ nulls_after order position.nulls draft }
     {
-        let address = pen.address;
+        let address = position.address;
         match order {
-            Order::Char(byte) => Pen::after_data(self.store(address, PackedCell::character(byte))),
-            Order::Sf(attr) => Pen::moved_to(self.store(
+            Order::Char(byte) => WritePosition::after_data(self.store(
+                address,
+                PackedCell::character(byte),
+            )),
+            Order::Sf(attr) => WritePosition::moved_to(self.store(
                 address,
                 PackedCell::new(Cell::Attr(attr)),
             )),
-            Order::Sba(address) => Pen::moved_to(address),
+            Order::Sba(address) => WritePosition::moved_to(address),
             Order::Ic => {
                 self.place_cursor(address);
-                Pen::moved_to(address)
+                WritePosition::moved_to(address)
             }
             Order::Ra(stop, byte) => {
                 self.repeat(address, stop, byte);
-                Pen::moved_to(stop)
+                WritePosition::moved_to(stop)
             }
             Order::Eua(stop) => {
                 self.erase_up_to(address, stop);
-                Pen::moved_to(stop)
+                WritePosition::moved_to(stop)
             }
-            Order::Pt => self.tab(pen),
+            Order::Pt => self.tab(position),
         }
     }
 
@@ -214,21 +217,21 @@ impl Buffer {
         cells::erase_unprotected_in(&mut self.cells, address, count);
     }
 
-    fn tab(&mut self, pen: Pen) -> Pen
-        ensures draft { let draft : Draft = record { screen = self.old; address = pen.address } in
-            record { screen = self.new; address = result.address } ≡ ordered Pt pen.nulls draft }
-        ensures nulls { let draft : Draft = record { screen = self.old; address = pen.address } in
-            result.nulls ≡ nulls_after Pt pen.nulls draft }
+    fn tab(&mut self, position: WritePosition) -> WritePosition
+        ensures draft { let draft : Draft = record { screen = self.old; address = position.address } in
+            record { screen = self.new; address = result.address } ≡ ordered Pt position.nulls draft }
+        ensures nulls { let draft : Draft = record { screen = self.old; address = position.address } in
+            result.nulls ≡ nulls_after Pt position.nulls draft }
     {
-        let stop = cells::tab_stop_from(&self.cells, pen.address);
-        let to_end = cells::has_only_characters_from(&self.cells, pen.address);
-        if pen.nulls {
-            let count = cells::characters_ahead(&self.cells, pen.address);
-            cells::fill(&mut self.cells, pen.address, count, 0);
+        let stop = cells::tab_stop_from(&self.cells, position.address);
+        let to_end = cells::has_only_characters_from(&self.cells, position.address);
+        if position.nulls {
+            let count = cells::characters_ahead(&self.cells, position.address);
+            cells::fill(&mut self.cells, position.address, count, 0);
         }
-        Pen {
+        WritePosition {
             address: stop,
-            nulls: pen.nulls && to_end,
+            nulls: position.nulls && to_end,
         }
     }
 }

@@ -8,7 +8,7 @@ use Rattle.codes3270.specs.declared.attribute.Cell.{Cell}
 use Rattle.codes3270.specs.declared.attribute.Cell.TheVariants.{Char, Attr}
 use Rattle.datastream.specs.Screen.{text_before_attribute}
 use Rattle.datastream.specs.Fields.{Field, fields, fields_from}
-use Rattle.shadow.specs.declared.mark.Mark.{Mark}
+use Rattle.shadow.specs.declared.mdt_state.MdtState.{MdtState}
 use Rattle.shadow.specs.declared.known.Known.{Known}
 use Rattle.shadow.specs.declared.known.Known.TheVariants.{Attr as KnownAttr}
 use Rattle.shadow.specs.Pairs.{Pairwise}
@@ -34,7 +34,7 @@ length-field_cells b f h =
 record Stands (first : ℕ) (flat : List Known) (place len : ℕ) (fact : Fact) : Type 0 where
   pub front : List Known
   pub attr : Attribute
-  pub mark : Mark
+  pub mark : MdtState
   pub others : List Belief
   pub split : flat ≡ front ++ KnownAttr attr mark ∷ (map old_char (known_chars len fact) ++ flat_map field_cells others)
   pub placed : first + length front ≡ place

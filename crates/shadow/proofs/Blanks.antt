@@ -1,35 +1,35 @@
--- Places that hold nothing but nulls.
+-- CellBeliefs that hold nothing but nulls.
 use Rattle.std.proofs.Common.{◌≡◌, ℕ, zero, suc, ◌+◌, true, List, [], ◌∷◌, map, replicate, Option, Some, None, refl, ap, ◌∙◌}
 use Rattle.codes3270.specs.declared.attribute.Cell.TheVariants.{Char}
 use Rattle.shadow.specs.declared.known.Known.{Known}
 use Rattle.shadow.specs.declared.known.Known.TheVariants.{Char as KnownChar}
-use Rattle.shadow.specs.declared.place.Place.{Place}
-use Rattle.shadow.specs.declared.place.Place.TheVariants.{Known as KnownPlace}
-use Rattle.shadow.specs.declared.place.Past.{Past}
+use Rattle.shadow.specs.declared.cell_belief.CellBelief.{CellBelief}
+use Rattle.shadow.specs.declared.cell_belief.CellBelief.TheVariants.{Known as KnownPlace}
+use Rattle.shadow.specs.declared.cell_belief.BeforeWrite.{BeforeWrite}
 use Rattle.shadow.specs.Belief.{Belief, Shadow}
 use Rattle.shadow.specs.InPlace.{beliefs_held, chars_known, shadow_held, AreHeld, IsHeld}
 use Rattle.shadow.specs.Since.{cells_written, Since}
 use Rattle.shadow.specs.Taken.{new_cell, formatted_as}
 
-abbrev pub null_place : Place
+abbrev pub null_place : CellBelief
 null_place = KnownPlace 0
 
 -- what is kept of a place that was just stored, where none was before
-abbrev pub stored_past : Past
-stored_past = record { telling = None; fresh = true }
+abbrev pub stored_past : BeforeWrite
+stored_past = record { knowledge = None; fresh = true }
 
 pub since_nulls : (n : ℕ) → Since (replicate n null_place) (replicate n null_place) (replicate n stored_past)
 since_nulls zero = tt
 since_nulls (suc n) = (refl, λ e. absurd (cc), since_nulls n)
 
-are_held : (whole : List Place) (n : ℕ) → AreHeld whole (replicate n null_place)
+are_held : (whole : List CellBelief) (n : ℕ) → AreHeld whole (replicate n null_place)
 are_held whole zero = tt
 are_held whole (suc n) = are_held whole n
 
 pub held_nulls : (n : ℕ) → IsHeld (replicate n null_place)
 held_nulls n = are_held (replicate n null_place) n
 
-none_believed : (whole : List Place) (at n : ℕ) → beliefs_held whole at (replicate n null_place) ≡ []
+none_believed : (whole : List CellBelief) (at n : ℕ) → beliefs_held whole at (replicate n null_place) ≡ []
 none_believed whole at zero = refl
 none_believed whole at (suc n) = none_believed whole (at + 1) n
 

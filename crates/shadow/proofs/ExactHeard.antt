@@ -13,13 +13,13 @@ use Rattle.codes3270.specs.Aid.{is_short_aid}
 use Rattle.datastream.specs.Screen.{text_before_attribute}
 use Rattle.datastream.specs.Fields.{Field, fields, IsFormatted, IsUnformatted}
 use Rattle.datastream.specs.Inbound.{without_nulls}
-use Rattle.datastream.specs.InboundFields.{Returned, lead, returned, cells_sent}
+use Rattle.datastream.specs.InboundFields.{Returned, leading_text, returned, cells_sent}
 use Rattle.datastream.specs.InboundText.{InboundParts}
 use Rattle.datastream.specs.declared.inbound_part.Form.{Form}
 use Rattle.datastream.specs.declared.inbound_part.Form.TheVariants.{Modified, All as AllModified, Buffer}
 use Rattle.shadow.specs.declared.fault.HeardFault.{HeardFault}
 use Rattle.shadow.specs.declared.fault.HeardFault.TheVariants.{NoSuchField, Contradiction}
-use Rattle.shadow.specs.declared.mark.Mark.TheVariants.{Unknown}
+use Rattle.shadow.specs.declared.mdt_state.MdtState.TheVariants.{Unknown}
 use Rattle.shadow.specs.Pairs.{Pairwise}
 use Rattle.shadow.specs.Belief.{Fact, Belief, Shadow, nulls, fields_of}
 use Rattle.shadow.specs.Meets.{FieldMeets, Holds, told, FieldTold}
@@ -119,7 +119,7 @@ module _ (P : Belief → Type 0) (long : (erased : Bool) (a : Answer) → contra
       where
         short : (t : Bool) → Kept (if t then Ok (heard_short size inbound.aid shadow) else heard_parts size shadow inbound.parts)
         short true = short_keeps size inbound.aid shadow h
-        short false = long_keeps size shadow (lead inbound.parts) (returned inbound.parts) h
+        short false = long_keeps size shadow (leading_text inbound.parts) (returned inbound.parts) h
 
         read_keeps : (t : Bool) → Kept (if t then Err Contradiction else Ok (seen (cells_sent inbound.parts)))
         read_keeps true = tt
@@ -127,7 +127,7 @@ module _ (P : Belief → Type 0) (long : (erased : Bool) (a : Answer) → contra
 
         cases : (form : Form) → Kept (heard size shadow (record inbound { form = form }))
         cases Modified = short (is_short_aid inbound.aid)
-        cases AllModified = long_keeps size shadow (lead inbound.parts) (returned inbound.parts) h
+        cases AllModified = long_keeps size shadow (leading_text inbound.parts) (returned inbound.parts) h
         cases Buffer = read_keeps (denies_buffer shadow (cells_sent inbound.parts))
 
 -- ---- where all characters are known

@@ -14,7 +14,7 @@ use Rattle.datastream.specs.Held.{without_mdt}
 use Rattle.datastream.specs.declared.order.Order.{Order}
 use Rattle.datastream.specs.declared.wanted.Want.{Want}
 use Rattle.datastream.specs.declared.wanted.Want.TheVariants.{Char as WantChar, Attr as WantAttr, Keep}
-use Rattle.shadow.specs.declared.mark.Mark.{Mark}
+use Rattle.shadow.specs.declared.mdt_state.MdtState.{MdtState}
 use Rattle.shadow.specs.declared.known.Known.{Known}
 use Rattle.shadow.specs.declared.known.Known.TheVariants.{Attr as KnownAttr, Char as KnownChar}
 use Rattle.shadow.specs.Pairs.{Pairwise}
@@ -251,7 +251,7 @@ ProtectedIsPut wants (WantAttr a ∷ rest) (KnownChar slot fresh ∷ news) = Pro
 ProtectedIsPut wants (WantChar c ∷ rest) (new ∷ news) = ProtectedIsPut wants rest news
 ProtectedIsPut wants (Keep ∷ rest) (new ∷ news) = ProtectedIsPut wants rest news
 
-kept_unprotected : (k : Known) (x : Cell) → Shaped k x → IsFree x → (b : Attribute) (m : Mark) → k ≡ KnownAttr b m → b.protected ≡ true → ⊥
+kept_unprotected : (k : Known) (x : Cell) → Shaped k x → IsFree x → (b : Attribute) (m : MdtState) → k ≡ KnownAttr b m → b.protected ≡ true → ⊥
 kept_unprotected (KnownAttr k m) (Attr y) shape free b n e p =
     let same : k ≡ b = cc in
     let one : y.protected ≡ true = ap (λ (z : Attribute). z.protected) (shape ∙ same) ∙ p in
@@ -268,7 +268,7 @@ all_put wants (WantChar c ∷ rest) (k ∷ known) (x ∷ cells) shape free = all
 all_put wants (Keep ∷ rest) (k ∷ known) (x ∷ cells) shape free = all_put wants rest known cells shape.1 free
 all_put wants (WantAttr a ∷ rest) (k ∷ known) (x ∷ cells) shape free = one (stored_over k (cell_to_store (rest ++ wants) (WantAttr a) k)) refl (all_put wants rest known cells shape.1 free.1)
   where
-    put : (b : Attribute) (m : Mark) → stored_over k (cell_to_store (rest ++ wants) (WantAttr a) k) ≡ KnownAttr b m → b.protected ≡ true → keeps_ahead (rest ++ wants) ≡ false
+    put : (b : Attribute) (m : MdtState) → stored_over k (cell_to_store (rest ++ wants) (WantAttr a) k) ≡ KnownAttr b m → b.protected ≡ true → keeps_ahead (rest ++ wants) ≡ false
     put b m e p = cases (keeps_ahead (rest ++ wants)) refl e
       where
         cases : (keeps : Bool) → keeps_ahead (rest ++ wants) ≡ keeps → stored_over k (unless (keeps || is_there k (Attr a)) (Attr a)) ≡ KnownAttr b m → keeps ≡ false

@@ -5,8 +5,8 @@ use Rattle.std.proofs.lemmas.Bool.{and_parts}
 use Rattle.codes3270.specs.declared.attribute.Attr.{Attr as Attribute}
 use Rattle.datastream.specs.Fields.{Field}
 use Rattle.datastream.specs.Inbound.{without_nulls}
-use Rattle.shadow.specs.declared.mark.Mark.{Mark}
-use Rattle.shadow.specs.declared.mark.Mark.TheVariants.{On, Off, Unknown}
+use Rattle.shadow.specs.declared.mdt_state.MdtState.{MdtState}
+use Rattle.shadow.specs.declared.mdt_state.MdtState.TheVariants.{On, Off, Unknown}
 use Rattle.shadow.specs.Belief.{Fact, Belief, nulls}
 use Rattle.shadow.specs.Meets.{FieldMeets, MarkIs, Holds, IsNull}
 use Rattle.shadow.specs.Heard.{is_on, is_off, denies, contradicts_text, lost_text, text_fact, or_nulls, unprotected_fact, mark_of, after_long}
@@ -24,17 +24,17 @@ pub and_if : (p q : Bool) → (p ≡ true → q ≡ false) → (p && q) ≡ fals
 and_if true q h = h refl
 and_if false q h = refl
 
-not_off : (m : Mark) (mdt : Bool) → MarkIs m mdt → mdt ≡ true → is_off m ≡ false
+not_off : (m : MdtState) (mdt : Bool) → MarkIs m mdt → mdt ≡ true → is_off m ≡ false
 not_off On mdt h e = refl
 not_off Off mdt h e = absurd (cc)
 not_off Unknown mdt h e = refl
 
-not_on : (m : Mark) (mdt : Bool) → MarkIs m mdt → mdt ≡ false → is_on m ≡ false
+not_on : (m : MdtState) (mdt : Bool) → MarkIs m mdt → mdt ≡ false → is_on m ≡ false
 not_on On mdt h e = absurd (cc)
 not_on Off mdt h e = refl
 not_on Unknown mdt h e = refl
 
-on_is_on : (m : Mark) (mdt : Bool) → MarkIs m mdt → is_on m ≡ true → mdt ≡ true
+on_is_on : (m : MdtState) (mdt : Bool) → MarkIs m mdt → is_on m ≡ true → mdt ≡ true
 on_is_on On mdt h e = h
 on_is_on Off mdt h e = absurd (cc)
 on_is_on Unknown mdt h e = absurd (cc)

@@ -7,7 +7,7 @@ use Rattle.codes3270.specs.Attribute.{attr_byte}
 use Rattle.datastream.specs.Screen.{Screen, text_before_attribute}
 use Rattle.datastream.specs.Fields.{Field, fields, fields_from}
 use Rattle.datastream.specs.Held.{without_mdt}
-use Rattle.shadow.specs.declared.mark.Mark.TheVariants.{Unknown}
+use Rattle.shadow.specs.declared.mdt_state.MdtState.TheVariants.{Unknown}
 use Rattle.shadow.specs.Pairs.{Pairwise}
 use Rattle.shadow.specs.Belief.{Fact, Belief, Shadow}
 use Rattle.shadow.specs.Meets.{FieldMeets, MarkIs, Holds, KnownIs, Meets, Knows, ListsFields, IsFormatted, FieldTold, IsTold}

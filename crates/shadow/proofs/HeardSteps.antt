@@ -7,8 +7,8 @@ use Rattle.codes3270.specs.Size.{cell_count}
 use Rattle.datastream.specs.InboundFields.{Returned}
 use Rattle.shadow.specs.declared.fault.HeardFault.{HeardFault}
 use Rattle.shadow.specs.declared.fault.HeardFault.TheVariants.{NoSuchField, Contradiction}
-use Rattle.shadow.specs.declared.place.Place.{Place}
-use Rattle.shadow.specs.declared.place.Place.TheVariants.{Attr, Known, Told, Unknown}
+use Rattle.shadow.specs.declared.cell_belief.CellBelief.{CellBelief}
+use Rattle.shadow.specs.declared.cell_belief.CellBelief.TheVariants.{Attr, Known, Told, Unknown}
 use Rattle.shadow.specs.Belief.{Belief, Shadow, next_address}
 use Rattle.shadow.specs.Came.{text_at, came_past}
 use Rattle.shadow.specs.Filled.{text_came, came_behind, is_possible, any_lost, long_after, contradicts_held, lost_held}
@@ -20,7 +20,7 @@ use Rattle.shadow.proofs.Paired.{answers_step}
 
 -- ---- one place further
 
-possible_on : (whole : List Place) (n : ℕ) (held : Place) (rest : List Place) (came : List Returned)
+possible_on : (whole : List CellBelief) (n : ℕ) (held : CellBelief) (rest : List CellBelief) (came : List Returned)
     → is_possible (beliefs_held whole n (held ∷ rest)) came ≡ (not (contradicts_held held n (rest ++ whole) (text_came held n came)) && is_possible (beliefs_held whole (n + 1) rest) (came_behind held n came))
 possible_on whole n (Attr a m t) rest [] = refl
 possible_on whole n (Attr a m t) rest (c ∷ came) = refl
@@ -28,7 +28,7 @@ possible_on whole n (Known c) rest came = refl
 possible_on whole n (Told c) rest came = refl
 possible_on whole n Unknown rest came = refl
 
-pub possible_step : (whole : List Place) (n : ℕ) (held : Place) (came : List Returned) → n < length whole → held ≡ get_or whole n held
+pub possible_step : (whole : List CellBelief) (n : ℕ) (held : CellBelief) (came : List Returned) → n < length whole → held ≡ get_or whole n held
     → is_possible (beliefs_held whole n (drop n whole)) came
     ≡ (not (contradicts_held held n (drop (n + 1) whole ++ whole) (text_came held n came)) && is_possible (beliefs_held whole (n + 1) (drop (n + 1) whole)) (came_behind held n came))
 possible_step whole n held came within is =
@@ -36,14 +36,14 @@ possible_step whole n held came within is =
     ∙ ap (λ x. is_possible (beliefs_held whole n (x ∷ drop (n + 1) whole)) came) (sym is)
     ∙ possible_on whole n held (drop (n + 1) whole) came
 
-lost_on : (whole : List Place) (n : ℕ) (held : Place) (rest : List Place) (came : List Returned)
+lost_on : (whole : List CellBelief) (n : ℕ) (held : CellBelief) (rest : List CellBelief) (came : List Returned)
     → any_lost (beliefs_held whole n (held ∷ rest)) came ≡ (lost_held held n (rest ++ whole) (text_came held n came) || any_lost (beliefs_held whole (n + 1) rest) (came_behind held n came))
 lost_on whole n (Attr a m t) rest came = refl
 lost_on whole n (Known c) rest came = refl
 lost_on whole n (Told c) rest came = refl
 lost_on whole n Unknown rest came = refl
 
-pub lost_step : (whole : List Place) (n : ℕ) (held : Place) (came : List Returned) → n < length whole → held ≡ get_or whole n held
+pub lost_step : (whole : List CellBelief) (n : ℕ) (held : CellBelief) (came : List Returned) → n < length whole → held ≡ get_or whole n held
     → any_lost (beliefs_held whole n (drop n whole)) came
     ≡ (lost_held held n (drop (n + 1) whole ++ whole) (text_came held n came) || any_lost (beliefs_held whole (n + 1) (drop (n + 1) whole)) (came_behind held n came))
 lost_step whole n held came within is =
@@ -121,9 +121,9 @@ settled_impossible bs rs e = cases (answers cell_count bs rs) (answered bs rs)
     cases (Some found) h = inner found (list_any contradicts found) h refl
 
 -- where each text is a field's, and none stands before them
-pub fields_heard : (bs : List Belief) (lead : List ℕ) (rs : List Returned) → list_any (is_nowhere cell_count bs) rs ≡ false → nat_lt 0 (length lead) ≡ false
-    → heard_long cell_count (Shadow.Formatted bs) lead rs ≡ settled (answers cell_count bs rs)
-fields_heard bs lead rs somewhere none = rw (somewhere, none) refl
+pub fields_heard : (bs : List Belief) (leading_text : List ℕ) (rs : List Returned) → list_any (is_nowhere cell_count bs) rs ≡ false → nat_lt 0 (length leading_text) ≡ false
+    → heard_long cell_count (Shadow.Formatted bs) leading_text rs ≡ settled (answers cell_count bs rs)
+fields_heard bs leading_text rs somewhere none = rw (somewhere, none) refl
 
 pub or_more : (p q r : Bool) → (p || (q || r)) ≡ ((p || q) || r)
 or_more true q r = refl
@@ -158,22 +158,22 @@ fault_in bs rs = if list_any (is_nowhere cell_count bs) rs then NoSuchField else
 abbrev faulty : Bool → Bool → Result Shadow HeardFault → Result Shadow HeardFault
 faulty nowhere some more = if nowhere then Err NoSuchField else (if some then Err Contradiction else more)
 
-pub lead_refused : (bs : List Belief) (lead : List ℕ) (rs : List Returned) → nat_lt 0 (length lead) ≡ true → heard_long cell_count (Shadow.Formatted bs) lead rs ≡ Err (fault_in bs rs)
-lead_refused bs lead rs some = cases (list_any (is_nowhere cell_count bs) rs) (nat_lt 0 (length lead)) some
+pub lead_refused : (bs : List Belief) (leading_text : List ℕ) (rs : List Returned) → nat_lt 0 (length leading_text) ≡ true → heard_long cell_count (Shadow.Formatted bs) leading_text rs ≡ Err (fault_in bs rs)
+lead_refused bs leading_text rs some = cases (list_any (is_nowhere cell_count bs) rs) (nat_lt 0 (length leading_text)) some
   where
     cases : (t u : Bool) → u ≡ true → faulty t u (settled (answers cell_count bs rs)) ≡ Err (if t then NoSuchField else Contradiction)
     cases true u e = refl
     cases false u e = ap (λ (v : Bool). if v then Err Contradiction else settled (answers cell_count bs rs)) e
 
-pub impossible_refused : (bs : List Belief) (lead : List ℕ) (rs : List Returned) → is_possible bs rs ≡ false → heard_long cell_count (Shadow.Formatted bs) lead rs ≡ Err (fault_in bs rs)
-impossible_refused bs lead rs e = cases (list_any (is_nowhere cell_count bs) rs) (nat_lt 0 (length lead)) (settled (answers cell_count bs rs)) (settled_impossible bs rs e)
+pub impossible_refused : (bs : List Belief) (leading_text : List ℕ) (rs : List Returned) → is_possible bs rs ≡ false → heard_long cell_count (Shadow.Formatted bs) leading_text rs ≡ Err (fault_in bs rs)
+impossible_refused bs leading_text rs e = cases (list_any (is_nowhere cell_count bs) rs) (nat_lt 0 (length leading_text)) (settled (answers cell_count bs rs)) (settled_impossible bs rs e)
   where
     cases : (t u : Bool) (more : Result Shadow HeardFault) → more ≡ failed → faulty t u more ≡ Err (if t then NoSuchField else Contradiction)
     cases true u more e = refl
     cases false true more e = refl
     cases false false more e = e
 
-pub possible_heard : (bs : List Belief) (lead : List ℕ) (rs : List Returned) (erased : Bool) → is_possible bs rs ≡ true → any_lost bs rs ≡ erased → nat_lt 0 (length lead) ≡ false
-    → heard_long cell_count (Shadow.Formatted bs) lead rs ≡ Ok (Shadow.Formatted (long_after erased bs rs))
-possible_heard bs lead rs erased e lost none =
-    fields_heard bs lead rs (possible_somewhere bs rs e) none ∙ settled_possible bs rs e ∙ ap (λ (t : Bool). Ok (Shadow.Formatted (long_after t bs rs))) lost
+pub possible_heard : (bs : List Belief) (leading_text : List ℕ) (rs : List Returned) (erased : Bool) → is_possible bs rs ≡ true → any_lost bs rs ≡ erased → nat_lt 0 (length leading_text) ≡ false
+    → heard_long cell_count (Shadow.Formatted bs) leading_text rs ≡ Ok (Shadow.Formatted (long_after erased bs rs))
+possible_heard bs leading_text rs erased e lost none =
+    fields_heard bs leading_text rs (possible_somewhere bs rs e) none ∙ settled_possible bs rs e ∙ ap (λ (t : Bool). Ok (Shadow.Formatted (long_after t bs rs))) lost

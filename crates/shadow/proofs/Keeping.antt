@@ -1,22 +1,22 @@
--- Places that are kept by bits and bytes.
+-- CellBeliefs that are kept by bits and bytes.
 use Rattle.std.proofs.Common.{◌≡◌, ℕ, ◌<◌, Bool, true, false, List, length, replicate, set, get_or, refl, ap, sym, subst, arith, ◌∙◌, ne_eqb, eq-eqb, inl, inr, if◌then◌else◌}
 use Rattle.std.specs.Prelude.{nat_eq}
 use Rattle.std.proofs.lemmas.Bool.{cases_eq}
 use Rattle.std.proofs.lemmas.List.{get_or-set_other, get_or-set_same, get_or-replicate, get_or_default, set-get_or, length-set, length-replicate}
 use Rattle.codes3270.specs.declared.attribute.Attr.{Attr as Attribute}
 use Rattle.codes3270.specs.Attribute.{attr_of}
-use Rattle.shadow.specs.declared.mark.Mark.{Mark}
-use Rattle.shadow.specs.declared.place.Telling.{Telling}
-use Rattle.shadow.specs.declared.place.Place.{Place}
-use Rattle.shadow.specs.declared.place.Place.TheVariants.{Attr, Known, Told, Unknown}
-use Rattle.shadow.specs.declared.places.Head.{Head}
+use Rattle.shadow.specs.declared.mdt_state.MdtState.{MdtState}
+use Rattle.shadow.specs.declared.cell_belief.TextKnowledge.{TextKnowledge}
+use Rattle.shadow.specs.declared.cell_belief.CellBelief.{CellBelief}
+use Rattle.shadow.specs.declared.cell_belief.CellBelief.TheVariants.{Attr, Known, Told, Unknown}
+use Rattle.shadow.specs.declared.cell_beliefs.Head.{Head}
 use Rattle.shadow.specs.InPlace.{is_attribute}
-use Rattle.datastream.specs.Rows.{has_bit, kept}
+use Rattle.datastream.specs.CellBits.{has_bit, kept}
 use Rattle.datastream.proofs.Keeping.{length_kept, kept_at, kept_set, kept_all}
-use Rattle.shadow.specs.Rows.{no_head, head_of, with_head, is_known, is_told, place_kept, place_by, MarksKnown}
+use Rattle.shadow.specs.PackedBeliefs.{no_head, head_of, with_head, is_known, is_told, place_kept, place_by, MarksKnown}
 
 -- one place is kept anew
-module _ (heads : List Head) (attributes known told attributes_ known_ told_ : List ℕ) (at : ℕ) (p : Place) (within : at < length heads)
+module _ (heads : List Head) (attributes known told attributes_ known_ told_ : List ℕ) (at : ℕ) (p : CellBelief) (within : at < length heads)
     (attribute_bits : (other : ℕ) → has_bit attributes_ other ≡ (if nat_eq other at then is_attribute p else has_bit attributes other))
     (known_bits : (other : ℕ) → has_bit known_ other ≡ (if nat_eq other at then is_known p else has_bit known other))
     (told_bits : (other : ℕ) → has_bit told_ other ≡ (if nat_eq other at then is_told p else has_bit told other)) where
@@ -54,7 +54,7 @@ bits_by b answer e words words_ at bits other = bits other ∙ ap (λ v. if nat_
 
 -- the bits of what is known
 
-pub marked_set : (known known_ : List ℕ) (places : List Place) (at : ℕ) (p : Place) → at < length places → MarksKnown known places
+pub marked_set : (known known_ : List ℕ) (places : List CellBelief) (at : ℕ) (p : CellBelief) → at < length places → MarksKnown known places
     → ((other : ℕ) → has_bit known_ other ≡ (if nat_eq other at then is_known p else has_bit known other)) → MarksKnown known_ (set places at p)
 marked_set known known_ places at p within marked bits = λ cell inside. elim (cases_eq cell at) [
   | inl same ↦ bits cell ∙ ap (λ t. if t then is_known p else has_bit known cell) (eq-eqb cell at same)
@@ -65,13 +65,13 @@ marked_set known known_ places at p within marked bits = λ cell inside. elim (c
 ]
 
 -- the same, by what functions answer
-module _ (heads : List Head) (attributes known told bytes : List ℕ) (at : ℕ) (p : Place) (inside : at < length heads) (within : at < length bytes)
+module _ (heads : List Head) (attributes known told bytes : List ℕ) (at : ℕ) (p : CellBelief) (inside : at < length heads) (within : at < length bytes)
     (head : Head) (is_head : head ≡ head_of p) (byte : ℕ) (is_byte : place_kept (head_of p) (is_attribute p) (is_known p) (is_told p) byte ≡ p)
     (attributes_ known_ told_ : List ℕ) (a k t : Bool) (is_a : a ≡ is_attribute p) (is_k : k ≡ is_known p) (is_t : t ≡ is_told p)
     (a_bits : (other : ℕ) → has_bit attributes_ other ≡ (if nat_eq other at then a else has_bit attributes other))
     (k_bits : (other : ℕ) → has_bit known_ other ≡ (if nat_eq other at then k else has_bit known other))
     (t_bits : (other : ℕ) → has_bit told_ other ≡ (if nat_eq other at then t else has_bit told other)) where
-  abbrev old_places : List Place
+  abbrev old_places : List CellBelief
   old_places = kept (place_by heads attributes known told) 0 bytes
 
   pub put_kept : kept (place_by (set heads at head) attributes_ known_ told_) 0 (set bytes at byte) ≡ set (kept (place_by heads attributes known told) 0 bytes) at p
@@ -89,7 +89,7 @@ module _ (heads : List Head) (attributes known told bytes : List ℕ) (at : ℕ)
       subst (MarksKnown known_) (sym put_kept) (marked_set known known_ old_places at p before marked (bits_by (is_known p) k is_k known known_ at k_bits))
 
 -- the same place everywhere
-module _ (n : ℕ) (attributes known told : List ℕ) (p : Place) (byte : ℕ)
+module _ (n : ℕ) (attributes known told : List ℕ) (p : CellBelief) (byte : ℕ)
     (attribute_bits : (cell : ℕ) → cell < n → has_bit attributes cell ≡ is_attribute p)
     (known_bits : (cell : ℕ) → cell < n → has_bit known cell ≡ is_known p)
     (told_bits : (cell : ℕ) → cell < n → has_bit told cell ≡ is_told p)
@@ -116,19 +116,19 @@ module _ (n : ℕ) (attributes known told : List ℕ) (p : Place) (byte : ℕ)
 
 -- ---- what is read at an address
 
-module _ (heads : List Head) (attributes known told bytes : List ℕ) (at : ℕ) (within : at < length bytes) (now : List Place)
+module _ (heads : List Head) (attributes known told bytes : List ℕ) (at : ℕ) (within : at < length bytes) (now : List CellBelief)
     (view : kept (place_by heads attributes known told) 0 bytes ≡ now) where
-  place_read : (p : Place) → p ≡ place_kept (get_or heads at no_head) (has_bit attributes at) (has_bit known at) (has_bit told at) (get_or bytes at 0) → p ≡ get_or now at p
+  place_read : (p : CellBelief) → p ≡ place_kept (get_or heads at no_head) (has_bit attributes at) (has_bit known at) (has_bit told at) (get_or bytes at 0) → p ≡ get_or now at p
   place_read p is =
       is ∙ sym (kept_at (place_by heads attributes known told) bytes at (get_or bytes at 0) p within (get_or_default bytes at 0 (get_or bytes at 0) within))
-      ∙ ap (λ (ps : List Place). get_or ps at p) view
+      ∙ ap (λ (ps : List CellBelief). get_or ps at p) view
 
   pub attribute_read : at < length heads → (d : Head) (attribute : Attribute) → attribute ≡ attr_of (get_or bytes at 0) → has_bit attributes at ≡ true
-      → Attr attribute (get_or heads at d).mark (get_or heads at d).telling ≡ get_or now at (Attr attribute (get_or heads at d).mark (get_or heads at d).telling)
+      → Attr attribute (get_or heads at d).mark (get_or heads at d).knowledge ≡ get_or now at (Attr attribute (get_or heads at d).mark (get_or heads at d).knowledge)
   attribute_read inside d attribute is a =
-      place_read (Attr attribute (get_or heads at d).mark (get_or heads at d).telling)
-      (ap (λ (x : Attribute). Attr x (get_or heads at d).mark (get_or heads at d).telling) is
-      ∙ ap (λ (h : Head). Attr (attr_of (get_or bytes at 0)) h.mark h.telling) (get_or_default heads at d no_head inside)
+      place_read (Attr attribute (get_or heads at d).mark (get_or heads at d).knowledge)
+      (ap (λ (x : Attribute). Attr x (get_or heads at d).mark (get_or heads at d).knowledge) is
+      ∙ ap (λ (h : Head). Attr (attr_of (get_or bytes at 0)) h.mark h.knowledge) (get_or_default heads at d no_head inside)
       ∙ sym (ap (λ b. place_kept (get_or heads at no_head) b (has_bit known at) (has_bit told at) (get_or bytes at 0)) a))
 
   pub known_read : has_bit attributes at ≡ false → has_bit known at ≡ true → Known (get_or bytes at 0) ≡ get_or now at (Known (get_or bytes at 0))
@@ -150,45 +150,45 @@ module _ (heads : List Head) (attributes known told bytes : List ℕ) (at : ℕ)
 
   pub character_seen : has_bit attributes at ≡ false → has_bit known at ≡ true → get_or now at Unknown ≡ Known (get_or bytes at 0)
   character_seen a k =
-      sym (ap (λ (ps : List Place). get_or ps at Unknown) view)
+      sym (ap (λ (ps : List CellBelief). get_or ps at Unknown) view)
       ∙ kept_at (place_by heads attributes known told) bytes at (get_or bytes at 0) Unknown within (get_or_default bytes at 0 (get_or bytes at 0) within)
       ∙ ap (λ b. place_kept (get_or heads at no_head) b (has_bit known at) (has_bit told at) (get_or bytes at 0)) a
       ∙ ap (λ b. place_kept (get_or heads at no_head) false b (has_bit told at) (get_or bytes at 0)) k
 
 -- ---- the head of an attribute is held anew
 
-headed_kept : (h : Head) (m : Mark) (u : Telling) (a k t : Bool) (byte : ℕ) → place_kept (record { mark = m; telling = u }) a k t byte ≡ with_head m u (place_kept h a k t byte)
+headed_kept : (h : Head) (m : MdtState) (u : TextKnowledge) (a k t : Bool) (byte : ℕ) → place_kept (record { mark = m; knowledge = u }) a k t byte ≡ with_head m u (place_kept h a k t byte)
 headed_kept h m u true k t byte = refl
 headed_kept h m u false true t byte = refl
 headed_kept h m u false false true byte = refl
 headed_kept h m u false false false byte = refl
 
-headed_known : (m : Mark) (u : Telling) (p : Place) → is_known (with_head m u p) ≡ is_known p
+headed_known : (m : MdtState) (u : TextKnowledge) (p : CellBelief) → is_known (with_head m u p) ≡ is_known p
 headed_known m u (Attr a n v) = refl
 headed_known m u (Known c) = refl
 headed_known m u (Told c) = refl
 headed_known m u Unknown = refl
 
-module _ (heads : List Head) (attributes known told bytes : List ℕ) (at : ℕ) (inside : at < length heads) (within : at < length bytes) (m : Mark) (u : Telling) (now : List Place)
+module _ (heads : List Head) (attributes known told bytes : List ℕ) (at : ℕ) (inside : at < length heads) (within : at < length bytes) (m : MdtState) (u : TextKnowledge) (now : List CellBelief)
     (view : kept (place_by heads attributes known told) 0 bytes ≡ now) where
   abbrev head : Head
-  head = record { mark = m; telling = u }
+  head = record { mark = m; knowledge = u }
 
-  abbrev old_one : Place
+  abbrev old_one : CellBelief
   old_one = get_or now at Unknown
 
   one_is : place_by (set heads at head) attributes known told at (get_or bytes at 0) ≡ with_head m u old_one
   one_is =
       ap (λ (h : Head). place_kept h (has_bit attributes at) (has_bit known at) (has_bit told at) (get_or bytes at 0)) (get_or-set_same heads at head no_head inside)
       ∙ headed_kept (get_or heads at no_head) m u (has_bit attributes at) (has_bit known at) (has_bit told at) (get_or bytes at 0)
-      ∙ ap (with_head m u) (sym (kept_at (place_by heads attributes known told) bytes at (get_or bytes at 0) Unknown within (get_or_default bytes at 0 (get_or bytes at 0) within)) ∙ ap (λ (ps : List Place). get_or ps at Unknown) view)
+      ∙ ap (with_head m u) (sym (kept_at (place_by heads attributes known told) bytes at (get_or bytes at 0) Unknown within (get_or_default bytes at 0 (get_or bytes at 0) within)) ∙ ap (λ (ps : List CellBelief). get_or ps at Unknown) view)
 
   pub head_kept : kept (place_by (set heads at head) attributes known told) 0 bytes ≡ set now at (with_head m u (get_or now at Unknown))
   head_kept =
       ap (kept (place_by (set heads at head) attributes known told) 0) (sym (set-get_or bytes at 0))
       ∙ kept_set (place_by heads attributes known told) (place_by (set heads at head) attributes known told) bytes at (get_or bytes at 0) (with_head m u old_one)
       (λ j byte apart. ap (λ (h : Head). place_kept h (has_bit attributes j) (has_bit known j) (has_bit told j) byte) (get_or-set_other heads at j head no_head apart)) one_is
-      ∙ ap (λ (ps : List Place). set ps at (with_head m u old_one)) view
+      ∙ ap (λ (ps : List CellBelief). set ps at (with_head m u old_one)) view
 
   pub head_marked : MarksKnown known now → MarksKnown known (kept (place_by (set heads at head) attributes known told) 0 bytes)
   head_marked marked =

@@ -10,7 +10,7 @@ use Rattle.std.proofs.lemmas.List.{get_or-map, get_or_default, length-map, lengt
 use Rattle.codes3270.specs.Size.{cell_count}
 use Rattle.codes3270.specs.declared.attribute.Cell.{Cell}
 use Rattle.codes3270.specs.declared.attribute.Cell.TheVariants.{Char}
-use Rattle.datastream.specs.Rows.{bit_of, AreBits}
+use Rattle.datastream.specs.CellBits.{bit_of, AreBits}
 use Rattle.datastream.specs.Wanted.{is_attribute, is_character, byte_of}
 use Rattle.datastream.specs.declared.wanted.Want.{Want}
 use Rattle.datastream.specs.declared.wanted.Want.TheVariants.{Char as WantChar, Attr as WantAttr, Keep}
@@ -19,8 +19,8 @@ use Rattle.shadow.specs.declared.known.Known.TheVariants.{Char as KnownChar}
 use Rattle.shadow.specs.Stores.{store_also}
 use Rattle.shadow.specs.Paint.{cell_to_store, unless, is_there, known_nulls}
 use Rattle.shadow.specs.Looks.{SetUnless, stores_from, IsRight}
-use Rattle.shadow.specs.declared.place.Place.{Place}
-use Rattle.shadow.specs.declared.place.Place.TheVariants.{Known as KnownPlace, Unknown}
+use Rattle.shadow.specs.declared.cell_belief.CellBelief.{CellBelief}
+use Rattle.shadow.specs.declared.cell_belief.CellBelief.TheVariants.{Known as KnownPlace, Unknown}
 use Rattle.shadow.specs.InPlace.{cell_known, cells_known}
 use Rattle.shadow.specs.Base.{mark_off_if}
 use Rattle.shadow.specs.Taken.{old_char, marks_off_if}
@@ -163,11 +163,11 @@ off_char : (reset : Bool) (byte : ℕ) → mark_off_if reset (cell_known (KnownP
 off_char true byte = refl
 off_char false byte = refl
 
-pub base_length : (formatted reset : Bool) (places : List Place) → length places ≡ cell_count → length (if formatted then marks_off_if reset (cells_known places) else known_nulls cell_count) ≡ cell_count
+pub base_length : (formatted reset : Bool) (places : List CellBelief) → length places ≡ cell_count → length (if formatted then marks_off_if reset (cells_known places) else known_nulls cell_count) ≡ cell_count
 base_length true reset places size = length_reset reset places ∙ size
 base_length false reset places size = nulls_length cell_count
 
-pub char_there : (reset : Bool) (places : List Place) (cell byte : ℕ) → cell < length places → get_or places cell Unknown ≡ KnownPlace byte
+pub char_there : (reset : Bool) (places : List CellBelief) (cell byte : ℕ) → cell < length places → get_or places cell Unknown ≡ KnownPlace byte
     → get_or (marks_off_if reset (cells_known places)) cell (KnownChar None false) ≡ KnownChar (Some byte) false
 char_there reset places cell byte within is =
     known_reset reset places cell (KnownPlace byte) (KnownChar None false) within (sym is ∙ get_or_default places cell Unknown (KnownPlace byte) within) ∙ off_char reset byte

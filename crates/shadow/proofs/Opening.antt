@@ -3,7 +3,7 @@ use Rattle.std.proofs.Common.{◌≡◌, ℕ, Bool, true, false, List, [], ◌�
 use Rattle.std.specs.Prelude.{IfOk, IsOkAnd, bytes_eq}
 use Rattle.codes3270.specs.declared.attribute.Cell.{Cell}
 use Rattle.datastream.specs.Fields.{Field}
-use Rattle.datastream.specs.InboundFields.{lead, returned, cells_sent}
+use Rattle.datastream.specs.InboundFields.{leading_text, returned, cells_sent}
 use Rattle.datastream.specs.InboundText.{InboundParts}
 use Rattle.datastream.specs.Meaning.{after_command}
 use Rattle.datastream.specs.Screen.{blank_screen}
@@ -67,7 +67,7 @@ pub long_opens_nothing : LongOpensNothing
 long_opens_nothing size shadow inbound long h = cases inbound.form long
   where
     fields_heard : IfOk (heard_parts size shadow inbound.parts) NothingIsOpen
-    fields_heard = long_keeps IsNotOpen long_open size shadow (lead inbound.parts) (returned inbound.parts) h
+    fields_heard = long_keeps IsNotOpen long_open size shadow (leading_text inbound.parts) (returned inbound.parts) h
 
     cases : (form : Form) → IsLong form inbound.aid → IfOk (heard size shadow (record inbound { form = form })) NothingIsOpen
     cases Modified e =

@@ -20,8 +20,8 @@ use Rattle.datastream.specs.declared.wanted.Want.{Want}
 use Rattle.datastream.specs.declared.wanted.Want.TheVariants.{Char as WantChar, Attr as WantAttr, Keep}
 use Rattle.shadow.specs.declared.known.Known.{Known}
 use Rattle.shadow.specs.declared.known.Known.TheVariants.{Attr as KnownAttr, Char as KnownChar}
-use Rattle.shadow.specs.declared.mark.Mark.{Mark}
-use Rattle.shadow.specs.declared.mark.Mark.TheVariants.{On, Off, Unknown}
+use Rattle.shadow.specs.declared.mdt_state.MdtState.{MdtState}
+use Rattle.shadow.specs.declared.mdt_state.MdtState.TheVariants.{On, Off, Unknown}
 use Rattle.shadow.specs.Pairs.{Pairwise}
 use Rattle.shadow.specs.Belief.{Belief, Shadow, next_address}
 use Rattle.shadow.specs.Meets.{MarkIs, KnownIs, Knows, Meets}
@@ -36,7 +36,7 @@ use Rattle.shadow.proofs.Stored.{stored, cursor_after, plain_orders}
 use Rattle.shadow.proofs.Erasing.{same_nulls}
 use Rattle.shadow.proofs.Keeps.{KeepsChars, HasNoKeep, keeps_chars, no_keep}
 
-marked : (mark : Mark) (m mdt : Bool) → MarkIs mark mdt → marks mark m ≡ true → mdt ≡ m
+marked : (mark : MdtState) (m mdt : Bool) → MarkIs mark mdt → marks mark m ≡ true → mdt ≡ m
 marked On true mdt h e = h
 marked Off true mdt h e = absurd (cc)
 marked Unknown true mdt h e = absurd (cc)

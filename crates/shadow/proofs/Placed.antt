@@ -6,11 +6,11 @@ use Rattle.std.proofs.Math.Nat.{add-mod_right, mod_self, mod-eq_of_lt, mod-lt}
 use Rattle.std.proofs.lemmas.Bool.{cases_lt}
 use Rattle.std.proofs.lemmas.List.{at_drop_more, length-drop, drop_at, take_at, length-map}
 use Rattle.codes3270.specs.declared.attribute.Attr.{Attr as Attribute}
-use Rattle.shadow.specs.declared.mark.Mark.{Mark}
-use Rattle.shadow.specs.declared.place.Telling.{Telling}
-use Rattle.shadow.specs.declared.place.Telling.TheVariants.{Cells}
-use Rattle.shadow.specs.declared.place.Place.{Place}
-use Rattle.shadow.specs.declared.place.Place.TheVariants.{Attr, Known, Told, Unknown}
+use Rattle.shadow.specs.declared.mdt_state.MdtState.{MdtState}
+use Rattle.shadow.specs.declared.cell_belief.TextKnowledge.{TextKnowledge}
+use Rattle.shadow.specs.declared.cell_belief.TextKnowledge.TheVariants.{Cells}
+use Rattle.shadow.specs.declared.cell_belief.CellBelief.{CellBelief}
+use Rattle.shadow.specs.declared.cell_belief.CellBelief.TheVariants.{Attr, Known, Told, Unknown}
 use Rattle.shadow.specs.Asked.{belief_with, known_cells, known_at, known_cell}
 use Rattle.shadow.specs.Belief.{Fact, Belief, Shadow, fields_of, next_address}
 use Rattle.shadow.specs.Fits.{is_field}
@@ -38,15 +38,15 @@ partly_known [] e = absurd (cc)
 partly_known (None ∷ ks) e = refl
 partly_known (Some c ∷ ks) e = ap (option_map (λ cs. c ∷ cs)) (partly_known ks e)
 
-pub exact_held : (ahead : List Place) → is_whole (chars_known ahead) ≡ true → fact_held Cells ahead ≡ Fact.Exact (known_text (chars_known ahead))
+pub exact_held : (ahead : List CellBelief) → is_whole (chars_known ahead) ≡ true → fact_held Cells ahead ≡ Fact.Exact (known_text (chars_known ahead))
 exact_held ahead e = ap (λ text. exact_or_any text (chars_known ahead)) (whole_known (chars_known ahead) e)
 
-pub any_held : (ahead : List Place) → is_whole (chars_known ahead) ≡ false → fact_held Cells ahead ≡ Fact.Any (chars_known ahead)
+pub any_held : (ahead : List CellBelief) → is_whole (chars_known ahead) ≡ false → fact_held Cells ahead ≡ Fact.Any (chars_known ahead)
 any_held ahead e = ap (λ text. exact_or_any text (chars_known ahead)) (partly_known (chars_known ahead) e)
 
 -- ---- a field is found by its place
 
-pub no_attribute : (whole : List Place) (n : ℕ) (x : Place) (rest : List Place) → is_attribute x ≡ false → beliefs_held whole n (x ∷ rest) ≡ beliefs_held whole (n + 1) rest
+pub no_attribute : (whole : List CellBelief) (n : ℕ) (x : CellBelief) (rest : List CellBelief) → is_attribute x ≡ false → beliefs_held whole n (x ∷ rest) ≡ beliefs_held whole (n + 1) rest
 no_attribute whole n (Attr a m t) rest e = absurd (cc)
 no_attribute whole n (Known c) rest e = refl
 no_attribute whole n (Told c) rest e = refl
@@ -55,17 +55,17 @@ no_attribute whole n Unknown rest e = refl
 -- a search for the field at a place
 module _ {R : Type 0} (size p : ℕ) (search_ : List Belief → R) (skips : (b : Belief) (bs : List Belief) → b.place < size → (b.place ≡ p → ⊥) → search_ (b ∷ bs) ≡ search_ bs)
     (goes_on : (b : Belief) (bs cs : List Belief) → search_ bs ≡ search_ cs → search_ (b ∷ bs) ≡ search_ (b ∷ cs)) where
-  one_on : (whole : List Place) (n : ℕ) (x : Place) (rest : List Place) → n < size → (n ≡ p → ⊥) → search_ (beliefs_held whole n (x ∷ rest)) ≡ search_ (beliefs_held whole (n + 1) rest)
+  one_on : (whole : List CellBelief) (n : ℕ) (x : CellBelief) (rest : List CellBelief) → n < size → (n ≡ p → ⊥) → search_ (beliefs_held whole n (x ∷ rest)) ≡ search_ (beliefs_held whole (n + 1) rest)
   one_on whole n (Attr a m t) rest low other = skips (belief_held n a m t (rest ++ whole)) (beliefs_held whole (n + 1) rest) low other
   one_on whole n (Known c) rest low other = refl
   one_on whole n (Told c) rest low other = refl
   one_on whole n Unknown rest low other = refl
 
-  none_behind : (whole : List Place) (n : ℕ) (rest : List Place) → p < n → n + length rest ≤ size → search_ (beliefs_held whole n rest) ≡ search_ []
+  none_behind : (whole : List CellBelief) (n : ℕ) (rest : List CellBelief) → p < n → n + length rest ≤ size → search_ (beliefs_held whole n rest) ≡ search_ []
   none_behind whole n [] later few = refl
   none_behind whole n (x ∷ rest) later few = one_on whole n x rest (omega arith) (λ e. omega arith) ∙ none_behind whole (n + 1) rest (omega arith) (omega arith)
 
-  from_place : (whole : List Place) (k : ℕ) → k ≤ p → p < length whole → length whole ≤ size → search_ (beliefs_held whole 0 whole) ≡ search_ (beliefs_held whole k (drop k whole))
+  from_place : (whole : List CellBelief) (k : ℕ) → k ≤ p → p < length whole → length whole ≤ size → search_ (beliefs_held whole 0 whole) ≡ search_ (beliefs_held whole k (drop k whole))
   from_place whole zero low within few = refl
   from_place whole (suc k) low within few =
       let next : k + 1 ≡ suc k = omega arith in
@@ -74,7 +74,7 @@ module _ {R : Type 0} (size p : ℕ) (search_ : List Belief → R) (skips : (b :
       ∙ at_drop_more (λ rest. search_ (beliefs_held whole k rest)) whole k Unknown (omega arith)
       ∙ one_on whole k (get_or whole k Unknown) (drop (k + 1) whole) (omega arith) (λ e. omega arith))
 
-  pub found : (whole : List Place) (a : Attribute) (m : Mark) (t : Telling) → p < length whole → length whole ≤ size → Attr a m t ≡ get_or whole p (Attr a m t)
+  pub found : (whole : List CellBelief) (a : Attribute) (m : MdtState) (t : TextKnowledge) → p < length whole → length whole ≤ size → Attr a m t ≡ get_or whole p (Attr a m t)
       → search_ (beliefs_held whole 0 whole) ≡ search_ (belief_held p a m t (drop (p + 1) whole ++ whole) ∷ [])
   found whole a m t within few is =
       from_place whole p (omega arith) within few
@@ -83,7 +83,7 @@ module _ {R : Type 0} (size p : ℕ) (search_ : List Belief → R) (skips : (b :
       ∙ goes_on (belief_held p a m t (drop (p + 1) whole ++ whole)) (beliefs_held whole (p + 1) (drop (p + 1) whole)) []
       (none_behind whole (p + 1) (drop (p + 1) whole) (omega arith) (omega (arith, length-drop (p + 1) whole)))
 
-  pub missed : (whole : List Place) (x : Place) → is_attribute x ≡ false → p < length whole → length whole ≤ size → x ≡ get_or whole p x → search_ (beliefs_held whole 0 whole) ≡ search_ []
+  pub missed : (whole : List CellBelief) (x : CellBelief) → is_attribute x ≡ false → p < length whole → length whole ≤ size → x ≡ get_or whole p x → search_ (beliefs_held whole 0 whole) ≡ search_ []
   missed whole x none within few is =
       from_place whole p (omega arith) within few
       ∙ at_drop_more (λ rest. search_ (beliefs_held whole p rest)) whole p x within
@@ -99,12 +99,12 @@ with_skips size p b bs low other = rw (ne_eqb b.place p other) refl
 with_goes_on : (p : ℕ) (b : Belief) (bs cs : List Belief) → belief_with p bs ≡ belief_with p cs → belief_with p (b ∷ bs) ≡ belief_with p (b ∷ cs)
 with_goes_on p b bs cs e = ap (λ o. if b.place == p then Some b else o) e
 
-pub with_found : (p : ℕ) (whole : List Place) (a : Attribute) (m : Mark) (t : Telling) → p < length whole → Attr a m t ≡ get_or whole p (Attr a m t)
+pub with_found : (p : ℕ) (whole : List CellBelief) (a : Attribute) (m : MdtState) (t : TextKnowledge) → p < length whole → Attr a m t ≡ get_or whole p (Attr a m t)
     → belief_with p (beliefs_held whole 0 whole) ≡ Some (belief_held p a m t (drop (p + 1) whole ++ whole))
 with_found p whole a m t within is =
     found (length whole) p (belief_with p) (with_skips (length whole) p) (with_goes_on p) whole a m t within (omega arith) is ∙ rw (eq-eqb p p refl) refl
 
-pub with_missed : (p : ℕ) (whole : List Place) (x : Place) → is_attribute x ≡ false → p < length whole → x ≡ get_or whole p x → belief_with p (beliefs_held whole 0 whole) ≡ None
+pub with_missed : (p : ℕ) (whole : List CellBelief) (x : CellBelief) → is_attribute x ≡ false → p < length whole → x ≡ get_or whole p x → belief_with p (beliefs_held whole 0 whole) ≡ None
 with_missed p whole x none within is = missed (length whole) p (belief_with p) (with_skips (length whole) p) (with_goes_on p) whole x none within (omega arith) is
 
 -- ---- whether a field is there
@@ -119,13 +119,13 @@ field_skips size p a count b bs low other = rw (ne_eqb b.place p other) refl
 any_goes_on : (f : Belief → Bool) (b : Belief) (bs cs : List Belief) → list_any f bs ≡ list_any f cs → list_any f (b ∷ bs) ≡ list_any f (b ∷ cs)
 any_goes_on f b bs cs e = ap (λ t. f b || t) e
 
-pub field_found : (p : ℕ) (b : Attribute) (count : ℕ) (whole : List Place) (a : Attribute) (m : Mark) (t : Telling) → p < length whole → Attr a m t ≡ get_or whole p (Attr a m t)
+pub field_found : (p : ℕ) (b : Attribute) (count : ℕ) (whole : List CellBelief) (a : Attribute) (m : MdtState) (t : TextKnowledge) → p < length whole → Attr a m t ≡ get_or whole p (Attr a m t)
     → list_any (is_field p b count) (beliefs_held whole 0 whole) ≡ (same_attr a b && length (chars_known (drop (p + 1) whole ++ whole)) == count)
 field_found p b count whole a m t within is =
     found (length whole) p (list_any (is_field p b count)) (field_skips (length whole) p b count) (any_goes_on (is_field p b count)) whole a m t within (omega arith) is
     ∙ rw (eq-eqb p p refl) (either_way _ false refl)
 
-pub field_missed : (p : ℕ) (b : Attribute) (count : ℕ) (whole : List Place) (x : Place) → is_attribute x ≡ false → p < length whole → x ≡ get_or whole p x
+pub field_missed : (p : ℕ) (b : Attribute) (count : ℕ) (whole : List CellBelief) (x : CellBelief) → is_attribute x ≡ false → p < length whole → x ≡ get_or whole p x
     → list_any (is_field p b count) (beliefs_held whole 0 whole) ≡ false
 field_missed p b count whole x none within is =
     missed (length whole) p (list_any (is_field p b count)) (field_skips (length whole) p b count) (any_goes_on (is_field p b count)) whole x none within (omega arith) is
@@ -164,7 +164,7 @@ starts_skips size first low b bs within other = rw (ne_eqb (next_address size b.
           ]
         ]
 
-pub starts_found : (size first : ℕ) → first < size → (whole : List Place) → length whole ≡ size → (a : Attribute) (m : Mark) (t : Telling) → Attr a m t ≡ get_or whole (address_before size first) (Attr a m t)
+pub starts_found : (size first : ℕ) → first < size → (whole : List CellBelief) → length whole ≡ size → (a : Attribute) (m : MdtState) (t : TextKnowledge) → Attr a m t ≡ get_or whole (address_before size first) (Attr a m t)
     → list_any (λ c. starts_at size c first) (beliefs_held whole 0 whole) ≡ true
 starts_found size first low whole even a m t is =
     let p : ℕ = address_before size first in
@@ -172,14 +172,14 @@ starts_found size first low whole even a m t is =
     found size p (list_any (λ c. starts_at size c first)) (starts_skips size first low) (any_goes_on (λ c. starts_at size c first)) whole a m t (omega arith) (omega arith) is
     ∙ rw (eq-eqb (next_address size p) first (before_next size first low)) refl
 
-pub starts_missed : (size first : ℕ) → first < size → (whole : List Place) → length whole ≡ size → (x : Place) → is_attribute x ≡ false → x ≡ get_or whole (address_before size first) x
+pub starts_missed : (size first : ℕ) → first < size → (whole : List CellBelief) → length whole ≡ size → (x : CellBelief) → is_attribute x ≡ false → x ≡ get_or whole (address_before size first) x
     → list_any (λ c. starts_at size c first) (beliefs_held whole 0 whole) ≡ false
 starts_missed size first low whole even x none is =
     let p : ℕ = address_before size first in
     let few : p < size = mod-lt (first + size - 1) (omega arith) in
     missed size p (list_any (λ c. starts_at size c first)) (starts_skips size first low) (any_goes_on (λ c. starts_at size c first)) whole x none (omega arith) (omega arith) is
 
-pub starts_there : (size first : ℕ) → first < size → (whole : List Place) → length whole ≡ size → (x : Place) → x ≡ get_or whole (address_before size first) x
+pub starts_there : (size first : ℕ) → first < size → (whole : List CellBelief) → length whole ≡ size → (x : CellBelief) → x ≡ get_or whole (address_before size first) x
     → is_attribute x ≡ list_any (λ c. starts_at size c first) (beliefs_held whole 0 whole)
 starts_there size first low whole even (Attr a m t) is = sym (starts_found size first low whole even a m t is)
 starts_there size first low whole even (Known c) is = sym (starts_missed size first low whole even (Known c) refl is)
@@ -189,17 +189,17 @@ starts_there size first low whole even Unknown is = sym (starts_missed size firs
 -- ---- what is known of the cells
 
 -- the places from the first attribute on, and before it
-abbrev from_attribute : List Place → List Place
+abbrev from_attribute : List CellBelief → List CellBelief
 from_attribute [] = []
 from_attribute (Attr a m t ∷ places) = Attr a m t ∷ places
 from_attribute (Known c ∷ places) = from_attribute places
 from_attribute (Told c ∷ places) = from_attribute places
 from_attribute (Unknown ∷ places) = from_attribute places
 
-abbrev front_known : List Place → List KnownCell
+abbrev front_known : List CellBelief → List KnownCell
 front_known places = map old_char (chars_known places)
 
-parted : (places : List Place) → front_known places ++ cells_known (from_attribute places) ≡ cells_known places
+parted : (places : List CellBelief) → front_known places ++ cells_known (from_attribute places) ≡ cells_known places
 parted [] = refl
 parted (Attr a m t ∷ places) = refl
 parted (Known c ∷ places) = ap (λ ks. old_char (Some c) ∷ ks) (parted places)
@@ -207,7 +207,7 @@ parted (Told c ∷ places) = ap (λ ks. old_char None ∷ ks) (parted places)
 parted (Unknown ∷ places) = ap (λ ks. old_char None ∷ ks) (parted places)
 
 -- the last field goes on at address 0
-ring_last : (rest more : List Place) → has_attribute rest ≡ false → front_known (rest ++ more) ≡ cells_known rest ++ front_known more
+ring_last : (rest more : List CellBelief) → has_attribute rest ≡ false → front_known (rest ++ more) ≡ cells_known rest ++ front_known more
 ring_last [] more e = refl
 ring_last (Attr a m t ∷ rest) more e = absurd (cc)
 ring_last (Known c ∷ rest) more e = ap (λ ks. old_char (Some c) ∷ ks) (ring_last rest more e)
@@ -215,21 +215,21 @@ ring_last (Told c ∷ rest) more e = ap (λ ks. old_char None ∷ ks) (ring_last
 ring_last (Unknown ∷ rest) more e = ap (λ ks. old_char None ∷ ks) (ring_last rest more e)
 
 -- any other ends at the next attribute
-ring_inner : (rest more : List Place) → has_attribute rest ≡ true → front_known (rest ++ more) ++ cells_known (from_attribute rest) ≡ cells_known rest
+ring_inner : (rest more : List CellBelief) → has_attribute rest ≡ true → front_known (rest ++ more) ++ cells_known (from_attribute rest) ≡ cells_known rest
 ring_inner [] more e = absurd (cc)
 ring_inner (Attr a m t ∷ rest) more e = refl
 ring_inner (Known c ∷ rest) more e = ap (λ ks. old_char (Some c) ∷ ks) (ring_inner rest more e)
 ring_inner (Told c ∷ rest) more e = ap (λ ks. old_char None ∷ ks) (ring_inner rest more e)
 ring_inner (Unknown ∷ rest) more e = ap (λ ks. old_char None ∷ ks) (ring_inner rest more e)
 
-pub no_beliefs : (whole : List Place) (n : ℕ) (rest : List Place) → has_attribute rest ≡ false → beliefs_held whole n rest ≡ []
+pub no_beliefs : (whole : List CellBelief) (n : ℕ) (rest : List CellBelief) → has_attribute rest ≡ false → beliefs_held whole n rest ≡ []
 no_beliefs whole n [] e = refl
 no_beliefs whole n (Attr a m t ∷ rest) e = absurd (cc)
 no_beliefs whole n (Known c ∷ rest) e = no_beliefs whole (n + 1) rest e
 no_beliefs whole n (Told c ∷ rest) e = no_beliefs whole (n + 1) rest e
 no_beliefs whole n (Unknown ∷ rest) e = no_beliefs whole (n + 1) rest e
 
-fields_known : (whole : List Place) (n : ℕ) (rest : List Place) → AreHeld whole rest → has_attribute rest ≡ true → flat_map field_cells (beliefs_held whole n rest) ≡ cells_known (from_attribute rest) ++ front_known whole
+fields_known : (whole : List CellBelief) (n : ℕ) (rest : List CellBelief) → AreHeld whole rest → has_attribute rest ≡ true → flat_map field_cells (beliefs_held whole n rest) ≡ cells_known (from_attribute rest) ++ front_known whole
 fields_known whole n [] held e = absurd (cc)
 fields_known whole n (Known c ∷ rest) held e = fields_known whole (n + 1) rest held e
 fields_known whole n (Told c ∷ rest) held e = fields_known whole (n + 1) rest held e
@@ -248,18 +248,18 @@ fields_known whole n (Attr a m t ∷ rest) held e =
         ap (λ bs. front_known (rest ++ whole) ++ flat_map field_cells bs) (no_beliefs whole (n + 1) rest is)
         ∙ append-nil (front_known (rest ++ whole)) ∙ ring_last rest whole is
 
-first_at : (whole : List Place) (n : ℕ) (rest : List Place) → has_attribute rest ≡ true → first_place (beliefs_held whole n rest) ≡ n + length (chars_known rest)
+first_at : (whole : List CellBelief) (n : ℕ) (rest : List CellBelief) → has_attribute rest ≡ true → first_place (beliefs_held whole n rest) ≡ n + length (chars_known rest)
 first_at whole n [] e = absurd (cc)
 first_at whole n (Attr a m t ∷ rest) e = omega arith
 first_at whole n (Known c ∷ rest) e = let later = first_at whole (n + 1) rest e in omega arith
 first_at whole n (Told c ∷ rest) e = let later = first_at whole (n + 1) rest e in omega arith
 first_at whole n (Unknown ∷ rest) e = let later = first_at whole (n + 1) rest e in omega arith
 
-pub length-cells : (places : List Place) → length (cells_known places) ≡ length places
+pub length-cells : (places : List CellBelief) → length (cells_known places) ≡ length places
 length-cells [] = refl
 length-cells (p ∷ places) = ap suc (length-cells places)
 
-pub cells_laid : (size : ℕ) (places : List Place) → length places ≡ size → IsHeld places → has_attribute places ≡ true → laid_out size (beliefs_held places 0 places) ≡ cells_known places
+pub cells_laid : (size : ℕ) (places : List CellBelief) → length places ≡ size → IsHeld places → has_attribute places ≡ true → laid_out size (beliefs_held places 0 places) ≡ cells_known places
 cells_laid size places even held e =
     let front = front_known places in
     let back = cells_known (from_attribute places) in
@@ -272,7 +272,7 @@ cells_laid size places even held e =
     ∙ ap (λ ks. front ++ ks) (take_at back front n tail)
     ∙ parted places
 
-pub bare_known : (places : List Place) → has_attribute places ≡ false → front_known places ≡ cells_known places
+pub bare_known : (places : List CellBelief) → has_attribute places ≡ false → front_known places ≡ cells_known places
 bare_known [] e = refl
 bare_known (Attr a m t ∷ places) e = absurd (cc)
 bare_known (Known c ∷ places) e = ap (λ ks. old_char (Some c) ∷ ks) (bare_known places e)
@@ -281,43 +281,43 @@ bare_known (Unknown ∷ places) e = ap (λ ks. old_char None ∷ ks) (bare_known
 
 -- ---- which belief is held
 
-some_beliefs : (whole : List Place) (n : ℕ) (rest : List Place) → has_attribute rest ≡ true → (b : Belief) × (bs : List Belief) × (beliefs_held whole n rest ≡ b ∷ bs)
+some_beliefs : (whole : List CellBelief) (n : ℕ) (rest : List CellBelief) → has_attribute rest ≡ true → (b : Belief) × (bs : List Belief) × (beliefs_held whole n rest ≡ b ∷ bs)
 some_beliefs whole n [] e = absurd (cc)
 some_beliefs whole n (Attr a m t ∷ rest) e = (belief_held n a m t (rest ++ whole), beliefs_held whole (n + 1) rest, refl)
 some_beliefs whole n (Known c ∷ rest) e = some_beliefs whole (n + 1) rest e
 some_beliefs whole n (Told c ∷ rest) e = some_beliefs whole (n + 1) rest e
 some_beliefs whole n (Unknown ∷ rest) e = some_beliefs whole (n + 1) rest e
 
-pub formatted_held : (places : List Place) → has_attribute places ≡ true → shadow_held true places ≡ Shadow.Formatted (beliefs_held places 0 places)
+pub formatted_held : (places : List CellBelief) → has_attribute places ≡ true → shadow_held true places ≡ Shadow.Formatted (beliefs_held places 0 places)
 formatted_held places e =
     let some = some_beliefs places 0 places e in
     ap (λ bs. formatted_as bs (chars_known places)) some.2 ∙ ap Shadow.Formatted (sym some.2)
 
-pub unformatted_held : (places : List Place) → has_attribute places ≡ false → shadow_held true places ≡ Shadow.Unformatted (chars_known places)
+pub unformatted_held : (places : List CellBelief) → has_attribute places ≡ false → shadow_held true places ≡ Shadow.Unformatted (chars_known places)
 unformatted_held places e = ap (λ bs. formatted_as bs (chars_known places)) (no_beliefs places 0 places e)
 
-pub fields_held : (places : List Place) → fields_of (shadow_held true places) ≡ beliefs_held places 0 places
+pub fields_held : (places : List CellBelief) → fields_of (shadow_held true places) ≡ beliefs_held places 0 places
 fields_held places = cases (has_attribute places) refl
   where
     cases : (t : Bool) → has_attribute places ≡ t → fields_of (shadow_held true places) ≡ beliefs_held places 0 places
     cases true e = ap fields_of (formatted_held places e)
     cases false e = ap fields_of (unformatted_held places e) ∙ sym (no_beliefs places 0 places e)
 
-pub has_held : (places : List Place) → has_fields (shadow_held true places) ≡ has_attribute places
+pub has_held : (places : List CellBelief) → has_fields (shadow_held true places) ≡ has_attribute places
 has_held places = cases (has_attribute places) refl
   where
     cases : (t : Bool) → has_attribute places ≡ t → has_fields (shadow_held true places) ≡ t
     cases true e = ap has_fields (formatted_held places e)
     cases false e = ap has_fields (unformatted_held places e)
 
-pub known_held : (size : ℕ) (places : List Place) → length places ≡ size → IsHeld places → known_cells size (shadow_held true places) ≡ cells_known places
+pub known_held : (size : ℕ) (places : List CellBelief) → length places ≡ size → IsHeld places → known_cells size (shadow_held true places) ≡ cells_known places
 known_held size places even held = cases (has_attribute places) refl
   where
     cases : (t : Bool) → has_attribute places ≡ t → known_cells size (shadow_held true places) ≡ cells_known places
     cases true e = ap (known_cells size) (formatted_held places e) ∙ cells_laid size places even held e
     cases false e = ap (known_cells size) (unformatted_held places e) ∙ bare_known places e
 
-pub taken_held : (size : ℕ) (wcc : Option Wcc) (orders : List Order) (places : List Place) → length places ≡ size → IsHeld places
+pub taken_held : (size : ℕ) (wcc : Option Wcc) (orders : List Order) (places : List CellBelief) → length places ≡ size → IsHeld places
     → taken_write size wcc orders (shadow_held true places) ≡ after_write size wcc orders (beliefs_held places 0 places) (cells_known places)
 taken_held size wcc orders places even held = cases (has_attribute places) refl
   where
@@ -330,30 +330,30 @@ taken_held size wcc orders places even held = cases (has_attribute places) refl
 
 -- ---- one cell
 
-cell_there : (places : List Place) (at : ℕ) (p : Place) → at < length places → p ≡ get_or places at p → slice_get (cells_known places) at ≡ Some (cell_known p false)
+cell_there : (places : List CellBelief) (at : ℕ) (p : CellBelief) → at < length places → p ≡ get_or places at p → slice_get (cells_known places) at ≡ Some (cell_known p false)
 cell_there [] at p within is = absurd (omega arith)
 cell_there (x ∷ places) zero p within is = ap (λ y. Some (cell_known y false)) (sym is)
 cell_there (x ∷ places) (suc at) p within is = cell_there places at p (omega arith) is
 
-pub known_there : (size : ℕ) (places : List Place) (at : ℕ) (p : Place) → length places ≡ size → IsHeld places → at < length places → p ≡ get_or places at p → known_at size (shadow_held true places) at ≡ known_cell (cell_known p false)
+pub known_there : (size : ℕ) (places : List CellBelief) (at : ℕ) (p : CellBelief) → length places ≡ size → IsHeld places → at < length places → p ≡ get_or places at p → known_at size (shadow_held true places) at ≡ known_cell (cell_known p false)
 known_there size places at p even held within is =
     ap (λ ks. option_and_then known_cell (slice_get ks at)) (known_held size places even held) ∙ ap (option_and_then known_cell) (cell_there places at p within is)
 
-cell_or : (places : List Place) (at : ℕ) (p : Place) (d : KnownCell) → at < length places → p ≡ get_or places at p → get_or (cells_known places) at d ≡ cell_known p false
+cell_or : (places : List CellBelief) (at : ℕ) (p : CellBelief) (d : KnownCell) → at < length places → p ≡ get_or places at p → get_or (cells_known places) at d ≡ cell_known p false
 cell_or [] at p d within is = absurd (omega arith)
 cell_or (x ∷ places) zero p d within is = ap (λ y. cell_known y false) (sym is)
 cell_or (x ∷ places) (suc at) p d within is = cell_or places at p d (omega arith) is
 
-off_or : (places : List Place) (at : ℕ) (p : Place) (d : KnownCell) → at < length places → p ≡ get_or places at p → get_or (map mark_off (cells_known places)) at d ≡ mark_off (cell_known p false)
+off_or : (places : List CellBelief) (at : ℕ) (p : CellBelief) (d : KnownCell) → at < length places → p ≡ get_or places at p → get_or (map mark_off (cells_known places)) at d ≡ mark_off (cell_known p false)
 off_or [] at p d within is = absurd (omega arith)
 off_or (x ∷ places) zero p d within is = ap (λ y. mark_off (cell_known y false)) (sym is)
 off_or (x ∷ places) (suc at) p d within is = off_or places at p d (omega arith) is
 
-pub known_reset : (resets : Bool) (places : List Place) (at : ℕ) (p : Place) (d : KnownCell) → at < length places → p ≡ get_or places at p → get_or (marks_off_if resets (cells_known places)) at d ≡ mark_off_if resets (cell_known p false)
+pub known_reset : (resets : Bool) (places : List CellBelief) (at : ℕ) (p : CellBelief) (d : KnownCell) → at < length places → p ≡ get_or places at p → get_or (marks_off_if resets (cells_known places)) at d ≡ mark_off_if resets (cell_known p false)
 known_reset true places at p d within is = off_or places at p d within is
 known_reset false places at p d within is = cell_or places at p d within is
 
-pub length_reset : (resets : Bool) (places : List Place) → length (marks_off_if resets (cells_known places)) ≡ length places
+pub length_reset : (resets : Bool) (places : List CellBelief) → length (marks_off_if resets (cells_known places)) ≡ length places
 length_reset true places = length-map (cells_known places) mark_off ∙ length-cells places
 length_reset false places = length-cells places
 
@@ -362,7 +362,7 @@ null_there zero at d within = absurd (omega arith)
 null_there (suc n) zero d within = refl
 null_there (suc n) (suc at) d within = null_there n at d (omega arith)
 
-pub base_known : (size : ℕ) (resets : Bool) (places : List Place) → length places ≡ size → IsHeld places
+pub base_known : (size : ℕ) (resets : Bool) (places : List CellBelief) → length places ≡ size → IsHeld places
     → known_before size resets (shadow_held true places) ≡ (if has_attribute places then marks_off_if resets (cells_known places) else known_nulls size)
 base_known size resets places even held = cases (has_attribute places) refl
   where

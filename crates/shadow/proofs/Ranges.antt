@@ -5,13 +5,13 @@ use Rattle.std.proofs.Math.ListN.{drop_of_length-le}
 use Rattle.std.proofs.lemmas.Bool.{cases_lt}
 use Rattle.std.proofs.lemmas.Bool.Decides.{nat_tests}
 use Rattle.std.proofs.lemmas.List.{get_or-drop, get_or-take, get_or-replicate, get_or_default, get_or_append_left, drop_more, take_at, drop_at, length-take-le, length-drop, length-replicate, take-append-drop}
-use Rattle.shadow.specs.declared.place.Place.{Place}
-use Rattle.shadow.specs.declared.place.Place.TheVariants.{Attr, Known, Told, Unknown}
-use Rattle.shadow.specs.declared.places.Head.{Head}
+use Rattle.shadow.specs.declared.cell_belief.CellBelief.{CellBelief}
+use Rattle.shadow.specs.declared.cell_belief.CellBelief.TheVariants.{Attr, Known, Told, Unknown}
+use Rattle.shadow.specs.declared.cell_beliefs.Head.{Head}
 use Rattle.shadow.specs.Filled.{Fill, filled, first_told, fill_next, fill_after, front_filled}
 use Rattle.shadow.specs.InPlace.{is_attribute, chars_known}
-use Rattle.datastream.specs.Rows.{has_bit, is_within, kept}
-use Rattle.shadow.specs.Rows.{no_head, is_known, place_kept, place_by, MarksKnown}
+use Rattle.datastream.specs.CellBits.{has_bit, is_within, kept}
+use Rattle.shadow.specs.PackedBeliefs.{no_head, is_known, place_kept, place_by, MarksKnown}
 use Rattle.datastream.proofs.Keeping.{kept_at, length_kept}
 use Rattle.shadow.proofs.Passing.{fills}
 use Rattle.shadow.proofs.Stretches.{attribute_bit, drop_drop}
@@ -19,33 +19,33 @@ use Rattle.shadow.proofs.Walks.{fill_here, fill_further, front_parts}
 
 -- ---- places kept by bytes, part by part
 
-kept_append : (f : ℕ → ℕ → Place) (at : ℕ) (xs ys : List ℕ) → kept f at (xs ++ ys) ≡ kept f at xs ++ kept f (at + length xs) ys
+kept_append : (f : ℕ → ℕ → CellBelief) (at : ℕ) (xs ys : List ℕ) → kept f at (xs ++ ys) ≡ kept f at xs ++ kept f (at + length xs) ys
 kept_append f at [] ys = let same : at ≡ at + 0 = omega arith in ap (λ (n : ℕ). kept f n ys) same
 kept_append f at (x ∷ xs) ys =
     let further : at + 1 + length xs ≡ at + suc (length xs) = omega arith in
-    ap (λ (ps : List Place). f at x ∷ ps) (kept_append f (at + 1) xs ys ∙ ap (λ (n : ℕ). kept f (at + 1) xs ++ kept f n ys) further)
+    ap (λ (ps : List CellBelief). f at x ∷ ps) (kept_append f (at + 1) xs ys ∙ ap (λ (n : ℕ). kept f (at + 1) xs ++ kept f n ys) further)
 
-kept_within : (f g : ℕ → ℕ → Place) (at : ℕ) (bytes : List ℕ) → ((j byte : ℕ) → at ≤ j → j < at + length bytes → g j byte ≡ f j byte) → kept g at bytes ≡ kept f at bytes
+kept_within : (f g : ℕ → ℕ → CellBelief) (at : ℕ) (bytes : List ℕ) → ((j byte : ℕ) → at ≤ j → j < at + length bytes → g j byte ≡ f j byte) → kept g at bytes ≡ kept f at bytes
 kept_within f g at [] same = refl
 kept_within f g at (b ∷ bytes) same =
-    ap (λ (p : Place). p ∷ kept g (at + 1) bytes) (same at b (omega arith) (omega arith))
-    ∙ ap (λ (ps : List Place). f at b ∷ ps) (kept_within f g (at + 1) bytes (λ j byte later before. same j byte (omega arith) (omega arith)))
+    ap (λ (p : CellBelief). p ∷ kept g (at + 1) bytes) (same at b (omega arith) (omega arith))
+    ∙ ap (λ (ps : List CellBelief). f at b ∷ ps) (kept_within f g (at + 1) bytes (λ j byte later before. same j byte (omega arith) (omega arith)))
 
 -- each place is what fills it
-abbrev Fills : (ℕ → ℕ → Place) → Fill → ℕ → List ℕ → List Place → Type 0
+abbrev Fills : (ℕ → ℕ → CellBelief) → Fill → ℕ → List ℕ → List CellBelief → Type 0
 Fills f g at mid ps = (j : ℕ) → j < length mid → f (at + j) (get_or mid j 0) ≡ filled (fill_after j g) (get_or ps j Unknown)
 
-fills_later : (f : ℕ → ℕ → Place) (g : Fill) (at b : ℕ) (mid : List ℕ) (p : Place) (ps : List Place) → Fills f g at (b ∷ mid) (p ∷ ps) → Fills f (fill_next g) (at + 1) mid ps
+fills_later : (f : ℕ → ℕ → CellBelief) (g : Fill) (at b : ℕ) (mid : List ℕ) (p : CellBelief) (ps : List CellBelief) → Fills f g at (b ∷ mid) (p ∷ ps) → Fills f (fill_next g) (at + 1) mid ps
 fills_later f g at b mid p ps is = λ j low.
     let further : at + 1 + j ≡ at + suc j = omega arith in
     ap (λ (n : ℕ). f n (get_or mid j 0)) further ∙ is (suc j) (omega arith) ∙ ap (λ (h : Fill). filled h (get_or ps j Unknown)) (sym (fill_further j g))
 
-fills_here : (f : ℕ → ℕ → Place) (g : Fill) (at b : ℕ) (mid : List ℕ) (p : Place) (ps : List Place) → Fills f g at (b ∷ mid) (p ∷ ps) → kept f (at + 1) mid ≡ fills (fill_next g) ps → f at b ∷ kept f (at + 1) mid ≡ filled g p ∷ fills (fill_next g) ps
+fills_here : (f : ℕ → ℕ → CellBelief) (g : Fill) (at b : ℕ) (mid : List ℕ) (p : CellBelief) (ps : List CellBelief) → Fills f g at (b ∷ mid) (p ∷ ps) → kept f (at + 1) mid ≡ fills (fill_next g) ps → f at b ∷ kept f (at + 1) mid ≡ filled g p ∷ fills (fill_next g) ps
 fills_here f g at b mid p ps is more =
     let same : at ≡ at + 0 = omega arith in
-    ap (λ (q : Place). q ∷ kept f (at + 1) mid) (ap (λ (n : ℕ). f n b) same ∙ is 0 (omega arith) ∙ ap (λ (h : Fill). filled h p) (sym (fill_here g))) ∙ ap (λ (qs : List Place). filled g p ∷ qs) more
+    ap (λ (q : CellBelief). q ∷ kept f (at + 1) mid) (ap (λ (n : ℕ). f n b) same ∙ is 0 (omega arith) ∙ ap (λ (h : Fill). filled h p) (sym (fill_here g))) ∙ ap (λ (qs : List CellBelief). filled g p ∷ qs) more
 
-kept_fills : (f : ℕ → ℕ → Place) (g : Fill) (at : ℕ) (mid : List ℕ) (ps : List Place) → length mid ≡ length (chars_known ps) → Fills f g at mid ps → kept f at mid ≡ fills g ps
+kept_fills : (f : ℕ → ℕ → CellBelief) (g : Fill) (at : ℕ) (mid : List ℕ) (ps : List CellBelief) → length mid ≡ length (chars_known ps) → Fills f g at mid ps → kept f at mid ≡ fills g ps
 kept_fills f g at [] [] even is = refl
 kept_fills f g at (b ∷ mid) [] even is = absurd (omega arith)
 kept_fills f g at [] (Attr a m t ∷ ps) even is = refl
@@ -57,7 +57,7 @@ kept_fills f g at (b ∷ mid) (Told c ∷ ps) even is = fills_here f g at b mid 
 kept_fills f g at [] (Unknown ∷ ps) even is = absurd (omega arith)
 kept_fills f g at (b ∷ mid) (Unknown ∷ ps) even is = fills_here f g at b mid Unknown ps is (kept_fills f (fill_next g) (at + 1) mid ps (omega arith) (fills_later f g at b mid Unknown ps is))
 
-char_inside : (ps : List Place) (j : ℕ) → j < length (chars_known ps) → is_attribute (get_or ps j Unknown) ≡ false
+char_inside : (ps : List CellBelief) (j : ℕ) → j < length (chars_known ps) → is_attribute (get_or ps j Unknown) ≡ false
 char_inside [] j low = refl
 char_inside (Attr a m t ∷ ps) j low = absurd (omega arith)
 char_inside (Known c ∷ ps) zero low = refl
@@ -75,13 +75,13 @@ known_kept h false false false byte = refl
 
 -- ---- a field's characters are kept anew
 
-module _ (heads : List Head) (attributes known told bytes : List ℕ) (now : List Place) (view : kept (place_by heads attributes known told) 0 bytes ≡ now) (from k : ℕ)
+module _ (heads : List Head) (attributes known told bytes : List ℕ) (now : List CellBelief) (view : kept (place_by heads attributes known told) 0 bytes ≡ now) (from k : ℕ)
     (count : k ≡ length (chars_known (drop from now))) (few : from + k ≤ length bytes) (known_ told_ mid bytes_ : List ℕ) (long : length mid ≡ k) (is_bytes : bytes_ ≡ take from bytes ++ (mid ++ drop (from + k) bytes))
     (known_apart : (j : ℕ) → (from ≤ j → j < from + k → ⊥) → has_bit known_ j ≡ has_bit known j) (told_apart : (j : ℕ) → (from ≤ j → j < from + k → ⊥) → has_bit told_ j ≡ has_bit told j) where
-  abbrev before : ℕ → ℕ → Place
+  abbrev before : ℕ → ℕ → CellBelief
   before = place_by heads attributes known told
 
-  abbrev after : ℕ → ℕ → Place
+  abbrev after : ℕ → ℕ → CellBelief
   after = place_by heads attributes known_ told_
 
   plain : (j : ℕ) → j < k → has_bit attributes (from + j) ≡ false
@@ -117,15 +117,15 @@ module _ (heads : List Head) (attributes known told bytes : List ℕ) (now : Lis
       ap (kept after 0) is_bytes
       ∙ kept_append after 0 (take from bytes) (mid ++ rest)
       ∙ ap (λ (n : ℕ). kept after 0 (take from bytes) ++ kept after n (mid ++ rest)) start
-      ∙ ap (λ (qs : List Place). kept after 0 (take from bytes) ++ qs) (kept_append after from mid rest ∙ ap (λ (n : ℕ). kept after from mid ++ kept after n rest) behind)
-      ∙ ap (λ (qs : List Place). qs ++ (kept after from mid ++ kept after (from + k) rest))
+      ∙ ap (λ (qs : List CellBelief). kept after 0 (take from bytes) ++ qs) (kept_append after from mid rest ∙ ap (λ (n : ℕ). kept after from mid ++ kept after n rest) behind)
+      ∙ ap (λ (qs : List CellBelief). qs ++ (kept after from mid ++ kept after (from + k) rest))
       (kept_within before after 0 (take from bytes) (λ j byte later earlier. apart j byte (λ above below. omega arith)) ∙ sym (taken from (omega arith)))
-      ∙ ap (λ (qs : List Place). take from now ++ (qs ++ kept after (from + k) rest))
+      ∙ ap (λ (qs : List CellBelief). take from now ++ (qs ++ kept after (from + k) rest))
       (kept_fills after g from mid (drop from now) (long ∙ count)
       (λ j low. ap (λ (a : Bool). place_kept (get_or heads (from + j) no_head) a (has_bit known_ (from + j)) (has_bit told_ (from + j)) (get_or mid j 0)) (plain j (omega arith)) ∙ inside j (omega arith) (get_or heads (from + j) no_head)))
-      ∙ ap (λ (qs : List Place). take from now ++ (fills g (drop from now) ++ qs))
+      ∙ ap (λ (qs : List CellBelief). take from now ++ (fills g (drop from now) ++ qs))
       (kept_within before after (from + k) rest (λ j byte later earlier. apart j byte (λ above below. omega arith)) ∙ sym (dropped (from + k) few) ∙ sym (drop_drop from k now) ∙ ap (λ (n : ℕ). drop n (drop from now)) count)
-      ∙ ap (λ (qs : List Place). take from now ++ qs) (sym (front_parts g (drop from now)))
+      ∙ ap (λ (qs : List CellBelief). take from now ++ qs) (sym (front_parts g (drop from now)))
 
   pub range_size : length bytes_ ≡ length bytes
   range_size =
@@ -198,7 +198,7 @@ bytes_stay bytes from k =
 
 -- ---- what a call makes of a field's characters
 
-module _ (heads : List Head) (attributes known told bytes : List ℕ) (now : List Place) (view : kept (place_by heads attributes known told) 0 bytes ≡ now) (from to : ℕ)
+module _ (heads : List Head) (attributes known told bytes : List ℕ) (now : List CellBelief) (view : kept (place_by heads attributes known told) 0 bytes ≡ now) (from to : ℕ)
     (chars : to ≡ from + length (chars_known (drop from now))) (few : to ≤ length bytes) (marked : MarksKnown known (kept (place_by heads attributes known told) 0 bytes)) (known_ : List ℕ) where
   -- what is kept now
   abbrev pub Keeps : List ℕ → List ℕ → Fill → Type 0

@@ -8,9 +8,9 @@ use Rattle.codes3270.specs.declared.attribute.Cell.TheVariants.{Char, Attr as At
 use Rattle.datastream.specs.Screen.{text_before_attribute}
 use Rattle.datastream.specs.Fields.{Field, fields, fields_from}
 use Rattle.datastream.specs.Held.{without_mdt}
-use Rattle.shadow.specs.declared.place.Telling.TheVariants.{Cells}
-use Rattle.shadow.specs.declared.place.Place.{Place}
-use Rattle.shadow.specs.declared.place.Place.TheVariants.{Attr, Known, Told, Unknown}
+use Rattle.shadow.specs.declared.cell_belief.TextKnowledge.TheVariants.{Cells}
+use Rattle.shadow.specs.declared.cell_belief.CellBelief.{CellBelief}
+use Rattle.shadow.specs.declared.cell_belief.CellBelief.TheVariants.{Attr, Known, Told, Unknown}
 use Rattle.shadow.specs.Belief.{Fact, Belief}
 use Rattle.shadow.specs.InPlace.{chars_known, fact_held, belief_held, beliefs_held, shadow_held, known_text, misses_here, other_here, AreHeld, IsHeld}
 use Rattle.shadow.specs.Seen.{differs, others, same_attr, mark_seen, belief_seen, seen}
@@ -25,7 +25,7 @@ abbrev pub NextIs : Option ℕ → List ℕ → List ℕ → Type 0
 NextIs None text rest = text ≡ []
 NextIs (Some char) text rest = text ≡ char ∷ rest
 
-pub differs_step : (p : Place) (ps : List Place) (char : Option ℕ) (text rest : List ℕ) → NextIs char text rest → misses_here p char ≡ true → differs (chars_known (p ∷ ps)) text ≡ true
+pub differs_step : (p : CellBelief) (ps : List CellBelief) (char : Option ℕ) (text rest : List ℕ) → NextIs char text rest → misses_here p char ≡ true → differs (chars_known (p ∷ ps)) text ≡ true
 differs_step (Attr a m t) ps None text rest is e = absurd (cc)
 differs_step (Attr a m t) ps (Some c) text rest is e = ap (differs []) is
 differs_step (Known k) ps None text rest is e = ap (differs (Some k ∷ chars_known ps)) is
@@ -36,13 +36,13 @@ differs_step Unknown ps None text rest is e = ap (differs (None ∷ chars_known 
 differs_step Unknown ps (Some c) text rest is e = absurd (cc)
 
 -- an attribute ends both; else both go on
-abbrev OrOn : Place → List Place → List ℕ → Bool
+abbrev OrOn : CellBelief → List CellBelief → List ℕ → Bool
 OrOn (Attr a m t) ps rest = false
 OrOn (Known k) ps rest = differs (chars_known ps) rest
 OrOn (Told k) ps rest = differs (chars_known ps) rest
 OrOn Unknown ps rest = differs (chars_known ps) rest
 
-pub differs_on : (p : Place) (ps : List Place) (char : Option ℕ) (text rest : List ℕ) → NextIs char text rest → misses_here p char ≡ false → differs (chars_known (p ∷ ps)) text ≡ OrOn p ps rest
+pub differs_on : (p : CellBelief) (ps : List CellBelief) (char : Option ℕ) (text rest : List ℕ) → NextIs char text rest → misses_here p char ≡ false → differs (chars_known (p ∷ ps)) text ≡ OrOn p ps rest
 differs_on (Attr a m t) ps None text rest is e = ap (differs []) is
 differs_on (Attr a m t) ps (Some c) text rest is e = absurd (cc)
 differs_on (Known k) ps None text rest is e = absurd (cc)
@@ -74,18 +74,18 @@ later_read b bs screen m [] later = refl
 later_read b bs screen m (Char c ∷ cells) later = later_read b bs screen (m + 1) cells (omega arith)
 later_read b bs screen m (AttrCell a ∷ cells) later = rw (ne_eqb m b.place (λ e. omega arith)) refl
 
-later_held : (f : Field) (fs : List Field) (whole : List Place) (m : ℕ) (ps : List Place) → f.place < m → others (beliefs_held whole m ps) (f ∷ fs) ≡ true
+later_held : (f : Field) (fs : List Field) (whole : List CellBelief) (m : ℕ) (ps : List CellBelief) → f.place < m → others (beliefs_held whole m ps) (f ∷ fs) ≡ true
 later_held f fs whole m [] later = refl
 later_held f fs whole m (Attr a k t ∷ ps) later = rw (ne_eqb f.place m (λ e. omega arith)) refl
 later_held f fs whole m (Known c ∷ ps) later = later_held f fs whole (m + 1) ps (omega arith)
 later_held f fs whole m (Told c ∷ ps) later = later_held f fs whole (m + 1) ps (omega arith)
 later_held f fs whole m (Unknown ∷ ps) later = later_held f fs whole (m + 1) ps (omega arith)
 
-abbrev OtherOn : List Place → List Cell → ℕ → Place → List Place → Cell → List Cell → Bool
+abbrev OtherOn : List CellBelief → List Cell → ℕ → CellBelief → List CellBelief → Cell → List Cell → Bool
 OtherOn whole screen n p ps c cells =
     other_here p (place_stored c) (ps ++ whole) (places_stored cells ++ places_stored screen) || others (beliefs_held whole (n + 1) ps) (fields_from screen (n + 1) cells)
 
-other_on : (whole : List Place) (screen : List Cell) (n : ℕ) (p : Place) (ps : List Place) (c : Cell) (cells : List Cell) → AreHeld whole (p ∷ ps)
+other_on : (whole : List CellBelief) (screen : List Cell) (n : ℕ) (p : CellBelief) (ps : List CellBelief) (c : Cell) (cells : List Cell) → AreHeld whole (p ∷ ps)
     → others (beliefs_held whole n (p ∷ ps)) (fields_from screen n (c ∷ cells)) ≡ OtherOn whole screen n p ps c cells
 other_on whole screen n (Attr a m t) ps (AttrCell b) cells held =
     rw (eq-eqb n n refl)
@@ -99,24 +99,24 @@ other_on whole screen n (Known k) ps (Char c) cells held = refl
 other_on whole screen n (Told k) ps (Char c) cells held = refl
 other_on whole screen n Unknown ps (Char c) cells held = refl
 
-held_rest : (whole : List Place) (p : Place) (ps : List Place) → AreHeld whole (p ∷ ps) → AreHeld whole ps
+held_rest : (whole : List CellBelief) (p : CellBelief) (ps : List CellBelief) → AreHeld whole (p ∷ ps) → AreHeld whole ps
 held_rest whole (Attr a m t) ps h = h.1
 held_rest whole (Known c) ps h = h
 held_rest whole (Told c) ps h = h
 held_rest whole Unknown ps h = h
 
-held_drop : (whole : List Place) (n : ℕ) (ps : List Place) → AreHeld whole ps → AreHeld whole (drop n ps)
+held_drop : (whole : List CellBelief) (n : ℕ) (ps : List CellBelief) → AreHeld whole ps → AreHeld whole (drop n ps)
 held_drop whole zero ps h = h
 held_drop whole (suc n) [] h = tt
 held_drop whole (suc n) (p ∷ ps) h = held_drop whole n ps (held_rest whole p ps h)
 
-pub other_step : (whole : List Place) (screen : List Cell) (n : ℕ) (cell : Cell) (rest : List Cell) → n < length whole → IsHeld whole
+pub other_step : (whole : List CellBelief) (screen : List Cell) (n : ℕ) (cell : Cell) (rest : List Cell) → n < length whole → IsHeld whole
     → others (beliefs_held whole n (drop n whole)) (fields_from screen n (cell ∷ rest))
     ≡ (other_here (get_or whole n Unknown) (place_stored cell) (drop (n + 1) whole ++ whole) (places_stored rest ++ places_stored screen)
     || others (beliefs_held whole (n + 1) (drop (n + 1) whole)) (fields_from screen (n + 1) rest))
 other_step whole screen n cell rest within held =
     let here : drop n whole ≡ get_or whole n Unknown ∷ drop (n + 1) whole = drop_more whole n Unknown within in
-    ap (λ (ps : List Place). others (beliefs_held whole n ps) (fields_from screen n (cell ∷ rest))) here
+    ap (λ (ps : List CellBelief). others (beliefs_held whole n ps) (fields_from screen n (cell ∷ rest))) here
     ∙ other_on whole screen n (get_or whole n Unknown) (drop (n + 1) whole) cell rest (subst (AreHeld whole) here (held_drop whole n whole held))
 
 -- ---- a screen that was read is known
@@ -128,7 +128,7 @@ chars_read [] (AttrCell a ∷ more) = refl
 chars_read (Char c ∷ cells) more = ap (λ (ks : List (Option ℕ)). Some c ∷ ks) (chars_read cells more)
 chars_read (AttrCell a ∷ cells) more = refl
 
-field_read : (n : ℕ) (a : Attribute) (text : List ℕ) (ahead : List Place) → chars_known ahead ≡ map Some text
+field_read : (n : ℕ) (a : Attribute) (text : List ℕ) (ahead : List CellBelief) → chars_known ahead ≡ map Some text
     → belief_held n (without_mdt a) (mark_seen a.mdt) Cells ahead ≡ belief_seen (record { place = n; attr = a; text = text })
 field_read n a text ahead is =
     let fact : fact_held Cells ahead ≡ Fact.Exact text = ap fact_known is ∙ ap (λ (o : Option (List ℕ)). exact_or_any o (map Some text)) (whole_fresh text) in
@@ -144,7 +144,7 @@ fields_read whole n (AttrCell a ∷ rest) =
 pub read_seen : (cells : List Cell) → shadow_held true (places_stored cells) ≡ seen cells
 read_seen cells = both (beliefs_held (places_stored cells) 0 (places_stored cells)) (fields cells) (chars_known (places_stored cells)) (text_before_attribute cells) (fields_read cells 0 cells) (chars_read [] cells)
 
-are_read : (whole : List Place) (cells : List Cell) → AreHeld whole (places_stored cells)
+are_read : (whole : List CellBelief) (cells : List Cell) → AreHeld whole (places_stored cells)
 are_read whole [] = tt
 are_read whole (Char c ∷ cells) = are_read whole cells
 are_read whole (AttrCell a ∷ cells) = (says_known (chars_known (places_stored cells ++ whole)), are_read whole cells)
@@ -153,8 +153,8 @@ pub read_held : (cells : List Cell) → IsHeld (places_stored cells)
 read_held cells = are_read (places_stored cells) cells
 
 -- one more is read
-pub read_more : (places : List Place) (at : ℕ) (cell : Cell) (rest : List Cell) → at < length places
+pub read_more : (places : List CellBelief) (at : ℕ) (cell : Cell) (rest : List Cell) → at < length places
     → take at places ++ places_stored (cell ∷ rest) ≡ take (at + 1) (set places at (place_stored cell)) ++ places_stored rest
 read_more places at cell rest within =
     sym (append_assoc (take at places) (place_stored cell ∷ []) (places_stored rest))
-    ∙ ap (λ (front : List Place). front ++ places_stored rest) (sym (take_more_set places at (place_stored cell) within))
+    ∙ ap (λ (front : List CellBelief). front ++ places_stored rest) (sym (take_more_set places at (place_stored cell) within))

@@ -8,7 +8,7 @@ use Rattle.codes3270.specs.declared.attribute.Cell.TheVariants.{Char as CharCell
 use Rattle.codes3270.specs.Aid.{is_short_aid}
 use Rattle.datastream.specs.Screen.{Screen}
 use Rattle.datastream.specs.Held.{Held}
-use Rattle.datastream.specs.InboundFields.{Returned, lead, returned, cells_sent, field_parts, parts_of_fields, parts_of_cells, lead_of, returned_of}
+use Rattle.datastream.specs.InboundFields.{Returned, leading_text, returned, cells_sent, field_parts, parts_of_fields, parts_of_cells, lead_of, returned_of}
 use Rattle.datastream.specs.InboundText.{stands_alone}
 use Rattle.datastream.specs.declared.inbound_part.Form.TheVariants.{Modified}
 use Rattle.datastream.specs.declared.inbound_part.Part.{Part}
@@ -23,11 +23,11 @@ use Rattle.shadow.proofs.HeardMeets.{heard_meets}
 use Rattle.shadow.proofs.HeardOthers.{attention_meets, attention_lists, cleared_meets, seen_meets, seen_lists, seen_told, not_denied}
 
 -- fields come back from their parts
-lead_fields : (fields : List Returned) → lead (flat_map field_parts fields) ≡ []
+lead_fields : (fields : List Returned) → leading_text (flat_map field_parts fields) ≡ []
 lead_fields [] = refl
 lead_fields (field ∷ fields) = refl
 
-lead_back : (chars : List ℕ) (fields : List Returned) → lead (parts_of_fields chars fields) ≡ chars
+lead_back : (chars : List ℕ) (fields : List Returned) → leading_text (parts_of_fields chars fields) ≡ chars
 lead_back [] fields = lead_fields fields
 lead_back (char ∷ chars) fields = ap (λ cs. char ∷ cs) (lead_back chars fields)
 
@@ -35,7 +35,7 @@ returned_past : (chars : List ℕ) (parts : List Part) → returned (map Char ch
 returned_past [] parts = refl
 returned_past (char ∷ chars) parts = returned_past chars parts
 
-lead_text : (text : List ℕ) (fields : List Returned) → lead (map Char text ++ flat_map field_parts fields) ≡ text
+lead_text : (text : List ℕ) (fields : List Returned) → leading_text (map Char text ++ flat_map field_parts fields) ≡ text
 lead_text [] fields = lead_fields fields
 lead_text (char ∷ chars) fields = ap (λ cs. char ∷ cs) (lead_text chars fields)
 

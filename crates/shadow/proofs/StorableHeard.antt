@@ -12,7 +12,7 @@ use Rattle.codes3270.specs.Aid.{is_short_aid}
 use Rattle.codes3270.specs.Storable.{is_storable}
 use Rattle.datastream.specs.Fields.{Field, fields, fields_from}
 use Rattle.datastream.specs.Inbound.{without_nulls}
-use Rattle.datastream.specs.InboundFields.{Returned, IsProperReturned, IsStorableCell, lead, returned, cells_sent}
+use Rattle.datastream.specs.InboundFields.{Returned, IsProperReturned, IsStorableCell, leading_text, returned, cells_sent}
 use Rattle.datastream.specs.InboundText.{InboundParts, IsProperPart}
 use Rattle.datastream.specs.Screen.{text_before_attribute}
 use Rattle.datastream.specs.declared.inbound_part.Form.{Form}
@@ -21,7 +21,7 @@ use Rattle.datastream.proofs.InboundData.{inbound_proper}
 use Rattle.datastream.proofs.InboundSlices.{cells_proper}
 use Rattle.datastream.proofs.InboundViews.{any_returned_proper}
 use Rattle.shadow.specs.declared.fault.HeardFault.TheVariants.{NoSuchField, Contradiction}
-use Rattle.shadow.specs.declared.mark.Mark.TheVariants.{Unknown}
+use Rattle.shadow.specs.declared.mdt_state.MdtState.TheVariants.{Unknown}
 use Rattle.shadow.specs.Asked.{belief_with}
 use Rattle.shadow.specs.Belief.{Fact, Belief, Shadow, nulls}
 use Rattle.shadow.specs.Heard.{Answer, starts_at, is_nowhere, answer_and, answers, contradicts, was_erased, text_fact, or_nulls, unprotected_fact, after_long, settled, heard_long, unknown_fact, after_attention, heard_attention, heard_short, heard_parts, heard}
@@ -174,7 +174,7 @@ parts_heard : (size : ℕ) (shadow : Shadow) (inbound : InboundParts) → CanBeS
 parts_heard size shadow inbound h proper = cases inbound.form proper
   where
     long : (form : Form) → All (IsProperPart form) inbound.parts → IfOk (heard_parts size shadow inbound.parts) CanBeStored
-    long form proper = fields_heard size shadow (lead inbound.parts) (returned inbound.parts) h (any_returned_proper form inbound.parts proper)
+    long form proper = fields_heard size shadow (leading_text inbound.parts) (returned inbound.parts) h (any_returned_proper form inbound.parts proper)
 
     short : (t : Bool) → All (IsProperPart Modified) inbound.parts → IfOk (if t then Ok (heard_short size inbound.aid shadow) else heard_parts size shadow inbound.parts) CanBeStored
     short true proper = short_heard size inbound.aid shadow h

@@ -9,7 +9,7 @@ use Rattle.datastream.specs.Fields.{Field, fields}
 use Rattle.datastream.specs.InboundFields.{Returned}
 use Rattle.datastream.specs.declared.command_code.CommandCode.TheVariants.{Write, EraseWrite}
 use Rattle.shadow.specs.declared.fault.HeardFault.TheVariants.{Contradiction}
-use Rattle.shadow.specs.declared.place.Place.{Place}
+use Rattle.shadow.specs.declared.cell_belief.CellBelief.{CellBelief}
 use Rattle.shadow.specs.Belief.{Belief, Shadow}
 use Rattle.shadow.specs.Filled.{long_after}
 use Rattle.shadow.specs.Heard.{heard_long, heard_attention, after_attention}
@@ -19,7 +19,7 @@ use Rattle.shadow.specs.Seen.{others, is_formatted, denies_buffer}
 use Rattle.shadow.specs.Taken.{formatted_as, marks_off_if}
 use Rattle.shadow.proofs.Placed.{formatted_held, unformatted_held, no_beliefs, bare_known, base_known, has_held, length-cells}
 
-pub formatted_parts : (knows : Bool) (places : List Place) → has_fields (shadow_held knows places) ≡ true → (knows ≡ true) × (has_attribute places ≡ true)
+pub formatted_parts : (knows : Bool) (places : List CellBelief) → has_fields (shadow_held knows places) ≡ true → (knows ≡ true) × (has_attribute places ≡ true)
 formatted_parts false places e = absurd (cc)
 formatted_parts true places e = cases (has_attribute places) refl
   where
@@ -27,13 +27,13 @@ formatted_parts true places e = cases (has_attribute places) refl
     cases true is = (refl, is)
     cases false is = absurd (let bad : false ≡ true = sym (ap has_fields (unformatted_held places is)) ∙ e in cc)
 
-pub formatted_is : (knows : Bool) (places : List Place) → has_fields (shadow_held knows places) ≡ true → shadow_held knows places ≡ Shadow.Formatted (beliefs_held places 0 places)
+pub formatted_is : (knows : Bool) (places : List CellBelief) → has_fields (shadow_held knows places) ≡ true → shadow_held knows places ≡ Shadow.Formatted (beliefs_held places 0 places)
 formatted_is knows places e =
     let parts = formatted_parts knows places e in
     ap (λ (k : Bool). shadow_held k places) parts.0 ∙ formatted_held places parts.1
 
 -- a screen that is known, without fields
-pub bare_is : (places : List Place) → has_fields (shadow_held true places) ≡ false → (shadow_held true places ≡ Shadow.Unformatted (chars_known places)) × (length (chars_known places) ≡ length places)
+pub bare_is : (places : List CellBelief) → has_fields (shadow_held true places) ≡ false → (shadow_held true places ≡ Shadow.Unformatted (chars_known places)) × (length (chars_known places) ≡ length places)
 bare_is places e = cases (has_attribute places) refl
   where
     cases : (t : Bool) → has_attribute places ≡ t → (shadow_held true places ≡ Shadow.Unformatted (chars_known places)) × (length (chars_known places) ≡ length places)
@@ -43,12 +43,12 @@ bare_is places e = cases (has_attribute places) refl
       sym (length-map (chars_known places) _) ∙ ap length (bare_known places is) ∙ length-cells places,
     )
 
-some_belief : (places : List Place) → has_attribute places ≡ true → (bs : List Belief) → beliefs_held places 0 places ≡ bs → (b : Belief) × (more : List Belief) × (bs ≡ b ∷ more)
+some_belief : (places : List CellBelief) → has_attribute places ≡ true → (bs : List Belief) → beliefs_held places 0 places ≡ bs → (b : Belief) × (more : List Belief) × (bs ≡ b ∷ more)
 some_belief places e [] is = absurd (let bad : Shadow.Unformatted (chars_known places) ≡ Shadow.Formatted [] = sym (ap (λ bs. formatted_as bs (chars_known places)) is) ∙ formatted_held places e ∙ ap Shadow.Formatted is in cc)
 some_belief places e (b ∷ more) is = (b, more, refl)
 
 -- what long data leaves of a screen with fields has fields
-pub long_formatted : (places after : List Place) (erased : Bool) (came : List Returned) → has_attribute places ≡ true → beliefs_held after 0 after ≡ long_after erased (beliefs_held places 0 places) came
+pub long_formatted : (places after : List CellBelief) (erased : Bool) (came : List Returned) → has_attribute places ≡ true → beliefs_held after 0 after ≡ long_after erased (beliefs_held places 0 places) came
     → shadow_held true after ≡ Shadow.Formatted (long_after erased (beliefs_held places 0 places) came)
 long_formatted places after erased came e is =
     let some = some_belief places e (beliefs_held places 0 places) refl in
@@ -56,7 +56,7 @@ long_formatted places after erased came e is =
     ∙ ap (λ bs. formatted_as (long_after erased bs came) (chars_known after)) some.2
     ∙ ap (λ bs. Shadow.Formatted (long_after erased bs came)) (sym some.2)
 
-pub key_formatted : (places after : List Place) → has_attribute places ≡ true → beliefs_held after 0 after ≡ map after_attention (beliefs_held places 0 places)
+pub key_formatted : (places after : List CellBelief) → has_attribute places ≡ true → beliefs_held after 0 after ≡ map after_attention (beliefs_held places 0 places)
     → shadow_held true after ≡ Shadow.Formatted (map after_attention (beliefs_held places 0 places))
 key_formatted places after e is =
     let some = some_belief places e (beliefs_held places 0 places) refl in
@@ -74,7 +74,7 @@ others_none : (fs : List Field) → others [] fs ≡ is_formatted fs
 others_none [] = refl
 others_none (f ∷ fs) = refl
 
-pub denies_held : (places : List Place) (cells : List Cell) → denies_buffer (shadow_held true places) cells ≡ others (beliefs_held places 0 places) (fields cells)
+pub denies_held : (places : List CellBelief) (cells : List Cell) → denies_buffer (shadow_held true places) cells ≡ others (beliefs_held places 0 places) (fields cells)
 denies_held places cells = cases (has_attribute places) refl
   where
     cases : (t : Bool) → has_attribute places ≡ t → denies_buffer (shadow_held true places) cells ≡ others (beliefs_held places 0 places) (fields cells)
@@ -84,7 +84,7 @@ denies_held places cells = cases (has_attribute places) refl
 
 -- ---- what a paint finds
 
-pub base_is : (knows resets : Bool) (places : List Place) → length places ≡ cell_count → IsHeld places → (formatted : Bool) → formatted ≡ has_fields (shadow_held knows places)
+pub base_is : (knows resets : Bool) (places : List CellBelief) → length places ≡ cell_count → IsHeld places → (formatted : Bool) → formatted ≡ has_fields (shadow_held knows places)
     → (if formatted then marks_off_if resets (cells_known places) else known_nulls cell_count) ≡ known_before cell_count resets (shadow_held knows places)
 base_is false resets places even held formatted is = ap (λ t. if t then marks_off_if resets (cells_known places) else known_nulls cell_count) is
 base_is true resets places even held formatted is =
@@ -100,16 +100,16 @@ code_is shadow formatted is = ap (λ t. if t then Write else EraseWrite) is ∙ 
 
 -- ---- long data where there are no fields
 
-pub bare_refused : (places : List Place) (lead : List ℕ) → has_fields (shadow_held true places) ≡ false → length places < length lead → heard_long cell_count (shadow_held true places) lead [] ≡ Err Contradiction
-bare_refused places lead e longer =
+pub bare_refused : (places : List CellBelief) (leading_text : List ℕ) → has_fields (shadow_held true places) ≡ false → length places < length leading_text → heard_long cell_count (shadow_held true places) leading_text [] ≡ Err Contradiction
+bare_refused places leading_text e longer =
     let bare = bare_is places e in
-    let test : nat_lt (length (chars_known places)) (length lead) ≡ true = lt-ltb _ _ (omega (arith, bare.1)) in
-    ap (λ (s : Shadow). heard_long cell_count s lead []) bare.0 ∙ ap (λ (t : Bool). if t then Err Contradiction else Ok Shadow.NothingKnown) test
+    let test : nat_lt (length (chars_known places)) (length leading_text) ≡ true = lt-ltb _ _ (omega (arith, bare.1)) in
+    ap (λ (s : Shadow). heard_long cell_count s leading_text []) bare.0 ∙ ap (λ (t : Bool). if t then Err Contradiction else Ok Shadow.NothingKnown) test
 
-pub bare_forgotten : (knows : Bool) (places : List Place) (lead : List ℕ) → has_fields (shadow_held knows places) ≡ false → (knows ≡ true → length lead ≤ length places) → heard_long cell_count (shadow_held knows places) lead [] ≡ Ok Shadow.NothingKnown
-bare_forgotten false places lead e short = refl
-bare_forgotten true places lead e short =
+pub bare_forgotten : (knows : Bool) (places : List CellBelief) (leading_text : List ℕ) → has_fields (shadow_held knows places) ≡ false → (knows ≡ true → length leading_text ≤ length places) → heard_long cell_count (shadow_held knows places) leading_text [] ≡ Ok Shadow.NothingKnown
+bare_forgotten false places leading_text e short = refl
+bare_forgotten true places leading_text e short =
     let bare = bare_is places e in
     let few = short refl in
-    let test : nat_lt (length (chars_known places)) (length lead) ≡ false = le-ltb _ _ (omega (arith, bare.1)) in
-    ap (λ (s : Shadow). heard_long cell_count s lead []) bare.0 ∙ ap (λ (t : Bool). if t then Err Contradiction else Ok Shadow.NothingKnown) test
+    let test : nat_lt (length (chars_known places)) (length leading_text) ≡ false = le-ltb _ _ (omega (arith, bare.1)) in
+    ap (λ (s : Shadow). heard_long cell_count s leading_text []) bare.0 ∙ ap (λ (t : Bool). if t then Err Contradiction else Ok Shadow.NothingKnown) test

@@ -1,7 +1,7 @@
 -- What a host believes of a terminal's screen (our profile): nothing; the characters of an unformatted screen; or its fields.
 use Rattle.std.specs.Prelude.{◌+◌, ◌%◌, ℕ, List, [], Option, replicate}
 use Rattle.codes3270.specs.declared.attribute.Attr.{Attr as Attribute}
-use Rattle.shadow.specs.declared.mark.Mark.{Mark}
+use Rattle.shadow.specs.declared.mdt_state.MdtState.{MdtState}
 
 -- What is believed of a field's characters: they are a text; a text or all null; without nulls a text; without nulls a
 -- text or all null; or anything. `Any` has each character, where it is known.
@@ -17,11 +17,11 @@ pub data Fact : Type 0 where
 pub record Belief : Type 0 where
   pub place : ℕ
   pub attr : Attribute
-  pub mark : Mark
+  pub mark : MdtState
   pub length : ℕ
   pub fact : Fact
 
--- of an unformatted screen each character, where it is known; the fields stand in the order of their addresses
+-- of an unformatted screen each character, if it is known; the fields are in the order of their addresses
 pub data Shadow : Type 0 where
   NothingKnown : Shadow
   Unformatted : List (Option ℕ) → Shadow

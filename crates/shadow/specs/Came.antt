@@ -12,7 +12,7 @@ abbrev pub text_at : ℕ → List Returned → Option (List ℕ)
 text_at first [] = None
 text_at first (came ∷ more) = if first == came.first then Some came.text else None
 
--- those behind it
+-- those after it
 abbrev pub came_past : ℕ → List Returned → List Returned
 came_past first [] = []
 came_past first (came ∷ more) = if first == came.first then more else came ∷ more

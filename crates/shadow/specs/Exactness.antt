@@ -23,7 +23,7 @@ use Rattle.shadow.specs.Paint.{paint}
 abbrev pub IsExact : Fact → Type 0
 IsExact fact = (text : List ℕ) × (fact ≡ Fact.Exact text)
 
--- A fact of so many characters, each known or open: where all are known it is exactly that text.
+-- A fact of `count` characters, each known or open: if all are known, it is exactly that text.
 pub record IsExactWhereKnown (count : ℕ) (fact : Fact) : Type 0 where
   pub whole : length (known_chars count fact) ≡ count
   pub exact : (text : List ℕ) → known_chars count fact ≡ map Some text → fact ≡ Fact.Exact text
@@ -82,7 +82,7 @@ abbrev pub IsOverCharacter : List Cell → Store → Type 0
 IsOverCharacter cells store = (is_char store.cell ≡ true) × (is_char_at cells store.at ≡ true)
 
 -- A Write of characters alone, none of them over an attribute, leaves protected fields exact. (One that stores an attribute
--- need not: the field behind it may have characters that aren't known.)
+-- need not: the field after it may have characters that aren't known.)
 abbrev pub WrittenStaysProtected : Type 0
 WrittenStaysProtected = (command : CommandParts) (shadow : Shadow) (screen : Screen) → command.code ≡ Write → All (IsOverCharacter screen.cells) (stores (length screen.cells) 0 command.orders) → Meets shadow screen
     → KnownIsExact shadow → ProtectedIsExact shadow → ProtectedIsExact (taken (length screen.cells) command shadow)
@@ -104,7 +104,7 @@ abbrev pub ProtectedIsSeen : Type 0
 ProtectedIsSeen = (shadow : Shadow) (screen : Screen) → Meets shadow screen → ListsFields shadow screen → ProtectedIsExact shadow
     → EachField ProtectedSeen shadow screen
 
--- the text of a field with MDT on is told, also where it is protected
+-- the fact of a field with MDT on tells its text, also if it is protected
 abbrev pub ReturnedTold : Belief → Field → Type 0
 ReturnedTold belief field = field.attr.mdt ≡ true → told belief.fact ≡ Some (without_nulls field.text)
 

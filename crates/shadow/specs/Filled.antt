@@ -2,15 +2,15 @@
 use Rattle.std.specs.Prelude.{◌+◌, ◌&&◌, ◌||◌, not, ℕ, Bool, true, false, List, [], ◌∷◌, ◌++◌, length, drop, Option, Some, None, bytes_eq, if◌then◌else◌}
 use Rattle.codes3270.specs.Size.{cell_count}
 use Rattle.datastream.specs.InboundFields.{Returned}
-use Rattle.shadow.specs.declared.mark.Mark.{Mark}
-use Rattle.shadow.specs.declared.mark.Mark.TheVariants.{Off, Unknown as UnknownMark}
-use Rattle.shadow.specs.declared.place.Telling.{Telling}
-use Rattle.shadow.specs.declared.place.Telling.TheVariants.{Cells, ExactOrNulls, Text, TextOrNulls}
-use Rattle.shadow.specs.declared.place.Place.{Place}
-use Rattle.shadow.specs.declared.place.Place.TheVariants.{Attr, Known as KnownPlace, Told as ToldPlace, Unknown as UnknownPlace}
-use Rattle.shadow.specs.declared.filling.Filling.{Filling}
-use Rattle.shadow.specs.declared.filling.Filling.TheVariants.{Same as SameFilling, Unknown as UnknownFilling, Null as NullFilling, Text as TextFilling, Told as ToldFilling}
-use Rattle.shadow.specs.declared.filling.Change.{Change as ChangeLent}
+use Rattle.shadow.specs.declared.mdt_state.MdtState.{MdtState}
+use Rattle.shadow.specs.declared.mdt_state.MdtState.TheVariants.{Off, Unknown as UnknownMark}
+use Rattle.shadow.specs.declared.cell_belief.TextKnowledge.{TextKnowledge}
+use Rattle.shadow.specs.declared.cell_belief.TextKnowledge.TheVariants.{Cells, ExactOrNulls, Text, TextOrNulls}
+use Rattle.shadow.specs.declared.cell_belief.CellBelief.{CellBelief}
+use Rattle.shadow.specs.declared.cell_belief.CellBelief.TheVariants.{Attr, Known as KnownPlace, Told as ToldPlace, Unknown as UnknownPlace}
+use Rattle.shadow.specs.declared.field_update.FieldUpdate.{FieldUpdate}
+use Rattle.shadow.specs.declared.field_update.FieldUpdate.TheVariants.{Same as SameFilling, Unknown as UnknownFilling, Null as NullFilling, Text as TextFilling, Told as ToldFilling}
+use Rattle.shadow.specs.declared.field_update.Change.{Change as ChangeLent}
 use Rattle.shadow.specs.declared.hearing.Unreturned.{Unreturned}
 use Rattle.shadow.specs.declared.hearing.Unreturned.TheVariants.{Stays, IsTold, IsForgotten}
 use Rattle.shadow.specs.Belief.{Belief, nulls, next_address}
@@ -19,16 +19,16 @@ use Rattle.shadow.specs.Heard.{contradicts_text, lost_text, after_long, mark_of}
 use Rattle.shadow.specs.Held.{answer}
 use Rattle.shadow.specs.InPlace.{chars_known, belief_held, is_whole, known_text}
 
--- ---- what came for a place
+-- ---- what was returned for a place
 
-abbrev pub text_came : Place → ℕ → List Returned → Option (List ℕ)
-text_came (Attr attribute mark telling) place came = text_at (next_address cell_count place) came
+abbrev pub text_came : CellBelief → ℕ → List Returned → Option (List ℕ)
+text_came (Attr attribute mark knowledge) place came = text_at (next_address cell_count place) came
 text_came (KnownPlace char) place came = None
 text_came (ToldPlace char) place came = None
 text_came UnknownPlace place came = None
 
-abbrev pub came_behind : Place → ℕ → List Returned → List Returned
-came_behind (Attr attribute mark telling) place came = came_past (next_address cell_count place) came
+abbrev pub came_behind : CellBelief → ℕ → List Returned → List Returned
+came_behind (Attr attribute mark knowledge) place came = came_past (next_address cell_count place) came
 came_behind (KnownPlace char) place came = came
 came_behind (ToldPlace char) place came = came
 came_behind UnknownPlace place came = came
@@ -50,15 +50,15 @@ long_after erased [] came = []
 long_after erased (belief ∷ beliefs) came =
     after_long erased (answer belief (text_at (next_address cell_count belief.place) came)) ∷ long_after erased beliefs (came_past (next_address cell_count belief.place) came)
 
--- `ahead`: the places behind it
-abbrev pub contradicts_held : Place → ℕ → List Place → Option (List ℕ) → Bool
-contradicts_held (Attr attribute mark telling) place ahead text = contradicts_text (belief_held place attribute mark telling ahead) text
+-- `ahead`: the places after it
+abbrev pub contradicts_held : CellBelief → ℕ → List CellBelief → Option (List ℕ) → Bool
+contradicts_held (Attr attribute mark knowledge) place ahead text = contradicts_text (belief_held place attribute mark knowledge ahead) text
 contradicts_held (KnownPlace char) place ahead text = false
 contradicts_held (ToldPlace char) place ahead text = false
 contradicts_held UnknownPlace place ahead text = false
 
-abbrev pub lost_held : Place → ℕ → List Place → Option (List ℕ) → Bool
-lost_held (Attr attribute mark telling) place ahead text = lost_text (belief_held place attribute mark telling ahead) text
+abbrev pub lost_held : CellBelief → ℕ → List CellBelief → Option (List ℕ) → Bool
+lost_held (Attr attribute mark knowledge) place ahead text = lost_text (belief_held place attribute mark knowledge ahead) text
 lost_held (KnownPlace char) place ahead text = false
 lost_held (ToldPlace char) place ahead text = false
 lost_held UnknownPlace place ahead text = false
@@ -73,11 +73,11 @@ pub data Fill : Type 0 where
   Told : Fill
 
 pub record Change : Type 0 where
-  pub mark : Mark
-  pub telling : Telling
+  pub mark : MdtState
+  pub knowledge : TextKnowledge
   pub fill : Fill
 
-abbrev pub fill_of : Filling → Fill
+abbrev pub fill_of : FieldUpdate → Fill
 fill_of SameFilling = Fill.Same
 fill_of UnknownFilling = Fill.Unknown
 fill_of NullFilling = Fill.Null
@@ -85,20 +85,20 @@ fill_of (TextFilling text) = Fill.Chars text.now
 fill_of ToldFilling = Fill.Told
 
 abbrev pub change_of : ChangeLent → Change
-change_of change = record { mark = change.mark; telling = change.telling; fill = fill_of change.filling }
+change_of change = record { mark = change.mark; knowledge = change.knowledge; fill = fill_of change.update }
 
-abbrev pub first_told : List ℕ → Place
+abbrev pub first_told : List ℕ → CellBelief
 first_told [] = UnknownPlace
 first_told (char ∷ chars) = ToldPlace char
 
-abbrev pub place_told : Place → Place
-place_told (Attr attribute mark telling) = Attr attribute mark telling
+abbrev pub place_told : CellBelief → CellBelief
+place_told (Attr attribute mark knowledge) = Attr attribute mark knowledge
 place_told (KnownPlace char) = ToldPlace char
 place_told (ToldPlace char) = ToldPlace char
 place_told UnknownPlace = UnknownPlace
 
 -- a character's place
-abbrev pub filled : Fill → Place → Place
+abbrev pub filled : Fill → CellBelief → CellBelief
 filled Fill.Same place = place
 filled Fill.Unknown place = UnknownPlace
 filled Fill.Null place = KnownPlace 0
@@ -116,7 +116,7 @@ fill_next Fill.Null = Fill.Null
 fill_next (Fill.Chars text) = Fill.Chars (text_behind text)
 fill_next Fill.Told = Fill.Told
 
--- what the characters behind so many are filled with
+-- what the characters after a number of them are filled with
 abbrev pub fill_after : ℕ → Fill → Fill
 fill_after count Fill.Same = Fill.Same
 fill_after count Fill.Unknown = Fill.Unknown
@@ -124,52 +124,52 @@ fill_after count Fill.Null = Fill.Null
 fill_after count (Fill.Chars text) = Fill.Chars (drop count text)
 fill_after count Fill.Told = Fill.Told
 
--- any place, and what the place behind it is filled with
-abbrev pub changed : Place → Fill → Change → Place
-changed (Attr attribute mark telling) fill change = Attr attribute change.mark change.telling
+-- any place, and what the place after it is filled with
+abbrev pub changed : CellBelief → Fill → Change → CellBelief
+changed (Attr attribute mark knowledge) fill change = Attr attribute change.mark change.knowledge
 changed (KnownPlace char) fill change = filled fill (KnownPlace char)
 changed (ToldPlace char) fill change = filled fill (ToldPlace char)
 changed UnknownPlace fill change = filled fill UnknownPlace
 
-abbrev pub fill_behind : Place → Fill → Change → Fill
-fill_behind (Attr attribute mark telling) fill change = change.fill
+abbrev pub fill_behind : CellBelief → Fill → Change → Fill
+fill_behind (Attr attribute mark knowledge) fill change = change.fill
 fill_behind (KnownPlace char) fill change = fill_next fill
 fill_behind (ToldPlace char) fill change = fill_next fill
 fill_behind UnknownPlace fill change = fill_next fill
 
 -- the places before the first attribute
-abbrev pub front_filled : Fill → List Place → List Place
+abbrev pub front_filled : Fill → List CellBelief → List CellBelief
 front_filled fill [] = []
-front_filled fill (Attr attribute mark telling ∷ places) = Attr attribute mark telling ∷ places
+front_filled fill (Attr attribute mark knowledge ∷ places) = Attr attribute mark knowledge ∷ places
 front_filled fill (KnownPlace char ∷ places) = filled fill (KnownPlace char) ∷ front_filled (fill_next fill) places
 front_filled fill (ToldPlace char ∷ places) = filled fill (ToldPlace char) ∷ front_filled (fill_next fill) places
 front_filled fill (UnknownPlace ∷ places) = filled fill UnknownPlace ∷ front_filled (fill_next fill) places
 
 -- all places, by the changes of their fields
-abbrev pub all_changed : Fill → List Change → List Place → List Place
+abbrev pub all_changed : Fill → List Change → List CellBelief → List CellBelief
 all_changed fill changes [] = []
 all_changed fill [] (place ∷ places) = place ∷ places
 all_changed fill (change ∷ changes) (place ∷ places) = changed place fill change ∷ all_changed (fill_behind place fill change) changes places
 
-abbrev pub last_fill : Fill → List Change → List Place → Fill
+abbrev pub last_fill : Fill → List Change → List CellBelief → Fill
 last_fill fill changes [] = fill
 last_fill fill [] (place ∷ places) = fill
 last_fill fill (change ∷ changes) (place ∷ places) = last_fill (fill_behind place fill change) changes places
 
 -- ---- what becomes of the fields after a key that sends none
 
-abbrev pub after_key : Bool → Mark → Telling → Change
-after_key true mark telling = record { mark = mark; telling = telling; fill = Fill.Same }
-after_key false mark telling = record { mark = UnknownMark; telling = Cells; fill = Fill.Unknown }
+abbrev pub after_key : Bool → MdtState → TextKnowledge → Change
+after_key true mark knowledge = record { mark = mark; knowledge = knowledge; fill = Fill.Same }
+after_key false mark knowledge = record { mark = UnknownMark; knowledge = Cells; fill = Fill.Unknown }
 
-abbrev pub key_change : Place → Change
-key_change (Attr attribute mark telling) = after_key attribute.protected mark telling
-key_change (KnownPlace char) = record { mark = UnknownMark; telling = Cells; fill = Fill.Same }
-key_change (ToldPlace char) = record { mark = UnknownMark; telling = Cells; fill = Fill.Same }
-key_change UnknownPlace = record { mark = UnknownMark; telling = Cells; fill = Fill.Same }
+abbrev pub key_change : CellBelief → Change
+key_change (Attr attribute mark knowledge) = after_key attribute.protected mark knowledge
+key_change (KnownPlace char) = record { mark = UnknownMark; knowledge = Cells; fill = Fill.Same }
+key_change (ToldPlace char) = record { mark = UnknownMark; knowledge = Cells; fill = Fill.Same }
+key_change UnknownPlace = record { mark = UnknownMark; knowledge = Cells; fill = Fill.Same }
 
 -- a change for each place; of a character's it isn't looked at
-abbrev pub key_changes : List Place → List Change
+abbrev pub key_changes : List CellBelief → List Change
 key_changes [] = []
 key_changes (place ∷ places) = key_change place ∷ key_changes places
 
@@ -179,56 +179,56 @@ key_changes (place ∷ places) = key_change place ∷ key_changes places
 abbrev pub of_known : List (Option ℕ) → Unreturned
 of_known known = if is_whole known then (if bytes_eq (known_text known) (nulls (length (known_text known))) then Stays else IsTold) else IsForgotten
 
-abbrev pub unreturned_by : Telling → List Place → Unreturned
+abbrev pub unreturned_by : TextKnowledge → List CellBelief → Unreturned
 unreturned_by Cells ahead = of_known (chars_known ahead)
 unreturned_by ExactOrNulls ahead = Stays
 unreturned_by Text ahead = Stays
 unreturned_by TextOrNulls ahead = Stays
 
-abbrev pub unreturned_at : Place → List Place → Unreturned
-unreturned_at (Attr attribute mark telling) ahead = unreturned_by telling ahead
+abbrev pub unreturned_at : CellBelief → List CellBelief → Unreturned
+unreturned_at (Attr attribute mark knowledge) ahead = unreturned_by knowledge ahead
 unreturned_at (KnownPlace char) ahead = Stays
 unreturned_at (ToldPlace char) ahead = Stays
 unreturned_at UnknownPlace ahead = Stays
 
-abbrev pub unreturned_from : List Place → List Place → List Unreturned
+abbrev pub unreturned_from : List CellBelief → List CellBelief → List Unreturned
 unreturned_from whole [] = []
 unreturned_from whole (place ∷ rest) = unreturned_at place (rest ++ whole) ∷ unreturned_from whole rest
 
-abbrev pub or_null_telling : Telling → Telling
-or_null_telling Cells = Cells
-or_null_telling ExactOrNulls = ExactOrNulls
-or_null_telling Text = TextOrNulls
-or_null_telling TextOrNulls = TextOrNulls
+abbrev pub or_null_knowledge : TextKnowledge → TextKnowledge
+or_null_knowledge Cells = Cells
+or_null_knowledge ExactOrNulls = ExactOrNulls
+or_null_knowledge Text = TextOrNulls
+or_null_knowledge TextOrNulls = TextOrNulls
 
-abbrev pub with_mark : Mark → Telling → Fill → Change
-with_mark mark telling fill = record { mark = mark; telling = telling; fill = fill }
+abbrev pub with_mark : MdtState → TextKnowledge → Fill → Change
+with_mark mark knowledge fill = record { mark = mark; knowledge = knowledge; fill = fill }
 
-abbrev pub unreturned_change : Unreturned → Telling → Change
-unreturned_change Stays telling = with_mark Off (or_null_telling telling) Fill.Same
-unreturned_change IsTold telling = with_mark Off ExactOrNulls Fill.Told
-unreturned_change IsForgotten telling = with_mark Off Cells Fill.Unknown
+abbrev pub unreturned_change : Unreturned → TextKnowledge → Change
+unreturned_change Stays knowledge = with_mark Off (or_null_knowledge knowledge) Fill.Same
+unreturned_change IsTold knowledge = with_mark Off ExactOrNulls Fill.Told
+unreturned_change IsForgotten knowledge = with_mark Off Cells Fill.Unknown
 
-abbrev pub returned_change : Mark → List ℕ → Change
+abbrev pub returned_change : MdtState → List ℕ → Change
 returned_change mark [] = with_mark mark Cells Fill.Null
 returned_change mark (char ∷ chars) = with_mark mark Text (Fill.Chars (char ∷ chars))
 
-abbrev pub input_change : Bool → Telling → Unreturned → Option (List ℕ) → Change
-input_change erased telling unreturned (Some text) = returned_change (mark_of (Some text)) text
-input_change erased telling unreturned None = if erased then with_mark Off Cells Fill.Null else unreturned_change unreturned telling
+abbrev pub input_change : Bool → TextKnowledge → Unreturned → Option (List ℕ) → Change
+input_change erased knowledge unreturned (Some text) = returned_change (mark_of (Some text)) text
+input_change erased knowledge unreturned None = if erased then with_mark Off Cells Fill.Null else unreturned_change unreturned knowledge
 
-abbrev pub field_change : Bool → Bool → Telling → Unreturned → Option (List ℕ) → Change
-field_change true erased telling unreturned text = with_mark (mark_of text) telling Fill.Same
-field_change false erased telling unreturned text = input_change erased telling unreturned text
+abbrev pub field_change : Bool → Bool → TextKnowledge → Unreturned → Option (List ℕ) → Change
+field_change true erased knowledge unreturned text = with_mark (mark_of text) knowledge Fill.Same
+field_change false erased knowledge unreturned text = input_change erased knowledge unreturned text
 
-abbrev pub long_change : Bool → Place → Unreturned → Option (List ℕ) → Change
-long_change erased (Attr attribute mark telling) unreturned text = field_change attribute.protected erased telling unreturned text
+abbrev pub long_change : Bool → CellBelief → Unreturned → Option (List ℕ) → Change
+long_change erased (Attr attribute mark knowledge) unreturned text = field_change attribute.protected erased knowledge unreturned text
 long_change erased (KnownPlace char) unreturned text = with_mark Off Cells Fill.Same
 long_change erased (ToldPlace char) unreturned text = with_mark Off Cells Fill.Same
 long_change erased UnknownPlace unreturned text = with_mark Off Cells Fill.Same
 
 -- of the places from an address on
-abbrev pub long_changes : Bool → ℕ → List Returned → List Place → List Unreturned → List Change
+abbrev pub long_changes : Bool → ℕ → List Returned → List CellBelief → List Unreturned → List Change
 long_changes erased at came [] unreturned = []
 long_changes erased at came (place ∷ rest) [] = []
 long_changes erased at came (place ∷ rest) (one ∷ more) =

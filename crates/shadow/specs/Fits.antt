@@ -30,7 +30,7 @@ fits_field beliefs place attribute ahead =
     not (keeps_ahead ahead)
     || (not attribute.protected && list_any (is_field place attribute (count_ahead ahead)) beliefs)
 
--- the fields whose attributes stand in `rest`, what is wanted from an address on
+-- the fields whose attributes are in `rest`, what is wanted from an address on
 abbrev pub fits_from : List Belief → List Want → ℕ → List Want → Bool
 fits_from beliefs whole at [] = true
 fits_from beliefs whole at (WantChar byte ∷ rest) = fits_from beliefs whole (at + 1) rest
@@ -38,7 +38,7 @@ fits_from beliefs whole at (Keep ∷ rest) = fits_from beliefs whole (at + 1) re
 fits_from beliefs whole at (WantAttr attribute ∷ rest) =
     fits_field beliefs at attribute (rest ++ whole) && fits_from beliefs whole (at + 1) rest
 
--- Keep stands in fields alone, and each of these fits
+-- there is a Keep only in fields, and each of these fits
 abbrev pub fits : Shadow → WantedScreen → Bool
 fits shadow wanted =
     (not (list_any is_keep wanted.cells) || list_any is_attribute wanted.cells)

@@ -6,12 +6,12 @@ use Rattle.codes3270.specs.declared.attention.Aid.{Aid}
 use Rattle.codes3270.specs.declared.attention.Aid.TheVariants.{NoAid, Enter, Clear, Pf, Pa}
 use Rattle.codes3270.specs.Aid.{is_short_aid}
 use Rattle.datastream.specs.Inbound.{without_nulls}
-use Rattle.shadow.specs.declared.mark.Mark.{Mark}
-use Rattle.shadow.specs.declared.mark.Mark.TheVariants.{On, Off, Unknown}
+use Rattle.shadow.specs.declared.mdt_state.MdtState.{MdtState}
+use Rattle.shadow.specs.declared.mdt_state.MdtState.TheVariants.{On, Off, Unknown}
 use Rattle.shadow.specs.declared.fault.HeardFault.{HeardFault}
 use Rattle.shadow.specs.declared.fault.HeardFault.TheVariants.{NoSuchField, Contradiction}
 use Rattle.datastream.specs.InboundText.{InboundParts}
-use Rattle.datastream.specs.InboundFields.{Returned, lead, returned, cells_sent}
+use Rattle.datastream.specs.InboundFields.{Returned, leading_text, returned, cells_sent}
 use Rattle.datastream.specs.declared.inbound_part.Form.{Form}
 use Rattle.datastream.specs.declared.inbound_part.Form.TheVariants.{Modified, All as AllModified, Buffer}
 use Rattle.datastream.specs.declared.inbound_part.Part.{Part}
@@ -35,7 +35,7 @@ is_nowhere size beliefs came = not (list_any (λ belief. starts_at size belief c
 abbrev pub answer_and : Belief → Option (List ℕ) → Option (List Answer) → Option (List Answer)
 answer_and belief text others = option_map (λ answers. record { field = belief; text = text } ∷ answers) others
 
--- each field with what came for it; None where the texts are out of the fields' order, or one comes twice
+-- each field with what was returned for it; None if the texts are out of the fields' order, or one is there twice
 abbrev pub answers : ℕ → List Belief → List Returned → Option (List Answer)
 answers size [] [] = Some []
 answers size [] (came ∷ more) = None
@@ -47,12 +47,12 @@ answers size (belief ∷ beliefs) (came ∷ more) =
 
 -- ---- the fields of a long text
 
-abbrev pub is_on : Mark → Bool
+abbrev pub is_on : MdtState → Bool
 is_on On = true
 is_on Off = false
 is_on Unknown = false
 
-abbrev pub is_off : Mark → Bool
+abbrev pub is_off : MdtState → Bool
 is_off On = false
 is_off Off = true
 is_off Unknown = false
@@ -95,7 +95,7 @@ or_nulls (Fact.Text value) = Fact.TextOrNulls value
 or_nulls (Fact.TextOrNulls value) = Fact.TextOrNulls value
 or_nulls (Fact.Any known) = Fact.Any (map (λ _. None) known)
 
-abbrev pub mark_of : Option (List ℕ) → Mark
+abbrev pub mark_of : Option (List ℕ) → MdtState
 mark_of (Some text) = On
 mark_of None = Off
 
@@ -117,14 +117,14 @@ settled (Some found) =
     else Ok (Shadow.Formatted (map (after_long (list_any was_erased found)) found))
 
 abbrev pub heard_long : ℕ → Shadow → List ℕ → List Returned → Result Shadow HeardFault
-heard_long size Shadow.NothingKnown lead [] = Ok Shadow.NothingKnown
-heard_long size Shadow.NothingKnown lead (came ∷ more) = Err NoSuchField
-heard_long size (Shadow.Unformatted known) lead [] =
-    if nat_lt (length known) (length lead) then Err Contradiction else Ok Shadow.NothingKnown
-heard_long size (Shadow.Unformatted known) lead (came ∷ more) = Err NoSuchField
-heard_long size (Shadow.Formatted beliefs) lead returned =
+heard_long size Shadow.NothingKnown leading_text [] = Ok Shadow.NothingKnown
+heard_long size Shadow.NothingKnown leading_text (came ∷ more) = Err NoSuchField
+heard_long size (Shadow.Unformatted known) leading_text [] =
+    if nat_lt (length known) (length leading_text) then Err Contradiction else Ok Shadow.NothingKnown
+heard_long size (Shadow.Unformatted known) leading_text (came ∷ more) = Err NoSuchField
+heard_long size (Shadow.Formatted beliefs) leading_text returned =
     if list_any (is_nowhere size beliefs) returned then Err NoSuchField
-    else if nat_lt 0 (length lead) then Err Contradiction
+    else if nat_lt 0 (length leading_text) then Err Contradiction
     else settled (answers size beliefs returned)
 
 -- ---- a key alone
@@ -153,7 +153,7 @@ heard_short size (Pf key) shadow = heard_attention shadow
 -- ---- any of the three
 
 abbrev pub heard_parts : ℕ → Shadow → List Part → Result Shadow HeardFault
-heard_parts size shadow parts = heard_long size shadow (lead parts) (returned parts)
+heard_parts size shadow parts = heard_long size shadow (leading_text parts) (returned parts)
 
 -- after a key that sends its AID alone there are no fields
 abbrev pub heard_form : Form → ℕ → Shadow → Aid → List Part → Result Shadow HeardFault

@@ -93,7 +93,7 @@ IsSameCell (Char byte) there = there ≡ Char byte
 IsSameCell (Attr attribute) (Char byte) = ⊥
 IsSameCell (Attr attribute) (Attr other) = without_mdt other ≡ without_mdt attribute
 
--- A cell that is known is the one that stands there, on every screen that meets what is believed.
+-- A known cell is the cell at its address, on every screen that meets what is believed.
 abbrev pub KnownIsThere : Type 0
 KnownIsThere = (shadow : Shadow) (screen : Screen) (at : ℕ) (cell : Cell) → Meets shadow screen → known_at (length screen.cells) shadow at ≡ Some cell
     → (there : Cell) × (slice_get screen.cells at ≡ Some there) × IsSameCell cell there

@@ -19,8 +19,8 @@ pub mod Held
 pub mod Came
 pub mod Appending
 pub mod InPlace
-pub mod Former
+pub mod PriorKnowledge
 pub mod Since
 pub mod Filled
 pub mod Base
-pub mod Rows
+pub mod PackedBeliefs

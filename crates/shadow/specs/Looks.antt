@@ -27,7 +27,7 @@ IsRight wants known cell = cell_to_store (drop (cell + 1) wants ++ wants) (slice
 abbrev pub IsSearch : List Want → List Known → Search → Type 0
 IsSearch wants known search = SetUnless (IsRight wants known) (search.from / 64) search.look
 
--- the cell that was found, and those behind it
+-- the cell that was found, and those after it
 abbrev pub stored_first : Option ToStore → List Store → List Store
 stored_first None more = []
 stored_first (Some store) more = record { at = store.place; cell = store.cell } ∷ more

@@ -4,8 +4,8 @@ use Rattle.datastream.specs.Screen.{Screen, text_before_attribute}
 use Rattle.datastream.specs.Fields.{Field, fields, IsFormatted as IsFormattedScreen, IsUnformatted}
 use Rattle.datastream.specs.Held.{without_mdt}
 use Rattle.datastream.specs.Inbound.{without_nulls}
-use Rattle.shadow.specs.declared.mark.Mark.{Mark}
-use Rattle.shadow.specs.declared.mark.Mark.TheVariants.{On, Off, Unknown}
+use Rattle.shadow.specs.declared.mdt_state.MdtState.{MdtState}
+use Rattle.shadow.specs.declared.mdt_state.MdtState.TheVariants.{On, Off, Unknown}
 use Rattle.shadow.specs.Pairs.{Pairwise}
 use Rattle.shadow.specs.Belief.{Fact, Belief, Shadow, nulls}
 
@@ -17,7 +17,7 @@ abbrev pub KnownIs : Option ℕ → ℕ → Type 0
 KnownIs None char = ⊤
 KnownIs (Some known) char = char ≡ known
 
-abbrev pub MarkIs : Mark → Bool → Type 0
+abbrev pub MarkIs : MdtState → Bool → Type 0
 MarkIs On mdt = mdt ≡ true
 MarkIs Off mdt = mdt ≡ false
 MarkIs Unknown mdt = ⊤
@@ -66,7 +66,7 @@ told (Fact.Text value) = Some value
 told (Fact.TextOrNulls value) = None
 told (Fact.Any known) = None
 
--- the text of an unprotected field with MDT on is told
+-- the fact of an unprotected field with MDT on tells its text
 abbrev pub FieldTold : Belief → Field → Type 0
 FieldTold belief field = field.attr.protected ≡ false → field.attr.mdt ≡ true → told belief.fact ≡ Some (without_nulls field.text)
 

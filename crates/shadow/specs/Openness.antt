@@ -63,14 +63,14 @@ ClearIsHeard = (size : ℕ) (shadow : Shadow) (inbound : InboundParts) → inbou
 
 -- ---- paints
 
--- Keep alone stands before the first attribute
+-- there is only Keep before the first attribute
 abbrev pub keeps_alone : List Want → Bool
 keeps_alone [] = true
 keeps_alone (WantChar byte ∷ wants) = false
 keeps_alone (Keep ∷ wants) = keeps_alone wants
 keeps_alone (WantAttr attribute ∷ wants) = true
 
--- the fields whose attributes stand in `rest` are wanted with Keep alone, or without it
+-- the fields whose attributes are in `rest` are wanted with Keep alone, or without it
 abbrev pub keeps_whole : List Want → List Want → Bool
 keeps_whole whole [] = true
 keeps_whole whole (WantChar byte ∷ rest) = keeps_whole whole rest

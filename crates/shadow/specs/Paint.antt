@@ -11,7 +11,7 @@ use Rattle.datastream.specs.declared.command_code.CommandCode.{CommandCode}
 use Rattle.datastream.specs.declared.command_code.CommandCode.TheVariants.{Write, EraseWrite}
 use Rattle.shadow.specs.declared.known.Known.{Known}
 use Rattle.shadow.specs.declared.known.Known.TheVariants.{Attr as KnownAttr, Char as KnownChar}
-use Rattle.shadow.specs.declared.mark.Mark.{Mark}
+use Rattle.shadow.specs.declared.mdt_state.MdtState.{MdtState}
 use Rattle.datastream.specs.declared.wanted.Want.{Want}
 use Rattle.datastream.specs.declared.wanted.Want.TheVariants.{Char as WantChar, Attr as WantAttr, Keep}
 use Rattle.shadow.specs.Belief.{Shadow, next_address}
@@ -28,7 +28,7 @@ abbrev pub is_char : Option ℕ → ℕ → Bool
 is_char None byte = false
 is_char (Some known) byte = known == byte
 
-abbrev pub marks : Mark → Bool → Bool
+abbrev pub marks : MdtState → Bool → Bool
 marks mark true = is_on mark
 marks mark false = is_off mark
 

@@ -10,7 +10,7 @@ use Rattle.datastream.specs.Meaning.{unmodified}
 use Rattle.datastream.specs.declared.wanted.Want.{Want}
 use Rattle.datastream.specs.declared.wanted.Want.TheVariants.{Char as WantChar, Attr as WantAttr, Keep}
 
--- whether Keep stands before the first attribute
+-- whether there is a Keep before the first attribute
 abbrev pub keeps_ahead : List Want → Bool
 keeps_ahead [] = false
 keeps_ahead (WantChar byte ∷ wants) = keeps_ahead wants

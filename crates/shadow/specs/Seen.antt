@@ -7,13 +7,13 @@ use Rattle.codes3270.specs.Attribute.{attr_byte}
 use Rattle.datastream.specs.Screen.{text_before_attribute}
 use Rattle.datastream.specs.Fields.{Field, fields}
 use Rattle.datastream.specs.Held.{without_mdt}
-use Rattle.shadow.specs.declared.mark.Mark.{Mark}
-use Rattle.shadow.specs.declared.mark.Mark.TheVariants.{On, Off}
+use Rattle.shadow.specs.declared.mdt_state.MdtState.{MdtState}
+use Rattle.shadow.specs.declared.mdt_state.MdtState.TheVariants.{On, Off}
 use Rattle.shadow.specs.declared.fault.HeardFault.{HeardFault}
 use Rattle.shadow.specs.declared.fault.HeardFault.TheVariants.{Contradiction}
 use Rattle.shadow.specs.Belief.{Fact, Belief, Shadow}
 
-abbrev pub mark_seen : Bool → Mark
+abbrev pub mark_seen : Bool → MdtState
 mark_seen true = On
 mark_seen false = Off
 

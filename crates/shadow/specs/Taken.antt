@@ -12,8 +12,8 @@ use Rattle.datastream.specs.Held.{without_mdt}
 use Rattle.datastream.specs.declared.order.Order.{Order}
 use Rattle.datastream.specs.declared.command_code.CommandCode.{CommandCode}
 use Rattle.datastream.specs.declared.command_code.CommandCode.TheVariants.{Write, EraseWrite, EraseWriteAlternate, ReadBuffer, ReadModified, ReadModifiedAll, EraseAllUnprotected}
-use Rattle.shadow.specs.declared.mark.Mark.{Mark}
-use Rattle.shadow.specs.declared.mark.Mark.TheVariants.{Off}
+use Rattle.shadow.specs.declared.mdt_state.MdtState.{MdtState}
+use Rattle.shadow.specs.declared.mdt_state.MdtState.TheVariants.{Off}
 use Rattle.shadow.specs.declared.known.Known.{Known}
 use Rattle.shadow.specs.declared.known.Known.TheVariants.{Attr as KnownAttr, Char as KnownChar}
 use Rattle.shadow.specs.Belief.{Fact, Belief, Shadow}
@@ -97,11 +97,11 @@ fact_after before place ahead =
     let known = known_ahead ahead in
     if fresh_ahead ahead then fact_known known else unwrap_or (fact_before before place (length known)) (fact_known known)
 
-abbrev pub belief_after : List Belief → ℕ → Attribute → Mark → List Known → Belief
+abbrev pub belief_after : List Belief → ℕ → Attribute → MdtState → List Known → Belief
 belief_after before place attribute mark ahead =
     record { place = place; attr = attribute; mark = mark; length = length (known_ahead ahead); fact = fact_after before place ahead }
 
--- the fields whose attributes stand in `rest`, the cells of `whole` from an address on
+-- the fields whose attributes are in `rest`, the cells of `whole` from an address on
 abbrev pub beliefs_from : List Belief → List Known → ℕ → List Known → List Belief
 beliefs_from before whole at [] = []
 beliefs_from before whole at (KnownChar known fresh ∷ rest) = beliefs_from before whole (at + 1) rest

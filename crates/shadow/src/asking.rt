@@ -8,10 +8,10 @@ ghost use Rattle.shadow.specs.Belief.{nulls};
 ghost use Rattle.shadow.specs.Heard.{denies as denies_text};
 ghost use Rattle.shadow.specs.InPlace.{cell_known, chars_known, text_told, fact_held, beliefs_held, is_whole, known_text, is_attribute as is_attribute_held, has_attribute as any_attribute, shadow_held, IsHeld};
 
+use crate::cell_belief::{CellBelief, TextKnowledge};
+use crate::cell_beliefs::{Ahead, CellBeliefs};
 use crate::fact::Fact;
-use crate::mark::Mark;
-use crate::place::{Place, Telling};
-use crate::places::{Ahead, Places};
+use crate::mdt_state::MdtState;
 use codes3270::Cell;
 
 /// How many characters stand before the first attribute.
@@ -22,10 +22,10 @@ pub(crate) fn count_chars(ahead: Ahead<'_>) -> usize
     let mut count = 0;
     for place in ahead {
         match place {
-            Place::Attr(_, _, _) => return count,
-            Place::Known(_) => {}
-            Place::Told(_) => {}
-            Place::Unknown => {}
+            CellBelief::Attr(_, _, _) => return count,
+            CellBelief::Known(_) => {}
+            CellBelief::Told(_) => {}
+            CellBelief::Unknown => {}
         }
         count += 1;
     }
@@ -38,10 +38,10 @@ pub(crate) fn all_known(ahead: Ahead<'_>) -> bool
 {
     for place in ahead {
         match place {
-            Place::Attr(_, _, _) => return true,
-            Place::Known(_) => {}
-            Place::Told(_) => return false,
-            Place::Unknown => return false,
+            CellBelief::Attr(_, _, _) => return true,
+            CellBelief::Known(_) => {}
+            CellBelief::Told(_) => return false,
+            CellBelief::Unknown => return false,
         }
     }
     true
@@ -53,14 +53,14 @@ pub(crate) fn are_null(ahead: Ahead<'_>) -> bool
 {
     for place in ahead {
         match place {
-            Place::Attr(_, _, _) => return true,
-            Place::Known(char) => {
+            CellBelief::Attr(_, _, _) => return true,
+            CellBelief::Known(char) => {
                 if char != 0 {
                     return false;
                 }
             }
-            Place::Told(_) => return true,
-            Place::Unknown => return true,
+            CellBelief::Told(_) => return true,
+            CellBelief::Unknown => return true,
         }
     }
     true
@@ -72,7 +72,7 @@ fn known_char(ahead: Ahead<'_>, index: usize) -> Option<u8>
 {
     let mut left = index;
     for place in ahead {
-        let Place::Known(char) = place else {
+        let CellBelief::Known(char) = place else {
             return None;
         };
         if left == 0 {
@@ -83,13 +83,13 @@ fn known_char(ahead: Ahead<'_>, index: usize) -> Option<u8>
     None
 }
 
-/// A character of the text that is told.
+/// A character of the told text.
 fn told_char(ahead: Ahead<'_>, index: usize) -> Option<u8>
     ensures { result ≡ slice_get (text_told ahead.entry) index }
 {
     let mut left = index;
     for place in ahead {
-        let Place::Told(char) = place else {
+        let CellBelief::Told(char) = place else {
             return None;
         };
         if left == 0 {
@@ -101,66 +101,71 @@ fn told_char(ahead: Ahead<'_>, index: usize) -> Option<u8>
 }
 
 /// What is believed of the characters of a field; `place` is its attribute's.
-fn kind(places: &Places, place: usize, telling: Telling) -> Fact
+fn kind(places: &CellBeliefs, place: usize, knowledge: TextKnowledge) -> Fact
     requires { place < cell_count }
-    ensures { result ≡ kind_of (fact_held telling (drop (place + 1) places.now ++ places.now)) }
+    ensures { result ≡ kind_of (fact_held knowledge (drop (place + 1) places.now ++ places.now)) }
 {
-    match telling {
-        Telling::Cells => {
+    match knowledge {
+        TextKnowledge::Cells => {
             if all_known(places.ahead(place)) {
                 Fact::Exact
             } else {
                 Fact::Any
             }
         }
-        Telling::ExactOrNulls => Fact::ExactOrNulls,
-        Telling::Text => Fact::Text,
-        Telling::TextOrNulls => Fact::TextOrNulls,
+        TextKnowledge::ExactOrNulls => Fact::ExactOrNulls,
+        TextKnowledge::Text => Fact::Text,
+        TextKnowledge::TextOrNulls => Fact::TextOrNulls,
     }
 }
 
 /// A character of the text that the fact of a field speaks of.
-fn character(places: &Places, place: usize, telling: Telling, index: usize) -> Option<u8>
+fn character(
+    places: &CellBeliefs,
+    place: usize,
+    knowledge: TextKnowledge,
+    index: usize,
+) -> Option<u8>
     requires { place < cell_count }
-    ensures { result ≡ slice_get (value_of (fact_held telling (drop (place + 1) places.now ++ places.now))) index }
+    ensures { result ≡ slice_get (value_of (fact_held knowledge (drop (place + 1) places.now ++ places.now))) index }
 {
-    match telling {
-        Telling::Cells => {
+    match knowledge {
+        TextKnowledge::Cells => {
             if all_known(places.ahead(place)) {
                 known_char(places.ahead(place), index)
             } else {
                 None
             }
         }
-        Telling::ExactOrNulls => told_char(places.ahead(place), index),
-        Telling::Text => told_char(places.ahead(place), index),
-        Telling::TextOrNulls => told_char(places.ahead(place), index),
+        TextKnowledge::ExactOrNulls => told_char(places.ahead(place), index),
+        TextKnowledge::Text => told_char(places.ahead(place), index),
+        TextKnowledge::TextOrNulls => told_char(places.ahead(place), index),
     }
 }
 
 /// What is believed of the characters of the field whose attribute is at an address.
-pub(crate) fn fact_held_at(places: &Places, place: usize) -> Option<Fact>
+pub(crate) fn fact_held_at(places: &CellBeliefs, place: usize) -> Option<Fact>
     requires { place < cell_count }
     ensures { result ≡ option_map (λ belief. kind_of belief.fact) (belief_with place (beliefs_held places.now 0 places.now)) }
 {
     match places.get(place) {
-        Place::Attr(_, _, telling) => Some(kind(places, place, telling)),
-        Place::Known(_) => None,
-        Place::Told(_) => None,
-        Place::Unknown => None,
+        CellBelief::Attr(_, _, knowledge) => Some(kind(places, place, knowledge)),
+        CellBelief::Known(_) => None,
+        CellBelief::Told(_) => None,
+        CellBelief::Unknown => None,
     }
 }
 
 /// A character of the text that the fact speaks of.
-pub(crate) fn value_held_at(places: &Places, place: usize, index: usize) -> Option<u8>
+pub(crate) fn value_held_at(places: &CellBeliefs, place: usize, index: usize) -> Option<u8>
     requires { place < cell_count }
     ensures { result ≡ option_and_then (λ belief. slice_get (value_of belief.fact) index) (belief_with place (beliefs_held places.now 0 places.now)) }
 {
     match places.get(place) {
-        Place::Attr(_, _, telling) => character(places, place, telling, index),
-        Place::Known(_) => None,
-        Place::Told(_) => None,
-        Place::Unknown => None,
+        CellBelief::Attr(_, _, knowledge) => character(places, place, knowledge, index),
+        CellBelief::Known(_) => None,
+        CellBelief::Told(_) => None,
+        CellBelief::Unknown => None,
     }
 }
 
@@ -170,7 +175,7 @@ fn are_text(ahead: Ahead<'_>, text: &[u8]) -> bool
 {
     let mut rest = text;
     for place in ahead {
-        let Place::Known(char) = place else {
+        let CellBelief::Known(char) = place else {
             return rest.is_empty();
         };
         if char != 0 {
@@ -189,7 +194,7 @@ fn is_told(ahead: Ahead<'_>, text: &[u8]) -> bool
 {
     let mut rest = text;
     for place in ahead {
-        let Place::Told(char) = place else {
+        let CellBelief::Told(char) = place else {
             return rest.is_empty();
         };
         if char != 0 {
@@ -210,64 +215,71 @@ fn is_nothing(text: &[u8]) -> bool
 }
 
 /// Whether the text that the fact of a field speaks of is this one, nulls apart; `place` is its attribute's.
-fn is_text(places: &Places, place: usize, telling: Telling, text: &[u8]) -> bool
+fn is_text(places: &CellBeliefs, place: usize, knowledge: TextKnowledge, text: &[u8]) -> bool
     requires { place < cell_count }
-    ensures { result ≡ bytes_eq (without_nulls (value_of (fact_held telling (drop (place + 1) places.now ++ places.now)))) text.now }
+    ensures { result ≡ bytes_eq (without_nulls (value_of (fact_held knowledge (drop (place + 1) places.now ++ places.now)))) text.now }
 {
-    match telling {
-        Telling::Cells => {
+    match knowledge {
+        TextKnowledge::Cells => {
             if all_known(places.ahead(place)) {
                 are_text(places.ahead(place), text)
             } else {
                 is_nothing(text)
             }
         }
-        Telling::ExactOrNulls => is_told(places.ahead(place), text),
-        Telling::Text => is_told(places.ahead(place), text),
-        Telling::TextOrNulls => is_told(places.ahead(place), text),
+        TextKnowledge::ExactOrNulls => is_told(places.ahead(place), text),
+        TextKnowledge::Text => is_told(places.ahead(place), text),
+        TextKnowledge::TextOrNulls => is_told(places.ahead(place), text),
     }
 }
 
 /// Whether the text that the fact of the field at an address speaks of is this one, nulls apart. False if no field is there.
-pub(crate) fn is_text_held_at(places: &Places, place: usize, text: &[u8]) -> bool
+pub(crate) fn is_text_held_at(places: &CellBeliefs, place: usize, text: &[u8]) -> bool
     requires { place < cell_count }
     ensures { result ≡ option_map_or (λ belief. bytes_eq (without_nulls (value_of belief.fact)) text.now) (belief_with place (beliefs_held places.now 0 places.now)) false }
 {
     match places.get(place) {
-        Place::Attr(_, _, telling) => is_text(places, place, telling, text),
-        Place::Known(_) => false,
-        Place::Told(_) => false,
-        Place::Unknown => false,
+        CellBelief::Attr(_, _, knowledge) => is_text(places, place, knowledge, text),
+        CellBelief::Known(_) => false,
+        CellBelief::Told(_) => false,
+        CellBelief::Unknown => false,
     }
 }
 
 /// Whether the characters of a field are known, and without nulls another text.
-pub(crate) fn denies(places: &Places, place: usize, telling: Telling, text: &[u8]) -> bool
+pub(crate) fn denies(
+    places: &CellBeliefs,
+    place: usize,
+    knowledge: TextKnowledge,
+    text: &[u8],
+) -> bool
     requires { place < cell_count }
-    ensures { result ≡ denies_text (fact_held telling (drop (place + 1) places.now ++ places.now)) text.now }
+    ensures { result ≡ denies_text (fact_held knowledge (drop (place + 1) places.now ++ places.now)) text.now }
 {
-    match telling {
-        Telling::Cells => { all_known(places.ahead(place)) && !are_text(places.ahead(place), text) }
-        Telling::ExactOrNulls => false,
-        Telling::Text => false,
-        Telling::TextOrNulls => false,
+    match knowledge {
+        TextKnowledge::Cells => {
+            all_known(places.ahead(place)) && !are_text(places.ahead(place), text)
+        }
+        TextKnowledge::ExactOrNulls => false,
+        TextKnowledge::Text => false,
+        TextKnowledge::TextOrNulls => false,
     }
 }
 
 /// The cell that is known to be at a place. An unknown MDT is answered as off.
-fn known_cell(place: Place) -> Option<Cell>
+fn known_cell(place: CellBelief) -> Option<Cell>
     ensures { result ≡ known_of (cell_known place false) }
 {
     match place {
-        Place::Attr(attr, mark, _) => Some(Cell::Attr(attr.with_mdt(mark == Mark::On))),
-        Place::Known(char) => Some(Cell::Char(char)),
-        Place::Told(_) => None,
-        Place::Unknown => None,
+        CellBelief::Attr(attr, mark, _) => Some(Cell::Attr(attr.with_mdt(mark == MdtState::On))),
+        CellBelief::Known(char) => Some(Cell::Char(char)),
+        CellBelief::Told(_) => None,
+        CellBelief::Unknown => None,
     }
 }
 
 /// The cell at an address, where it is known.
-pub(crate) fn known_held_at(places: &Places, at: usize) -> Option<Cell>
+pub(crate) fn known_held_at(places: &CellBeliefs, at: usize) -> Option<Cell>
     requires placed { at < cell_count }
     requires held { IsHeld places.now }
     ensures { result ≡ known_at cell_count (shadow_held true places.now) at }
@@ -275,19 +287,19 @@ pub(crate) fn known_held_at(places: &Places, at: usize) -> Option<Cell>
     known_cell(places.get(at))
 }
 
-pub(crate) fn is_attribute(place: Place) -> bool
+pub(crate) fn is_attribute(place: CellBelief) -> bool
     ensures { result ≡ is_attribute_held place }
 {
     match place {
-        Place::Attr(_, _, _) => true,
-        Place::Known(_) => false,
-        Place::Told(_) => false,
-        Place::Unknown => false,
+        CellBelief::Attr(_, _, _) => true,
+        CellBelief::Known(_) => false,
+        CellBelief::Told(_) => false,
+        CellBelief::Unknown => false,
     }
 }
 
 /// Whether there is an attribute.
-pub(crate) fn has_attribute(places: &Places) -> bool
+pub(crate) fn has_attribute(places: &CellBeliefs) -> bool
     ensures { result ≡ any_attribute places.now }
 {
     places.attribute_from(0) < places.len()

@@ -2,13 +2,13 @@
 ghost use Rattle.std.specs.Prelude.{◌≡◌, ◌<◌, ◌+◌, ◌++◌, ◌∷◌, [], MatchOption, length, drop, slice_index_or};
 ghost use Rattle.codes3270.specs.Size.{cell_count};
 ghost use Rattle.datastream.specs.Fields.{fields as fields_in};
-ghost use Rattle.shadow.specs.declared.place.Place.TheVariants.{Unknown};
+ghost use Rattle.shadow.specs.declared.cell_belief.CellBelief.TheVariants.{Unknown};
 ghost use Rattle.shadow.specs.InPlace.{chars_known, beliefs_held, known_text, misses_here, other_here, IsHeld};
 ghost use Rattle.shadow.specs.Since.{place_stored, places_stored};
 ghost use Rattle.shadow.specs.Seen.{differs, others, same_attr as are_same};
 
-use crate::place::Place;
-use crate::places::{Ahead, Places};
+use crate::cell_belief::CellBelief;
+use crate::cell_beliefs::{Ahead, CellBeliefs};
 use crate::taking::place_of;
 use codes3270::{Attr, Cell, attr_code};
 use datastream::Cells;
@@ -20,7 +20,7 @@ pub(crate) fn same_attr(one: Attr, other: Attr) -> bool
     attr_code(one.with_mdt(false)) == attr_code(other.with_mdt(false))
 }
 
-/// The next character that was read, if one stands before the first attribute; `whole`: what follows the rest, round the end.
+/// The next character that was read, if there is one before the first attribute; `whole`: what follows the rest, round the end.
 fn next_char(rest: &mut Cells<'_>, whole: &mut Cells<'_>) -> Option<u8>
     ensures { let ahead = places_stored rest.old ++ places_stored whole.old in
         MatchOption result (known_text (chars_known ahead) ≡ []) (λ char. known_text (chars_known ahead) ≡ char ∷ known_text (chars_known (places_stored rest.new ++ places_stored whole.new))) }
@@ -43,13 +43,13 @@ fn next_round(whole: &mut Cells<'_>) -> Option<u8>
 }
 
 /// Whether a place shows that a text is another: `char` is its next character.
-fn differs_here(place: Place, char: Option<u8>) -> bool
+fn differs_here(place: CellBelief, char: Option<u8>) -> bool
     ensures { result ≡ misses_here place char }
 {
     match (place, char) {
-        (Place::Attr(_, _, _), char) => char.is_some(),
+        (CellBelief::Attr(_, _, _), char) => char.is_some(),
         (_, None) => true,
-        (Place::Known(known), Some(char)) => char != known,
+        (CellBelief::Known(known), Some(char)) => char != known,
         (_, Some(_)) => false,
     }
 }
@@ -66,33 +66,39 @@ fn are_others(known: Ahead<'_>, rest: Cells<'_>, whole: Cells<'_>) -> bool
             return true;
         }
         match place {
-            Place::Attr(_, _, _) => return false,
-            Place::Known(_) => {}
-            Place::Told(_) => {}
-            Place::Unknown => {}
+            CellBelief::Attr(_, _, _) => return false,
+            CellBelief::Known(_) => {}
+            CellBelief::Told(_) => {}
+            CellBelief::Unknown => {}
         }
     }
     next_char(&mut rest, &mut whole).is_some()
 }
 
-/// Whether a cell that was read shows that a screen isn't the one that is believed; `rest`: those behind it.
-fn is_other(places: &Places, place: usize, cell: Cell, rest: &Cells<'_>, whole: &Cells<'_>) -> bool
+/// Whether a cell that was read shows that a screen isn't the one that is believed; `rest`: those after it.
+fn is_other(
+    places: &CellBeliefs,
+    place: usize,
+    cell: Cell,
+    rest: &Cells<'_>,
+    whole: &Cells<'_>,
+) -> bool
     requires { place < cell_count }
     ensures { result ≡ other_here (slice_index_or places.now place Unknown) (place_stored cell) (drop (place + 1) places.now ++ places.now) (places_stored rest.now ++ places_stored whole.now) }
 {
     match (places.get(place), cell) {
-        (Place::Attr(believed, _, _), Cell::Attr(attr)) => {
+        (CellBelief::Attr(believed, _, _), Cell::Attr(attr)) => {
             !same_attr(attr.with_mdt(false), believed)
                 || believed.protected && are_others(places.ahead(place), rest.copy(), whole.copy())
         }
-        (Place::Attr(_, _, _), Cell::Char(_)) => true,
+        (CellBelief::Attr(_, _, _), Cell::Char(_)) => true,
         (_, Cell::Attr(_)) => true,
         _ => false,
     }
 }
 
 /// Whether the fields that were read aren't those that are believed.
-pub(crate) fn any_other(places: &Places, cells: Cells<'_>) -> bool
+pub(crate) fn any_other(places: &CellBeliefs, cells: Cells<'_>) -> bool
     requires held { IsHeld places.now }
     requires whole { length cells ≡ cell_count }
     ensures { result ≡ others (beliefs_held places.now 0 places.now) (fields_in cells.entry) }
@@ -110,7 +116,7 @@ pub(crate) fn any_other(places: &Places, cells: Cells<'_>) -> bool
 }
 
 /// Puts the places of a screen that was read.
-pub(crate) fn put_read(places: &mut Places, cells: Cells<'_>)
+pub(crate) fn put_read(places: &mut CellBeliefs, cells: Cells<'_>)
     requires { length cells ≡ cell_count }
     ensures { places.new ≡ places_stored cells.entry }
 {

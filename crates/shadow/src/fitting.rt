@@ -8,12 +8,12 @@ ghost use Rattle.shadow.specs.Painted.{keeps_ahead as keeps_before, count_ahead 
 
 use crate::asking::count_chars;
 use crate::buffer::same_attr;
-use crate::place::Place;
-use crate::places::Places;
+use crate::cell_belief::CellBelief;
+use crate::cell_beliefs::CellBeliefs;
 use codes3270::{Attr, CELL_COUNT};
 use datastream::{Want, Wanted, Wants};
 
-/// Whether Keep stands before the first attribute.
+/// Whether there is a Keep before the first attribute.
 pub(crate) fn keeps_ahead(ahead: Wants<'_>) -> bool
     ensures { result ≡ keeps_before ahead.entry }
 {
@@ -45,7 +45,7 @@ fn count_ahead(ahead: Wants<'_>) -> usize
 }
 
 /// Whether a field is believed to be.
-fn any_field(held: Option<&Places>, place: usize, attr: Attr, count: usize) -> bool
+fn any_field(held: Option<&CellBeliefs>, place: usize, attr: Attr, count: usize) -> bool
     requires { place < cell_count }
     ensures { result ≡ list_any (is_field place attr count) (beliefs_of held.entry) }
 {
@@ -55,22 +55,22 @@ fn any_field(held: Option<&Places>, place: usize, attr: Attr, count: usize) -> b
     }
 }
 
-fn is_field_at(places: &Places, place: usize, attr: Attr, count: usize) -> bool
+fn is_field_at(places: &CellBeliefs, place: usize, attr: Attr, count: usize) -> bool
     requires { place < cell_count }
     ensures { result ≡ list_any (is_field place attr count) (beliefs_held places.now 0 places.now) }
 {
     match places.get(place) {
-        Place::Attr(there, _, _) => {
+        CellBelief::Attr(there, _, _) => {
             same_attr(there, attr) && count_chars(places.ahead(place)) == count
         }
-        Place::Known(_) => false,
-        Place::Told(_) => false,
-        Place::Unknown => false,
+        CellBelief::Known(_) => false,
+        CellBelief::Told(_) => false,
+        CellBelief::Unknown => false,
     }
 }
 
 /// Whether what is wanted of a cell fits.
-fn fits_at(held: Option<&Places>, wanted: &Wanted, place: usize) -> bool
+fn fits_at(held: Option<&CellBeliefs>, wanted: &Wanted, place: usize) -> bool
     requires placed { place < cell_count }
     ensures { fits_from (beliefs_of held.entry) wanted.now.cells place (drop place wanted.now.cells) ≡ (result && fits_from (beliefs_of held.entry) wanted.now.cells (place + 1) (drop (place + 1) wanted.now.cells)) }
 {
@@ -85,7 +85,7 @@ fn fits_at(held: Option<&Places>, wanted: &Wanted, place: usize) -> bool
 }
 
 /// Whether each wanted field fits.
-fn all_fit(held: Option<&Places>, wanted: &Wanted) -> bool
+fn all_fit(held: Option<&CellBeliefs>, wanted: &Wanted) -> bool
     ensures { result ≡ fits_from (beliefs_of held.entry) wanted.now.cells 0 wanted.now.cells }
 {
     let _bytes = wanted.bytes();
@@ -125,8 +125,8 @@ fn any_attribute(cells: Wants<'_>) -> bool
     false
 }
 
-/// Whether Keep stands in fields alone, and each of these fits.
-pub(crate) fn fits_fields(held: Option<&Places>, wanted: &Wanted) -> bool
+/// Whether there is a Keep only in fields, and each of these fits.
+pub(crate) fn fits_fields(held: Option<&CellBeliefs>, wanted: &Wanted) -> bool
     ensures { result ≡ ((not (list_any is_keep wanted.now.cells) || list_any is_attribute wanted.now.cells) && fits_from (beliefs_of held.entry) wanted.now.cells 0 wanted.now.cells) }
 {
     (!any_keep(wanted.cells()) || any_attribute(wanted.cells())) && all_fit(held, wanted)

@@ -3,9 +3,9 @@ ghost use Rattle.std.specs.Prelude.{◌≡◌, ◌<◌, ◌+◌, ◌++◌, ◌||
 ghost use Rattle.std.specs.List.{list_any};
 ghost use Rattle.codes3270.specs.Size.{cell_count};
 ghost use Rattle.shadow.specs.declared.fault.HeardFault.TheVariants.{NoSuchField, Contradiction};
-ghost use Rattle.shadow.specs.declared.mark.Mark.TheVariants.{On};
-ghost use Rattle.shadow.specs.declared.place.Place.{Place as Held};
-ghost use Rattle.shadow.specs.Filled.{is_possible as can_be, any_lost, long_after, contradicts_held, lost_held, change_of, key_change, unreturned_at, unreturned_by as unreturned_of, unreturned_from, or_null_telling, long_change, long_changes, input_change as input_by, unreturned_change as unreturned_by, returned_change as returned_by, last_fill, all_changed, front_filled};
+ghost use Rattle.shadow.specs.declared.mdt_state.MdtState.TheVariants.{On};
+ghost use Rattle.shadow.specs.declared.cell_belief.CellBelief.{CellBelief as Held};
+ghost use Rattle.shadow.specs.Filled.{is_possible as can_be, any_lost, long_after, contradicts_held, lost_held, change_of, key_change, unreturned_at, unreturned_by as unreturned_of, unreturned_from, or_null_knowledge, long_change, long_changes, input_change as input_by, unreturned_change as unreturned_by, returned_change as returned_by, last_fill, all_changed, front_filled};
 ghost use Rattle.shadow.specs.Filled.Fill.{Same};
 ghost use Rattle.datastream.specs.InboundFields.{returned};
 ghost use Rattle.shadow.specs.Belief.Shadow.{Formatted as FormattedBelief};
@@ -14,12 +14,12 @@ ghost use Rattle.shadow.specs.Held.{text_of};
 ghost use Rattle.shadow.specs.InPlace.{chars_known, fact_held, beliefs_held, IsHeld};
 
 use crate::asking::{all_known, are_null, denies, is_attribute};
-use crate::came::Coming;
+use crate::cell_belief::{CellBelief, TextKnowledge};
+use crate::cell_beliefs::CellBeliefs;
 use crate::fault::HeardFault;
-use crate::filling::{Change, Filling, fill_between, fill_front, filling_after};
-use crate::mark::Mark;
-use crate::place::{Place, Telling};
-use crate::places::Places;
+use crate::field_update::{Change, FieldUpdate, fill_between, fill_front, update_after};
+use crate::mdt_state::MdtState;
+use crate::returned_cursor::ReturnedCursor;
 use codes3270::{Addr, Attr, CELL_COUNT};
 use datastream::{Inbound, ReturnedFields};
 
@@ -34,7 +34,7 @@ pub(crate) enum Unreturned {
 }
 
 /// Whether a field begins at an address.
-fn begins_field(places: &Places, first: Addr) -> bool
+fn begins_field(places: &CellBeliefs, first: Addr) -> bool
     ensures { result ≡ list_any (λ belief. starts_at cell_count belief first) (beliefs_held places.now 0 places.now) }
 {
     let place = (first.get() as usize + CELL_COUNT - 1) % CELL_COUNT;
@@ -42,7 +42,7 @@ fn begins_field(places: &Places, first: Addr) -> bool
 }
 
 /// Whether one of the fields that came begins where no field does.
-fn any_nowhere(places: &Places, came: ReturnedFields<'_>) -> bool
+fn any_nowhere(places: &CellBeliefs, came: ReturnedFields<'_>) -> bool
     ensures { result ≡ list_any (is_nowhere cell_count (beliefs_held places.now 0 places.now)) came.entry }
 {
     for field in came {
@@ -53,87 +53,89 @@ fn any_nowhere(places: &Places, came: ReturnedFields<'_>) -> bool
     false
 }
 
-/// Whether a protected field with this mark can't have this text.
+/// Whether a protected field of which this is known of MDT can't have this text.
 #[inline(never)]
 fn contradicts_protected(
-    places: &Places,
+    places: &CellBeliefs,
     place: usize,
-    mark: Mark,
-    telling: Telling,
+    mark: MdtState,
+    knowledge: TextKnowledge,
     text: &[u8],
 ) -> bool
     requires { place < cell_count }
-    ensures { result ≡ (is_off mark || denies_text (fact_held telling (drop (place + 1) places.now ++ places.now)) text.now) }
+    ensures { result ≡ (is_off mark || denies_text (fact_held knowledge (drop (place + 1) places.now ++ places.now)) text.now) }
 {
-    mark == Mark::Off || denies(places, place, telling, text)
+    mark == MdtState::Off || denies(places, place, knowledge, text)
 }
 
 /// Whether it can't be that a text, or none, came for the field whose attribute is held at a place; `count`: of its characters.
 fn contradicts(
-    places: &Places,
+    places: &CellBeliefs,
     place: usize,
     count: usize,
-    held: Place,
+    held: CellBelief,
     text: Option<&[u8]>,
 ) -> bool
     requires placed { place < cell_count }
     requires counted { count ≡ length (chars_known (drop (place + 1) places.now ++ places.now)) }
     ensures { result ≡ contradicts_held held place (drop (place + 1) places.now ++ places.now) (text_of text.entry) }
 {
-    let Place::Attr(attr, mark, telling) = held else {
+    let CellBelief::Attr(attr, mark, knowledge) = held else {
         return false;
     };
     match text {
-        None => attr.protected && mark == Mark::On,
+        None => attr.protected && mark == MdtState::On,
         Some(text) => {
             count < text.len()
-                || attr.protected && contradicts_protected(places, place, mark, telling, text)
+                || attr.protected && contradicts_protected(places, place, mark, knowledge, text)
         }
     }
 }
 
 /// Whether the operator erased the input of the field whose attribute is held at a place: it was on, and isn't returned.
-fn was_erased(held: Place, text: Option<&[u8]>) -> bool
+fn was_erased(held: CellBelief, text: Option<&[u8]>) -> bool
     ensures { (place : ℕ) → (ahead : List Held) → result ≡ lost_held held place ahead (text_of text.entry) }
 {
     match held {
-        Place::Attr(attr, mark, _) => text.is_none() && !attr.protected && mark == Mark::On,
-        Place::Known(_) => false,
-        Place::Told(_) => false,
-        Place::Unknown => false,
+        CellBelief::Attr(attr, mark, _) => text.is_none()
+            && !attr.protected
+            && mark == MdtState::On,
+        CellBelief::Known(_) => false,
+        CellBelief::Told(_) => false,
+        CellBelief::Unknown => false,
     }
 }
 
 /// Whether some field's input was erased, if the fields that came can be those of a screen that is so believed.
 #[inline(never)]
-fn erased_if_possible(places: &Places, returned: ReturnedFields<'_>) -> Option<bool>
+fn erased_if_possible(places: &CellBeliefs, returned: ReturnedFields<'_>) -> Option<bool>
     ensures { let beliefs = beliefs_held places.now 0 places.now in
         MatchOption result (can_be beliefs returned.entry ≡ false) (λ erased. (can_be beliefs returned.entry ≡ true) × (any_lost beliefs returned.entry ≡ erased)) }
 {
-    let mut coming = Coming::new(returned);
+    let mut returned_cursor = ReturnedCursor::new(returned);
     let mut erased = false;
     let mut place = places.attribute_from(0);
     while place < CELL_COUNT {
         let held = places.attribute_at(place);
         let next = places.attribute_from(place + 1);
         let count = places.count_behind(place, next);
-        let text = coming.take(held, place);
+        let text = returned_cursor.take(held, place);
         if contradicts(places, place, count, held, text) {
             return None;
         }
         erased |= was_erased(held, text);
         place = next;
     }
-    if coming.is_empty() {
+    if returned_cursor.is_empty() {
         Some(erased)
     } else {
         None
     }
 }
 
-/// Why what came can't be of a screen that is so believed.
+/// The fault of data that contradicts the belief.
 #[inline(never)]
-fn fault_of(places: &Places, returned: ReturnedFields<'_>) -> HeardFault
+fn fault_of(places: &CellBeliefs, returned: ReturnedFields<'_>) -> HeardFault
     ensures { result ≡ (if list_any (is_nowhere cell_count (beliefs_held places.now 0 places.now)) returned.entry then NoSuchField else Contradiction) }
 {
     if any_nowhere(places, returned) {
@@ -144,13 +146,13 @@ fn fault_of(places: &Places, returned: ReturnedFields<'_>) -> HeardFault
 }
 
 /// Whether some field's input was erased, if what came can be of a screen that is so believed, with fields.
-pub(crate) fn check_fields(places: &Places, inbound: &Inbound<'_>) -> Result<bool, HeardFault>
+pub(crate) fn check_fields(places: &CellBeliefs, inbound: &Inbound<'_>) -> Result<bool, HeardFault>
     ensures { let beliefs = beliefs_held places.now 0 places.now in
         let came = returned inbound.now.parts in
         let heard = heard_parts cell_count (FormattedBelief beliefs) inbound.now.parts in
         MatchResult result (λ erased. (heard ≡ Ok (FormattedBelief (long_after erased beliefs came))) × (can_be beliefs came ≡ true)) (λ fault. heard ≡ Err fault) }
 {
-    if !inbound.lead().is_empty() {
+    if !inbound.leading_text().is_empty() {
         return Err(fault_of(places, inbound.returned()));
     }
     match erased_if_possible(places, inbound.returned()) {
@@ -159,12 +161,12 @@ pub(crate) fn check_fields(places: &Places, inbound: &Inbound<'_>) -> Result<boo
     }
 }
 
-/// What becomes of the field whose attribute stands at a place, if it isn't returned.
-fn if_unreturned(places: &Places, place: usize, telling: Telling) -> Unreturned
+/// What becomes of the field whose attribute is at a place, if it isn't returned.
+fn if_unreturned(places: &CellBeliefs, place: usize, knowledge: TextKnowledge) -> Unreturned
     requires { place < cell_count }
-    ensures { result ≡ unreturned_of telling (drop (place + 1) places.now ++ places.now) }
+    ensures { result ≡ unreturned_of knowledge (drop (place + 1) places.now ++ places.now) }
 {
-    let Telling::Cells = telling else {
+    let TextKnowledge::Cells = knowledge else {
         return Unreturned::Stays;
     };
     if !all_known(places.ahead(place)) {
@@ -177,27 +179,27 @@ fn if_unreturned(places: &Places, place: usize, telling: Telling) -> Unreturned
 }
 
 /// What becomes of an unprotected field that isn't returned.
-fn unreturned_change<'a>(unreturned: Unreturned, telling: Telling) -> Change<'a>
-    ensures { change_of result ≡ unreturned_by unreturned telling }
+fn unreturned_change<'a>(unreturned: Unreturned, knowledge: TextKnowledge) -> Change<'a>
+    ensures { change_of result ≡ unreturned_by unreturned knowledge }
 {
-    let (telling, filling) = match unreturned {
-        Unreturned::Stays => (or_nulls(telling), Filling::Same),
-        Unreturned::IsTold => (Telling::ExactOrNulls, Filling::Told),
-        Unreturned::IsForgotten => (Telling::Cells, Filling::Unknown),
+    let (knowledge, update) = match unreturned {
+        Unreturned::Stays => (or_nulls(knowledge), FieldUpdate::Same),
+        Unreturned::IsTold => (TextKnowledge::ExactOrNulls, FieldUpdate::Told),
+        Unreturned::IsForgotten => (TextKnowledge::Cells, FieldUpdate::Unknown),
     };
     Change {
-        mark: Mark::Off,
-        telling,
-        filling,
+        mark: MdtState::Off,
+        knowledge,
+        update,
     }
 }
 
-fn or_nulls(telling: Telling) -> Telling
-    ensures { result ≡ or_null_telling telling }
+fn or_nulls(knowledge: TextKnowledge) -> TextKnowledge
+    ensures { result ≡ or_null_knowledge knowledge }
 {
-    match telling {
-        Telling::Text => Telling::TextOrNulls,
-        _ => telling,
+    match knowledge {
+        TextKnowledge::Text => TextKnowledge::TextOrNulls,
+        _ => knowledge,
     }
 }
 
@@ -207,58 +209,63 @@ fn returned_change(text: &[u8]) -> Change<'_>
 {
     if text.is_empty() {
         Change {
-            mark: Mark::On,
-            telling: Telling::Cells,
-            filling: Filling::Null,
+            mark: MdtState::On,
+            knowledge: TextKnowledge::Cells,
+            update: FieldUpdate::Null,
         }
     } else {
         Change {
-            mark: Mark::On,
-            telling: Telling::Text,
-            filling: Filling::Text(text),
+            mark: MdtState::On,
+            knowledge: TextKnowledge::Text,
+            update: FieldUpdate::Text(text),
         }
     }
 }
 
 /// What becomes of an unprotected field that isn't returned, where the operator may have erased the input.
 #[inline(never)]
-fn lost_change<'a>(places: &Places, place: usize, erased: bool, telling: Telling) -> Change<'a>
+fn lost_change<'a>(
+    places: &CellBeliefs,
+    place: usize,
+    erased: bool,
+    knowledge: TextKnowledge,
+) -> Change<'a>
     requires { place < cell_count }
-    ensures { change_of result ≡ input_by erased telling (unreturned_of telling (drop (place + 1) places.now ++ places.now)) None }
+    ensures { change_of result ≡ input_by erased knowledge (unreturned_of knowledge (drop (place + 1) places.now ++ places.now)) None }
 {
     if erased {
         Change {
-            mark: Mark::Off,
-            telling: Telling::Cells,
-            filling: Filling::Null,
+            mark: MdtState::Off,
+            knowledge: TextKnowledge::Cells,
+            update: FieldUpdate::Null,
         }
     } else {
-        unreturned_change(if_unreturned(places, place, telling), telling)
+        unreturned_change(if_unreturned(places, place, knowledge), knowledge)
     }
 }
 
 /// What becomes of an unprotected field.
 fn input_change<'a>(
-    places: &Places,
+    places: &CellBeliefs,
     place: usize,
     erased: bool,
-    telling: Telling,
+    knowledge: TextKnowledge,
     text: Option<&'a [u8]>,
 ) -> Change<'a>
     requires { place < cell_count }
-    ensures { change_of result ≡ input_by erased telling (unreturned_of telling (drop (place + 1) places.now ++ places.now)) (text_of text.entry) }
+    ensures { change_of result ≡ input_by erased knowledge (unreturned_of knowledge (drop (place + 1) places.now ++ places.now)) (text_of text.entry) }
 {
     match text {
         Some(text) => returned_change(text),
-        None => lost_change(places, place, erased, telling),
+        None => lost_change(places, place, erased, knowledge),
     }
 }
 
 /// What becomes of the field whose attribute is held at a place. Of a character it isn't looked at.
 fn change_after<'a>(
-    places: &Places,
+    places: &CellBeliefs,
     place: usize,
-    held: Place,
+    held: CellBelief,
     erased: bool,
     text: Option<&'a [u8]>,
 ) -> Change<'a>
@@ -266,16 +273,20 @@ fn change_after<'a>(
     ensures { change_of result ≡ long_change erased held (unreturned_at held (drop (place + 1) places.now ++ places.now)) (text_of text.entry) }
 {
     match held {
-        Place::Attr(attr, _, telling) if attr.protected => Change {
-            mark: if text.is_some() { Mark::On } else { Mark::Off },
-            telling,
-            filling: Filling::Same,
+        CellBelief::Attr(attr, _, knowledge) if attr.protected => Change {
+            mark: if text.is_some() {
+                MdtState::On
+            } else {
+                MdtState::Off
+            },
+            knowledge,
+            update: FieldUpdate::Same,
         },
-        Place::Attr(_, _, telling) => input_change(places, place, erased, telling, text),
+        CellBelief::Attr(_, _, knowledge) => input_change(places, place, erased, knowledge, text),
         _ => Change {
-            mark: Mark::Off,
-            telling: Telling::Cells,
-            filling: Filling::Same,
+            mark: MdtState::Off,
+            knowledge: TextKnowledge::Cells,
+            update: FieldUpdate::Same,
         },
     }
 }
@@ -283,21 +294,21 @@ fn change_after<'a>(
 /// Takes in data that lists those with MDT on; `erased`: the operator erased the input. The last field's characters go on
 /// round the end.
 #[inline(never)]
-fn take_fields<'a>(places: &mut Places, erased: bool, returned: ReturnedFields<'a>)
+fn take_fields<'a>(places: &mut CellBeliefs, erased: bool, returned: ReturnedFields<'a>)
     ensures { let changes = long_changes erased 0 returned.entry places.old (unreturned_from places.old places.old) in
         places.new ≡ front_filled (last_fill Same changes places.old) (all_changed Same changes places.old) }
 {
-    let mut coming = Coming::new(returned);
+    let mut returned_cursor = ReturnedCursor::new(returned);
     let mut place = places.attribute_from(0);
     while place < CELL_COUNT {
         let held = places.attribute_at(place);
         let end = places.attribute_from(place + 1);
-        let text = coming.take(held, place);
+        let text = returned_cursor.take(held, place);
         let one = change_after(places, place, held, erased, text);
-        places.set_head(place, one.mark, one.telling);
-        fill_between(places, place + 1, end, one.filling);
+        places.set_head(place, one.mark, one.knowledge);
+        fill_between(places, place + 1, end, one.update);
         if CELL_COUNT <= end {
-            fill_front(places, filling_after(one.filling, end - place - 1));
+            fill_front(places, update_after(one.update, end - place - 1));
             return;
         }
         place = end;
@@ -305,7 +316,7 @@ fn take_fields<'a>(places: &mut Places, erased: bool, returned: ReturnedFields<'
 }
 
 /// Takes in data that is possible, of a screen with fields; `erased`: the operator erased the input.
-pub(crate) fn after_long(places: &mut Places, erased: bool, returned: ReturnedFields<'_>)
+pub(crate) fn after_long(places: &mut CellBeliefs, erased: bool, returned: ReturnedFields<'_>)
     requires held { IsHeld places.old }
     requires possible { can_be (beliefs_held places.old 0 places.old) returned ≡ true }
     ensures fields { beliefs_held places.new 0 places.new ≡ long_after erased (beliefs_held places.old 0 places.old) returned.entry }
@@ -315,46 +326,46 @@ pub(crate) fn after_long(places: &mut Places, erased: bool, returned: ReturnedFi
 }
 
 /// What becomes of a field after a key that sends none.
-fn key_change_of<'a>(held: Place) -> Change<'a>
+fn key_change_of<'a>(held: CellBelief) -> Change<'a>
     ensures { change_of result ≡ key_change held }
 {
     match held {
-        Place::Attr(attr, mark, telling) if attr.protected => Change {
+        CellBelief::Attr(attr, mark, knowledge) if attr.protected => Change {
             mark,
-            telling,
-            filling: Filling::Same,
+            knowledge,
+            update: FieldUpdate::Same,
         },
-        Place::Attr(_, _, _) => Change {
-            mark: Mark::Unknown,
-            telling: Telling::Cells,
-            filling: Filling::Unknown,
+        CellBelief::Attr(_, _, _) => Change {
+            mark: MdtState::Unknown,
+            knowledge: TextKnowledge::Cells,
+            update: FieldUpdate::Unknown,
         },
         _ => Change {
-            mark: Mark::Unknown,
-            telling: Telling::Cells,
-            filling: Filling::Same,
+            mark: MdtState::Unknown,
+            knowledge: TextKnowledge::Cells,
+            update: FieldUpdate::Same,
         },
     }
 }
 
 /// Takes in a key that sends no fields.
-pub(crate) fn after_attention(places: &mut Places)
+pub(crate) fn after_attention(places: &mut CellBeliefs)
     requires { IsHeld places.old }
     ensures fields { beliefs_held places.new 0 places.new ≡ map attention_one (beliefs_held places.old 0 places.old) }
     ensures held { IsHeld places.new }
 {
-    let mut filling = Filling::Same;
+    let mut update = FieldUpdate::Same;
     let mut filled = 0;
     let mut place = places.attribute_from(0);
     while place < CELL_COUNT {
         let held = places.attribute_at(place);
         let end = places.attribute_from(place + 1);
         let one = key_change_of(held);
-        places.set_head(place, one.mark, one.telling);
-        fill_between(places, place + 1, end, one.filling);
-        filling = one.filling;
+        places.set_head(place, one.mark, one.knowledge);
+        fill_between(places, place + 1, end, one.update);
+        update = one.update;
         filled = end - place - 1;
         place = end;
     }
-    fill_front(places, filling_after(filling, filled));
+    fill_front(places, update_after(update, filled));
 }

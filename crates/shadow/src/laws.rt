@@ -1,30 +1,33 @@
-//! What holds of beliefs. The functions are empty: their contracts are the laws.
+//! Laws of beliefs: each is the contract of a function that does nothing. Proofs of
+//! other crates use them; no program calls them, and the root doesn't export them.
 ghost use Rattle.shadow.specs.Openness.{LongOpensNothing, ReadLeavesNothingOpen, EraseLeavesNothingOpen, ClearIsHeard, PaintOpensNothing};
 ghost use Rattle.shadow.specs.Notes.{NoteOverwritesProtected, NoteOverwritesBare, PlacedStaysKnown, NoteStaysListed, NoteStaysTold, NoteStaysExact, NoteOpensNothing, NoteStaysWhole};
 ghost use Rattle.shadow.specs.Laws.{HearsModified, HearsAll, HearsBuffer, WrittenIsTaken, WantedIsPainted, PaintIsTaken, PaintedIsKnown, PaintIsBounded, PaintIsPlain, PaintIsSpelt, KnownIsThere, AttributesAreKnown};
 ghost use Rattle.shadow.specs.Exactness.{NothingIsExact, HeardStaysExact, HeardStaysProtected, TakenStaysExact, ErasedIsExact, PaintedIsExact, WrittenStaysProtected, ProtectedIsSeen, ReturnedIsTold};
 ghost use Rattle.shadow.specs.Storable.{HeardCanBeStored, TakenCanBeStored, ToldCanBeStored};
 
-use datastream::written_is_read;
+use datastream::laws::written_is_read;
 
-/// What a terminal sends after keys isn't refused, and what the host then believes is so.
+/// Law: what a terminal sends after keys isn't refused, and what the host then believes is so.
 pub fn what_is_sent_is_heard()
     ensures modified { HearsModified }
     ensures all { HearsAll }
 {}
 
-/// The same of the answer to Read Buffer.
+/// Law: the same of the answer to Read Buffer.
 pub fn what_is_read_is_heard()
     ensures { HearsBuffer }
 {}
 
-/// A plain write on a screen that meets what is believed leaves one that meets what is then believed.
+/// Law: a plain write on a screen that meets what is believed leaves one that meets what is then
+/// believed.
 pub fn what_is_written_is_taken()
     ensures { WrittenIsTaken }
 {}
 
-/// A paint is a plain write, is spelt by its bytes, which are no more than a bound, makes the wanted screen of every screen that meets what is believed, and
-/// leaves what the wanted screen meets, and so something known.
+/// Law: a paint is a plain write, is spelt by its bytes, which are no more than a bound, makes the
+/// wanted screen of every screen that meets what is believed, and leaves what the wanted screen
+/// meets, and so something known.
 pub fn what_is_wanted_is_painted()
     ensures plain { PaintIsPlain }
     ensures spelt { PaintIsSpelt }
@@ -36,21 +39,23 @@ pub fn what_is_wanted_is_painted()
     written_is_read();
 }
 
-/// A cell that is known is that of every screen which meets what is believed, but for the MDT of an attribute; and where
-/// something is known, so is each attribute.
+/// Law: a cell that is known is that of every screen which meets what is believed, but for the MDT
+/// of an attribute; and where something is known, so is each attribute.
 pub fn what_is_known_is_there()
     ensures cells { KnownIsThere }
     ensures attributes { AttributesAreKnown }
 {}
 
-/// Where all characters of a field are known its fact is exact. This stays so, whatever is heard or written.
+/// Law: where all characters of a field are known its fact is exact. This stays so, whatever is
+/// heard or written.
 pub fn what_is_known_is_exact()
     ensures heard { HeardStaysExact }
     ensures taken { TakenStaysExact }
 {}
 
-/// The fact of each protected field is exact where nothing is known, after each erase and after each paint that fits; and it
-/// stays so whatever is heard, and where characters alone are written over characters.
+/// Law: the fact of each protected field is exact where nothing is known, after each erase and
+/// after each paint that fits; and it stays so whatever is heard, and where characters alone are
+/// written over characters.
 pub fn what_is_protected_is_exact()
     ensures nothing { NothingIsExact }
     ensures heard { HeardStaysProtected }
@@ -59,15 +64,17 @@ pub fn what_is_protected_is_exact()
     ensures written { WrittenStaysProtected }
 {}
 
-/// Where the facts of protected fields are exact, the host knows their texts, and is told the text of each returned field.
+/// Law: where the facts of protected fields are exact, the host knows their texts, and is told the
+/// text of each returned field.
 pub fn what_is_exact_is_so()
     ensures protected { ProtectedIsSeen }
     ensures returned { ReturnedIsTold }
 {}
 
-/// A note, which is a write over characters of protected fields or of none, leaves what is known known, each field listed,
-/// what is told of input told, exact facts exact, and nothing open; an unformatted screen that was wholly known stays so.
-/// That the new screen meets what is then believed is `what_is_written_is_taken`.
+/// Law: a note, which is a write over characters of protected fields or of none, leaves what is
+/// known known, each field listed, what is told of input told, exact facts exact, and nothing open;
+/// an unformatted screen that was wholly known stays so. That the new screen meets what is then
+/// believed is `what_is_written_is_taken`.
 pub fn what_a_note_leaves()
     ensures noted { NoteOverwritesProtected }
     ensures bare { NoteOverwritesBare }
@@ -79,9 +86,9 @@ pub fn what_a_note_leaves()
     ensures whole { NoteStaysWhole }
 {}
 
-/// Data of Enter or a PF key, and what is asked for, opens no field whose text, or text or nulls, was believed; the answer to
-/// Read Buffer and an erase leave none open at all; Clear leaves an unformatted screen of known nulls; a paint that keeps
-/// whole fields opens none.
+/// Law: data of Enter or a PF key, and what is asked for, opens no field whose text, or text or
+/// nulls, was believed; the answer to Read Buffer and an erase leave none open at all; Clear leaves
+/// an unformatted screen of known nulls; a paint that keeps whole fields opens none.
 pub fn what_leaves_nothing_open()
     ensures long { LongOpensNothing }
     ensures buffer { ReadLeavesNothingOpen }
@@ -90,8 +97,9 @@ pub fn what_leaves_nothing_open()
     ensures painted { PaintOpensNothing }
 {}
 
-/// What is believed can be stored: where a cell can hold each character that is known, and those of texts are no nulls, this
-/// stays so, whatever is heard or written; and the texts that the host is told are of such characters, without nulls.
+/// Law: what is believed can be stored: where a cell can hold each character that is known, and
+/// those of texts are no nulls, this stays so, whatever is heard or written; and the texts that the
+/// host is told are of such characters, without nulls.
 pub fn what_is_believed_can_be_stored()
     ensures heard { HeardCanBeStored }
     ensures taken { TakenCanBeStored }

@@ -7,7 +7,7 @@
 //! let mut write = Vec::new(alloc);
 //! shadow.paint(&mut write, &wanted)?;
 //!
-//! // The terminal's positive response has come. Here WHO? stands at row 1 and column 2, and a field behind its attribute at 6.
+//! // The terminal's positive response has come. Here WHO? is at row 1 and column 2, and a field after its attribute at 6.
 //! shadow.sent_taken(&read_command(write.as_slice())?);
 //! assert!(rt; shadow.known(Addr::first().next()) == Some(Cell::Char(0xe6)));
 //!
@@ -24,18 +24,18 @@
 
 mod asking;
 mod buffer;
-mod came;
+mod cell_belief;
+mod cell_beliefs;
 mod fact;
 mod fault;
-mod filling;
+mod field_update;
 mod fitting;
 mod hearing;
 mod known;
-mod laws;
-mod mark;
+pub mod laws;
+mod mdt_state;
 mod painting;
-mod place;
-mod places;
+mod returned_cursor;
 mod searching;
 mod shadow;
 mod taking;
@@ -43,12 +43,6 @@ mod writing;
 
 pub use fact::Fact;
 pub use fault::HeardFault;
-pub use laws::{
-    what_a_note_leaves, what_is_believed_can_be_stored, what_is_exact_is_so,
-    what_is_known_is_exact, what_is_known_is_there, what_is_protected_is_exact,
-    what_is_read_is_heard, what_is_sent_is_heard, what_is_wanted_is_painted,
-    what_is_written_is_taken, what_leaves_nothing_open,
-};
-pub use mark::Mark;
+pub use mdt_state::MdtState;
 pub use shadow::Shadow;
 pub use writing::plain;

@@ -2,7 +2,7 @@
 ghost use Rattle.std.specs.Prelude.{◌≡◌, ◌<◌, ◌+◌, ◌∷◌, ◌++◌, [], IfSome, Some, None, false, drop, length, slice_index_or};
 ghost use Rattle.codes3270.specs.Size.{cell_count};
 ghost use Rattle.datastream.specs.declared.order.Order.TheVariants.{Sba, Ic};
-ghost use Rattle.datastream.specs.Rows.{word_count};
+ghost use Rattle.datastream.specs.CellBits.{word_count};
 ghost use Rattle.datastream.specs.declared.wanted.Want.TheVariants.{Keep};
 ghost use Rattle.shadow.specs.InPlace.{cell_known};
 ghost use Rattle.shadow.specs.Base.{known_base, mark_off_if};
@@ -13,11 +13,11 @@ ghost use Rattle.shadow.specs.declared.known.Known.TheVariants.{Char as KnownCha
 ghost use Rattle.shadow.specs.Paint.{is_there as is_there_already, cell_to_store as cell_stored, order_of, is_at, sba_unless, painting, to_store};
 
 use crate::buffer::same_attr;
+use crate::cell_belief::CellBelief;
+use crate::cell_beliefs::CellBeliefs;
 use crate::fitting::keeps_ahead;
 use crate::known::Known;
-use crate::mark::Mark;
-use crate::place::Place;
-use crate::places::Places;
+use crate::mdt_state::MdtState;
 use crate::searching::{Search, bits_written};
 use codes3270::{Addr, Cell};
 use datastream::{CommandWriter, Memory, Want, Wanted};
@@ -25,7 +25,7 @@ use datastream::{CommandWriter, Memory, Want, Wanted};
 /// What a paint finds on the screen, once it has erased it or set marks off.
 #[derive(Drop)]
 pub(crate) struct Base<'a> {
-    pub places: &'a Places,
+    pub places: &'a CellBeliefs,
     /// Else it erases.
     pub formatted: bool,
     /// Whether it sets marks off.
@@ -33,14 +33,17 @@ pub(crate) struct Base<'a> {
 }
 
 /// What is known of a place.
-fn known_place(place: Place, reset: bool) -> Known
+fn known_place(place: CellBelief, reset: bool) -> Known
     ensures { result ≡ mark_off_if reset (cell_known place false) }
 {
     match place {
-        Place::Attr(attr, mark, _) => Known::Attr(attr, if reset { Mark::Off } else { mark }),
-        Place::Known(char) => Known::Char(Some(char), false),
-        Place::Told(_) => Known::Char(None, false),
-        Place::Unknown => Known::Char(None, false),
+        CellBelief::Attr(attr, mark, _) => Known::Attr(
+            attr,
+            if reset { MdtState::Off } else { mark },
+        ),
+        CellBelief::Known(char) => Known::Char(Some(char), false),
+        CellBelief::Told(_) => Known::Char(None, false),
+        CellBelief::Unknown => Known::Char(None, false),
     }
 }
 
@@ -88,9 +91,9 @@ fn is_there(known: Known, cell: Cell) -> bool
         (Known::Attr(believed, mark), Cell::Attr(attr)) => {
             same_attr(believed, attr)
                 && if attr.mdt {
-                    mark == Mark::On
+                    mark == MdtState::On
                 } else {
-                    mark == Mark::Off
+                    mark == MdtState::Off
                 }
         }
         (Known::Char(Some(char), _), Cell::Char(byte)) => char == byte,

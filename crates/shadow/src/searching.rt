@@ -2,7 +2,7 @@
 ghost use Rattle.std.specs.Prelude.{◌≡◌, ◌<◌, ◌≤◌, ◌+◌, ◌*◌, ◌/◌, ◌%◌, ℕ, IfSome, true, false, length, slice_index_or};
 ghost use Rattle.std.specs.Int.{bit_at};
 ghost use Rattle.codes3270.specs.Size.{cell_count};
-ghost use Rattle.datastream.specs.Rows.{word_count};
+ghost use Rattle.datastream.specs.CellBits.{word_count};
 ghost use Rattle.shadow.specs.Appending.{IsStorableCell};
 ghost use Rattle.shadow.specs.Base.{known_base};
 ghost use Rattle.shadow.specs.Looks.{stored_first, stores_from, IsRight, IsSearch, SetUnless};

@@ -18,13 +18,13 @@ ghost use Rattle.shadow.specs.Taken.{taken, taken_write, taken_erase};
 
 use crate::asking::{fact_held_at, has_attribute, is_text_held_at, known_held_at, value_held_at};
 use crate::buffer::{any_other, put_read};
+use crate::cell_belief::CellBelief;
+use crate::cell_beliefs::CellBeliefs;
 use crate::fact::Fact;
 use crate::fault::HeardFault;
 use crate::fitting::fits_fields;
 use crate::hearing::{after_attention, after_long, check_fields};
 use crate::painting::{Base, put_cells};
-use crate::place::Place;
-use crate::places::Places;
 use crate::taking::{erase_over, write_over};
 use crate::writing::stores_unplaced;
 use codes3270::{Addr, Aid, Cell, Wcc};
@@ -37,7 +37,7 @@ use std::marker::Model;
 pub struct Shadow {
     /// Whether something is known.
     knows: bool,
-    places: Places,
+    places: CellBeliefs,
 }
 
 impl Model for Shadow {
@@ -58,7 +58,7 @@ impl Shadow {
     {
         Shadow {
             knows: false,
-            places: Places::new(Place::Unknown),
+            places: CellBeliefs::new(CellBelief::Unknown),
         }
     }
 
@@ -79,7 +79,7 @@ impl Shadow {
     }
 
     /// Takes in what a terminal sent. A refusal changes nothing. It is `NoSuchField` where an address is the first of no
-    /// field, else `Contradiction` where what came can't be, by what is believed.
+    /// field, else `Contradiction` if the belief contradicts the data.
     pub fn heard(&mut self, inbound: &Inbound<'_>) -> Result<(), HeardFault>
         ensures { let heard = heard cell_count self.old inbound.now in
             MatchResult result (λ _. heard ≡ Ok self.new) (λ fault. (heard ≡ Err fault) × (self.new ≡ self.old)) }
@@ -169,7 +169,7 @@ impl Shadow {
         }
     }
     /// The places, if something is known.
-    fn held(&self) -> Option<&Places>
+    fn held(&self) -> Option<&CellBeliefs>
         ensures { MatchOption result (self.now ≡ NothingKnown) (λ places. (self.now ≡ shadow_held true places.now) × IsHeld places.now) }
     {
         if self.knows { Some(&self.places) } else { None }
@@ -225,7 +225,7 @@ impl Shadow {
     fn hear_clear(&mut self)
         ensures { self.new ≡ Unformatted (replicate cell_count (Some 0)) }
     {
-        self.places.fill(Place::Known(0));
+        self.places.fill(CellBelief::Known(0));
         self.knows = true;
     }
 
@@ -261,7 +261,7 @@ impl Shadow {
     {
         match inbound.returned().next() {
             Some(_) => Err(HeardFault::NoSuchField),
-            None if self.knows && self.places.len() < inbound.lead().len() => {
+            None if self.knows && self.places.len() < inbound.leading_text().len() => {
                 Err(HeardFault::Contradiction)
             }
             None => {

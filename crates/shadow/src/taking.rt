@@ -3,61 +3,65 @@ ghost use Rattle.std.specs.Prelude.{◌≡◌, ◌<◌, ◌+◌, ◌++◌, ◌�
 ghost use Rattle.codes3270.specs.Size.{cell_count};
 ghost use Rattle.datastream.specs.declared.order.Order.{Order as PlainOrder};
 ghost use Rattle.shadow.specs.declared.known.Known.{Known as KnownCell};
-ghost use Rattle.shadow.specs.declared.place.Place.{Place as Held};
-ghost use Rattle.shadow.specs.declared.place.Place.TheVariants.{Unknown};
-ghost use Rattle.shadow.specs.declared.place.Past.{Past as PastPlace};
+ghost use Rattle.shadow.specs.declared.cell_belief.CellBelief.{CellBelief as Held};
+ghost use Rattle.shadow.specs.declared.cell_belief.CellBelief.TheVariants.{Unknown};
+ghost use Rattle.shadow.specs.declared.cell_belief.BeforeWrite.{BeforeWrite as PriorCell};
 ghost use Rattle.shadow.specs.InPlace.{cell_known, cells_known, beliefs_held, shadow_held, IsHeld};
-ghost use Rattle.shadow.specs.Since.{place_stored, place_off, telling_of, never, cells_written, Since, is_touched, telling_after as telling_then, place_settled, settled};
+ghost use Rattle.shadow.specs.Since.{place_stored, place_off, knowledge_of, never, cells_written, Since, is_touched, knowledge_after as telling_then, place_settled, settled};
 ghost use Rattle.shadow.specs.Stores.{is_plain, stores};
 ghost use Rattle.shadow.specs.Taken.{believed, known_after, known_stored, new_cell, resets as resets_marks, taken_erase};
 
-use crate::mark::Mark;
-use crate::place::{Former, NO_FIELD, Past, Place, Telling};
-use crate::places::Places;
+use crate::cell_belief::{BeforeWrite, CellBelief, NO_FIELD, PriorKnowledge, TextKnowledge};
+use crate::cell_beliefs::CellBeliefs;
+use crate::mdt_state::MdtState;
 use crate::writing::{mark_seen, resets};
 use codes3270::{Addr, CELL_COUNT, Cell, Wcc};
 use datastream::{Command, Order, Orders};
 
 /// A place in which a cell was stored, or read.
-pub(crate) fn place_of(cell: Cell) -> Place
+pub(crate) fn place_of(cell: Cell) -> CellBelief
     ensures { result ≡ place_stored cell }
 {
     match cell {
-        Cell::Attr(attr) => Place::Attr(attr.with_mdt(false), mark_seen(attr.mdt), Telling::Cells),
-        Cell::Char(char) => Place::Known(char),
+        Cell::Attr(attr) => CellBelief::Attr(
+            attr.with_mdt(false),
+            mark_seen(attr.mdt),
+            TextKnowledge::Cells,
+        ),
+        Cell::Char(char) => CellBelief::Known(char),
     }
 }
 
-fn past_at(pasts: &[Past], place: usize) -> Past
+fn past_at(pasts: &[BeforeWrite], place: usize) -> BeforeWrite
     requires { place < length pasts.now }
     ensures { result ≡ slice_index_or pasts.now place result }
 {
     pasts[place]
 }
 
-fn past_of(place: Place) -> Past
-    ensures { result ≡ record { telling = telling_of place; fresh = false } }
+fn past_of(place: CellBelief) -> BeforeWrite
+    ensures { result ≡ record { knowledge = knowledge_of place; fresh = false } }
 {
-    let telling = match place {
-        Place::Attr(_, _, telling) => Some(telling),
-        Place::Known(_) => None,
-        Place::Told(_) => None,
-        Place::Unknown => None,
+    let knowledge = match place {
+        CellBelief::Attr(_, _, knowledge) => Some(knowledge),
+        CellBelief::Known(_) => None,
+        CellBelief::Told(_) => None,
+        CellBelief::Unknown => None,
     };
-    Past {
-        telling: Former::new(telling),
+    BeforeWrite {
+        knowledge: PriorKnowledge::new(knowledge),
         fresh: false,
     }
 }
 
 /// What the places are before a write.
-fn pasts_of(places: &Places) -> [Past; CELL_COUNT]
+fn pasts_of(places: &CellBeliefs) -> [BeforeWrite; CELL_COUNT]
     ensures since { Since places.now places.now result }
     ensures cells { cells_written places.now result ≡ cells_known places.now }
     ensures size { length result ≡ cell_count }
 {
-    let mut pasts = [Past {
-        telling: NO_FIELD,
+    let mut pasts = [BeforeWrite {
+        knowledge: NO_FIELD,
         fresh: false,
     }; CELL_COUNT];
     let mut place = places.attribute_from(0);
@@ -69,7 +73,7 @@ fn pasts_of(places: &Places) -> [Past; CELL_COUNT]
 }
 
 /// Stores a cell.
-fn put(places: &mut Places, pasts: &mut [Past], at: Addr, cell: Cell)
+fn put(places: &mut CellBeliefs, pasts: &mut [BeforeWrite], at: Addr, cell: Cell)
     requires { length pasts.old ≡ cell_count }
     ensures cells { cells_written places.new pasts.new ≡ slice_set (cells_written places.old pasts.old) at (new_cell cell) }
     ensures since { (old : List Held) → Since old places.old pasts.old → Since old places.new pasts.new }
@@ -77,14 +81,14 @@ fn put(places: &mut Places, pasts: &mut [Past], at: Addr, cell: Cell)
 {
     let place = at.get() as usize;
     places.set(place, place_of(cell));
-    pasts[place] = Past {
-        telling: past_at(pasts, place).telling,
+    pasts[place] = BeforeWrite {
+        knowledge: past_at(pasts, place).knowledge,
         fresh: true,
     };
 }
 
 /// Carries out an order at an address, and answers the next address.
-fn store_one(places: &mut Places, pasts: &mut [Past], at: Addr, order: Order) -> Addr
+fn store_one(places: &mut CellBeliefs, pasts: &mut [BeforeWrite], at: Addr, order: Order) -> Addr
     requires { length pasts.old ≡ cell_count }
     ensures cells { (more : List PlainOrder) → known_stored (stores cell_count at (order ∷ more)) (cells_written places.old pasts.old) ≡ known_stored (stores cell_count result more) (cells_written places.new pasts.new) }
     ensures since { (old : List Held) → Since old places.old pasts.old → Since old places.new pasts.new }
@@ -108,7 +112,7 @@ fn store_one(places: &mut Places, pasts: &mut [Past], at: Addr, order: Order) ->
 }
 
 /// Stores what the orders store.
-fn store(places: &mut Places, pasts: &mut [Past], orders: Orders<'_>)
+fn store(places: &mut CellBeliefs, pasts: &mut [BeforeWrite], orders: Orders<'_>)
     requires { length pasts.old ≡ cell_count }
     ensures cells { cells_written places.new pasts.new ≡ known_stored (stores cell_count 0 orders.entry) (cells_written places.old pasts.old) }
     ensures since { (old : List Held) → Since old places.old pasts.old → Since old places.new pasts.new }
@@ -120,19 +124,19 @@ fn store(places: &mut Places, pasts: &mut [Past], orders: Orders<'_>)
     }
 }
 
-fn with_mark_off(place: Place) -> Place
+fn with_mark_off(place: CellBelief) -> CellBelief
     ensures { result ≡ place_off place }
 {
     match place {
-        Place::Attr(attr, _, telling) => Place::Attr(attr, Mark::Off, telling),
-        Place::Known(_) => place,
-        Place::Told(_) => place,
-        Place::Unknown => place,
+        CellBelief::Attr(attr, _, knowledge) => CellBelief::Attr(attr, MdtState::Off, knowledge),
+        CellBelief::Known(_) => place,
+        CellBelief::Told(_) => place,
+        CellBelief::Unknown => place,
     }
 }
 
-/// Sets each attribute's mark off.
-fn marks_off(places: &mut Places)
+/// Sets what is known of each attribute's MDT to off.
+fn marks_off(places: &mut CellBeliefs)
     ensures { places.new ≡ map place_off places.old }
 {
     for index in 0..places.len() {
@@ -141,8 +145,8 @@ fn marks_off(places: &mut Places)
     }
 }
 
-/// Sets each attribute's mark off, where the write does.
-fn reset_marks(places: &mut Places, wcc: Option<Wcc>)
+/// Sets what is known of each attribute's MDT to off, if the write resets MDT.
+fn reset_marks(places: &mut CellBeliefs, wcc: Option<Wcc>)
     ensures { places.new ≡ (if resets_marks wcc then map place_off places.old else places.old) }
 {
     if resets(wcc) {
@@ -152,25 +156,25 @@ fn reset_marks(places: &mut Places, wcc: Option<Wcc>)
 
 /// Whether a place shows if the field before it was touched: by a stored character it was, and by an attribute just where
 /// none was there.
-fn touch(place: Place, past: Past) -> Option<bool>
-    ensures { (cells : List KnownCell) → (pasts : List PastPlace) → is_touched (cell_known place past.fresh ∷ cells) (past ∷ pasts) ≡ unwrap_or result (is_touched cells pasts) }
+fn touch(place: CellBelief, past: BeforeWrite) -> Option<bool>
+    ensures { (cells : List KnownCell) → (pasts : List PriorCell) → is_touched (cell_known place past.fresh ∷ cells) (past ∷ pasts) ≡ unwrap_or result (is_touched cells pasts) }
 {
     match place {
-        Place::Attr(_, _, _) => Some(past.telling.get().is_none()),
-        Place::Known(_) => fresh_touch(past),
-        Place::Told(_) => fresh_touch(past),
-        Place::Unknown => fresh_touch(past),
+        CellBelief::Attr(_, _, _) => Some(past.knowledge.get().is_none()),
+        CellBelief::Known(_) => fresh_touch(past),
+        CellBelief::Told(_) => fresh_touch(past),
+        CellBelief::Unknown => fresh_touch(past),
     }
 }
 
-fn fresh_touch(past: Past) -> Option<bool>
+fn fresh_touch(past: BeforeWrite) -> Option<bool>
     ensures { result ≡ (if past.fresh then Some true else None) }
 {
     if past.fresh { Some(true) } else { None }
 }
 
 /// Whether the field of an attribute was touched.
-fn is_field_touched(places: &Places, pasts: &[Past], place: usize) -> bool
+fn is_field_touched(places: &CellBeliefs, pasts: &[BeforeWrite], place: usize) -> bool
     requires placed { place < cell_count }
     requires size { length pasts.now ≡ cell_count }
     ensures { let cells = cells_written places.now pasts.now in
@@ -192,17 +196,17 @@ fn is_field_touched(places: &Places, pasts: &[Past], place: usize) -> bool
 }
 
 /// How the field of an attribute is told after the write.
-fn telling_after(past: Past, touched: bool) -> Telling
+fn knowledge_after(past: BeforeWrite, touched: bool) -> TextKnowledge
     ensures { result ≡ telling_then past touched }
 {
-    match past.telling.get() {
-        Some(telling) if !touched => telling,
-        _ => Telling::Cells,
+    match past.knowledge.get() {
+        Some(knowledge) if !touched => knowledge,
+        _ => TextKnowledge::Cells,
     }
 }
 
 /// A place after the write.
-fn settled_at(places: &Places, pasts: &[Past], at: usize) -> Place
+fn settled_at(places: &CellBeliefs, pasts: &[BeforeWrite], at: usize) -> CellBelief
     requires placed { at < cell_count }
     requires size { length pasts.now ≡ cell_count }
     ensures { let cells = cells_written places.now pasts.now in
@@ -210,18 +214,18 @@ fn settled_at(places: &Places, pasts: &[Past], at: usize) -> Place
 {
     let place = places.get(at);
     match place {
-        Place::Attr(attr, mark, _) => {
+        CellBelief::Attr(attr, mark, _) => {
             let touched = is_field_touched(places, pasts, at);
-            Place::Attr(attr, mark, telling_after(past_at(pasts, at), touched))
+            CellBelief::Attr(attr, mark, knowledge_after(past_at(pasts, at), touched))
         }
-        Place::Known(_) => place,
-        Place::Told(_) => place,
-        Place::Unknown => place,
+        CellBelief::Known(_) => place,
+        CellBelief::Told(_) => place,
+        CellBelief::Unknown => place,
     }
 }
 
 /// Lets each attribute tell its field as it is after the write.
-fn settle(places: &mut Places, pasts: &[Past])
+fn settle(places: &mut CellBeliefs, pasts: &[BeforeWrite])
     requires { length pasts.now ≡ cell_count }
     ensures { places.new ≡ settled (cells_written places.old pasts.now) pasts.now places.old pasts.now }
 {
@@ -234,7 +238,7 @@ fn settle(places: &mut Places, pasts: &[Past])
 }
 
 /// Carries out a write that doesn't erase.
-pub(crate) fn write_over(places: &mut Places, command: &Command<'_>)
+pub(crate) fn write_over(places: &mut CellBeliefs, command: &Command<'_>)
     requires { IsHeld places.old }
     ensures shadow { shadow_held true places.new ≡ believed (beliefs_held places.old 0 places.old) (known_after cell_count command.now.wcc command.now.orders (cells_known places.old)) }
     ensures held { IsHeld places.new }
@@ -247,14 +251,14 @@ pub(crate) fn write_over(places: &mut Places, command: &Command<'_>)
 }
 
 /// Carries out a write that erases.
-pub(crate) fn erase_over(places: &mut Places, command: &Command<'_>)
+pub(crate) fn erase_over(places: &mut CellBeliefs, command: &Command<'_>)
     requires { is_plain command.now ≡ true }
     ensures shadow { shadow_held true places.new ≡ taken_erase cell_count command.now }
     ensures held { IsHeld places.new }
 {
-    places.fill(Place::Known(0));
-    let mut pasts = [Past {
-        telling: NO_FIELD,
+    places.fill(CellBelief::Known(0));
+    let mut pasts = [BeforeWrite {
+        knowledge: NO_FIELD,
         fresh: true,
     }; CELL_COUNT];
     store(places, &mut pasts, command.orders());

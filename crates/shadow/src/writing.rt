@@ -5,7 +5,7 @@ ghost use Rattle.shadow.specs.Seen.{mark_seen as mark_read};
 ghost use Rattle.shadow.specs.Stores.{is_plain, is_plain_order as is_plain_one, stores_unplaced as any_unplaced};
 ghost use Rattle.shadow.specs.Taken.{resets as resets_marks};
 
-use crate::mark::Mark;
+use crate::mdt_state::MdtState;
 use codes3270::Wcc;
 use datastream::{Command, Order, Orders};
 
@@ -69,8 +69,8 @@ pub(crate) fn resets(wcc: Option<Wcc>) -> bool
     }
 }
 
-pub(crate) fn mark_seen(mdt: bool) -> Mark
+pub(crate) fn mark_seen(mdt: bool) -> MdtState
     ensures { result ≡ mark_read mdt }
 {
-    if mdt { Mark::On } else { Mark::Off }
+    if mdt { MdtState::On } else { MdtState::Off }
 }

@@ -7,14 +7,14 @@ use Rattle.std.proofs.lemmas.Grind.{flat_map-append}
 use Rattle.telnet_wire.specs.declared.wire.Verb.{Verb}
 use Rattle.telnet_wire.specs.declared.wire.WireFault.{WireFault}
 use Rattle.telnet_wire.specs.declared.wire.WireFault.TheVariants.{TooLong, BadSub}
-use Rattle.telnet_wire.specs.declared.decoding.Place.TheVariants.{Between, Done, AfterIac, AfterVerb, InSub, AfterIacInSub}
+use Rattle.telnet_wire.specs.declared.decoding.DecoderState.TheVariants.{Between, Done, AfterIac, AfterVerb, InSub, AfterIacInSub}
 use Rattle.telnet_wire.specs.declared.decoding.Completed.TheVariants.{Record as IsRecord, Opt as IsOpt, Sub as IsSub, Other as IsOther}
 use Rattle.telnet_wire.specs.Token.{Token, Data, End, Opt, Sub, Other, escaped, code_of, opened, spelling, IsToken, IsShort, IsPartial, IsOtherCode}
 use Rattle.telnet_wire.specs.Items.{WireItem, items_after, unfinished_after, IsWithin}
 use Rattle.telnet_wire.specs.Reading.{IsWrong, GoesWrong}
 use Rattle.telnet_wire.specs.Held.{Held, Takes, Refuses}
 use Rattle.telnet_wire.specs.Bounded.{Bounded, with_byte}
-use Rattle.telnet_wire.specs.Places.{held}
+use Rattle.telnet_wire.specs.DecoderStates.{held}
 use Rattle.telnet_wire.proofs.Prefixes.{escaped-plain}
 
 abbrev holding : ℕ → List ℕ → List ℕ → Option WireItem → Held

@@ -55,7 +55,7 @@ ReadingGoesOn = (limit : ℕ) (from : Rest) (first more : List ℕ) (begun token
     → Reads limit from first begun mid → Reads limit from (first ++ more) tokens to → IsRest limit to
     → (others : List Token) × (tokens ≡ begun ++ others) × Reads limit mid more others to
 
--- So what came of a stream said the first of its items, and the rest of it says the others from there.
+-- So the front of a stream said the first of its items, and the rest of it says the others from there.
 abbrev pub DeliveryGoesOn : Type 0
 DeliveryGoesOn = (limit : ℕ) (from mid to : Rest) (first more : List ℕ) (begun items : List WireItem)
     → Delivers limit from first begun mid → Delivers limit from (first ++ more) items to

@@ -4,6 +4,6 @@ pub mod Reading
 pub mod Held
 pub mod Messages
 pub mod Bounded
-pub mod Places
+pub mod DecoderStates
 pub mod Writing
 pub mod Laws

@@ -2,8 +2,8 @@
 ghost use Rattle.std.specs.Prelude.{◌≡◌, ℕ, IfOk, IfErr, List, [], ◌∷◌, ◌++◌, IsSome, Some, Err};
 ghost use Rattle.telnet_wire.specs.Items.{item_of};
 ghost use Rattle.telnet_wire.specs.Held.{Held, fresh, broken, Takes, Refuses, step_of};
-ghost use Rattle.telnet_wire.specs.Places.{held, ready_at, AreWithin};
-ghost use Rattle.telnet_wire.specs.declared.decoding.Place.TheVariants as places;
+ghost use Rattle.telnet_wire.specs.DecoderStates.{held, ready_at, AreWithin};
+ghost use Rattle.telnet_wire.specs.declared.decoding.DecoderState.TheVariants as states;
 ghost use Rattle.telnet_wire.specs.declared.wire.WireFault.{WireFault};
 ghost use Rattle.telnet_wire.specs.declared.wire.WireFault.TheVariants.{Memory};
 
@@ -18,7 +18,7 @@ const SUB_LIMIT: usize = 256;
 
 /// Where in a token the stream stands.
 #[derive(Clone, Copy, Debug)]
-enum Place {
+enum DecoderState {
     /// Behind a whole token that is no item, or before the first byte.
     Between,
     /// Behind a whole token that is an item. A record stays in its buffer until the next byte.
@@ -40,18 +40,22 @@ enum Completed {
 }
 
 // A byte where a token begins.
-fn between(byte: u8, record_buffer: &mut Buffer, sub_buffer: &Buffer) -> Result<Place, WireFault>
+fn between(
+    byte: u8,
+    record_buffer: &mut Buffer,
+    sub_buffer: &Buffer,
+) -> Result<DecoderState, WireFault>
     requires { AreWithin record_buffer.old sub_buffer.now }
-    ensures taken { IfOk result (λ next. Takes (held places.Between record_buffer.old sub_buffer.now.bytes) byte (held next record_buffer.new sub_buffer.now.bytes)) }
-    ensures refused { IfErr result (Refuses (held places.Between record_buffer.old sub_buffer.now.bytes) byte) }
+    ensures taken { IfOk result (λ next. Takes (held states.Between record_buffer.old sub_buffer.now.bytes) byte (held next record_buffer.new sub_buffer.now.bytes)) }
+    ensures refused { IfErr result (Refuses (held states.Between record_buffer.old sub_buffer.now.bytes) byte) }
     ensures within { AreWithin record_buffer.new sub_buffer.now }
     ensures limit { record_buffer.new.limit ≡ record_buffer.old.limit }
 {
     if byte == IAC {
-        return Ok(Place::AfterIac);
+        return Ok(DecoderState::AfterIac);
     }
     record_buffer.add(byte)?;
-    Ok(Place::Between)
+    Ok(DecoderState::Between)
 }
 
 // The byte after IAC.
@@ -59,43 +63,47 @@ fn after_iac(
     code: u8,
     record_buffer: &mut Buffer,
     sub_buffer: &mut Buffer,
-) -> Result<Place, WireFault>
+) -> Result<DecoderState, WireFault>
     requires { AreWithin record_buffer.old sub_buffer.old }
-    ensures taken { IfOk result (λ next. Takes (held places.AfterIac record_buffer.old sub_buffer.old.bytes) code (held next record_buffer.new sub_buffer.new.bytes)) }
-    ensures refused { IfErr result (Refuses (held places.AfterIac record_buffer.old sub_buffer.old.bytes) code) }
+    ensures taken { IfOk result (λ next. Takes (held states.AfterIac record_buffer.old sub_buffer.old.bytes) code (held next record_buffer.new sub_buffer.new.bytes)) }
+    ensures refused { IfErr result (Refuses (held states.AfterIac record_buffer.old sub_buffer.old.bytes) code) }
     ensures within { AreWithin record_buffer.new sub_buffer.new }
     ensures limit { record_buffer.new.limit ≡ record_buffer.old.limit }
 {
     Ok(match code {
         IAC => {
             record_buffer.add(IAC)?;
-            Place::Between
+            DecoderState::Between
         }
-        EOR => Place::Done(Completed::Record),
+        EOR => DecoderState::Done(Completed::Record),
         SB => {
             sub_buffer.clear();
-            Place::InSub
+            DecoderState::InSub
         }
-        WILL => Place::AfterVerb(Verb::Will),
-        WONT => Place::AfterVerb(Verb::Wont),
-        DO => Place::AfterVerb(Verb::Do),
-        DONT => Place::AfterVerb(Verb::Dont),
-        _ => Place::Done(Completed::Other(code)),
+        WILL => DecoderState::AfterVerb(Verb::Will),
+        WONT => DecoderState::AfterVerb(Verb::Wont),
+        DO => DecoderState::AfterVerb(Verb::Do),
+        DONT => DecoderState::AfterVerb(Verb::Dont),
+        _ => DecoderState::Done(Completed::Other(code)),
     })
 }
 
 // A byte inside a subnegotiation.
-fn in_sub(byte: u8, record_buffer: &Buffer, sub_buffer: &mut Buffer) -> Result<Place, WireFault>
+fn in_sub(
+    byte: u8,
+    record_buffer: &Buffer,
+    sub_buffer: &mut Buffer,
+) -> Result<DecoderState, WireFault>
     requires { AreWithin record_buffer.now sub_buffer.old }
-    ensures taken { IfOk result (λ next. Takes (held places.InSub record_buffer.now sub_buffer.old.bytes) byte (held next record_buffer.now sub_buffer.new.bytes)) }
-    ensures refused { IfErr result (Refuses (held places.InSub record_buffer.now sub_buffer.old.bytes) byte) }
+    ensures taken { IfOk result (λ next. Takes (held states.InSub record_buffer.now sub_buffer.old.bytes) byte (held next record_buffer.now sub_buffer.new.bytes)) }
+    ensures refused { IfErr result (Refuses (held states.InSub record_buffer.now sub_buffer.old.bytes) byte) }
     ensures within { AreWithin record_buffer.now sub_buffer.new }
 {
     if byte == IAC {
-        return Ok(Place::AfterIacInSub);
+        return Ok(DecoderState::AfterIacInSub);
     }
     sub_buffer.add(byte)?;
-    Ok(Place::InSub)
+    Ok(DecoderState::InSub)
 }
 
 // The byte after IAC inside a subnegotiation.
@@ -103,55 +111,55 @@ fn after_iac_in_sub(
     code: u8,
     record_buffer: &Buffer,
     sub_buffer: &mut Buffer,
-) -> Result<Place, WireFault>
+) -> Result<DecoderState, WireFault>
     requires { AreWithin record_buffer.now sub_buffer.old }
-    ensures taken { IfOk result (λ next. Takes (held places.AfterIacInSub record_buffer.now sub_buffer.old.bytes) code (held next record_buffer.now sub_buffer.new.bytes)) }
-    ensures refused { IfErr result (Refuses (held places.AfterIacInSub record_buffer.now sub_buffer.old.bytes) code) }
+    ensures taken { IfOk result (λ next. Takes (held states.AfterIacInSub record_buffer.now sub_buffer.old.bytes) code (held next record_buffer.now sub_buffer.new.bytes)) }
+    ensures refused { IfErr result (Refuses (held states.AfterIacInSub record_buffer.now sub_buffer.old.bytes) code) }
     ensures within { AreWithin record_buffer.now sub_buffer.new }
 {
     match code {
         IAC => {
             sub_buffer.add(IAC)?;
-            Ok(Place::InSub)
+            Ok(DecoderState::InSub)
         }
-        SE => Ok(Place::Done(Completed::Sub)),
+        SE => Ok(DecoderState::Done(Completed::Sub)),
         _ => Err(WireFault::BadSub),
     }
 }
 
 // The place after the byte.
 fn next(
-    place: Place,
+    state: DecoderState,
     byte: u8,
     record_buffer: &mut Buffer,
     sub_buffer: &mut Buffer,
-) -> Result<Place, WireFault>
+) -> Result<DecoderState, WireFault>
     requires { AreWithin record_buffer.old sub_buffer.old }
-    ensures taken { IfOk result (λ next. Takes (held place record_buffer.old sub_buffer.old.bytes) byte (held next record_buffer.new sub_buffer.new.bytes)) }
-    ensures refused { IfErr result (Refuses (held place record_buffer.old sub_buffer.old.bytes) byte) }
+    ensures taken { IfOk result (λ next. Takes (held state record_buffer.old sub_buffer.old.bytes) byte (held next record_buffer.new sub_buffer.new.bytes)) }
+    ensures refused { IfErr result (Refuses (held state record_buffer.old sub_buffer.old.bytes) byte) }
     ensures within { AreWithin record_buffer.new sub_buffer.new }
     ensures limit { record_buffer.new.limit ≡ record_buffer.old.limit }
 {
-    match place {
-        Place::Done(Completed::Record) => {
+    match state {
+        DecoderState::Done(Completed::Record) => {
             record_buffer.clear();
             between(byte, record_buffer, sub_buffer)
         }
-        Place::Between | Place::Done(_) => between(byte, record_buffer, sub_buffer),
-        Place::AfterIac => after_iac(byte, record_buffer, sub_buffer),
-        Place::AfterVerb(verb) => Ok(Place::Done(Completed::Opt(verb, byte))),
-        Place::InSub => in_sub(byte, record_buffer, sub_buffer),
-        Place::AfterIacInSub => after_iac_in_sub(byte, record_buffer, sub_buffer),
-        Place::Failed => Err(WireFault::Failed),
+        DecoderState::Between | DecoderState::Done(_) => between(byte, record_buffer, sub_buffer),
+        DecoderState::AfterIac => after_iac(byte, record_buffer, sub_buffer),
+        DecoderState::AfterVerb(verb) => Ok(DecoderState::Done(Completed::Opt(verb, byte))),
+        DecoderState::InSub => in_sub(byte, record_buffer, sub_buffer),
+        DecoderState::AfterIacInSub => after_iac_in_sub(byte, record_buffer, sub_buffer),
+        DecoderState::Failed => Err(WireFault::Failed),
     }
 }
 
-impl Place {
+impl DecoderState {
     fn step(self) -> Step
         ensures { (gathered content : List ℕ) → result ≡ step_of (ready_at self gathered content) }
     {
         match self {
-            Place::Done(_) => Step::Ready,
+            DecoderState::Done(_) => Step::Ready,
             _ => Step::More,
         }
     }
@@ -163,7 +171,7 @@ impl Place {
 /// subnegotiation of 256 is made by `new`. Where the stream is cut into pieces makes no difference.
 #[derive(Drop, Debug)]
 pub struct Decoder {
-    place: Place,
+    state: DecoderState,
     record_buffer: Buffer,
     sub_buffer: Buffer,
 }
@@ -171,7 +179,7 @@ pub struct Decoder {
 impl Model for Decoder {
     ghost Value = { Held };
 
-    ghost view = { λ d. held d.place d.record_buffer d.sub_buffer.bytes };
+    ghost view = { λ d. held d.state d.record_buffer d.sub_buffer.bytes };
 
     ghost invariant = { λ d. AreWithin d.record_buffer d.sub_buffer };
 }
@@ -179,7 +187,7 @@ impl Model for Decoder {
 impl Decoder {
     /// A decoder before the first byte, for records of at most `limit` bytes of data, each 255 counted once.
     ///
-    /// It makes all the room that the decoder will need, and answers [`WireFault::Memory`] where that can't be had.
+    /// It makes all the room that the decoder will need, and answers [`WireFault::Memory`] if memory is refused.
     pub fn new(alloc: Global, limit: usize) -> Result<Decoder, WireFault>
         ensures made { IfOk result (λ d. d ≡ fresh limit) }
         ensures memory { IfErr result (λ fault. fault ≡ Memory) }
@@ -187,7 +195,7 @@ impl Decoder {
         let record_buffer = Buffer::new(alloc, limit)?;
         let sub_buffer = Buffer::new(alloc, SUB_LIMIT)?;
         Ok(Decoder {
-            place: Place::Between,
+            state: DecoderState::Between,
             record_buffer,
             sub_buffer,
         })
@@ -206,17 +214,17 @@ impl Decoder {
         ensures exact { (fault : WireFault) → Refuses self.old byte fault → result ≡ Err fault }
     {
         match next(
-            self.place,
+            self.state,
             byte,
             &mut self.record_buffer,
             &mut self.sub_buffer,
         ) {
-            Ok(place) => {
-                self.place = place;
-                Ok(place.step())
+            Ok(state) => {
+                self.state = state;
+                Ok(state.step())
             }
             Err(fault) => {
-                self.place = Place::Failed;
+                self.state = DecoderState::Failed;
                 Err(fault)
             }
         }
@@ -229,11 +237,11 @@ impl Decoder {
         requires { IsSome self.now.ready }
         ensures { self.now.ready ≡ Some (item_of result) }
     {
-        match self.place {
-            Place::Done(Completed::Record) => Item::Record(self.record_buffer.as_slice()),
-            Place::Done(Completed::Opt(verb, code)) => Item::Opt { verb, code },
-            Place::Done(Completed::Sub) => Item::Sub(self.sub_buffer.as_slice()),
-            Place::Done(Completed::Other(code)) => Item::Other(code),
+        match self.state {
+            DecoderState::Done(Completed::Record) => Item::Record(self.record_buffer.as_slice()),
+            DecoderState::Done(Completed::Opt(verb, code)) => Item::Opt { verb, code },
+            DecoderState::Done(Completed::Sub) => Item::Sub(self.sub_buffer.as_slice()),
+            DecoderState::Done(Completed::Other(code)) => Item::Other(code),
             _ => unreachable!(),
         }
     }
@@ -243,6 +251,6 @@ impl Decoder {
         ensures { self.new ≡ fresh self.old.limit }
     {
         self.record_buffer.clear();
-        self.place = Place::Between;
+        self.state = DecoderState::Between;
     }
 }

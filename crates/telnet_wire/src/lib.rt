@@ -19,41 +19,17 @@
 //! ```
 //!
 //! What a stream says is defined in `specs/`: `Token` (the tokens and their spellings), `Items` (what a list of tokens
-//! says), `Reading` (how bytes are read, and where they go wrong), `Held` (what a byte makes of a decoder). [`one_reading`]
+//! says), `Reading` (how bytes are read, and where they go wrong), `Held` (what a byte makes of a decoder). [`laws::one_reading`]
 //! has the laws that a caller needs who feeds a stream in pieces.
 #![tactic(auto)]
-
-ghost use Rattle.telnet_wire.specs.Laws.{DeliveriesCompose, DeliveryGoesOn, ItemIsRead, ItemsAreRead, ItemsCompose, NothingIsRest, OneDelivery, OneFault, OneReading, OneSpelling, ReadingGoesOn, ReadingNothing, ReadingsCompose, TakenIsRead, WrongIsFinal, WrongPiece};
 
 mod buffer;
 mod codes;
 mod decoding;
+pub mod laws;
 mod wire;
 mod writing;
 
 pub use decoding::Decoder;
 pub use wire::{Item, Memory, Step, Verb, WireFault};
 pub use writing::{put_option, put_record, put_sub, put_sub_parts};
-
-/// Does nothing: its contract is the laws of reading, for proofs about callers that feed a stream in pieces.
-///
-/// Bytes spell one list of tokens at most and are read in one way, whole or in any pieces; what went wrong stays so, at
-/// one byte and by one fault; what a decoder took was read, and what was written is read as that.
-pub fn one_reading()
-    ensures spelling { OneSpelling }
-    ensures reading { OneReading }
-    ensures delivery { OneDelivery }
-    ensures start { NothingIsRest }
-    ensures no_bytes { ReadingNothing }
-    ensures pieces { ReadingsCompose }
-    ensures items { ItemsCompose }
-    ensures deliveries { DeliveriesCompose }
-    ensures goes_on { ReadingGoesOn }
-    ensures delivery_goes_on { DeliveryGoesOn }
-    ensures wrong_is_final { WrongIsFinal }
-    ensures fault { OneFault }
-    ensures wrong_piece { WrongPiece }
-    ensures taken { TakenIsRead }
-    ensures item { ItemIsRead }
-    ensures written { ItemsAreRead }
-{}

@@ -25,7 +25,7 @@ pub enum Verb {
 }
 
 impl Verb {
-    /// The byte that stands for it behind IAC, from 251 to 254.
+    /// The byte that spells it after IAC, from 251 to 254.
     pub fn code(self) -> u8
         ensures { result ≡ code_of self }
     {

@@ -1,6 +1,6 @@
 //! Items as bytes, added at the end of a vector.
 //!
-//! Each call adds exactly the item's spelling behind what stands there. It succeeds wherever the vector has room for it.
+//! Each call adds exactly the item's spelling to the end of the vector. It succeeds if the vector has room for it.
 //! Where it answers want of memory, the vector holds what it held before. Its capacity never shrinks.
 ghost use Rattle.std.specs.Prelude.{◌≡◌, ◌≤◌, ◌∷◌, ◌++◌, [], take, vec_len, OnOk, OnErr};
 ghost use Rattle.std.specs.List.{flat_map};

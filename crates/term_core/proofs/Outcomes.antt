@@ -13,7 +13,7 @@ use Rattle.tn3270e_msg.specs.declared.reply.Reply.{Reply}
 use Rattle.tn3270e_msg.specs.declared.term_talk.TermState.{TermState}
 use Rattle.tn3270e_msg.specs.declared.term_talk.TermState.TheVariants as at
 use Rattle.tn3270e_msg.specs.Talk.{Talk, items_sent, follow, closing}
-use Rattle.tn3270e_msg.specs.TermTable.{Term, TermTakes, term_line}
+use Rattle.tn3270e_msg.specs.TermTable.{Term, TermTakes, term_transition}
 use Rattle.tn3270e_msg.specs.Laws.{OneHeader, FaultIsNoHeader, OneHearing}
 use Rattle.tn3270e_msg.specs.Header.{record_limit}
 use Rattle.term_core.specs.State.{Station, Terminal, Link, Attached}
@@ -92,7 +92,7 @@ module _ (one_header : OneHeader) (fault_or_header : FaultIsNoHeader) (one_heari
   one_reply talk after other item reply answer first second =
       let heard = one_hearing item first.comes second.comes first.hears second.hears in
       let both : (after.talk, reply) ≡ (other.talk, answer) =
-      first.gives ∙ ap (λ comes. follow at.Closed talk.talk (term_line talk.wanted talk.talk.state comes)) heard ∙ sym second.gives in
+      first.gives ∙ ap (λ comes. follow at.Closed talk.talk (term_transition talk.wanted talk.talk.state comes)) heard ∙ sym second.gives in
       (term_same after other (first.wanted ∙ sym second.wanted) (ap (λ (p : Talk TermState × Reply). p.0) both), ap (λ (p : Talk TermState × Reply). p.1) both)
 
   one_talk : (talk after other : Term) (old new new' : Station) (item : WireItem) (says others : List WireItem) (closes ends : Option Cause)

@@ -2,7 +2,7 @@
 ghost use Rattle.std.specs.Prelude.{◌≡◌, ◌≤◌, ◌++◌, None};
 ghost use Rattle.std.specs.Vec.{vec_capacity};
 ghost use Rattle.telnet_wire.specs.Items.{item_of, sent_bytes};
-ghost use Rattle.tn3270e_msg.specs.Talk.{items_sent, IsSending, closing};
+ghost use Rattle.tn3270e_msg.specs.Talk.{items_sent, IsOwnedMessage, closing};
 ghost use Rattle.term_core.specs.Room.{HasRoom};
 ghost use Rattle.term_core.specs.Bytes.{TakesByte};
 ghost use Rattle.term_core.specs.Feeds.{Feeds};

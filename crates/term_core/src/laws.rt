@@ -1,8 +1,9 @@
-//! Laws of the definitions in `specs/`, for proofs in the crates above.
+//! Laws of terminals over bytes: each is the contract of a function that does nothing. Proofs of
+//! other crates use them; no program calls them, and the root doesn't export them.
 ghost use Rattle.term_core.specs.Laws.{BytesAreItems, FeedingHasRoom, KeysHaveRoom, OneOutcome, PiecesCompose, PiecesPart};
 
-/// Does nothing: its contract says that what a terminal becomes, and what it sends, is a function of what it was and of the
-/// bytes, however they are cut into pieces.
+/// Law: what a terminal becomes, and what it sends, is a function of what it was and of the bytes,
+/// however they are cut into pieces.
 pub fn one_machine()
     ensures outcome { OneOutcome }
     ensures compose { PiecesCompose }
@@ -10,12 +11,12 @@ pub fn one_machine()
     // And it is what the items make of it that the bytes say.
     ensures items { BytesAreItems }
 {
-    telnet_wire::one_reading();
-    tn3270e_msg::one_reading();
+    telnet_wire::laws::one_reading();
+    tn3270e_msg::laws::one_reading();
 }
 
-/// Does nothing: its contract says that a terminal with the room that it makes is refused memory only while more than 1,024
-/// bytes wait to be sent.
+/// Law: a terminal with the room that it makes is refused memory only while more than 1,024 bytes
+/// wait to be sent.
 pub fn room_suffices()
     ensures feeding { FeedingHasRoom }
     ensures keys { KeysHaveRoom }

@@ -24,12 +24,12 @@
 //!
 //! The repository's `trials3270` holds whole dialogues with a terminal, byte for byte, which stand in its `stdin`.
 //! `specs/Feeds` says what feeding is, `Bytes`, `Items` and `Records` what bytes make of a terminal, `Presses` what keys do,
-//! `Says` what is sent, and `ScreenText` what is printed. [`one_machine`] has the laws of these as its contract, and
-//! [`room_suffices`] those of its output's room (`Room`).
+//! `Says` what is sent, and `ScreenText` what is printed. [`laws::one_machine`] has the laws of these as its contract, and
+//! [`laws::room_suffices`] those of its output's room (`Room`).
 #![tactic(auto)]
 
 mod feeding;
-mod laws;
+pub mod laws;
 mod outcome;
 mod phase;
 mod room;
@@ -38,7 +38,6 @@ mod station;
 mod terminal;
 
 pub use keyboard::{Key, Lock, Pressed, Refusal};
-pub use laws::{one_machine, room_suffices};
 pub use outcome::Outcome;
 pub use phase::TermPhase;
 pub use presentation::Screen;

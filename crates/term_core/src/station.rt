@@ -17,7 +17,8 @@ ghost use Rattle.term_core.specs.Presses.{data_of_key, is_sent, key_outcome, roo
 
 use crate::outcome::Outcome;
 use crate::room::{DATA_ROOM, RECORD_ROOM};
-use datastream::{Command, CommandCode, Sense, fields_both_ways, read_command};
+use datastream::laws::fields_both_ways;
+use datastream::{Command, CommandCode, Sense, read_command};
 use keyboard::{Key, Keyboard, Lock, Pressed};
 use presentation::Screen;
 use std::alloc::Global;
@@ -130,8 +131,8 @@ impl Station {
         self.took_write = false;
     }
 
-    /// Begins anew.
-    pub(crate) fn renew(&mut self)
+    /// Resets everything: a blank screen, and a keyboard that waits.
+    pub(crate) fn reset(&mut self)
         ensures { self.new ≡ waiting (blank_screen cell_count) }
     {
         self.screen = Screen::blank();
@@ -266,7 +267,7 @@ impl Station {
     }
 }
 
-/// Does nothing: its contract says how long the data is that a read gets.
+/// Law: how long the data is that a read gets.
 fn readings_fit(screen: &Screen)
     ensures modified { (all : Bool) → length (read_modified all screen.now) ≤ longest_reading }
     ensures buffer { length (read_buffer screen.now) ≤ longest_reading }

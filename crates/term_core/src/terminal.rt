@@ -100,7 +100,7 @@ impl Terminal {
         ensures room { self.new.room ≡ self.old.room }
     {
         self.decoder.reset();
-        self.station.renew();
+        self.station.reset();
         self.out.clear();
         self.attachment = Attachment::Attached(TermTalk::new(wanted));
     }
@@ -201,7 +201,7 @@ impl Terminal {
         ensures terminal { self.new.terminal ≡ new_terminal }
         ensures room { self.new.room ≡ self.old.room }
     {
-        self.station.renew();
+        self.station.reset();
         self.attachment = Attachment::Detached;
         self.out.clear();
     }

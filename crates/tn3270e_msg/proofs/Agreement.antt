@@ -6,7 +6,7 @@ use Rattle.telnet_wire.specs.declared.wire.Verb.TheVariants.{Do as DoVerb, Will 
 use Rattle.telnet_wire.specs.Items.{WireItem, Opt, Sub}
 use Rattle.tn3270e_msg.specs.declared.device.Device.{Device}
 use Rattle.tn3270e_msg.specs.declared.device.Device.TheVariants.{Model2}
-use Rattle.tn3270e_msg.specs.declared.functions.Wants.TheVariants.{ResponsesAlone}
+use Rattle.tn3270e_msg.specs.declared.functions.FunctionsOffer.TheVariants.{ResponsesAlone}
 use Rattle.tn3270e_msg.specs.declared.host_talk.HostState.{HostState}
 use Rattle.tn3270e_msg.specs.declared.host_talk.HostState.TheVariants.{Offered, Asked, Asking, Named, Agreed as HostAgreed, Closed as HostClosed}
 use Rattle.tn3270e_msg.specs.declared.term_talk.TermState.{TermState}
@@ -15,12 +15,12 @@ use Rattle.tn3270e_msg.specs.declared.reply.After.TheVariants.{Going, Agreed as 
 use Rattle.tn3270e_msg.specs.declared.reply.Reason.{Reason}
 use Rattle.tn3270e_msg.specs.declared.reply.Reply.{Reply}
 use Rattle.tn3270e_msg.specs.declared.reply.Reply.TheVariants as reply
-use Rattle.tn3270e_msg.specs.declared.reply.Sending.TheVariants as sent
+use Rattle.tn3270e_msg.specs.declared.reply.OwnedMessage.TheVariants as sent
 use Rattle.tn3270e_msg.specs.Device.{device_of, device_text}
-use Rattle.tn3270e_msg.specs.Functions.{wants, responses}
-use Rattle.tn3270e_msg.specs.Talk.{Comes, Will, Do, Hears, Talk, IsLuIfSome, IsSending, items_sent, names_asked, payload_sent, message_says, message_sent, follow}
-use Rattle.tn3270e_msg.specs.HostTable.{host_line, answer_line}
-use Rattle.tn3270e_msg.specs.TermTable.{Term, term_line}
+use Rattle.tn3270e_msg.specs.Functions.{offer, responses}
+use Rattle.tn3270e_msg.specs.Talk.{Comes, Will, Do, Hears, Talk, IsLuIfSome, IsOwnedMessage, items_sent, names_asked, payload_sent, message_says, message_sent, follow}
+use Rattle.tn3270e_msg.specs.HostTable.{host_transition, answer_transition}
+use Rattle.tn3270e_msg.specs.TermTable.{Term, term_transition}
 use Rattle.tn3270e_msg.specs.Pair.{Pair, ComesUp, ComesDown, Answer, Answers, Event, Up, Down, Pool, Happens, Happen, start, IsAnswerTo, HostIsOpen, TermIsOpen, IsSettled, EndsBy, TalksAgree, TalksAlwaysAgree}
 use Rattle.tn3270e_msg.proofs.Sets.{wants_by}
 use Rattle.tn3270e_msg.proofs.Hearings.{sent_is_heard}
@@ -84,7 +84,7 @@ pub record IsAt (wanted : Option (List ℕ)) (pair : Pair) (count : ℕ) : Type 
   pub is_moment : IsMoment wanted moment
   pub counted : events_at moment ≡ count
 
-pub responses_alone : wants responses ≡ ResponsesAlone
+pub responses_alone : offer responses ≡ ResponsesAlone
 responses_alone = wants_by (2 ∷ []) true true refl refl
 
 pub model_2 : device_of (device_text Model2) ≡ Some Model2
@@ -106,7 +106,7 @@ term_of wanted talk = record { wanted = wanted; talk = talk }
 -- what an item makes of a pair, where it can say one thing only
 host_gave : (old new : Pair) → ComesUp old new → (item : WireItem) (rest : List WireItem) (comes : Comes) → old.up ≡ item ∷ rest
     → ((other : Comes) → Hears item other → other ≡ comes) → (host : Talk HostState) (reply : Reply)
-    → follow HostClosed old.host (host_line old.host.state comes) ≡ (host, reply)
+    → follow HostClosed old.host (host_transition old.host.state comes) ≡ (host, reply)
     → new ≡ record { host = host; term = old.term; up = rest; down = old.down ++ items_sent reply; asked = old.asked ++ names_asked reply; answers = old.answers }
 host_gave old new g item rest comes next one host reply e =
     let items : g.item ≡ item = let n = g.is_next in cc in
@@ -119,7 +119,7 @@ host_gave old new g item rest comes next one host reply e =
 
 term_gave : (old new : Pair) → ComesDown old new → (item : WireItem) (rest : List WireItem) (comes : Comes) → old.down ≡ item ∷ rest
     → ((other : Comes) → Hears item other → other ≡ comes) → (talk : Talk TermState) (reply : Reply)
-    → follow TermClosed old.term.talk (term_line old.term.wanted old.term.talk.state comes) ≡ (talk, reply)
+    → follow TermClosed old.term.talk (term_transition old.term.wanted old.term.talk.state comes) ≡ (talk, reply)
     → new ≡ record { host = old.host; term = record { wanted = old.term.wanted; talk = talk }; up = old.up ++ items_sent reply; down = rest; asked = old.asked; answers = old.answers }
 term_gave old new g item rest comes next one talk reply e =
     let items : g.item ≡ item = let n = g.is_next in cc in
@@ -134,7 +134,7 @@ term_gave old new g item rest comes next one talk reply e =
 
 pool_gave : (answer : Answer) (old new : Pair) → Answers answer old new → (name : Option (List ℕ)) (rest : List (Option (List ℕ))) (device : Device)
     → old.asked ≡ name ∷ rest → old.host.state ≡ Asking device → (host : Talk HostState) (reply : Reply)
-    → follow HostClosed old.host (answer_line device answer) ≡ (host, reply)
+    → follow HostClosed old.host (answer_transition device answer) ≡ (host, reply)
     → new ≡ record { host = host; term = old.term; up = old.up; down = old.down ++ items_sent reply; asked = rest ++ names_asked reply; answers = old.answers ++ answer ∷ [] }
 pool_gave answer old new g name rest device next state host reply e =
     let rests : g.rest ≡ rest = let n = g.is_next in cc in
@@ -172,26 +172,26 @@ pool_step wanted (Err reason) new g = record {
 }
 
 request_gives : (wanted : Option (List ℕ)) → IsLuIfSome wanted
-    → follow HostClosed (host_at Asked 8) (host_line Asked (message_says (message_sent (sent.TypeRequest wanted)))) ≡ (host_at (Asking Model2) 8, reply.AskPool wanted)
+    → follow HostClosed (host_at Asked 8) (host_transition Asked (message_says (message_sent (sent.TypeRequest wanted)))) ≡ (host_at (Asking Model2) 8, reply.AskPool wanted)
 request_gives None wish = rw model_2 refl
 request_gives (Some lu) wish = rw (model_2, name_is_read_as_itself lu wish) refl
 
 grant_gives : (wanted : Option (List ℕ)) (lu : List ℕ) → IsAnswerTo wanted (Ok lu)
-    → follow TermClosed (record { state = TypeAsked; refusals_left = 8 }) (term_line wanted TypeAsked (message_says (message_sent (sent.TypeIs Model2 lu))))
+    → follow TermClosed (record { state = TypeAsked; refusals_left = 8 }) (term_transition wanted TypeAsked (message_says (message_sent (sent.TypeIs Model2 lu))))
     ≡ (record { state = FunctionsAsked lu; refusals_left = 8 }, reply.Sub sent.FunRequest Going)
 grant_gives None lu h = rw (model_2, name_is_read_as_itself lu h) refl
 grant_gives (Some other) lu h = rw (model_2, name_is_read_as_itself lu h.0, ← h.1, same_bytes lu) refl
 
-granted_lu : (wanted : Option (List ℕ)) (lu : List ℕ) → IsAnswerTo wanted (Ok lu) → IsSending (sent.TypeIs Model2 lu)
+granted_lu : (wanted : Option (List ℕ)) (lu : List ℕ) → IsAnswerTo wanted (Ok lu) → IsOwnedMessage (sent.TypeIs Model2 lu)
 granted_lu None lu h = h
 granted_lu (Some other) lu h = h.0
 
 functions_gives : (lu : List ℕ)
-    → follow HostClosed (host_at (Named Model2 lu) 8) (host_line (Named Model2 lu) (message_says (message_sent sent.FunRequest))) ≡ (host_at (HostAgreed Model2 lu) 8, reply.Sub sent.FunIs AgreedAfter)
+    → follow HostClosed (host_at (Named Model2 lu) 8) (host_transition (Named Model2 lu) (message_says (message_sent sent.FunRequest))) ≡ (host_at (HostAgreed Model2 lu) 8, reply.Sub sent.FunIs AgreedAfter)
 functions_gives lu = rw responses_alone refl
 
 agreement_gives : (wanted : Option (List ℕ)) (lu : List ℕ)
-    → follow TermClosed (record { state = FunctionsAsked lu; refusals_left = 8 }) (term_line wanted (FunctionsAsked lu) (message_says (message_sent sent.FunIs)))
+    → follow TermClosed (record { state = FunctionsAsked lu; refusals_left = 8 }) (term_transition wanted (FunctionsAsked lu) (message_says (message_sent sent.FunIs)))
     ≡ (record { state = TermAgreed lu; refusals_left = 8 }, reply.Agreed)
 agreement_gives wanted lu = rw responses_alone refl
 

@@ -1,12 +1,12 @@
 -- What an item says, and what is sent.
 use Rattle.std.proofs.Common.{◌≡◌, ℕ, List, [], ◌∷◌, refl, sym, ap, ◌∙◌, None, Some}
 use Rattle.telnet_wire.specs.Items.{Record, Opt, Sub, Other}
-use Rattle.tn3270e_msg.specs.declared.reply.Sending.{Sending}
-use Rattle.tn3270e_msg.specs.declared.reply.Sending.TheVariants as sent
+use Rattle.tn3270e_msg.specs.declared.reply.OwnedMessage.{OwnedMessage}
+use Rattle.tn3270e_msg.specs.declared.reply.OwnedMessage.TheVariants as sent
 use Rattle.tn3270e_msg.specs.declared.message.SubFault.TheVariants.{NotOurs, Malformed}
 use Rattle.tn3270e_msg.specs.Laws.{OneHearing}
 use Rattle.tn3270e_msg.specs.Message.{Says}
-use Rattle.tn3270e_msg.specs.Talk.{Comes, PayloadSays, message_comes, others_message_comes, malformed_comes, message_says, message_sent, payload_sent, IsSending}
+use Rattle.tn3270e_msg.specs.Talk.{Comes, PayloadSays, message_comes, others_message_comes, malformed_comes, message_says, message_sent, payload_sent, IsOwnedMessage}
 use Rattle.tn3270e_msg.proofs.Texts.{one_message, one_sub_fault, fault_is_no_message, lu_is_text, device_is_text}
 
 one_payload : (bytes : List ℕ) (comes other : Comes) → PayloadSays bytes comes → PayloadSays bytes other → comes ≡ other
@@ -28,7 +28,7 @@ one_hearing (Sub bytes) comes other h k = one_payload bytes comes other h k
 one_hearing (Other code) comes other h k = h ∙ sym k
 
 -- what is sent says the message that is meant
-pub sent_says : (sending : Sending) → IsSending sending → Says (payload_sent sending) (message_sent sending)
+pub sent_says : (sending : OwnedMessage) → IsOwnedMessage sending → Says (payload_sent sending) (message_sent sending)
 sent_says sent.SendType h = record { is_message = tt; spelt = refl }
 sent_says (sent.TypeRequest None) h = record { is_message = (refl, tt); spelt = refl }
 sent_says (sent.TypeRequest (Some lu)) h = record { is_message = (refl, lu_is_text lu h); spelt = refl }
@@ -38,5 +38,5 @@ sent_says sent.FunRequest h = record { is_message = tt; spelt = (2 ∷ [], refl,
 sent_says sent.FunIs h = record { is_message = tt; spelt = (2 ∷ [], refl, refl) }
 
 -- and is heard as it
-pub sent_is_heard : (sending : Sending) → IsSending sending → (comes : Comes) → PayloadSays (payload_sent sending) comes → comes ≡ message_says (message_sent sending)
+pub sent_is_heard : (sending : OwnedMessage) → IsOwnedMessage sending → (comes : Comes) → PayloadSays (payload_sent sending) comes → comes ≡ message_says (message_sent sending)
 sent_is_heard sending h comes k = one_payload (payload_sent sending) comes _ k (message_comes (message_sent sending) (sent_says sending h) refl)

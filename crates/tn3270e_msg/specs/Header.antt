@@ -55,7 +55,7 @@ pub record IsHeader (header : Header) : Type 0 where
 abbrev pub spelling : Header → List ℕ
 spelling header = type_code header.kind ∷ header.request ∷ header.flag ∷ to_be_bytes w16 header.seq
 
--- these bytes begin with this header, and this comes behind it
+-- these bytes begin with this header, and this is after it
 pub record Begins (bytes : List ℕ) (header : Header) (body : List ℕ) : Type 0 where
   pub is_header : IsHeader header
   pub number : header.seq < 2 ^ 16

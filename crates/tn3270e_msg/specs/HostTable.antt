@@ -3,17 +3,17 @@ use Rattle.std.specs.Prelude.{◌≡◌, ℕ, List, Option, None, Some, Result, 
 use Rattle.telnet_wire.specs.declared.wire.Verb.TheVariants.{Wont as WontVerb, Dont as DontVerb}
 use Rattle.telnet_wire.specs.Items.{WireItem}
 use Rattle.tn3270e_msg.specs.declared.device.Device.{Device}
-use Rattle.tn3270e_msg.specs.declared.functions.Wants.TheVariants.{ResponsesAlone, ResponsesAndMore, NoResponses}
+use Rattle.tn3270e_msg.specs.declared.functions.FunctionsOffer.TheVariants.{ResponsesAlone, ResponsesAndMore, NoResponses}
 use Rattle.tn3270e_msg.specs.declared.host_talk.HostState.{HostState}
 use Rattle.tn3270e_msg.specs.declared.host_talk.HostState.TheVariants.{Offered, Asked, Asking, Named, Countered, Agreed, Closed}
 use Rattle.tn3270e_msg.specs.declared.reply.After.TheVariants.{Going, Agreed as AgreedAfter}
 use Rattle.tn3270e_msg.specs.declared.cause.Cause.TheVariants.{NoTn3270e, NoResponses as NoResponsesCause, BadTalk}
 use Rattle.tn3270e_msg.specs.declared.reply.Reason.{Reason}
-use Rattle.tn3270e_msg.specs.declared.reply.Sending.TheVariants.{SendType, TypeIs, TypeReject, FunRequest, FunIs}
+use Rattle.tn3270e_msg.specs.declared.reply.OwnedMessage.TheVariants.{SendType, TypeIs, TypeReject, FunRequest, FunIs}
 use Rattle.tn3270e_msg.specs.declared.reply.Reply.{Reply}
 use Rattle.tn3270e_msg.specs.declared.reply.Reply.TheVariants.{Nothing, Opt, Sub, AskPool, Agreed as AgreedReply}
-use Rattle.tn3270e_msg.specs.declared.hearing.Line.{Line}
-use Rattle.tn3270e_msg.specs.declared.hearing.Line.TheVariants.{Stays, Goes, Refuses, Closes}
+use Rattle.tn3270e_msg.specs.declared.hearing.Transition.{Transition}
+use Rattle.tn3270e_msg.specs.declared.hearing.Transition.TheVariants.{Stays, Goes, Refuses, Closes}
 use Rattle.tn3270e_msg.specs.Device.{device_of}
 use Rattle.tn3270e_msg.specs.Lu.{lu_of}
 use Rattle.tn3270e_msg.specs.Message.{Name, Connect, Associate}
@@ -21,40 +21,40 @@ use Rattle.tn3270e_msg.specs.Talk.{Comes, Will, Wont, Do, Dont, OtherWill, Other
 
 -- a device request: of a type that isn't served, with ASSOCIATE, or to be asked of the pool
 -- with CONNECT; the pool has no LU whose name isn't one
-abbrev pub named_line : Device → Option (List ℕ) → Line HostState
-named_line device None = Refuses Asked (TypeReject (record { 0 = 3 }))
-named_line device (Some lu) = Goes (Asking device) (AskPool (Some lu))
+abbrev pub named_transition : Device → Option (List ℕ) → Transition HostState
+named_transition device None = Refuses Asked (TypeReject (record { 0 = 3 }))
+named_transition device (Some lu) = Goes (Asking device) (AskPool (Some lu))
 
-abbrev pub request_line : Option Device → Option Name → Line HostState
-request_line None name = Refuses Asked (TypeReject (record { 0 = 4 }))
-request_line (Some device) (Some (Associate name)) = Refuses Asked (TypeReject (record { 0 = 7 }))
-request_line (Some device) None = Goes (Asking device) (AskPool None)
-request_line (Some device) (Some (Connect name)) = named_line device (lu_of name)
+abbrev pub request_transition : Option Device → Option Name → Transition HostState
+request_transition None name = Refuses Asked (TypeReject (record { 0 = 4 }))
+request_transition (Some device) (Some (Associate name)) = Refuses Asked (TypeReject (record { 0 = 7 }))
+request_transition (Some device) None = Goes (Asking device) (AskPool None)
+request_transition (Some device) (Some (Connect name)) = named_transition device (lu_of name)
 
-abbrev pub host_line : HostState → Comes → Line HostState
-host_line (Closed cause) _ = Closes cause
-host_line Offered Will = Goes Asked (Sub SendType Going)
-host_line _ Will = Stays Nothing
-host_line _ Wont = Closes NoTn3270e
-host_line _ Do = Stays (Opt WontVerb 40)
-host_line _ Dont = Stays Nothing
-host_line _ (OtherDo code) = Stays (Opt WontVerb code)
-host_line _ (OtherWill code) = Stays (Opt DontVerb code)
-host_line _ NoTalk = Stays Nothing
-host_line Asked (RequestsType device name) = request_line (device_of device) name
-host_line (Named device lu) (RequestsFunctions ResponsesAlone) = Goes (Agreed device lu) (Sub FunIs AgreedAfter)
-host_line (Named device lu) (RequestsFunctions ResponsesAndMore) = Refuses (Countered device lu) FunRequest
-host_line (Named device lu) (RequestsFunctions NoResponses) = Closes NoResponsesCause
-host_line (Countered device lu) (RequestsFunctions ResponsesAlone) = Goes (Agreed device lu) (Sub FunIs AgreedAfter)
-host_line (Countered device lu) (RequestsFunctions ResponsesAndMore) = Refuses (Countered device lu) FunRequest
-host_line (Countered device lu) (RequestsFunctions NoResponses) = Closes NoResponsesCause
-host_line (Countered device lu) (IsFunctions ResponsesAlone) = Goes (Agreed device lu) AgreedReply
-host_line _ _ = Closes BadTalk
+abbrev pub host_transition : HostState → Comes → Transition HostState
+host_transition (Closed cause) _ = Closes cause
+host_transition Offered Will = Goes Asked (Sub SendType Going)
+host_transition _ Will = Stays Nothing
+host_transition _ Wont = Closes NoTn3270e
+host_transition _ Do = Stays (Opt WontVerb 40)
+host_transition _ Dont = Stays Nothing
+host_transition _ (OtherDo code) = Stays (Opt WontVerb code)
+host_transition _ (OtherWill code) = Stays (Opt DontVerb code)
+host_transition _ NoTalk = Stays Nothing
+host_transition Asked (RequestsType device name) = request_transition (device_of device) name
+host_transition (Named device lu) (RequestsFunctions ResponsesAlone) = Goes (Agreed device lu) (Sub FunIs AgreedAfter)
+host_transition (Named device lu) (RequestsFunctions ResponsesAndMore) = Refuses (Countered device lu) FunRequest
+host_transition (Named device lu) (RequestsFunctions NoResponses) = Closes NoResponsesCause
+host_transition (Countered device lu) (RequestsFunctions ResponsesAlone) = Goes (Agreed device lu) (Sub FunIs AgreedAfter)
+host_transition (Countered device lu) (RequestsFunctions ResponsesAndMore) = Refuses (Countered device lu) FunRequest
+host_transition (Countered device lu) (RequestsFunctions NoResponses) = Closes NoResponsesCause
+host_transition (Countered device lu) (IsFunctions ResponsesAlone) = Goes (Agreed device lu) AgreedReply
+host_transition _ _ = Closes BadTalk
 
 -- the pool's answer
-abbrev pub answer_line : Device → Result (List ℕ) Reason → Line HostState
-answer_line device (Ok lu) = Goes (Named device lu) (Sub (TypeIs device lu) Going)
-answer_line device (Err reason) = Refuses Asked (TypeReject reason)
+abbrev pub answer_transition : Device → Result (List ℕ) Reason → Transition HostState
+answer_transition device (Ok lu) = Goes (Named device lu) (Sub (TypeIs device lu) Going)
+answer_transition device (Err reason) = Refuses Asked (TypeReject reason)
 
 abbrev pub host_start : Talk HostState
 host_start = start_at Offered
@@ -63,13 +63,13 @@ host_start = start_at Offered
 pub record HostTakes (old : Talk HostState) (item : WireItem) (reply : Reply) (new : Talk HostState) : Type 0 where
   pub comes : Comes
   pub hears : Hears item comes
-  pub gives : (new, reply) ≡ follow Closed old (host_line old.state comes)
+  pub gives : (new, reply) ≡ follow Closed old (host_transition old.state comes)
 
 -- the talk takes the pool's answer, for which it waited
 pub record HostAnswered (old : Talk HostState) (answer : Result (List ℕ) Reason) (reply : Reply) (new : Talk HostState) : Type 0 where
   pub device : Device
   pub asking : old.state ≡ Asking device
-  pub gives : (new, reply) ≡ follow Closed old (answer_line device answer)
+  pub gives : (new, reply) ≡ follow Closed old (answer_transition device answer)
 
 -- the LU that was granted
 abbrev pub granted : HostState → Option (List ℕ)

@@ -9,20 +9,20 @@ use Rattle.tn3270e_msg.specs.declared.cause.Cause.{Cause}
 use Rattle.tn3270e_msg.specs.declared.cause.Cause.TheVariants.{TooMany}
 use Rattle.tn3270e_msg.specs.declared.reply.Reason.{Reason}
 use Rattle.tn3270e_msg.specs.declared.reply.After.TheVariants.{Close as CloseAfter, Going}
-use Rattle.tn3270e_msg.specs.declared.reply.Sending.{Sending}
-use Rattle.tn3270e_msg.specs.declared.reply.Sending.TheVariants as sent
+use Rattle.tn3270e_msg.specs.declared.reply.OwnedMessage.{OwnedMessage}
+use Rattle.tn3270e_msg.specs.declared.reply.OwnedMessage.TheVariants as sent
 use Rattle.tn3270e_msg.specs.declared.reply.Reply.{Reply}
 use Rattle.tn3270e_msg.specs.declared.reply.Reply.TheVariants as reply
-use Rattle.tn3270e_msg.specs.declared.hearing.Line.{Line}
-use Rattle.tn3270e_msg.specs.declared.hearing.Line.TheVariants.{Stays, Goes, Refuses, Closes}
+use Rattle.tn3270e_msg.specs.declared.hearing.Transition.{Transition}
+use Rattle.tn3270e_msg.specs.declared.hearing.Transition.TheVariants.{Stays, Goes, Refuses, Closes}
 use Rattle.tn3270e_msg.specs.declared.message.SubFault.TheVariants.{NotOurs, Malformed}
-use Rattle.tn3270e_msg.specs.declared.functions.Wants.{Wants}
-use Rattle.tn3270e_msg.specs.Functions.{wants, responses}
+use Rattle.tn3270e_msg.specs.declared.functions.FunctionsOffer.{FunctionsOffer}
+use Rattle.tn3270e_msg.specs.Functions.{offer, responses}
 use Rattle.tn3270e_msg.specs.Device.{device_text}
 use Rattle.tn3270e_msg.specs.Lu.{is_lu}
 use Rattle.tn3270e_msg.specs.Message.{Message, Name, Connect, SendType, TypeRequest, TypeIs, TypeReject, FunRequest, FunIs, Says, HasFault, name_part}
 
--- what comes, as the tables name it
+-- the input, as the tables name it
 pub data Comes : Type 0 where
   Will : Comes  -- WILL TN3270E, and so on
   Wont : Comes
@@ -34,8 +34,8 @@ pub data Comes : Type 0 where
   RequestsType : List ℕ → Option Name → Comes
   IsType : List ℕ → List ℕ → Comes
   RejectsType : Reason → Comes
-  RequestsFunctions : Wants → Comes
-  IsFunctions : Wants → Comes
+  RequestsFunctions : FunctionsOffer → Comes
+  IsFunctions : FunctionsOffer → Comes
   BreaksForm : Comes
   NoTalk : Comes  -- a record, a command, WONT or DONT of another option, a message of another option
 
@@ -50,8 +50,8 @@ message_says SendType = SendsType
 message_says (TypeRequest device name) = RequestsType device name
 message_says (TypeIs device name) = IsType device name
 message_says (TypeReject reason) = RejectsType reason
-message_says (FunRequest functions) = RequestsFunctions (wants functions)
-message_says (FunIs functions) = IsFunctions (wants functions)
+message_says (FunRequest functions) = RequestsFunctions (offer functions)
+message_says (FunIs functions) = IsFunctions (offer functions)
 
 -- what the payload of a subnegotiation says
 pub data PayloadSays (bytes : List ℕ) (comes : Comes) : Type 0 where
@@ -67,7 +67,7 @@ Hears (SubItem bytes) comes = PayloadSays bytes comes
 Hears (Other code) comes = comes ≡ NoTalk
 
 -- the message that an end sends; a terminal is a model 2 (our profile)
-abbrev pub message_sent : Sending → Message
+abbrev pub message_sent : OwnedMessage → Message
 message_sent sent.SendType = SendType
 message_sent (sent.TypeRequest lu) = TypeRequest (device_text Model2) (option_map Connect lu)
 message_sent (sent.TypeIs device lu) = TypeIs (device_text device) lu
@@ -76,7 +76,7 @@ message_sent sent.FunRequest = FunRequest responses
 message_sent sent.FunIs = FunIs responses
 
 -- the payload that it is sent in
-abbrev pub payload_sent : Sending → List ℕ
+abbrev pub payload_sent : OwnedMessage → List ℕ
 payload_sent sent.SendType = 0x28 ∷ 8 ∷ 2 ∷ []
 payload_sent (sent.TypeRequest lu) = 0x28 ∷ 2 ∷ 7 ∷ (device_text Model2 ++ name_part (option_map Connect lu))
 payload_sent (sent.TypeIs device lu) = 0x28 ∷ 2 ∷ 4 ∷ (device_text device ++ 1 ∷ lu)
@@ -90,15 +90,15 @@ IsLuIfSome None = Unit {0}
 IsLuIfSome (Some lu) = IsTrue (is_lu lu)
 
 -- what an end sends of LUs is their names
-abbrev pub IsSending : Sending → Type 0
-IsSending (sent.TypeRequest lu) = IsLuIfSome lu
-IsSending (sent.TypeIs device lu) = IsTrue (is_lu lu)
-IsSending _ = Unit {0}
+abbrev pub IsOwnedMessage : OwnedMessage → Type 0
+IsOwnedMessage (sent.TypeRequest lu) = IsLuIfSome lu
+IsOwnedMessage (sent.TypeIs device lu) = IsTrue (is_lu lu)
+IsOwnedMessage _ = Unit {0}
 
 -- what an end says: an option, or a message
 pub data Saying : Type 0 where
   Opt : Verb → ℕ → Saying
-  Sub : Sending → Saying
+  Sub : OwnedMessage → Saying
 
 -- what it says to the other end
 abbrev pub says : Saying → Comes
@@ -140,8 +140,8 @@ pub record Talk (S : Type 0) : Type 0 where
 abbrev pub start_at : {S : Type 0} → S → Talk S
 start_at state = record { state = state; refusals_left = 8 }
 
--- what a line makes of a talk; it closes with the last rejection or counter-request
-abbrev pub follow : {S : Type 0} → (Cause → S) → Talk S → Line S → Talk S × Reply
+-- a transition applied to a talk, which closes with the last rejection or counter-request
+abbrev pub follow : {S : Type 0} → (Cause → S) → Talk S → Transition S → Talk S × Reply
 follow closed talk (Stays reply) = (talk, reply)
 follow closed talk (Goes state reply) = (record { state = state; refusals_left = talk.refusals_left }, reply)
 follow closed talk (Refuses state sending) =

@@ -5,47 +5,47 @@ use Rattle.telnet_wire.specs.declared.wire.Verb.TheVariants.{Will as WillVerb, W
 use Rattle.telnet_wire.specs.Items.{WireItem}
 use Rattle.tn3270e_msg.specs.declared.device.Device.{Device}
 use Rattle.tn3270e_msg.specs.declared.device.Device.TheVariants.{Model2}
-use Rattle.tn3270e_msg.specs.declared.functions.Wants.TheVariants.{ResponsesAlone, ResponsesAndMore, NoResponses}
+use Rattle.tn3270e_msg.specs.declared.functions.FunctionsOffer.TheVariants.{ResponsesAlone, ResponsesAndMore, NoResponses}
 use Rattle.tn3270e_msg.specs.declared.term_talk.TermState.{TermState}
 use Rattle.tn3270e_msg.specs.declared.term_talk.TermState.TheVariants.{Waiting, Willing, TypeAsked, FunctionsAsked, Agreed, Refused, Closed}
 use Rattle.tn3270e_msg.specs.declared.reply.After.TheVariants.{Going, Agreed as AgreedAfter}
 use Rattle.tn3270e_msg.specs.declared.cause.Cause.TheVariants.{NoTn3270e, NoResponses as NoResponsesCause, BadTalk}
-use Rattle.tn3270e_msg.specs.declared.reply.Sending.TheVariants.{TypeRequest, FunRequest, FunIs}
+use Rattle.tn3270e_msg.specs.declared.reply.OwnedMessage.TheVariants.{TypeRequest, FunRequest, FunIs}
 use Rattle.tn3270e_msg.specs.declared.reply.Reply.{Reply}
 use Rattle.tn3270e_msg.specs.declared.reply.Reply.TheVariants.{Nothing, Opt, Sub, Agreed as AgreedReply, Refused as RefusedReply}
-use Rattle.tn3270e_msg.specs.declared.hearing.Line.{Line}
-use Rattle.tn3270e_msg.specs.declared.hearing.Line.TheVariants.{Stays, Goes, Refuses, Closes}
+use Rattle.tn3270e_msg.specs.declared.hearing.Transition.{Transition}
+use Rattle.tn3270e_msg.specs.declared.hearing.Transition.TheVariants.{Stays, Goes, Refuses, Closes}
 use Rattle.tn3270e_msg.specs.Device.{device_of}
 use Rattle.tn3270e_msg.specs.Lu.{lu_of}
 use Rattle.tn3270e_msg.specs.Talk.{Comes, Will, Wont, Do, Dont, OtherWill, OtherDo, SendsType, IsType, RejectsType, RequestsFunctions, IsFunctions, NoTalk, Hears, Talk, start_at, follow}
 
 -- a grant: of a model 2, and of the LU that was wanted, if one was
-abbrev pub grant_line : Option (List ℕ) → Option Device → Option (List ℕ) → Line TermState
-grant_line None (Some Model2) (Some lu) = Goes (FunctionsAsked lu) (Sub FunRequest Going)
-grant_line (Some wanted) (Some Model2) (Some lu) =
+abbrev pub grant_transition : Option (List ℕ) → Option Device → Option (List ℕ) → Transition TermState
+grant_transition None (Some Model2) (Some lu) = Goes (FunctionsAsked lu) (Sub FunRequest Going)
+grant_transition (Some wanted) (Some Model2) (Some lu) =
     if bytes_eq lu wanted then Goes (FunctionsAsked lu) (Sub FunRequest Going) else Closes BadTalk
-grant_line _ _ _ = Closes BadTalk
+grant_transition _ _ _ = Closes BadTalk
 
-abbrev pub term_line : Option (List ℕ) → TermState → Comes → Line TermState
-term_line wanted (Closed cause) _ = Closes cause
-term_line wanted (Refused reason) _ = Stays Nothing
-term_line wanted Waiting Do = Goes Willing (Opt WillVerb 40)
-term_line wanted _ Do = Stays Nothing
-term_line wanted _ Wont = Stays Nothing
-term_line wanted _ Dont = Closes NoTn3270e
-term_line wanted _ Will = Stays (Opt DontVerb 40)
-term_line wanted _ (OtherDo code) = Stays (Opt WontVerb code)
-term_line wanted _ (OtherWill code) = Stays (Opt DontVerb code)
-term_line wanted _ NoTalk = Stays Nothing
-term_line wanted Willing SendsType = Goes TypeAsked (Sub (TypeRequest wanted) Going)
-term_line wanted TypeAsked (IsType device name) = grant_line wanted (device_of device) (lu_of name)
-term_line wanted TypeAsked (RejectsType reason) = Goes (Refused reason) (RefusedReply reason)
-term_line wanted (FunctionsAsked lu) (IsFunctions ResponsesAlone) = Goes (Agreed lu) AgreedReply
-term_line wanted (FunctionsAsked lu) (IsFunctions _) = Closes NoResponsesCause
-term_line wanted (FunctionsAsked lu) (RequestsFunctions ResponsesAlone) = Goes (Agreed lu) (Sub FunIs AgreedAfter)
-term_line wanted (FunctionsAsked lu) (RequestsFunctions ResponsesAndMore) = Refuses (FunctionsAsked lu) FunRequest
-term_line wanted (FunctionsAsked lu) (RequestsFunctions NoResponses) = Closes NoResponsesCause
-term_line wanted _ _ = Closes BadTalk
+abbrev pub term_transition : Option (List ℕ) → TermState → Comes → Transition TermState
+term_transition wanted (Closed cause) _ = Closes cause
+term_transition wanted (Refused reason) _ = Stays Nothing
+term_transition wanted Waiting Do = Goes Willing (Opt WillVerb 40)
+term_transition wanted _ Do = Stays Nothing
+term_transition wanted _ Wont = Stays Nothing
+term_transition wanted _ Dont = Closes NoTn3270e
+term_transition wanted _ Will = Stays (Opt DontVerb 40)
+term_transition wanted _ (OtherDo code) = Stays (Opt WontVerb code)
+term_transition wanted _ (OtherWill code) = Stays (Opt DontVerb code)
+term_transition wanted _ NoTalk = Stays Nothing
+term_transition wanted Willing SendsType = Goes TypeAsked (Sub (TypeRequest wanted) Going)
+term_transition wanted TypeAsked (IsType device name) = grant_transition wanted (device_of device) (lu_of name)
+term_transition wanted TypeAsked (RejectsType reason) = Goes (Refused reason) (RefusedReply reason)
+term_transition wanted (FunctionsAsked lu) (IsFunctions ResponsesAlone) = Goes (Agreed lu) AgreedReply
+term_transition wanted (FunctionsAsked lu) (IsFunctions _) = Closes NoResponsesCause
+term_transition wanted (FunctionsAsked lu) (RequestsFunctions ResponsesAlone) = Goes (Agreed lu) (Sub FunIs AgreedAfter)
+term_transition wanted (FunctionsAsked lu) (RequestsFunctions ResponsesAndMore) = Refuses (FunctionsAsked lu) FunRequest
+term_transition wanted (FunctionsAsked lu) (RequestsFunctions NoResponses) = Closes NoResponsesCause
+term_transition wanted _ _ = Closes BadTalk
 
 -- a terminal's talk, with the LU that it wants
 pub record Term : Type 0 where
@@ -59,7 +59,7 @@ term_start wanted = record { wanted = wanted; talk = start_at Waiting }
 pub record TermTakes (old : Term) (item : WireItem) (reply : Reply) (new : Term) : Type 0 where
   pub comes : Comes
   pub hears : Hears item comes
-  pub gives : (new.talk, reply) ≡ follow Closed old.talk (term_line old.wanted old.talk.state comes)
+  pub gives : (new.talk, reply) ≡ follow Closed old.talk (term_transition old.wanted old.talk.state comes)
   pub wanted : new.wanted ≡ old.wanted
 
 -- the LU that was granted

@@ -1,6 +1,6 @@
 //! The header of a record (RFC 1647, section 8.1).
 ghost use Rattle.std.specs.Prelude.{◌≡◌, ◌↔◌, ◌<◌, ◌≤◌, ◌++◌, ℕ, List, IfOk, IfErr, IsOkAnd, Err};
-ghost use Rattle.tn3270e_msg.specs.Header.{no_response, error_response, always_response, positive, negative, type_code, spelling, next_number, IsDataType, IsFlag, IsHeader, Begins, HasFault};
+ghost use Rattle.tn3270e_msg.specs.Header.{type_code, spelling, next_number, IsDataType, IsFlag, IsHeader, Begins, HasFault};
 ghost use Rattle.tn3270e_msg.specs.declared.header.Header.{Header};
 ghost use Rattle.tn3270e_msg.specs.declared.header.HeadFault.{HeadFault};
 
@@ -93,15 +93,6 @@ pub const POSITIVE: u8 = 0;
 /// RESPONSE-FLAG of a response to what was refused (RFC 1647, section 8.1.3).
 pub const NEGATIVE: u8 = 1;
 
-/// Law: these constants are the standard's codes. The call does nothing.
-pub const fn flag_laws()
-    ensures no_response { NO_RESPONSE ≡ no_response }
-    ensures error_response { ERROR_RESPONSE ≡ error_response }
-    ensures always_response { ALWAYS_RESPONSE ≡ always_response }
-    ensures positive { POSITIVE ≡ positive }
-    ensures negative { NEGATIVE ≡ negative }
-{}
-
 /// The first five bytes of a record (RFC 1647, section 8.1).
 #[derive(Clone, Copy, Debug, PartialEq, Eq)]
 pub struct Header {
@@ -140,7 +131,7 @@ impl fmt::Display for HeadFault {
 
 impl Error for HeadFault {}
 
-/// The header that a record begins with, and the body behind it (RFC 1647, section 8.1).
+/// The header that a record begins with, and the body after it (RFC 1647, section 8.1).
 ///
 /// It is refused by [`HeadFault::Short`] where there are fewer than five bytes, and by
 /// [`HeadFault::BadFlag`] where the type has no such RESPONSE-FLAG. A type without a name and any

@@ -8,7 +8,7 @@ use crate::cause::Cause;
 use crate::codes::TN3270E;
 use crate::message::{SubFault, SubMessage};
 use crate::reading::read_sub;
-use crate::reply::{After, Reply, Sending};
+use crate::reply::{After, OwnedMessage, Reply};
 use telnet_wire::{Item, Verb};
 
 /// The rejections and counter-requests that a talk sends at most; with the last it closes (our
@@ -31,13 +31,13 @@ pub enum Heard<'a> {
 
 /// What a talk does about it.
 #[derive(Clone, Copy, Debug)]
-pub enum Line<S> {
+pub enum Transition<S> {
     /// A reply in the same state.
     Stays(Reply),
     /// A reply, and the state after it.
     Goes(S, Reply),
     /// A rejection or a counter-request, and the state after it.
-    Refuses(S, Sending),
+    Refuses(S, OwnedMessage),
     /// The end.
     Closes(Cause),
 }
@@ -52,18 +52,22 @@ pub trait TalkState: Copy {
         ensures { result ≡ closed cause };
 }
 
-/// What a line makes of a talk; it closes with the last rejection or counter-request that it may send.
-pub fn follow<S: TalkState>(state: &mut S, refusals_left: &mut u8, line: Line<S>) -> Reply
+/// Applies a transition to a talk, which closes with the last rejection or counter-request that it may send.
+pub fn follow<S: TalkState>(
+    state: &mut S,
+    refusals_left: &mut u8,
+    transition: Transition<S>,
+) -> Reply
     ensures { (record { state = state.new; refusals_left = refusals_left.new }, result)
-        ≡ followed S.closed (record { state = state.old; refusals_left = refusals_left.old }) line }
+        ≡ followed S.closed (record { state = state.old; refusals_left = refusals_left.old }) transition }
 {
-    match line {
-        Line::Stays(reply) => reply,
-        Line::Goes(next, reply) => {
+    match transition {
+        Transition::Stays(reply) => reply,
+        Transition::Goes(next, reply) => {
             *state = next;
             reply
         }
-        Line::Refuses(next, sending) => {
+        Transition::Refuses(next, sending) => {
             *refusals_left = refusals_left.saturating_sub(1);
             if *refusals_left == 0 {
                 *state = S::closed_by(Cause::TooMany);
@@ -73,7 +77,7 @@ pub fn follow<S: TalkState>(state: &mut S, refusals_left: &mut u8, line: Line<S>
                 Reply::Sub(sending, After::Going)
             }
         }
-        Line::Closes(cause) => {
+        Transition::Closes(cause) => {
             *state = S::closed_by(cause);
             Reply::Close(cause)
         }

@@ -6,17 +6,17 @@ ghost use Rattle.tn3270e_msg.specs.Talk.{message_says, RequestsFunctions};
 ghost use Rattle.tn3270e_msg.specs.Hearing.{heard_says};
 ghost use Rattle.tn3270e_msg.specs.Lent.{name_of, message_of};
 ghost use Rattle.tn3270e_msg.specs.Device.{device_of};
-ghost use Rattle.tn3270e_msg.specs.HostTable.{host_line, request_line, answer_line, host_start, HostTakes, HostAnswered, IsAsking, granted, device_granted};
+ghost use Rattle.tn3270e_msg.specs.HostTable.{host_transition, request_transition, answer_transition, host_start, HostTakes, HostAnswered, IsAsking, granted, device_granted};
 ghost use Rattle.tn3270e_msg.specs.declared.host_talk.HostState.TheVariants.{Named, Countered};
 
 use crate::cause::Cause;
 use crate::codes::TN3270E;
 use crate::device::Device;
-use crate::functions::Wants;
-use crate::hearing::{Heard, Line, MOST_REFUSALS, TalkState, follow, hear};
+use crate::functions::FunctionsOffer;
+use crate::hearing::{Heard, MOST_REFUSALS, TalkState, Transition, follow, hear};
 use crate::lu::Lu;
 use crate::message::{Name, SubMessage};
-use crate::reply::{After, Reason, Reply, Sending};
+use crate::reply::{After, OwnedMessage, Reason, Reply};
 use std::marker::Model;
 use telnet_wire::{Item, Verb};
 
@@ -51,99 +51,111 @@ impl TalkState for HostState {
 
 impl HostState {
     // What the table says.
-    fn line(self, heard: Heard) -> Line<HostState>
-        ensures { result ≡ host_line self (heard_says heard.entry) }
+    fn transition(self, heard: Heard) -> Transition<HostState>
+        ensures { result ≡ host_transition self (heard_says heard.entry) }
     {
         if let HostState::Closed(cause) = self {
-            return Line::Closes(cause);
+            return Transition::Closes(cause);
         }
         match heard {
             Heard::Will => match self {
-                HostState::Offered => Line::Goes(
+                HostState::Offered => Transition::Goes(
                     HostState::Asked,
-                    Reply::Sub(Sending::SendType, After::Going),
+                    Reply::Sub(OwnedMessage::SendType, After::Going),
                 ),
-                _ => Line::Stays(Reply::Nothing),
+                _ => Transition::Stays(Reply::Nothing),
             },
-            Heard::Wont => Line::Closes(Cause::NoTn3270e),
-            Heard::Do => Line::Stays(Reply::Opt(Verb::Wont, TN3270E)),
-            Heard::Dont | Heard::NoTalk => Line::Stays(Reply::Nothing),
-            Heard::OtherDo(code) => Line::Stays(Reply::Opt(Verb::Wont, code)),
-            Heard::OtherWill(code) => Line::Stays(Reply::Opt(Verb::Dont, code)),
-            Heard::Message(message) => self.message_line(message),
-            Heard::Malformed => Line::Closes(Cause::BadTalk),
+            Heard::Wont => Transition::Closes(Cause::NoTn3270e),
+            Heard::Do => Transition::Stays(Reply::Opt(Verb::Wont, TN3270E)),
+            Heard::Dont | Heard::NoTalk => Transition::Stays(Reply::Nothing),
+            Heard::OtherDo(code) => Transition::Stays(Reply::Opt(Verb::Wont, code)),
+            Heard::OtherWill(code) => Transition::Stays(Reply::Opt(Verb::Dont, code)),
+            Heard::Message(message) => self.message_transition(message),
+            Heard::Malformed => Transition::Closes(Cause::BadTalk),
         }
     }
 
     // What it says of a message.
-    fn message_line(self, message: SubMessage) -> Line<HostState>
-        ensures { result ≡ host_line self (message_says (message_of message.entry)) }
+    fn message_transition(self, message: SubMessage) -> Transition<HostState>
+        ensures { result ≡ host_transition self (message_says (message_of message.entry)) }
     {
         match self {
-            HostState::Closed(cause) => Line::Closes(cause),
+            HostState::Closed(cause) => Transition::Closes(cause),
             HostState::Asked => match message {
                 SubMessage::TypeRequest { device, name } => {
-                    request_line(Device::read(device), name)
+                    request_transition(Device::read(device), name)
                 }
-                _ => Line::Closes(Cause::BadTalk),
+                _ => Transition::Closes(Cause::BadTalk),
             },
             HostState::Named(device, lu) => match message {
-                SubMessage::FunRequest(list) => functions_line(device, lu, Wants::of(list)),
-                _ => Line::Closes(Cause::BadTalk),
+                SubMessage::FunRequest(list) => functions_transition(
+                    device,
+                    lu,
+                    FunctionsOffer::of(list),
+                ),
+                _ => Transition::Closes(Cause::BadTalk),
             },
             HostState::Countered(device, lu) => match message {
-                SubMessage::FunRequest(list) => functions_line(device, lu, Wants::of(list)),
-                SubMessage::FunIs(list) if Wants::of(list) == Wants::ResponsesAlone => {
-                    Line::Goes(HostState::Agreed(device, lu), Reply::Agreed)
+                SubMessage::FunRequest(list) => functions_transition(
+                    device,
+                    lu,
+                    FunctionsOffer::of(list),
+                ),
+                SubMessage::FunIs(list)
+                    if FunctionsOffer::of(list) == FunctionsOffer::ResponsesAlone => {
+                    Transition::Goes(HostState::Agreed(device, lu), Reply::Agreed)
                 }
-                _ => Line::Closes(Cause::BadTalk),
+                _ => Transition::Closes(Cause::BadTalk),
             },
             HostState::Offered | HostState::Asking(_) | HostState::Agreed(_, _) => {
-                Line::Closes(Cause::BadTalk)
+                Transition::Closes(Cause::BadTalk)
             }
         }
     }
 }
 
-fn request_line(device: Option<Device>, name: Option<Name>) -> Line<HostState>
-    ensures { result ≡ request_line device (name_of name.entry) }
+fn request_transition(device: Option<Device>, name: Option<Name>) -> Transition<HostState>
+    ensures { result ≡ request_transition device (name_of name.entry) }
 {
     let Some(device) = device else {
-        return Line::Refuses(
+        return Transition::Refuses(
             HostState::Asked,
-            Sending::TypeReject(Reason::INV_DEVICE_TYPE),
+            OwnedMessage::TypeReject(Reason::INV_DEVICE_TYPE),
         );
     };
     match name {
-        None => Line::Goes(HostState::Asking(device), Reply::AskPool(None)),
+        None => Transition::Goes(HostState::Asking(device), Reply::AskPool(None)),
         Some(Name::Associate(_)) => {
-            Line::Refuses(
+            Transition::Refuses(
                 HostState::Asked,
-                Sending::TypeReject(Reason::UNSUPPORTED_REQ),
+                OwnedMessage::TypeReject(Reason::UNSUPPORTED_REQ),
             )
         }
         Some(Name::Connect(name)) => match Lu::read(name) {
-            Some(lu) => Line::Goes(HostState::Asking(device), Reply::AskPool(Some(lu))),
-            None => Line::Refuses(HostState::Asked, Sending::TypeReject(Reason::INV_NAME)),
+            Some(lu) => Transition::Goes(HostState::Asking(device), Reply::AskPool(Some(lu))),
+            None => Transition::Refuses(
+                HostState::Asked,
+                OwnedMessage::TypeReject(Reason::INV_NAME),
+            ),
         },
     }
 }
 
 // A functions request, once this LU is granted for this device.
-fn functions_line(device: Device, lu: Lu, wants: Wants) -> Line<HostState>
-    ensures named { result ≡ host_line (Named device lu) (RequestsFunctions wants) }
-    ensures countered { result ≡ host_line (Countered device lu) (RequestsFunctions wants) }
+fn functions_transition(device: Device, lu: Lu, offer: FunctionsOffer) -> Transition<HostState>
+    ensures named { result ≡ host_transition (Named device lu) (RequestsFunctions offer) }
+    ensures countered { result ≡ host_transition (Countered device lu) (RequestsFunctions offer) }
 {
-    match wants {
-        Wants::ResponsesAlone => Line::Goes(
+    match offer {
+        FunctionsOffer::ResponsesAlone => Transition::Goes(
             HostState::Agreed(device, lu),
-            Reply::Sub(Sending::FunIs, After::Agreed),
+            Reply::Sub(OwnedMessage::FunIs, After::Agreed),
         ),
-        Wants::ResponsesAndMore => Line::Refuses(
+        FunctionsOffer::ResponsesAndMore => Transition::Refuses(
             HostState::Countered(device, lu),
-            Sending::FunRequest,
+            OwnedMessage::FunRequest,
         ),
-        Wants::NoResponses => Line::Closes(Cause::NoResponses),
+        FunctionsOffer::NoResponses => Transition::Closes(Cause::NoResponses),
     }
 }
 
@@ -181,8 +193,8 @@ impl HostTalk {
     pub fn take(&mut self, item: &Item) -> Reply
         ensures { HostTakes self.old (item_of item.now) (result) self.new }
     {
-        let line = self.state.line(hear(item));
-        follow(&mut self.state, &mut self.refusals_left, line)
+        let transition = self.state.transition(hear(item));
+        follow(&mut self.state, &mut self.refusals_left, transition)
     }
 
     /// Takes the pool's answer: DEVICE-TYPE IS with the LU that it grants, or a rejection with its
@@ -195,14 +207,14 @@ impl HostTalk {
         let HostState::Asking(device) = self.state else {
             unreachable!()
         };
-        let line = match answer {
-            Ok(lu) => Line::Goes(
+        let transition = match answer {
+            Ok(lu) => Transition::Goes(
                 HostState::Named(device, lu),
-                Reply::Sub(Sending::TypeIs(device, lu), After::Going),
+                Reply::Sub(OwnedMessage::TypeIs(device, lu), After::Going),
             ),
-            Err(reason) => Line::Refuses(HostState::Asked, Sending::TypeReject(reason)),
+            Err(reason) => Transition::Refuses(HostState::Asked, OwnedMessage::TypeReject(reason)),
         };
-        follow(&mut self.state, &mut self.refusals_left, line)
+        follow(&mut self.state, &mut self.refusals_left, transition)
     }
 
     /// Where it stands.

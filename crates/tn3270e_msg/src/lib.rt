@@ -20,11 +20,8 @@
 //!
 //! What contracts cite is defined in `specs/`: `Header`, `Message` (the messages, and the payloads
 //! that spell them), `Talk` (what an item says), `HostTable` and `TermTable` (one equation a line of
-//! each talk's table) and `Pair` (both talks with each other, as [`talks_agree`] has it).
+//! each talk's table) and `Pair` (both talks with each other, as [`laws::talks_agree`] has it).
 #![tactic(auto)]
-
-ghost use Rattle.tn3270e_msg.specs.Laws.{OneHeader, FaultIsNoHeader, OneHeadFault, OneMessage, FaultIsNoMessage, OneSubFault, OneHearing, NameIsReadAsItself};
-ghost use Rattle.tn3270e_msg.specs.Pair.{TalksAlwaysAgree};
 
 mod cause;
 mod codes;
@@ -33,6 +30,7 @@ mod functions;
 mod header;
 mod hearing;
 mod host_talk;
+pub mod laws;
 mod lu;
 mod message;
 mod reading;
@@ -44,32 +42,12 @@ pub use cause::{Cause, Fed, Stop};
 pub use device::Device;
 pub use header::{
     ALWAYS_RESPONSE, DataType, ERROR_RESPONSE, HeadFault, Header, NEGATIVE, NO_RESPONSE, POSITIVE,
-    RECORD_LIMIT, flag_laws, header_bytes, next_seq, read_header,
+    RECORD_LIMIT, header_bytes, next_seq, read_header,
 };
 pub use host_talk::{HostState, HostTalk};
 pub use lu::Lu;
 pub use message::{Name, SubFault, SubMessage};
 pub use reading::read_sub;
-pub use reply::{After, Reason, Reply, Sending};
+pub use reply::{After, OwnedMessage, Reason, Reply};
 pub use term_talk::{TermState, TermTalk};
 pub use writing::{REPLY_ROOM, put_reply, put_sub_message};
-
-/// Law: a host's talk and a terminal's with each other never close, whatever the pool answers and
-/// however their items are delivered. After eight events at most they have ended: agreed on the LU
-/// that the pool granted, or refused for its reason. The call does nothing.
-pub fn talks_agree()
-    ensures { TalksAlwaysAgree }
-{}
-
-/// Laws: bytes begin with one header or have one fault, and are one message or have one fault; an
-/// item says one thing to a talk; a name of an LU is read as itself. The call does nothing.
-pub fn one_reading()
-    ensures header { OneHeader }
-    ensures header_or_fault { FaultIsNoHeader }
-    ensures head_fault { OneHeadFault }
-    ensures message { OneMessage }
-    ensures message_or_fault { FaultIsNoMessage }
-    ensures sub_fault { OneSubFault }
-    ensures hearing { OneHearing }
-    ensures name { NameIsReadAsItself }
-{}

@@ -26,7 +26,7 @@ impl Model for Lu {
 }
 
 impl Lu {
-    /// The name that these bytes spell, where lower case stands for upper; None unless they are one
+    /// The name that these bytes spell, with lower case read as upper; None unless they are one
     /// to eight of its letters, the first no digit.
     pub fn read(bytes: &[u8]) -> Option<Lu>
         ensures value { result ≡ lu_of bytes.now }

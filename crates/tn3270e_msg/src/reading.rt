@@ -88,7 +88,7 @@ fn name_at(bytes: &[u8]) -> Option<Option<Name<'_>>>
     }
 }
 
-// The text at the front, as far as it goes, and what comes behind it.
+// The text at the front, as far as it goes, and the bytes after it.
 fn text_at(bytes: &[u8]) -> Option<(&[u8], &[u8])>
     ensures found { IfSome result (λ found. IsFront bytes.now found.0.now found.1.now) }
     ensures none { IfNone result (IsEnd bytes.now) }

@@ -2,7 +2,7 @@
 ghost use Rattle.std.specs.Prelude.{◌≡◌, ◌≤◌, length};
 ghost use Rattle.tn3270e_msg.specs.Message.{IsMessage};
 ghost use Rattle.tn3270e_msg.specs.Lent.{message_of, payload};
-ghost use Rattle.tn3270e_msg.specs.Talk.{message_sent, payload_sent, IsSending};
+ghost use Rattle.tn3270e_msg.specs.Talk.{message_sent, payload_sent, IsOwnedMessage};
 
 use crate::cause::Cause;
 use crate::codes::RESPONSES;
@@ -31,7 +31,7 @@ impl Reason {
 
 /// A message that an end sends. It holds its parts, where a `SubMessage` lends them.
 #[derive(Clone, Copy, Debug, PartialEq, Eq)]
-pub enum Sending {
+pub enum OwnedMessage {
     /// SEND DEVICE-TYPE.
     SendType,
     /// DEVICE-TYPE REQUEST of a model 2, with CONNECT and this LU if there is one.
@@ -46,31 +46,31 @@ pub enum Sending {
     FunIs,
 }
 
-impl Sending {
+impl OwnedMessage {
     /// The message, with its parts lent. It fits a subnegotiation of 256 bytes.
     pub fn message(&self) -> SubMessage<'_>
         ensures value { message_of result ≡ message_sent self.now }
         ensures bytes { payload result ≡ payload_sent self.now }
         ensures is_message { IsMessage (message_sent self.now) }
-        ensures is_sending { IsSending self.now }
+        ensures is_sending { IsOwnedMessage self.now }
         ensures short { length (payload_sent self.now) ≤ 256 }
     {
         match self {
-            Sending::SendType => SubMessage::SendType,
-            Sending::TypeRequest(lu) => SubMessage::TypeRequest {
+            OwnedMessage::SendType => SubMessage::SendType,
+            OwnedMessage::TypeRequest(lu) => SubMessage::TypeRequest {
                 device: Device::Model2.text(),
                 name: match lu {
                     Some(lu) => Some(Name::Connect(lu.as_bytes())),
                     None => None,
                 },
             },
-            Sending::TypeIs(device, lu) => SubMessage::TypeIs {
+            OwnedMessage::TypeIs(device, lu) => SubMessage::TypeIs {
                 device: device.text(),
                 name: lu.as_bytes(),
             },
-            Sending::TypeReject(reason) => SubMessage::TypeReject(*reason),
-            Sending::FunRequest => SubMessage::FunRequest(&[RESPONSES]),
-            Sending::FunIs => SubMessage::FunIs(&[RESPONSES]),
+            OwnedMessage::TypeReject(reason) => SubMessage::TypeReject(*reason),
+            OwnedMessage::FunRequest => SubMessage::FunRequest(&[RESPONSES]),
+            OwnedMessage::FunIs => SubMessage::FunIs(&[RESPONSES]),
         }
     }
 }
@@ -94,7 +94,7 @@ pub enum Reply {
     /// It sends the negotiation of the option with this code.
     Opt(Verb, u8),
     /// It sends a message, and then stands like this.
-    Sub(Sending, After),
+    Sub(OwnedMessage, After),
     /// The host asks its pool for an LU, of this name if there is one;
     /// [`HostTalk::answered`](crate::HostTalk::answered) takes the answer.
     AskPool(Option<Lu>),

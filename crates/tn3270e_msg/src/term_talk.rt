@@ -7,17 +7,17 @@ ghost use Rattle.tn3270e_msg.specs.Hearing.{heard_says};
 ghost use Rattle.tn3270e_msg.specs.Lent.{message_of};
 ghost use Rattle.tn3270e_msg.specs.Lu.{lu_of};
 ghost use Rattle.tn3270e_msg.specs.Device.{device_of};
-ghost use Rattle.tn3270e_msg.specs.TermTable.{term_line, grant_line, term_start, TermTakes, bound};
+ghost use Rattle.tn3270e_msg.specs.TermTable.{term_transition, grant_transition, term_start, TermTakes, bound};
 ghost use Rattle.tn3270e_msg.specs.declared.term_talk.TermState.TheVariants.{FunctionsAsked};
 
 use crate::cause::Cause;
 use crate::codes::TN3270E;
 use crate::device::Device;
-use crate::functions::Wants;
-use crate::hearing::{Heard, Line, MOST_REFUSALS, TalkState, follow, hear};
+use crate::functions::FunctionsOffer;
+use crate::hearing::{Heard, MOST_REFUSALS, TalkState, Transition, follow, hear};
 use crate::lu::Lu;
 use crate::message::SubMessage;
-use crate::reply::{After, Reason, Reply, Sending};
+use crate::reply::{After, OwnedMessage, Reason, Reply};
 use std::marker::Model;
 use telnet_wire::{Item, Verb};
 
@@ -52,102 +52,106 @@ impl TalkState for TermState {
 
 impl TermState {
     // What the table says.
-    fn line(self, wanted: Option<Lu>, heard: Heard) -> Line<TermState>
-        ensures { result ≡ term_line wanted self (heard_says heard.entry) }
+    fn transition(self, wanted: Option<Lu>, heard: Heard) -> Transition<TermState>
+        ensures { result ≡ term_transition wanted self (heard_says heard.entry) }
     {
         match self {
-            TermState::Closed(cause) => return Line::Closes(cause),
-            TermState::Refused(_) => return Line::Stays(Reply::Nothing),
+            TermState::Closed(cause) => return Transition::Closes(cause),
+            TermState::Refused(_) => return Transition::Stays(Reply::Nothing),
             _ => {}
         }
         match heard {
             Heard::Do => match self {
                 TermState::Waiting => {
-                    Line::Goes(TermState::Willing, Reply::Opt(Verb::Will, TN3270E))
+                    Transition::Goes(TermState::Willing, Reply::Opt(Verb::Will, TN3270E))
                 }
-                _ => Line::Stays(Reply::Nothing),
+                _ => Transition::Stays(Reply::Nothing),
             },
-            Heard::Wont | Heard::NoTalk => Line::Stays(Reply::Nothing),
-            Heard::Dont => Line::Closes(Cause::NoTn3270e),
-            Heard::Will => Line::Stays(Reply::Opt(Verb::Dont, TN3270E)),
-            Heard::OtherDo(code) => Line::Stays(Reply::Opt(Verb::Wont, code)),
-            Heard::OtherWill(code) => Line::Stays(Reply::Opt(Verb::Dont, code)),
-            Heard::Message(message) => self.message_line(wanted, message),
-            Heard::Malformed => Line::Closes(Cause::BadTalk),
+            Heard::Wont | Heard::NoTalk => Transition::Stays(Reply::Nothing),
+            Heard::Dont => Transition::Closes(Cause::NoTn3270e),
+            Heard::Will => Transition::Stays(Reply::Opt(Verb::Dont, TN3270E)),
+            Heard::OtherDo(code) => Transition::Stays(Reply::Opt(Verb::Wont, code)),
+            Heard::OtherWill(code) => Transition::Stays(Reply::Opt(Verb::Dont, code)),
+            Heard::Message(message) => self.message_transition(wanted, message),
+            Heard::Malformed => Transition::Closes(Cause::BadTalk),
         }
     }
 
     // What it says of a message.
-    fn message_line(self, wanted: Option<Lu>, message: SubMessage) -> Line<TermState>
-        ensures { result ≡ term_line wanted self (message_says (message_of message.entry)) }
+    fn message_transition(self, wanted: Option<Lu>, message: SubMessage) -> Transition<TermState>
+        ensures { result ≡ term_transition wanted self (message_says (message_of message.entry)) }
     {
         match self {
-            TermState::Closed(cause) => Line::Closes(cause),
-            TermState::Refused(_) => Line::Stays(Reply::Nothing),
+            TermState::Closed(cause) => Transition::Closes(cause),
+            TermState::Refused(_) => Transition::Stays(Reply::Nothing),
             TermState::Willing => match message {
-                SubMessage::SendType => Line::Goes(
+                SubMessage::SendType => Transition::Goes(
                     TermState::TypeAsked,
-                    Reply::Sub(Sending::TypeRequest(wanted), After::Going),
+                    Reply::Sub(OwnedMessage::TypeRequest(wanted), After::Going),
                 ),
-                _ => Line::Closes(Cause::BadTalk),
+                _ => Transition::Closes(Cause::BadTalk),
             },
             TermState::TypeAsked => match message {
                 SubMessage::TypeIs { device, name } => {
-                    grant_line(wanted, Device::read(device), Lu::read(name))
+                    grant_transition(wanted, Device::read(device), Lu::read(name))
                 }
                 SubMessage::TypeReject(reason) => {
-                    Line::Goes(TermState::Refused(reason), Reply::Refused(reason))
+                    Transition::Goes(TermState::Refused(reason), Reply::Refused(reason))
                 }
-                _ => Line::Closes(Cause::BadTalk),
+                _ => Transition::Closes(Cause::BadTalk),
             },
             TermState::FunctionsAsked(lu) => match message {
-                SubMessage::FunIs(list) => functions_are_line(lu, Wants::of(list)),
-                SubMessage::FunRequest(list) => functions_line(lu, Wants::of(list)),
-                _ => Line::Closes(Cause::BadTalk),
+                SubMessage::FunIs(list) => agreement_transition(lu, FunctionsOffer::of(list)),
+                SubMessage::FunRequest(list) => functions_transition(lu, FunctionsOffer::of(list)),
+                _ => Transition::Closes(Cause::BadTalk),
             },
-            TermState::Waiting | TermState::Agreed(_) => Line::Closes(Cause::BadTalk),
+            TermState::Waiting | TermState::Agreed(_) => Transition::Closes(Cause::BadTalk),
         }
     }
 }
 
 // The host's functions, once this LU is granted.
-fn functions_are_line(lu: Lu, wants: Wants) -> Line<TermState>
-    ensures { (wanted : Option (List ℕ)) → result ≡ term_line wanted (FunctionsAsked lu) (IsFunctions wants) }
+fn agreement_transition(lu: Lu, offer: FunctionsOffer) -> Transition<TermState>
+    ensures { (wanted : Option (List ℕ)) → result ≡ term_transition wanted (FunctionsAsked lu) (IsFunctions offer) }
 {
-    match wants {
-        Wants::ResponsesAlone => Line::Goes(TermState::Agreed(lu), Reply::Agreed),
-        _ => Line::Closes(Cause::NoResponses),
+    match offer {
+        FunctionsOffer::ResponsesAlone => Transition::Goes(TermState::Agreed(lu), Reply::Agreed),
+        _ => Transition::Closes(Cause::NoResponses),
     }
 }
 
 // The host's functions request, once this LU is granted.
-fn functions_line(lu: Lu, wants: Wants) -> Line<TermState>
-    ensures { (wanted : Option (List ℕ)) → result ≡ term_line wanted (FunctionsAsked lu) (RequestsFunctions wants) }
+fn functions_transition(lu: Lu, offer: FunctionsOffer) -> Transition<TermState>
+    ensures { (wanted : Option (List ℕ)) → result ≡ term_transition wanted (FunctionsAsked lu) (RequestsFunctions offer) }
 {
-    match wants {
-        Wants::ResponsesAlone => Line::Goes(
+    match offer {
+        FunctionsOffer::ResponsesAlone => Transition::Goes(
             TermState::Agreed(lu),
-            Reply::Sub(Sending::FunIs, After::Agreed),
+            Reply::Sub(OwnedMessage::FunIs, After::Agreed),
         ),
-        Wants::ResponsesAndMore => {
-            Line::Refuses(TermState::FunctionsAsked(lu), Sending::FunRequest)
+        FunctionsOffer::ResponsesAndMore => {
+            Transition::Refuses(TermState::FunctionsAsked(lu), OwnedMessage::FunRequest)
         }
-        Wants::NoResponses => Line::Closes(Cause::NoResponses),
+        FunctionsOffer::NoResponses => Transition::Closes(Cause::NoResponses),
     }
 }
 
-fn grant_line(wanted: Option<Lu>, device: Option<Device>, name: Option<Lu>) -> Line<TermState>
-    ensures { result ≡ grant_line wanted device name }
+fn grant_transition(
+    wanted: Option<Lu>,
+    device: Option<Device>,
+    name: Option<Lu>,
+) -> Transition<TermState>
+    ensures { result ≡ grant_transition wanted device name }
 {
     let (Some(Device::Model2), Some(lu)) = (device, name) else {
-        return Line::Closes(Cause::BadTalk);
+        return Transition::Closes(Cause::BadTalk);
     };
     if wanted.is_some_and(|wanted| wanted != lu) {
-        return Line::Closes(Cause::BadTalk);
+        return Transition::Closes(Cause::BadTalk);
     }
-    Line::Goes(
+    Transition::Goes(
         TermState::FunctionsAsked(lu),
-        Reply::Sub(Sending::FunRequest, After::Going),
+        Reply::Sub(OwnedMessage::FunRequest, After::Going),
     )
 }
 
@@ -191,8 +195,8 @@ impl TermTalk {
     pub fn take(&mut self, item: &Item) -> Reply
         ensures { TermTakes self.old (item_of item.now) (result) self.new }
     {
-        let line = self.state.line(self.wanted, hear(item));
-        follow(&mut self.state, &mut self.refusals_left, line)
+        let transition = self.state.transition(self.wanted, hear(item));
+        follow(&mut self.state, &mut self.refusals_left, transition)
     }
 
     /// Where the talk stands.

@@ -22,13 +22,13 @@ use Rattle.host_core.specs.NoteLaws.{IsNoteOf}
 use Rattle.host_core.specs.Notes.{IsNoteText, note_command, may_note, noted_as, noted}
 use Rattle.host_core.specs.declared.turn.Turn.{Turn}
 use Rattle.host_core.specs.declared.turn.Turn.TheVariants as whose
-use Rattle.host_core.specs.declared.occasion.Occasion.{Occasion}
-use Rattle.host_core.specs.declared.occasion.Occasion.TheVariants as occasions
+use Rattle.host_core.specs.declared.turn_reason.TurnReason.{TurnReason}
+use Rattle.host_core.specs.declared.turn_reason.TurnReason.TheVariants as turn_reasons
 use Rattle.host_core.specs.Session.{Conn, Pending, is_agreed}
 use Rattle.world3270.specs.Given.{Given}
 use Rattle.world3270.specs.Link.{Link, sent, host_sent}
 use Rattle.world3270.specs.Moments.{Kind, UnderWay, Talking, Serving, Moment, IsAt, host_talk_at, term_state_at, turn_at, pending_at, down_at, up_at}
-use Rattle.world3270.specs.Occasions.{IsOccasion, IsOpenBy, IsOpenFor}
+use Rattle.world3270.specs.TurnReasons.{IsOccasion, IsOpenBy, IsOpenFor}
 use Rattle.world3270.specs.Stages.{scene_of, FactsAreExact, IsNew, Decides, Fact, Kept}
 use Rattle.world3270.specs.View.{View, view_of}
 use Rattle.world3270.proofs.Down.{none_open}
@@ -90,10 +90,10 @@ key_uncleared app conn EnterAid buffered e is = absurd (cc)
 key_uncleared app conn (PfAid key) buffered e is = absurd (cc)
 key_uncleared app conn (PaAid key) buffered e is = absurd (cc)
 
-reads_uncleared : (app : Application) (conn : Conn) (occasion : Occasion) (aid : Aid) → IsOccasion occasion aid → act_on app conn occasion ≡ Act.Read → aid ≡ ClearAid → ⊥
-reads_uncleared app conn occasions.Agreement aid is e clear = absurd (cc)
-reads_uncleared app conn (occasions.Key pressed buffered) aid is e clear = key_uncleared app conn pressed buffered e (is.0 ∙ clear)
-reads_uncleared app conn occasions.Refusal aid is e clear = absurd is
+reads_uncleared : (app : Application) (conn : Conn) (turn_reason : TurnReason) (aid : Aid) → IsOccasion turn_reason aid → act_on app conn turn_reason ≡ Act.Read → aid ≡ ClearAid → ⊥
+reads_uncleared app conn turn_reasons.Agreement aid is e clear = absurd (cc)
+reads_uncleared app conn (turn_reasons.Key pressed buffered) aid is e clear = key_uncleared app conn pressed buffered e (is.0 ∙ clear)
+reads_uncleared app conn turn_reasons.Refusal aid is e clear = absurd is
 
 -- nothing is open where a panel is shown
 key_closed : (app : Application) (conn : Conn) (pressed : Aid) (buffered : Bool) (shadow : Shadow) (panel : ℕ) (message : Message) (keep : Bool) (values : Values)
@@ -105,11 +105,11 @@ key_closed app conn (PfAid key) buffered shadow panel message keep values e o = 
 key_closed app conn (PaAid key) true shadow panel message keep values e o = o
 key_closed app conn (PaAid key) false shadow panel message keep values e o = absurd (cc)
 
-shown_closed : (app : Application) (conn : Conn) (occasion : Occasion) (shadow : Shadow) (panel : ℕ) (message : Message) (keep : Bool) (values : Values)
-    → act_on app conn occasion ≡ Act.Show panel message keep values → IsOpenFor occasion shadow → NothingIsOpen shadow
-shown_closed app conn occasions.Agreement shadow panel message keep values e o = o
-shown_closed app conn (occasions.Key pressed buffered) shadow panel message keep values e o = key_closed app conn pressed buffered shadow panel message keep values e o
-shown_closed app conn occasions.Refusal shadow panel message keep values e o = absurd o
+shown_closed : (app : Application) (conn : Conn) (turn_reason : TurnReason) (shadow : Shadow) (panel : ℕ) (message : Message) (keep : Bool) (values : Values)
+    → act_on app conn turn_reason ≡ Act.Show panel message keep values → IsOpenFor turn_reason shadow → NothingIsOpen shadow
+shown_closed app conn turn_reasons.Agreement shadow panel message keep values e o = o
+shown_closed app conn (turn_reasons.Key pressed buffered) shadow panel message keep values e o = key_closed app conn pressed buffered shadow panel message keep values e o
+shown_closed app conn turn_reasons.Refusal shadow panel message keep values e o = absurd o
 
 abbrev command_of : Application → Conn → ℕ → Message → Bool → Values → CommandParts
 command_of app conn panel message keep values = paint (cells_in conn.shape) conn.shadow (wanted_by app conn panel message keep values)
@@ -122,7 +122,7 @@ module _ (given : Given) (app : Application) (is : IsApplication app) (link : Li
       let sending : Sending = shown app link.host panel message keep values in
       let wants : WantedScreen = wanted_by app link.host panel message keep values in
       let same : Sends link sending = record { talk = refl; shape = refl; shadow = refl } in
-      let to : Moment = Moment.Begins lu link.host.number (command_of app link.host panel message keep values) wants link.host.shadow in
+      let to : Moment = Moment.Begins lu link.host.next_seq (command_of app link.host panel message keep values) wants link.host.shadow in
       kept_sent app link sending k to same
       (sent_at link sending k.wanted (Moment.Talks (Talking.Agreeing lu)) to same at refl refl refl refl refl refl)
       (record {
@@ -140,7 +140,7 @@ module _ (given : Given) (app : Application) (is : IsApplication app) (link : Li
       let sending : Sending = shown app link.host panel message keep values in
       let wants : WantedScreen = wanted_by app link.host panel message keep values in
       let same : Sends link sending = record { talk = refl; shape = refl; shadow = refl } in
-      let to : Moment = Moment.Serves lu (Serving.Painting link.host.number (command_of app link.host panel message keep values) wants link.host.shadow) in
+      let to : Moment = Moment.Serves lu (Serving.Painting link.host.next_seq (command_of app link.host panel message keep values) wants link.host.shadow) in
       kept_sent app link sending k to same
       (sent_at link sending k.wanted (Moment.Serves lu Serving.Deciding) to same at refl refl refl refl refl refl)
       (record {
@@ -156,25 +156,25 @@ module _ (given : Given) (app : Application) (is : IsApplication app) (link : Li
   asks lu not_cleared at f =
       let sending : Sending = done app link.host Act.Read in
       let same : Sends link sending = record { talk = refl; shape = refl; shadow = refl } in
-      let to : Moment = Moment.Serves lu (Serving.Reading link.host.number) in
+      let to : Moment = Moment.Serves lu (Serving.Reading link.host.next_seq) in
       kept_sent app link sending k to same
       (sent_at link sending k.wanted (Moment.Serves lu Serving.Deciding) to same at refl refl at.turn refl refl refl)
       (record { decides = f; not_cleared = not_cleared })
 
-  acts_at : (lu : List ℕ) (act : Act) → act_on app link.host link.host.occasion ≡ act → IsAt (view_of link) k.wanted (Moment.Serves lu Serving.Deciding) → Decides (scene_of (view_of link)) link.host.shadow → Kept app (view_of (sent_view (done app link.host act) link))
-  acts_at lu Act.Read e at f = asks lu (reads_uncleared app link.host link.host.occasion link.term.display.screen.aid f.occasion e) at f
+  acts_at : (lu : List ℕ) (act : Act) → act_on app link.host link.host.turn_reason ≡ act → IsAt (view_of link) k.wanted (Moment.Serves lu Serving.Deciding) → Decides (scene_of (view_of link)) link.host.shadow → Kept app (view_of (sent_view (done app link.host act) link))
+  acts_at lu Act.Read e at f = asks lu (reads_uncleared app link.host link.host.turn_reason link.term.display.screen.aid f.turn_reason e) at f
   acts_at lu (Act.Show panel message keep values) e at f =
-      paints lu panel message keep values (shown_closed app link.host link.host.occasion link.host.shadow panel message keep values e f.closed) at f
+      paints lu panel message keep values (shown_closed app link.host link.host.turn_reason link.host.shadow panel message keep values e f.closed) at f
 
   -- at agreement the first panel is shown
   acts_new : (lu : List ℕ) → IsAt (view_of link) k.wanted (Moment.Talks (Talking.Agreeing lu)) → IsNew (scene_of (view_of link))
-      → Kept app (view_of (sent_view (done app link.host (act_on app link.host link.host.occasion)) link))
+      → Kept app (view_of (sent_view (done app link.host (act_on app link.host link.host.turn_reason)) link))
   acts_new lu at n =
-      subst (λ o. Kept app (view_of (sent_view (done app link.host (act_on app link.host o)) link))) (sym n.occasion)
+      subst (λ o. Kept app (view_of (sent_view (done app link.host (act_on app link.host o)) link))) (sym n.turn_reason)
       (paints_first lu app.start Fresh false link.host.values at n)
 
   abbrev now : Link
-  now = sent_view (done app link.host (act_on app link.host link.host.occasion)) link
+  now = sent_view (done app link.host (act_on app link.host link.host.turn_reason)) link
 
   -- it may act at two moments alone
   may_act_at : link.host.turn ≡ whose.Host → link.host.pending ≡ Pending.Nothing → is_agreed link.host.talk.state ≡ true → Kept app (view_of now)
@@ -196,7 +196,7 @@ module _ (given : Given) (app : Application) (is : IsApplication app) (link : Li
 
       by_serving : (lu : List ℕ) (serving : Serving) → IsAt (view_of link) k.wanted (Moment.Serves lu serving) → Fact k.wanted (scene_of (view_of link)) (Moment.Serves lu serving) → turn_at (Moment.Serves lu serving) ≡ whose.Host
           → pending_at (Moment.Serves lu serving) ≡ Pending.Nothing → Kept app (view_of now)
-      by_serving lu Serving.Deciding at f t p = acts_at lu (act_on app link.host link.host.occasion) refl at f
+      by_serving lu Serving.Deciding at f t p = acts_at lu (act_on app link.host link.host.turn_reason) refl at f
       by_serving lu (Serving.Reading number) at f t p = absurd (cc)
       by_serving lu (Serving.Reported number parts) at f t p = absurd (cc)
       by_serving lu (Serving.NotedLate number command) at f t p = absurd (cc)
@@ -216,7 +216,7 @@ module _ (given : Given) (app : Application) (is : IsApplication app) (link : Li
       by_moment (Moment.Serves lu serving) at f = by_serving lu serving at f (sym at.turn ∙ turns) (sym at.pending ∙ pends)
 
   acts_by : (turn : Turn) (pending : Pending) (agreed : Bool) → link.host.turn ≡ turn → link.host.pending ≡ pending → is_agreed link.host.talk.state ≡ agreed
-      → Kept app (view_of (host_sent (if may_act turn pending agreed then Some (done app link.host (act_on app link.host link.host.occasion)) else None) link))
+      → Kept app (view_of (host_sent (if may_act turn pending agreed then Some (done app link.host (act_on app link.host link.host.turn_reason)) else None) link))
   acts_by whose.Host Pending.Nothing true turns pends agrees = may_act_at turns pends agrees
   acts_by whose.Host Pending.Nothing false turns pends agrees = k
   acts_by whose.Host (Pending.Writing number command) agreed turns pends agrees = k
@@ -244,8 +244,8 @@ module _ (app : Application) (text : List ℕ) (is : IsNoteText text) (link : Li
   is_note = record { text = text; is_text = is; is = refl }
 
   notes_at : (lu : List ℕ) (from to : Serving) → IsAt (view_of link) k.wanted (Moment.Serves lu from) → turn_at (Moment.Serves lu from) ≡ turn_at (Moment.Serves lu to)
-      → Pending.Noting link.host.number command ≡ pending_at (Moment.Serves lu to)
-      → down_at (Moment.Serves lu from) ++ ToTerminal.Note link.host.number command ∷ [] ≡ down_at (Moment.Serves lu to) → up_at k.wanted (Moment.Serves lu to) ≡ up_at k.wanted (Moment.Serves lu from)
+      → Pending.Noting link.host.next_seq command ≡ pending_at (Moment.Serves lu to)
+      → down_at (Moment.Serves lu from) ++ ToTerminal.Note link.host.next_seq command ∷ [] ≡ down_at (Moment.Serves lu to) → up_at k.wanted (Moment.Serves lu to) ≡ up_at k.wanted (Moment.Serves lu from)
       → Fact k.wanted (scene_of (view_of (sent_view noting link))) (Moment.Serves lu to) → Kept app (view_of (sent_view noting link))
   notes_at lu from to at turn pending down up fact =
       kept_sent app link noting k (Moment.Serves lu to) same_end (sent_at link noting k.wanted (Moment.Serves lu from) (Moment.Serves lu to) same_end at refl refl (at.turn ∙ turn) pending down up) fact
@@ -257,10 +257,10 @@ module _ (app : Application) (text : List ℕ) (is : IsNoteText text) (link : Li
       by_serving : (lu : List ℕ) (serving : Serving) → IsAt (view_of link) k.wanted (Moment.Serves lu serving) → Fact k.wanted (scene_of (view_of link)) (Moment.Serves lu serving) → turn_at (Moment.Serves lu serving) ≡ whose.Terminal
           → pending_at (Moment.Serves lu serving) ≡ Pending.Nothing → Kept app (view_of (sent_view noting link))
       by_serving lu Serving.Operating at f t p =
-          notes_at lu Serving.Operating (Serving.Noting link.host.number command) at refl refl refl refl
+          notes_at lu Serving.Operating (Serving.Noting link.host.next_seq command) at refl refl refl refl
           (f, is_note)
       by_serving lu (Serving.KeyAlone parts) at f t p =
-          notes_at lu (Serving.KeyAlone parts) (Serving.KeyNoted link.host.number command parts) at refl refl refl refl
+          notes_at lu (Serving.KeyAlone parts) (Serving.KeyNoted link.host.next_seq command parts) at refl refl refl refl
           (f.0, f.1, record { note = is_note; takes = f.2 })
       by_serving lu Serving.Deciding at f t p = absurd (cc)
       by_serving lu (Serving.Reading number) at f t p = absurd (cc)

@@ -19,13 +19,13 @@ use Rattle.host_core.specs.NoteLaws.{IsNoteOf}
 use Rattle.host_core.specs.Notes.{note_command, may_note, noted, noted_as}
 use Rattle.host_core.specs.Says.{item_sent}
 use Rattle.host_core.specs.Session.{Conn, is_agreed}
-use Rattle.host_core.specs.State.{Host, Line, Service, unused, most_connections, line_at, service_at, with_line}
+use Rattle.host_core.specs.State.{Host, Connection, Service, unused, most_connections, connection_at, service_at, with_connection}
 use Rattle.host_core.specs.declared.acted.Acted.{Acted}
 use Rattle.host_core.specs.declared.acted.Acted.TheVariants as acted_as
 use Rattle.panels.specs.Panel.{Panels}
 use Rattle.world3270.specs.Known.{Known}
 use Rattle.world3270.specs.ByteSteps.{ActsHost, answer_acted, is_link}
-use Rattle.world3270.specs.ByteWorld.{ByteWorld, Ways, is_there, ways_at, with_host, host_there, host_out, out_of}
+use Rattle.world3270.specs.ByteWorld.{ByteWorld, Transits, is_there, transits_at, with_host, host_there, host_out, out_of}
 use Rattle.world3270.specs.Given.{Given}
 use Rattle.world3270.specs.Happens.{done}
 use Rattle.world3270.specs.Link.{Link, sent, host_sent}
@@ -33,16 +33,16 @@ use Rattle.world3270.specs.Numbers.{IsNumber}
 use Rattle.world3270.specs.Placed.{has_place as has_place_over_messages}
 use Rattle.world3270.specs.Places.{EndsAgree}
 use Rattle.world3270.specs.Refines.{Begin, IsBegin, Reached, GoesOn, SkipsAreThose, once, after}
-use Rattle.world3270.specs.Seats.{Seat}
+use Rattle.world3270.specs.TrackedTerminals.{TrackedTerminal}
 use Rattle.world3270.specs.Sendable.{IsTyped, PaintsAScreen, IsSpelt}
-use Rattle.world3270.specs.Standing.{WorldStands, IsFlow, AreWays, IsNotClosed, IsSettled, conn_of, seat_of, link_with}
+use Rattle.world3270.specs.Standing.{WorldStands, IsFlow, AreTransits, IsNotClosed, IsSettled, conn_of, tracked_of, link_with}
 use Rattle.world3270.specs.Stands.{ByteLink, LinkStands}
 use Rattle.world3270.specs.StandsEnds.{PaintStands}
 use Rattle.world3270.specs.StandsLinks.{said_down, sent_down, HostSends}
 use Rattle.world3270.specs.World.{World, Event, IsEvent, with_link, new_world}
 use Rattle.world3270.specs.declared.event.Event.TheVariants as event
 use Rattle.world3270.specs.declared.event.Stepped.{Stepped}
-use Rattle.world3270.proofs.Frames.{beyond_is_alone, changed_stands, flow_there, line_other, line_same, line_within, link_there, sits_same, there_settled, with_parts}
+use Rattle.world3270.proofs.Frames.{beyond_is_alone, changed_stands, flow_there, connection_other, connection_same, connection_within, link_there, sits_same, there_settled, with_parts}
 use Rattle.world3270.proofs.ItemsSpelt.{Spells, Suits, spells}
 use Rattle.world3270.proofs.Known.{Facts, Goes, facts_now, facts_once, is_application, reached_one, reached_still}
 use Rattle.world3270.proofs.OneOfMany.{with_other, with_same}
@@ -53,44 +53,44 @@ use Rattle.world3270.proofs.Worlds.{run_good, new_good}
 
 -- the world once the host has said this on a connection
 abbrev told : Sent → ℕ → ByteWorld → ByteWorld
-told sending number old = with_host (with_line number (sent_on sending (line_at number old.host)) old.host) old
+told sending number old = with_host (with_connection number (sent_on sending (connection_at number old.host)) old.host) old
 
 -- the connection, where the host's line is this one
-abbrev with_this : Option ℕ → Ways → List ℕ → Seat → Service → List ℕ → ByteLink
-with_this here ways up seat service out = with_parts here (record { service = service; out = out }) ways up seat
+abbrev with_this : Option ℕ → Transits → List ℕ → TrackedTerminal → Service → List ℕ → ByteLink
+with_this here transits up tracked service out = with_parts here (record { service = service; out = out }) transits up tracked
 
 -- the host's line says more, and the connection has that under way
-line_says : (here : Option ℕ) (ways : Ways) (up : List ℕ) (seat : Seat) (sending : Sent) (service : Service) (out : List ℕ) → is_there service ≡ true → IsNotClosed service
-    → IsFlow true out ways.down
-    → with_this here ways up seat (with_conn sending.conn service) (out ++ sent_bytes (item_sent sending.message ∷ []))
-    ≡ said_down sending.conn (item_sent sending.message ∷ []) (with_this here ways up seat service out)
-line_says here ways up seat sending Service.Free out there going flow = absurd (cc)
-line_says here ways up seat sending (Service.Open rest conn) out there going flow =
-    ap (λ (down : List ℕ). record (with_this here ways up seat (Service.Open rest sending.conn) out) { down = down })
-    (more_under_way out (sent_bytes (item_sent sending.message ∷ [])) ways.down flow)
-line_says here ways up seat sending (Service.Closed cause) out there going flow = absurd going
+connection_says : (here : Option ℕ) (transits : Transits) (up : List ℕ) (tracked : TrackedTerminal) (sending : Sent) (service : Service) (out : List ℕ) → is_there service ≡ true → IsNotClosed service
+    → IsFlow true out transits.down
+    → with_this here transits up tracked (with_conn sending.conn service) (out ++ sent_bytes (item_sent sending.message ∷ []))
+    ≡ said_down sending.conn (item_sent sending.message ∷ []) (with_this here transits up tracked service out)
+connection_says here transits up tracked sending Service.Free out there going flow = absurd (cc)
+connection_says here transits up tracked sending (Service.Open rest conn) out there going flow =
+    ap (λ (down : List ℕ). record (with_this here transits up tracked (Service.Open rest sending.conn) out) { down = down })
+    (more_under_way out (sent_bytes (item_sent sending.message ∷ [])) transits.down flow)
+connection_says here transits up tracked sending (Service.Closed cause) out there going flow = absurd going
 
 -- the host's line is then this one
-with_line_there : (number : ℕ) (old : ByteWorld) (sending : Sent) → number < length old.host.lines
-    → line_at number (told sending number old).host ≡ sent_on sending (line_at number old.host)
-with_line_there number old sending below = line_same number (sent_on sending (line_at number old.host)) old.host below
+with_connection_there : (number : ℕ) (old : ByteWorld) (sending : Sent) → number < length old.host.connections
+    → connection_at number (told sending number old).host ≡ sent_on sending (connection_at number old.host)
+with_connection_there number old sending below = connection_same number (sent_on sending (connection_at number old.host)) old.host below
 
 -- what the host has to send then
 abbrev said_out : ℕ → ByteWorld → Sent → List ℕ
 said_out number old sending = host_out number old ++ sent_bytes (item_sent sending.message ∷ [])
 
 -- and the connection has that more under way
-told_link : (here : Option ℕ) (number : ℕ) (old : ByteWorld) (sending : Sent) → number < length old.host.lines → host_there number old ≡ true
-    → IsNotClosed (service_at number old.host) → IsFlow true (host_out number old) (ways_at number old).down
+told_link : (here : Option ℕ) (number : ℕ) (old : ByteWorld) (sending : Sent) → number < length old.host.connections → host_there number old ≡ true
+    → IsNotClosed (service_at number old.host) → IsFlow true (host_out number old) (transits_at number old).down
     → link_with here number (told sending number old) ≡ said_down sending.conn (item_sent sending.message ∷ []) (link_with here number old)
 told_link here number old sending below there going flow =
-    let ways : Ways = ways_at number old in
-    let seat : Seat = seat_of here (told sending number old) in
+    let transits : Transits = transits_at number old in
+    let tracked : TrackedTerminal = tracked_of here (told sending number old) in
     let service : Service = with_conn sending.conn (service_at number old.host) in
-    ap (λ (l : Line). with_this here ways (out_of here (told sending number old)) seat l.service l.out) (with_line_there number old sending below)
-    ∙ ap (λ (up : List ℕ). with_this here ways up seat service (said_out number old sending)) (sits_same here old (told sending number old) refl).0
-    ∙ ap (λ (s : Seat). with_this here ways (out_of here old) s service (said_out number old sending)) (sits_same here old (told sending number old) refl).1
-    ∙ line_says here ways (out_of here old) (seat_of here old) sending (service_at number old.host) (host_out number old) there going flow
+    ap (λ (l : Connection). with_this here transits (out_of here (told sending number old)) tracked l.service l.out) (with_connection_there number old sending below)
+    ∙ ap (λ (up : List ℕ). with_this here transits up tracked service (said_out number old sending)) (sits_same here old (told sending number old) refl).0
+    ∙ ap (λ (s : TrackedTerminal). with_this here transits (out_of here old) s service (said_out number old sending)) (sits_same here old (told sending number old) refl).1
+    ∙ connection_says here transits (out_of here old) (tracked_of here old) sending (service_at number old.host) (host_out number old) there going flow
 
 -- on a lost connection what is said vanishes; else it stands for what is sent
 said_stands : HostSends → (bytes : ByteLink) (link : Link) (sending : Sent) → LinkStands bytes link → (link.lost ≡ false → Spells sending.message)
@@ -122,55 +122,55 @@ still_there conn (Service.Closed cause) there = refl
 
 module _ (sends : HostSends) (number : ℕ) (old : ByteWorld) (world : World) (sending : Sent) (stands : WorldStands old world)
     (below : number < most_connections) (there : host_there number old ≡ true) (good : (world.link number).lost ≡ false → Spells sending.message) where
-  in_lines : number < length old.host.lines
-  in_lines = line_within number old world stands below
+  in_connections : number < length old.host.connections
+  in_connections = connection_within number old world stands below
 
-  goes_down : IsFlow true (host_out number old) (ways_at number old).down
-  goes_down = subst (λ (b : Bool). IsFlow b (host_out number old) (ways_at number old).down) there (stands.flows number).down
+  goes_down : IsFlow true (host_out number old) (transits_at number old).down
+  goes_down = subst (λ (b : Bool). IsFlow b (host_out number old) (transits_at number old).down) there (stands.flows number).down
 
-  told_flow : (here : Option ℕ) → AreWays here number old → AreWays here number (told sending number old)
+  told_flow : (here : Option ℕ) → AreTransits here number old → AreTransits here number (told sending number old)
   told_flow here are = record {
     together = are.together;
-    down = subst (λ (l : Line). IsFlow (is_there l.service) l.out (ways_at number old).down) (sym (with_line_there number old sending in_lines))
-        (subst (λ (b : Bool). IsFlow b (host_out number old ++ sent_bytes (item_sent sending.message ∷ [])) (ways_at number old).down)
+    down = subst (λ (l : Connection). IsFlow (is_there l.service) l.out (transits_at number old).down) (sym (with_connection_there number old sending in_connections))
+        (subst (λ (b : Bool). IsFlow b (host_out number old ++ sent_bytes (item_sent sending.message ∷ [])) (transits_at number old).down)
         (sym (still_there sending.conn (service_at number old.host) there))
-        (more_flows (host_out number old) (sent_bytes (item_sent sending.message ∷ [])) (ways_at number old).down goes_down));
-    up = subst (λ (out : List ℕ). IsFlow (is_some here) out (ways_at number old).up) (sym (sits_same here old (told sending number old) refl).0) are.up;
+        (more_flows (host_out number old) (sent_bytes (item_sent sending.message ∷ [])) (transits_at number old).down goes_down));
+    up = subst (λ (out : List ℕ). IsFlow (is_some here) out (transits_at number old).up) (sym (sits_same here old (told sending number old) refl).0) are.up;
   }
 
   told_stands_here : (here : Option ℕ) → LinkStands (link_with here number old) (world.link number)
       → LinkStands (link_with here number (told sending number old)) (host_sent (Some sending) (world.link number))
   told_stands_here here stood =
       subst (λ (b : ByteLink). LinkStands b (host_sent (Some sending) (world.link number)))
-      (sym (told_link here number old sending in_lines there (stands.none_closed number) goes_down))
+      (sym (told_link here number old sending in_connections there (stands.none_closed number) goes_down))
       (said_stands sends (link_with here number old) (world.link number) sending stood good)
 
   told_stands : EndsAgree world → EndsAgree (says sending number world) → WorldStands (told sending number old) (says sending number world)
   told_stands agree agrees =
       let now = with_same number (host_sent (Some sending) (world.link number)) world.link in
-      changed_stands number (length old.sittings) old (told sending number old) world (says sending number world)
+      changed_stands number (length old.slots) old (told sending number old) world (says sending number world)
       (record {
-        lines = λ other differs. line_other number other (sent_on sending (line_at number old.host)) old.host differs;
-        ways = λ other differs. refl;
-        sittings = λ other differs. refl;
+        connections = λ other differs. connection_other number other (sent_on sending (connection_at number old.host)) old.host differs;
+        transits = λ other differs. refl;
+        slots = λ other differs. refl;
         links = λ other differs. with_other number other (host_sent (Some sending) (world.link number)) world.link differs;
         places = λ other differs. refl;
-        line_count = length-set old.host.lines number (sent_on sending (line_at number old.host));
+        connection_count = length-set old.host.connections number (sent_on sending (connection_at number old.host));
         way_count = refl;
-        sitting_count = refl;
+        slot_count = refl;
         terminals = refl;
         pool = stands.pool;
         before = beyond_is_alone number old world stands;
         behind = beyond_is_alone number old world stands;
-        none_closed = subst (λ (l : Line). IsNotClosed l.service) (sym (with_line_there number old sending in_lines))
+        none_closed = subst (λ (l : Connection). IsNotClosed l.service) (sym (with_connection_there number old sending in_connections))
             (still_open sending.conn (service_at number old.host) (stands.none_closed number));
-        settled = subst (λ (l : Line). IsSettled l) (sym (with_line_there number old sending in_lines))
-            (there_settled (sent_on sending (line_at number old.host)) (still_there sending.conn (service_at number old.host) there));
-        flow = subst (λ (l : Link). AreWays l.term_here number (told sending number old)) (sym now)
+        settled = subst (λ (l : Connection). IsSettled l) (sym (with_connection_there number old sending in_connections))
+            (there_settled (sent_on sending (connection_at number old.host)) (still_there sending.conn (service_at number old.host) there));
+        flow = subst (λ (l : Link). AreTransits l.term_here number (told sending number old)) (sym now)
             (told_flow (world.link number).term_here (flow_there number old world agree stands));
         link = subst (λ (l : Link). LinkStands (link_with l.term_here number (told sending number old)) l) (sym now)
             (told_stands_here (world.link number).term_here (link_there number old world agree stands));
-        place = stands.places (length old.sittings);
+        place = stands.places (length old.slots);
       })
       agree stands agrees
 
@@ -191,8 +191,8 @@ only_if : (b : Bool) (one sending : Sent) → (if b then Some one else None) ≡
 only_if true one sending is = cc
 only_if false one sending is = absurd (cc)
 
-act_sent : (app : Application) (conn : Conn) (sending : Sent) → acted app conn ≡ Some sending → sending ≡ done_act app conn (act_on app conn conn.occasion)
-act_sent app conn sending is = only_if (may_act conn.turn conn.pending (is_agreed conn.talk.state)) (done_act app conn (act_on app conn conn.occasion)) sending is
+act_sent : (app : Application) (conn : Conn) (sending : Sent) → acted app conn ≡ Some sending → sending ≡ done_act app conn (act_on app conn conn.turn_reason)
+act_sent app conn sending is = only_if (may_act conn.turn conn.pending (is_agreed conn.talk.state)) (done_act app conn (act_on app conn conn.turn_reason)) sending is
 
 note_sent : (text : List ℕ) (conn : Conn) (sending : Sent) → noted text conn ≡ Some sending → sending ≡ noted_as text conn
 note_sent text conn sending is = only_if (may_note conn.turn conn.pending (is_agreed conn.talk.state)) (noted_as text conn) sending is
@@ -214,12 +214,12 @@ last_sent P true queue x is all = absurd (cc)
 last_sent P false queue x is all = last_of P queue x all
 
 -- where the host's line is as it was, all is
-nothing_said : (number : ℕ) (old : ByteWorld) (host : Host) → host ≡ with_line number (line_at number host) old.host → line_at number host ≡ line_at number old.host
+nothing_said : (number : ℕ) (old : ByteWorld) (host : Host) → host ≡ with_connection number (connection_at number host) old.host → connection_at number host ≡ connection_at number old.host
     → with_host host old ≡ old
-nothing_said number old host others line =
+nothing_said number old host others connection =
     ap (λ (h : Host). with_host h old)
-    (others ∙ ap (λ (l : Line). with_line number l old.host) line
-    ∙ ap (λ lines. record old.host { lines = lines }) (set-get_or old.host.lines number unused))
+    (others ∙ ap (λ (l : Connection). with_connection number l old.host) connection
+    ∙ ap (λ connections. record old.host { connections = connections }) (set-get_or old.host.connections number unused))
 
 -- it happens once, or not at all
 record Went (begin : Begin) (events : List Event) (message : Event) (answer : Stepped) (new : ByteWorld) : Type 0 where
@@ -228,14 +228,14 @@ record Went (begin : Begin) (events : List Event) (message : Event) (answer : St
   reached : Reached begin (events ++ more) new
 
 went_on : (begin : Begin) (events : List Event) (message : Event) (number : ℕ) (sending : Sent) (old new : ByteWorld) (answer : Stepped) (host : Host) (act : Acted)
-    → HostDoes (Some sending) (line_at number old.host) act (line_at number host) → host ≡ with_line number (line_at number host) old.host
+    → HostDoes (Some sending) (connection_at number old.host) act (connection_at number host) → host ≡ with_connection number (connection_at number host) old.host
     → answer ≡ answer_acted act → new ≡ with_host host old → Reached begin events old → Reached begin (events ++ message ∷ []) (told sending number old)
     → Went begin events message answer new
 went_on begin events message number sending old new answer host acted_as.Sent does others answers leaves before reached = record {
   more = message ∷ [];
   is_once = ap (λ (a : Stepped). once message a) (sym answers);
   reached = subst (λ (w : ByteWorld). Reached begin (events ++ message ∷ []) w)
-      (sym (leaves ∙ ap (λ (h : Host). with_host h old) (others ∙ ap (λ (l : Line). with_line number l old.host) does))) reached;
+      (sym (leaves ∙ ap (λ (h : Host). with_host h old) (others ∙ ap (λ (l : Connection). with_connection number l old.host) does))) reached;
 }
 went_on begin events message number sending old new answer host acted_as.Memory does others answers leaves before reached = record {
   more = [];
@@ -292,7 +292,7 @@ module _ (known : Known) (skips : SkipsAreThose) (given : Given) (stands_for : P
           let does : acted app link.host ≡ Some sending = ap (λ (c : Conn). acted app c) (sym (same_conn begin events old number reached found.0)) ∙ found.1 in
           let suits : Suits sending.message =
           subst (λ (s : Sent). Suits s.message) (sym (act_sent app link.host sending does))
-          (act_suits app.begins link.host.shadow _ (known.worlds.given.belief.fit app link.host (act_on app link.host link.host.occasion) (is_application known.worlds begin is))) in
+          (act_suits app.begins link.host.shadow _ (known.worlds.given.belief.fit app link.host (act_on app link.host link.host.turn_reason) (is_application known.worlds begin is))) in
           let went = went_on begin events (Event.Act number) number sending old new answer acts.host acts.act acts.acts acts.others acts.answers acts.leaves reached
           (told_reached begin events (Event.Act number) number sending old is reached tt tt (sym (skips begin events (event.Act number) old is reached tt) ∙ place)
           (ap (λ (o : Option Sent). with_link number (host_sent o link) (after begin events)) does) below found.0 suits) in

@@ -7,7 +7,7 @@ use Rattle.std.specs.Prelude.{All}
 use Rattle.datastream.specs.InboundFields.{IsSendable}
 use Rattle.host_core.specs.Application.{Application, application_of}
 use Rattle.host_core.specs.Messages.{ToTerminal}
-use Rattle.host_core.specs.State.{Line, line_at, most_connections}
+use Rattle.host_core.specs.State.{Connection, connection_at, most_connections}
 use Rattle.shadow.specs.Pairs.{Pairwise}
 use Rattle.telnet_wire.specs.Items.{WireItem, sent_bytes}
 use Rattle.telnet_wire.specs.Reading.{Rest, Delivers}
@@ -24,13 +24,13 @@ use Rattle.tn3270e_msg.specs.declared.cause.Stop.{Stop}
 use Rattle.tn3270e_msg.specs.declared.cause.Stop.TheVariants as stop
 use Rattle.world3270.specs.Known.{Known}
 use Rattle.world3270.specs.ByteSteps.{ComesDown, GoesDown, HappensIf, down_came, has_place, host_told, terminal_gone_if}
-use Rattle.world3270.specs.ByteWorld.{ByteWorld, Under, Ways, Sitting, came, terminal_there, down_of, is_senders, is_there, new_sitting, sitting_at, terminal_at, unused_ways, ways_at, with_sitting}
+use Rattle.world3270.specs.ByteWorld.{ByteWorld, Transit, Transits, TerminalSlot, came, terminal_there, down_of, is_senders, is_there, new_slot, slot_at, terminal_at, unused_transits, transits_at, with_slot}
 use Rattle.world3270.specs.Deliveries.{rest_at, rest_of_terminal, taken_by, terminal_rest}
 use Rattle.world3270.specs.Happens.{closed_if, came_down, done, happens, place_after, run, said, term_took_it, went_down}
 use Rattle.world3270.specs.Link.{Link, term_left_if, term_stepped}
 use Rattle.world3270.specs.Placed.{comes_down, is_link, is_queued}
 use Rattle.world3270.specs.Refines.{Begin, IsBegin, Reached, GoesOn, after}
-use Rattle.world3270.specs.Seats.{Seat, SeatTakes}
+use Rattle.world3270.specs.TrackedTerminals.{TrackedTerminal, TrackedTakes}
 use Rattle.world3270.specs.Sendable.{IsTyped, display_at}
 use Rattle.world3270.specs.Standing.{WorldStands, with_out}
 use Rattle.world3270.specs.Stands.{BytesDown, ByteLink, LinkStands, StandsDown, StandsUp}
@@ -42,7 +42,7 @@ use Rattle.world3270.specs.declared.event.Event.TheVariants as event
 use Rattle.world3270.specs.declared.event.Stepped.{Stepped}
 use Rattle.world3270.proofs.ByteTerms.{made_of, AreFlows, BytesWent, GoesOnHere, TermWent, flows_go_on, flows_here, link_goes_on, stands_here, term_went_stands}
 use Rattle.world3270.proofs.Completed.{counted, left_down, seat_reads, taken_is, taken_there}
-use Rattle.world3270.proofs.Frames.{found_sits, found_within, line_other, line_same, line_within, sitting_other, sitting_same, who_was_there, way_within, ways_other, ways_same}
+use Rattle.world3270.proofs.Frames.{found_sits, found_within, connection_other, connection_same, connection_within, slot_other, slot_same, who_was_there, way_within, transits_other, transits_same}
 use Rattle.world3270.proofs.Known.{Facts, Goes, facts_now, facts_then, reached_more}
 use Rattle.world3270.proofs.OneOfMany.{with_other, with_same}
 use Rattle.world3270.proofs.StandsLinks.{stayed}
@@ -79,20 +79,20 @@ quiet_byte old byte new (TakesByte.breaks rest talk fault at wrong is) = record 
 }
 
 -- bytes come, one after another
-record TakesQuietly (old : Seat) (bytes : List ℕ) (new : Seat) : Type 0 where
+record TakesQuietly (old : TrackedTerminal) (bytes : List ℕ) (new : TrackedTerminal) : Type 0 where
   said : List ℕ
   out_is : new.terminal.out ≡ old.terminal.out ++ said
-  takes : (before : List ℕ) → SeatTakes (with_out before old) bytes (with_out (before ++ said) new)
+  takes : (before : List ℕ) → TrackedTakes (with_out before old) bytes (with_out (before ++ said) new)
 
 -- With other bytes to send before, the same comes of it, and what it says stands behind these.
-quiet_takes : (old : Seat) (bytes : List ℕ) (new : Seat) → SeatTakes old bytes new → TakesQuietly old bytes new
+quiet_takes : (old : TrackedTerminal) (bytes : List ℕ) (new : TrackedTerminal) → TrackedTakes old bytes new → TakesQuietly old bytes new
 quiet_takes old [] new taken = record {
   said = [];
-  out_is = ap (λ (s : Seat). s.terminal.out) taken ∙ sym (append-nil old.terminal.out);
-  takes = λ before. ap (λ (s : Seat). with_out (before ++ []) s) taken ∙ ap (λ (o : List ℕ). with_out o old) (append-nil before);
+  out_is = ap (λ (s : TrackedTerminal). s.terminal.out) taken ∙ sym (append-nil old.terminal.out);
+  takes = λ before. ap (λ (s : TrackedTerminal). with_out (before ++ []) s) taken ∙ ap (λ (o : List ℕ). with_out o old) (append-nil before);
 }
 quiet_takes old (byte ∷ bytes) new taken =
-    let mid : Seat = taken.0 in
+    let mid : TrackedTerminal = taken.0 in
     let one = quiet_byte old.terminal byte mid.terminal taken.1.takes in
     let others = quiet_takes mid bytes new taken.2 in
     record {
@@ -101,7 +101,7 @@ quiet_takes old (byte ∷ bytes) new taken =
       takes = λ before. (
         with_out (before ++ one.said) mid,
         record { takes = one.takes before; history = taken.1.history },
-        subst (λ (o : List ℕ). SeatTakes (with_out (before ++ one.said) mid) bytes (with_out o new)) (append_assoc before one.said others.said)
+        subst (λ (o : List ℕ). TrackedTakes (with_out (before ++ one.said) mid) bytes (with_out o new)) (append_assoc before one.said others.said)
             (others.takes (before ++ one.said)),
       );
     }
@@ -210,61 +210,61 @@ nothing_then true (suc count) out none = ap (λ (o : List ℕ). drop (suc count)
 nothing_then false count out none = none
 
 -- the host is told
-record IsTold (number : ℕ) (line : Line) (old new : ByteWorld) : Type 0 where
-  line_is : line_at number new.host ≡ line
-  other_lines : (other : ℕ) → other ≢ number → line_at other new.host ≡ line_at other old.host
-  line_count : length new.host.lines ≡ length old.host.lines
+record IsTold (number : ℕ) (connection : Connection) (old new : ByteWorld) : Type 0 where
+  connection_is : connection_at number new.host ≡ connection
+  other_connections : (other : ℕ) → other ≢ number → connection_at other new.host ≡ connection_at other old.host
+  connection_count : length new.host.connections ≡ length old.host.connections
   pool : new.host.pool ≡ old.host.pool
   panels : new.host.panels ≡ old.host.panels
   links : new.links ≡ old.links
-  sittings : new.sittings ≡ old.sittings
+  slots : new.slots ≡ old.slots
 
 -- where what came was its own, as many bytes fewer are left to send
-told : (senders : Bool) (count number : ℕ) (world : ByteWorld) → number < length world.host.lines
-    → IsTold number (record (line_at number world.host) { out = out_then senders count (line_at number world.host).out }) world (host_told senders count number world)
+told : (senders : Bool) (count number : ℕ) (world : ByteWorld) → number < length world.host.connections
+    → IsTold number (record (connection_at number world.host) { out = out_then senders count (connection_at number world.host).out }) world (host_told senders count number world)
 told true count number world below =
-    let line : Line = record (line_at number world.host) { out = drop count (line_at number world.host).out } in
+    let connection : Connection = record (connection_at number world.host) { out = drop count (connection_at number world.host).out } in
     record {
-      line_is = line_same number line world.host below;
-      other_lines = λ other differs. line_other number other line world.host differs;
-      line_count = length-set world.host.lines number line;
+      connection_is = connection_same number connection world.host below;
+      other_connections = λ other differs. connection_other number other connection world.host differs;
+      connection_count = length-set world.host.connections number connection;
       pool = refl;
       panels = refl;
       links = refl;
-      sittings = refl;
+      slots = refl;
     }
 told false count number world below = record {
-  line_is = refl;
-  other_lines = λ other differs. refl;
-  line_count = refl;
+  connection_is = refl;
+  other_connections = λ other differs. refl;
+  connection_count = refl;
   pool = refl;
   panels = refl;
   links = refl;
-  sittings = refl;
+  slots = refl;
 }
 
 -- what the delivery leaves
-bytes_went : (number terminal count : ℕ) (seat : Seat) (old : ByteWorld) → number < length old.host.lines → number < length old.links → terminal < length old.sittings
-    → BytesWent number terminal (record (line_at number old.host) { out = out_then (is_senders (ways_at number old).down) count (line_at number old.host).out })
-    (record (ways_at number old) { down = came count (ways_at number old).down }) (record (sitting_at terminal old) { seat = seat })
-    old (down_came count number (with_sitting terminal (record (sitting_at terminal old) { seat = seat }) old))
-bytes_went number terminal count seat old line_below way_below below =
-    let sitting : Sitting = record (sitting_at terminal old) { seat = seat } in
-    let ways : Ways = record (ways_at number old) { down = came count (ways_at number old).down } in
-    let mid : ByteWorld = with_sitting terminal sitting old in
-    let senders : Bool = is_senders (ways_at number old).down in
-    let is = told senders count number mid line_below in
+bytes_went : (number terminal count : ℕ) (tracked : TrackedTerminal) (old : ByteWorld) → number < length old.host.connections → number < length old.links → terminal < length old.slots
+    → BytesWent number terminal (record (connection_at number old.host) { out = out_then (is_senders (transits_at number old).down) count (connection_at number old.host).out })
+    (record (transits_at number old) { down = came count (transits_at number old).down }) (record (slot_at terminal old) { tracked = tracked })
+    old (down_came count number (with_slot terminal (record (slot_at terminal old) { tracked = tracked }) old))
+bytes_went number terminal count tracked old connection_below way_below below =
+    let slot : TerminalSlot = record (slot_at terminal old) { tracked = tracked } in
+    let transits : Transits = record (transits_at number old) { down = came count (transits_at number old).down } in
+    let mid : ByteWorld = with_slot terminal slot old in
+    let senders : Bool = is_senders (transits_at number old).down in
+    let is = told senders count number mid connection_below in
     let next : ByteWorld = host_told senders count number mid in
     record {
-      line_is = is.line_is;
-      ways_are = ways_same number ways next (subst (λ (l : List Ways). number < length l) (sym is.links) way_below);
-      sitting_is = ap (λ (s : List Sitting). slice_index_or s terminal new_sitting) is.sittings ∙ sitting_same terminal sitting old below;
-      other_lines = is.other_lines;
-      other_ways = λ other differs. ways_other number other ways next differs ∙ ap (λ (l : List Ways). slice_index_or l other unused_ways) is.links;
-      other_sittings = λ other differs. ap (λ (s : List Sitting). slice_index_or s other new_sitting) is.sittings ∙ sitting_other terminal other sitting old differs;
-      line_count = is.line_count;
-      way_count = length-set next.links number ways ∙ ap (λ (l : List Ways). length l) is.links;
-      sitting_count = ap (λ (s : List Sitting). length s) is.sittings ∙ length-set old.sittings terminal sitting;
+      connection_is = is.connection_is;
+      transits_are = transits_same number transits next (subst (λ (l : List Transits). number < length l) (sym is.links) way_below);
+      slot_is = ap (λ (s : List TerminalSlot). slice_index_or s terminal new_slot) is.slots ∙ slot_same terminal slot old below;
+      other_connections = is.other_connections;
+      other_transits = λ other differs. transits_other number other transits next differs ∙ ap (λ (l : List Transits). slice_index_or l other unused_transits) is.links;
+      other_slots = λ other differs. ap (λ (s : List TerminalSlot). slice_index_or s other new_slot) is.slots ∙ slot_other terminal other slot old differs;
+      connection_count = is.connection_count;
+      way_count = length-set next.links number transits ∙ ap (λ (l : List Transits). length l) is.links;
+      slot_count = ap (λ (s : List TerminalSlot). length s) is.slots ∙ length-set old.slots terminal slot;
       pool = is.pool;
       panels = is.panels;
     }
@@ -281,7 +281,7 @@ not_gone (stop.Closed cause) old new bytes taken terminal number world rest talk
 -- ---- the delivery
 
 module _ (known : Known) (begin : Begin) (events : List MessageEvent) (number count terminal : ℕ) (old : ByteWorld) (answer : Stepped) (new : ByteWorld)
-    (is : IsBegin begin) (reached : Reached begin events old) (linked : is_link number ≡ true) (found : terminal_at number old.sittings ≡ Some terminal)
+    (is : IsBegin begin) (reached : Reached begin events old) (linked : is_link number ≡ true) (found : terminal_at number old.slots ≡ Some terminal)
     (comes : ComesDown terminal number (take count (down_of number old)) old answer new) where
   abbrev world : World
   world = after begin events
@@ -289,14 +289,14 @@ module _ (known : Known) (begin : Begin) (events : List MessageEvent) (number co
   abbrev link : Link
   link = world.link number
 
-  abbrev line : Line
-  line = line_at number old.host
+  abbrev connection : Connection
+  connection = connection_at number old.host
 
-  abbrev ways : Ways
-  ways = ways_at number old
+  abbrev transits : Transits
+  transits = transits_at number old
 
-  abbrev sitting : Sitting
-  sitting = sitting_at terminal old
+  abbrev slot : TerminalSlot
+  slot = slot_at terminal old
 
   abbrev taken_bytes : ℕ
   taken_bytes = comes.fed.taken
@@ -316,13 +316,13 @@ module _ (known : Known) (begin : Begin) (events : List MessageEvent) (number co
   place : world.place terminal ≡ Place.At number
   place = (world_facts.agree terminal number).1 here
 
-  stood : LinkStands (made_of terminal line ways sitting) link
+  stood : LinkStands (made_of terminal connection transits slot) link
   stood = stands_here number terminal old world world_facts.agree reached.stands here
 
-  flows : AreFlows line ways sitting
+  flows : AreFlows connection transits slot
   flows = flows_here number terminal old world world_facts.agree reached.stands here
 
-  ready : IsReady (made_of terminal line ways sitting) link
+  ready : IsReady (made_of terminal connection transits slot) link
   ready = record {
     stands = stood;
     terminal = terminal;
@@ -333,21 +333,21 @@ module _ (known : Known) (begin : Begin) (events : List MessageEvent) (number co
   }
 
   abbrev bytes : ByteLink
-  bytes = made_of terminal line ways sitting
+  bytes = made_of terminal connection transits slot
 
   abbrev front : List ℕ
   front = take taken_bytes bytes_brought
 
-  quiet : TakesQuietly sitting.seat front comes.seat
-  quiet = quiet_takes sitting.seat front comes.seat comes.feeds.takes
+  quiet : TakesQuietly slot.tracked front comes.tracked
+  quiet = quiet_takes slot.tracked front comes.tracked comes.feeds.takes
 
   in_two : down_of number old ≡ front ++ bytes_behind
   in_two = taken_off taken_bytes count (down_of number old) comes.feeds.few
 
   -- what the event is over messages, and the terminal after it
-  went_down_so : GoesOn begin events (event.Down number count) old answer new × (sitting_at terminal new ≡ record sitting { seat = comes.seat })
+  went_down_so : GoesOn begin events (event.Down number count) old answer new × (slot_at terminal new ≡ record slot { tracked = comes.tracked })
   went_down_so =
-      let down = known.links.down bytes link front bytes_behind (with_out quiet.said comes.seat) ready in_two (quiet.takes []) in
+      let down = known.links.down bytes link front bytes_behind (with_out quiet.said comes.tracked) ready in_two (quiet.takes []) in
       let more : List MessageEvent = replicate (length down.taken) (MessageEvent.Down number) in
       let typed : All IsTyped more = All-replicate IsTyped (length down.taken) (MessageEvent.Down number) tt in
       let app : Application = application_of begin.panels in
@@ -358,7 +358,7 @@ module _ (known : Known) (begin : Begin) (events : List MessageEvent) (number co
       let holds = (down.stands.term terminal went.here).holds in
       let term = stood.term terminal here in
       let to : Rest = (down.stands.term terminal went.here).rest in
-      let read = seat_reads known front sitting.seat comes.seat term.rest to term.holds.talk holds.talk term.down.is_rest term.holds.attached holds.attached comes.feeds.takes in
+      let read = seat_reads known front slot.tracked comes.tracked term.rest to term.holds.talk holds.talk term.down.is_rest term.holds.attached holds.attached comes.feeds.takes in
       let as_many : length read.0 ≡ length down.taken =
       counted known StandsDown term.rest to front bytes_behind read.0 link.down down.taken down.others read.1
       (subst (λ (b : List ℕ). BytesDown term.rest b link.down) in_two term.down)
@@ -368,32 +368,32 @@ module _ (known : Known) (begin : Begin) (events : List MessageEvent) (number co
       let took_them : taken_by answer bytes_brought ≡ front =
       ap (λ (a : Stepped). taken_by a bytes_brought) comes.answers
       ∙ taken_is comes.fed.stop taken_bytes bytes_brought
-      (taken_there comes.fed.stop sitting.seat.terminal comes.seat.terminal bytes_brought taken_bytes term.rest to term.holds.talk holds.talk comes.feeds.stops
+      (taken_there comes.fed.stop slot.tracked.terminal comes.tracked.terminal bytes_brought taken_bytes term.rest to term.holds.talk holds.talk comes.feeds.stops
       term.holds.attached holds.attached) in
-      let left : Under = came taken_bytes ways.down in
-      let out : List ℕ = out_then (is_senders ways.down) taken_bytes line.out in
-      let goes : GoesOnHere line out ways left sitting comes.seat quiet.said bytes_behind = record {
-        live = came_live taken_bytes ways.down;
-        flow = came_flows (is_there line.service) taken_bytes line.out ways.down flows.down;
-        behind_is = came_under_way taken_bytes ways.down line.out;
+      let left : Transit = came taken_bytes transits.down in
+      let out : List ℕ = out_then (is_senders transits.down) taken_bytes connection.out in
+      let goes : GoesOnHere connection out transits left slot comes.tracked quiet.said bytes_behind = record {
+        live = came_live taken_bytes transits.down;
+        flow = came_flows (is_there connection.service) taken_bytes connection.out transits.down flows.down;
+        behind_is = came_under_way taken_bytes transits.down connection.out;
         out_is = quiet.out_is;
       } in
       let below : number < most_connections = ltb-true number most_connections linked in
-      let after_it : ByteWorld = down_came taken_bytes number (with_sitting terminal (record sitting { seat = comes.seat }) old) in
-      let went_bytes = bytes_went number terminal taken_bytes comes.seat old (line_within number old world reached.stands below)
+      let after_it : ByteWorld = down_came taken_bytes number (with_slot terminal (record slot { tracked = comes.tracked }) old) in
+      let went_bytes = bytes_went number terminal taken_bytes comes.tracked old (connection_within number old world reached.stands below)
       (way_within number old world reached.stands below) (found_within number terminal old found) in
       let made : new ≡ after_it = comes.leaves
-      ∙ not_gone comes.fed.stop sitting.seat.terminal comes.seat.terminal (take count (down_of number old)) taken_bytes terminal number after_it
+      ∙ not_gone comes.fed.stop slot.tracked.terminal comes.tracked.terminal (take count (down_of number old)) taken_bytes terminal number after_it
       (down.stands.term terminal went.here).rest holds.talk comes.feeds.stops holds.attached in
       let next_facts = facts_then known.worlds begin events more old is reached (are_deliveries number (length down.taken)) typed in
-      let stands : WorldStands after_it now = term_went_stands number terminal (record line { out = out }) (record ways { down = left })
-      (record sitting { seat = comes.seat }) old after_it next world now went_bytes went
+      let stands : WorldStands after_it now = term_went_stands number terminal (record connection { out = out }) (record transits { down = left })
+      (record slot { tracked = comes.tracked }) old after_it next world now went_bytes went
       (record {
         none_closed = reached.stands.none_closed number;
-        settled = λ free. nothing_then (is_senders ways.down) taken_bytes line.out (reached.stands.settled number free);
-        flows = flows_go_on terminal line out ways left sitting comes.seat quiet.said bytes_behind flows goes;
+        settled = λ free. nothing_then (is_senders transits.down) taken_bytes connection.out (reached.stands.settled number free);
+        flows = flows_go_on terminal connection out transits left slot comes.tracked quiet.said bytes_behind flows goes;
         at = found_sits number terminal old found;
-        stands = subst (λ (b : ByteLink). LinkStands b next) (sym (link_goes_on terminal line out ways left sitting comes.seat quiet.said bytes_behind flows goes)) down.stands;
+        stands = subst (λ (b : ByteLink). LinkStands b next) (sym (link_goes_on terminal connection out transits left slot comes.tracked quiet.said bytes_behind flows goes)) down.stands;
       })
       reached.stands world_facts.agree next_facts.agree place in (
         record {
@@ -408,7 +408,7 @@ module _ (known : Known) (begin : Begin) (events : List MessageEvent) (number co
           reached = reached_more begin events more old new reached (are_deliveries number (length down.taken)) typed
               (ap (λ (w : ByteWorld). w.host.panels) made ∙ went_bytes.panels) (subst (λ (w : ByteWorld). WorldStands w now) (sym made) stands);
         },
-        ap (λ (w : ByteWorld). sitting_at terminal w) {x = new} {y = after_it} made ∙ went_bytes.sitting_is,
+        ap (λ (w : ByteWorld). slot_at terminal w) {x = new} {y = after_it} made ∙ went_bytes.slot_is,
       )
 
   goes_on : GoesOn begin events (event.Down number count) old answer new
@@ -416,10 +416,10 @@ module _ (known : Known) (begin : Begin) (events : List MessageEvent) (number co
 
   refuses_nothing : SaysNoRefusal terminal old new
   refuses_nothing =
-      let said = known.links.not_refused bytes link front bytes_behind (with_out quiet.said comes.seat) ready in_two (quiet.takes []) in
+      let said = known.links.not_refused bytes link front bytes_behind (with_out quiet.said comes.tracked) ready in_two (quiet.takes []) in
       record {
         says = said.says;
-        sent = ap (λ (s : Sitting). s.seat.terminal.out) went_down_so.1 ∙ quiet.out_is ∙ ap (λ (b : List ℕ). sitting.seat.terminal.out ++ b) said.out;
+        sent = ap (λ (s : TerminalSlot). s.tracked.terminal.out) went_down_so.1 ∙ quiet.out_is ∙ ap (λ (b : List ℕ). slot.tracked.terminal.out ++ b) said.out;
         fit = said.fit;
         carried_out = λ sequence outcome before behind same.
             among sequence outcome before behind said.sends (subst (λ (items : List WireItem). Pairwise StandsUp items said.sends) same said.said) said.none;
@@ -428,12 +428,12 @@ module _ (known : Known) (begin : Begin) (events : List MessageEvent) (number co
 module _ (known : Known) where
   -- A delivery of bytes down comes to as many single deliveries as messages were completed.
   pub down_goes : (number count : ℕ) → Goes (event.Down number count)
-  down_goes number count begin events old answer new is reached real place happens = by_here (terminal_at number old.sittings) refl happens
+  down_goes number count begin events old answer new is reached real place happens = by_here (terminal_at number old.slots) refl happens
     where
       linked : is_link number ≡ true
       linked = (and_parts (is_link number) (terminal_there number old && is_queued (take count (down_of number old))) place).0
 
-      by_here : (here : Option ℕ) → terminal_at number old.sittings ≡ here → GoesDown here number (take count (down_of number old)) old answer new
+      by_here : (here : Option ℕ) → terminal_at number old.slots ≡ here → GoesDown here number (take count (down_of number old)) old answer new
           → GoesOn begin events (event.Down number count) old answer new
       by_here None found comes = absurd comes
       by_here (Some terminal) found comes = goes_on known begin events number count terminal old answer new is reached linked found comes
@@ -446,7 +446,7 @@ module _ (known : Known) where
   says_nothing_then : (terminal : ℕ) (old new : ByteWorld) → new ≡ old → SaysNoRefusal terminal old new
   says_nothing_then terminal old new same = record {
     says = [];
-    sent = ap (λ (w : ByteWorld). (sitting_at terminal w).seat.terminal.out) same ∙ sym (append-nil (sitting_at terminal old).seat.terminal.out);
+    sent = ap (λ (w : ByteWorld). (slot_at terminal w).tracked.terminal.out) same ∙ sym (append-nil (slot_at terminal old).tracked.terminal.out);
     fit = tt;
     carried_out = λ sequence outcome before behind e. absurd (not_any before behind (response sequence outcome) e);
   }

@@ -6,8 +6,8 @@ use Rattle.codes3270.specs.Size.{model_2}
 use Rattle.host_core.specs.Application.{application_of}
 use Rattle.host_core.specs.State.{most_connections}
 use Rattle.world3270.specs.Known.{Known}
-use Rattle.world3270.specs.ByteSteps.{Connects, ConnectsIf, has_place, is_link, is_terminal, is_lost, is_up, sees_loss, may_connect, free_number, lost_ways, host_gone, saw_loss, terminal_anew, host_anew, host_gone_below}
-use Rattle.world3270.specs.ByteWorld.{ByteWorld, Sitting, alone, new_sitting, host_there, sitting_at, with_ways}
+use Rattle.world3270.specs.ByteSteps.{Connects, ConnectsIf, has_place, is_link, is_terminal, is_lost, is_up, sees_loss, may_connect, free_number, lost_transits, host_gone, saw_loss, terminal_anew, host_anew, host_gone_below}
+use Rattle.world3270.specs.ByteWorld.{ByteWorld, TerminalSlot, alone, new_slot, host_there, slot_at, with_transits}
 use Rattle.world3270.specs.Happens.{done, left_alone, joined, term_saw, term_anew}
 use Rattle.world3270.specs.Placed.{free_number as free_over_messages}
 use Rattle.world3270.specs.Places.{EndsAgree, UpIsHeld}
@@ -30,12 +30,12 @@ use Rattle.world3270.proofs.Partings.{host_gone_stands, lost_stands, parted_stan
 
 -- ---- a terminal leaves its connection
 
-at_number : (sitting : Sitting) (number other : ℕ) → sitting.at ≡ Some number → sitting.at ≡ Some other → other ≡ number
-at_number sitting number other one another = let same : Some number ≡ Some other = sym one ∙ another in cc
+at_number : (slot : TerminalSlot) (number other : ℕ) → slot.at ≡ Some number → slot.at ≡ Some other → other ≡ number
+at_number slot number other one another = let same : Some number ≡ Some other = sym one ∙ another in cc
 
 -- what was before the operator stays, with a keyboard that waits
 left_is_alone : (terminal number : ℕ) (old : ByteWorld) (was : World) → EndsAgree was → WorldStands old was → was.place terminal ≡ Place.At number
-    → IsAt (alone (sitting_at terminal old)) (Place.Alone (left_alone (was.link number).term.display))
+    → IsAt (alone (slot_at terminal old)) (Place.Alone (left_alone (was.link number).term.display))
 left_is_alone terminal number old was agree stands at =
     let holds : (was.link number).term_here ≡ Some terminal = (agree terminal number).0 at in
     let end = ((stands_here number terminal old was agree stands holds).term terminal holds).holds.is_end in (
@@ -46,36 +46,36 @@ left_is_alone terminal number old was agree stands at =
         shape = end.shape_is;
         screen = end.screen_is;
         keyboard = refl;
-        left = end.left_is;
+        last_restored = end.last_restored_is;
         erased = end.erased_is;
       },
     )
 
 module _ (leaves : TermLeaves) (terminal : ℕ) (old : ByteWorld) (was : World) (agree : EndsAgree was) (held : UpIsHeld was) (stands : WorldStands old was)
-    (there : terminal < length old.sittings) where
-  at_place : (place : Place) → was.place terminal ≡ place → IsAt (sitting_at terminal old) place
-  at_place place is = subst (λ (p : Place). IsAt (sitting_at terminal old) p) is (stands.places terminal)
+    (there : terminal < length old.slots) where
+  at_place : (place : Place) → was.place terminal ≡ place → IsAt (slot_at terminal old) place
+  at_place place is = subst (λ (p : Place). IsAt (slot_at terminal old) p) is (stands.places terminal)
 
-  saw_stands : (at : Option ℕ) (place : Place) → (sitting_at terminal old).at ≡ at → was.place terminal ≡ place
+  saw_stands : (at : Option ℕ) (place : Place) → (slot_at terminal old).at ≡ at → was.place terminal ≡ place
       → EndsAgree (term_saw terminal place was) → WorldStands (saw_loss terminal at old) (term_saw terminal place was)
   saw_stands None (Place.At number) at is agrees = let here = at_place (Place.At number) is in absurd (cc)
   saw_stands None (Place.Alone display) at is agrees = stands
   saw_stands (Some number) (Place.At other) at is agrees =
-      let same : other ≡ number = at_number (sitting_at terminal old) number other at (at_place (Place.At other) is) in
+      let same : other ≡ number = at_number (slot_at terminal old) number other at (at_place (Place.At other) is) in
       subst (λ (n : ℕ). WorldStands (saw_loss terminal (Some n) old) (term_saw terminal (Place.At other) was)) same
-      (parted_stands other old was agree stands held leaves terminal (alone (sitting_at terminal old)) (left_alone (was.link other).term.display) there is
+      (parted_stands other old was agree stands held leaves terminal (alone (slot_at terminal old)) (left_alone (was.link other).term.display) there is
       (left_is_alone terminal other old was agree stands is) agrees)
   saw_stands (Some number) (Place.Alone display) at is agrees = let none = (at_place (Place.Alone display) is).0 in absurd (cc)
 
-  anew_stands : (at : Option ℕ) (place : Place) → (sitting_at terminal old).at ≡ at → was.place terminal ≡ place
+  anew_stands : (at : Option ℕ) (place : Place) → (slot_at terminal old).at ≡ at → was.place terminal ≡ place
       → (begin : Begin) → EndsAgree (term_anew (application_of begin.panels) terminal place was)
       → WorldStands (terminal_anew terminal at old) (term_anew (application_of begin.panels) terminal place was)
   anew_stands None (Place.At number) at is begin agrees = let here = at_place (Place.At number) is in absurd (cc)
-  anew_stands None (Place.Alone display) at is begin agrees = alone_stands terminal new_sitting (new_display model_2) old was agree stands there at new_is_alone agrees
+  anew_stands None (Place.Alone display) at is begin agrees = alone_stands terminal new_slot (new_display model_2) old was agree stands there at new_is_alone agrees
   anew_stands (Some number) (Place.At other) at is begin agrees =
-      let same : other ≡ number = at_number (sitting_at terminal old) number other at (at_place (Place.At other) is) in
+      let same : other ≡ number = at_number (slot_at terminal old) number other at (at_place (Place.At other) is) in
       subst (λ (n : ℕ). WorldStands (terminal_anew terminal (Some n) old) (term_anew (application_of begin.panels) terminal (Place.At other) was)) same
-      (parted_stands other old was agree stands held leaves terminal new_sitting (new_display model_2) there is new_is_alone agrees)
+      (parted_stands other old was agree stands held leaves terminal new_slot (new_display model_2) there is new_is_alone agrees)
   anew_stands (Some number) (Place.Alone display) at is begin agrees = let none = (at_place (Place.Alone display) is).0 in absurd (cc)
 
 saw_panels : (terminal : ℕ) (at : Option ℕ) (old : ByteWorld) → (saw_loss terminal at old).host.panels ≡ old.host.panels
@@ -129,7 +129,7 @@ module _ (known : Known) (skips : SkipsAreThose) where
   lose_goes number begin events old answer new is reached real place happens =
       let f = facts_now known.worlds begin events old is reached in
       let below = within number (is_up number old) old (after begin events) reached.stands place in
-      let made : ByteWorld = with_ways number (lost_ways number old) old in
+      let made : ByteWorld = with_transits number (lost_transits number old) old in
       subst (λ (w : ByteWorld). GoesOn begin events (event.Lose number) old answer w) (sym happens.1)
       (goes_once (event.Lose number) begin events old answer made is reached real tt place
       (ap (λ (a : Stepped). once (MessageEvent.Lose number) a) (sym happens.0)) refl
@@ -149,8 +149,8 @@ module _ (known : Known) (skips : SkipsAreThose) where
   pub term_sees_goes : (terminal : ℕ) → Goes (event.TermSees terminal)
   term_sees_goes terminal begin events old answer new is reached real place happens =
       let f = facts_now known.worlds begin events old is reached in
-      let at : Option ℕ = (sitting_at terminal old).at in
-      let there = ltb-true terminal (length old.sittings) (and_parts (is_terminal terminal old) (sees_loss at old) place).0 in
+      let at : Option ℕ = (slot_at terminal old).at in
+      let there = ltb-true terminal (length old.slots) (and_parts (is_terminal terminal old) (sees_loss at old) place).0 in
       subst (λ (w : ByteWorld). GoesOn begin events (event.TermSees terminal) old answer w) (sym happens.1)
       (goes_once (event.TermSees terminal) begin events old answer (saw_loss terminal at old) is reached real tt place
       (ap (λ (a : Stepped). once (MessageEvent.TermSees terminal) a) (sym happens.0)) (saw_panels terminal at old)
@@ -161,11 +161,11 @@ module _ (known : Known) (skips : SkipsAreThose) where
   pub restart_term_goes : (terminal : ℕ) → Goes (event.RestartTerm terminal)
   restart_term_goes terminal begin events old answer new is reached real place happens =
       let f = facts_now known.worlds begin events old is reached in
-      let at : Option ℕ = (sitting_at terminal old).at in
+      let at : Option ℕ = (slot_at terminal old).at in
       subst (λ (w : ByteWorld). GoesOn begin events (event.RestartTerm terminal) old answer w) (sym happens.1)
       (goes_once (event.RestartTerm terminal) begin events old answer (terminal_anew terminal at old) is reached real tt place
       (ap (λ (a : Stepped). once (MessageEvent.RestartTerm terminal) a) (sym happens.0)) (anew_panels terminal at old)
-      (anew_stands known.links.term_leaves terminal old (after begin events) f.agree f.up_held reached.stands (ltb-true terminal (length old.sittings) place) at
+      (anew_stands known.links.term_leaves terminal old (after begin events) f.agree f.up_held reached.stands (ltb-true terminal (length old.slots) place) at
       ((after begin events).place terminal) refl refl begin))
 
   pub restart_host_goes : Goes event.RestartHost
@@ -193,9 +193,9 @@ module _ (known : Known) (skips : SkipsAreThose) where
       by_found (Some number) free (Connects.done answers made) =
           let f = facts_now known.worlds begin events old is reached in
           let app = application_of begin.panels in
-          let both = and_parts (is_terminal terminal old) (may_connect (sitting_at terminal old).at old) place in
-          let there = ltb-true terminal (length old.sittings) both.0 in
-          let lonely = is_alone (sitting_at terminal old).at old both.1 in
+          let both = and_parts (is_terminal terminal old) (may_connect (slot_at terminal old).at old) place in
+          let there = ltb-true terminal (length old.slots) both.0 in
+          let lonely = is_alone (slot_at terminal old).at old both.1 in
           let below = way_within number old (after begin events) reached.stands (found_below most_connections 0 number old free) in
           let same : free_over_messages (after begin events).link ≡ Some number = sym (same_free old (after begin events) reached.stands) ∙ free in
           subst (λ (w : ByteWorld). GoesOn begin events (event.Connect terminal wanted) old answer w) (sym made)

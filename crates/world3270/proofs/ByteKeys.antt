@@ -6,7 +6,7 @@ use Rattle.codes3270.specs.Size.{Shape, model_2}
 use Rattle.datastream.specs.InboundFields.{IsSendable}
 use Rattle.datastream.specs.Screen.{Screen}
 use Rattle.host_core.specs.Application.{application_of}
-use Rattle.host_core.specs.State.{Line, line_at}
+use Rattle.host_core.specs.State.{Connection, connection_at}
 use Rattle.keyboard.specs.Keys.{Outcome, pressed}
 use Rattle.keyboard.specs.State.{Keyboard}
 use Rattle.keyboard.specs.declared.key.Key.{Key}
@@ -18,12 +18,12 @@ use Rattle.term_core.specs.Records.{data_sent}
 use Rattle.term_core.specs.State.{Link as TermLink, Station, phase_of, is_bound}
 use Rattle.world3270.specs.Known.{Known}
 use Rattle.world3270.specs.ByteSteps.{Presses, answer_pressed}
-use Rattle.world3270.specs.ByteWorld.{ByteWorld, Ways, Sitting, ways_at, sitting_at, with_sitting}
+use Rattle.world3270.specs.ByteWorld.{ByteWorld, Transits, TerminalSlot, transits_at, slot_at, with_slot}
 use Rattle.world3270.specs.Happens.{key_went, done}
 use Rattle.world3270.specs.Link.{Link, term_stepped}
 use Rattle.world3270.specs.Places.{EndsAgree}
 use Rattle.world3270.specs.Refines.{Begin, IsBegin, Reached, IsReal, GoesOn, SkipsAreThose, after, once}
-use Rattle.world3270.specs.Seats.{Seat, seat_after_key}
+use Rattle.world3270.specs.TrackedTerminals.{TrackedTerminal, tracked_after_key}
 use Rattle.world3270.specs.Sendable.{ScreensAreSendable, display_at}
 use Rattle.world3270.specs.Standing.{WorldStands, IsAlone, IsAt, with_out}
 use Rattle.world3270.specs.Stands.{ByteLink, LinkStands}
@@ -32,7 +32,7 @@ use Rattle.world3270.specs.World.{Place, World, Event as MessageEvent}
 use Rattle.world3270.specs.declared.event.Event.TheVariants as event
 use Rattle.world3270.specs.declared.event.Stepped.{Stepped}
 use Rattle.world3270.proofs.ByteTerms.{GoesOnHere, alone_stands, flows_go_on, flows_here, link_goes_on, made_of, stands_here, term_went_stands}
-use Rattle.world3270.proofs.Frames.{sitting_other, sitting_same}
+use Rattle.world3270.proofs.Frames.{slot_other, slot_same}
 use Rattle.world3270.proofs.Known.{Facts, Goes, facts_now, facts_once, reached_one, reached_still}
 use Rattle.world3270.proofs.OneOfMany.{with_other, with_same}
 
@@ -51,21 +51,21 @@ nothing_sent pressed_as.Done screen = refl
 nothing_sent (pressed_as.Refused why) screen = refl
 nothing_sent (pressed_as.Send aid) screen = refl
 
-stays_alone : (key : Key) (seat : Seat) (display : Display) → IsAlone seat display → IsAlone (seat_after_key key seat) (after_key key display)
-stays_alone key seat display is =
-    let station : Station = seat.terminal.station in
+stays_alone : (key : Key) (tracked : TrackedTerminal) (display : Display) → IsAlone tracked display → IsAlone (tracked_after_key key tracked) (after_key key display)
+stays_alone key tracked display is =
+    let station : Station = tracked.terminal.station in
     let outcome : Outcome = key_outcome key station in
     let same = outcome_is key station display is.shape is.keyboard is.screen in
     record {
       detached = is.detached;
-      silent = ap (λ (l : TermLink). seat.terminal.out ++ sent_bytes (says_of_key key (is_bound (phase_of l)) station)) is.detached
-          ∙ ap (λ (d : Option (List ℕ)). seat.terminal.out ++ sent_bytes (data_sent station.number d)) (nothing_sent outcome.answer outcome.screen)
-          ∙ append-nil seat.terminal.out ∙ is.silent;
+      silent = ap (λ (l : TermLink). tracked.terminal.out ++ sent_bytes (says_of_key key (is_bound (phase_of l)) station)) is.detached
+          ∙ ap (λ (d : Option (List ℕ)). tracked.terminal.out ++ sent_bytes (data_sent station.number d)) (nothing_sent outcome.answer outcome.screen)
+          ∙ append-nil tracked.terminal.out ∙ is.silent;
       shape = is.shape;
       screen = ap (λ (o : Outcome). o.screen) same;
       keyboard = ap (λ (o : Outcome). o.keyboard) same;
-      left = is.left;
-      erased = ap (λ (b : Bool). b || erases_if (answer_to_key key seat.terminal) key) is.erased
+      last_restored = is.last_restored;
+      erased = ap (λ (b : Bool). b || erases_if (answer_to_key key tracked.terminal) key) is.erased
           ∙ ap (λ (o : Outcome). display.erased || erases_if o.answer key) same;
     }
 
@@ -81,52 +81,52 @@ happens_once event answer pressed is = by_answer pressed ∙ ap (once event) (sy
     by_answer (pressed_as.Send aid) = refl
 
 module _ (known : Known) (key : Key) (terminal : ℕ) (old : ByteWorld) (world : World) (now_facts : Facts world) (stands : WorldStands old world)
-    (below : terminal < length old.sittings) where
-  abbrev pressed_at : Sitting
-  pressed_at = record (sitting_at terminal old) { seat = seat_after_key key (sitting_at terminal old).seat }
+    (below : terminal < length old.slots) where
+  abbrev pressed_at : TerminalSlot
+  pressed_at = record (slot_at terminal old) { tracked = tracked_after_key key (slot_at terminal old).tracked }
 
   abbrev went : Place → World
   went place = key_went terminal key place world
 
   -- Wherever the terminal is, the world stands for that after the key.
   key_stands : (place : Place) → world.place terminal ≡ place → EndsAgree (went place) → ScreensAreSendable (went place)
-      → WorldStands (with_sitting terminal pressed_at old) (went place)
+      → WorldStands (with_slot terminal pressed_at old) (went place)
   key_stands (Place.Alone display) is agrees sendable =
-      let at = subst (λ (p : Place). IsAt (sitting_at terminal old) p) is (stands.places terminal) in
+      let at = subst (λ (p : Place). IsAt (slot_at terminal old) p) is (stands.places terminal) in
       alone_stands terminal pressed_at (after_key key display) old world now_facts.agree stands below at.0
-      (at.0, stays_alone key (sitting_at terminal old).seat display at.1) agrees
+      (at.0, stays_alone key (slot_at terminal old).tracked display at.1) agrees
   key_stands (Place.At number) is agrees sendable =
       let link : Link = world.link number in
       let here : link.term_here ≡ Some terminal = (now_facts.agree terminal number).0 is in
-      let at : (sitting_at terminal old).at ≡ Some number = subst (λ (p : Place). IsAt (sitting_at terminal old) p) is (stands.places terminal) in
-      let line : Line = line_at number old.host in
-      let ways : Ways = ways_at number old in
-      let sitting : Sitting = sitting_at terminal old in
-      let seat : Seat = seat_after_key key sitting.seat in
+      let at : (slot_at terminal old).at ≡ Some number = subst (λ (p : Place). IsAt (slot_at terminal old) p) is (stands.places terminal) in
+      let connection : Connection = connection_at number old.host in
+      let transits : Transits = transits_at number old in
+      let slot : TerminalSlot = slot_at terminal old in
+      let tracked : TrackedTerminal = tracked_after_key key slot.tracked in
       let stood = stands_here number terminal old world now_facts.agree stands here in
       let flows = flows_here number terminal old world now_facts.agree stands here in
       let next : Link = term_stepped (key_came key link.term) link.down link in
       let is_end = ((stood.term terminal here).holds).is_end in
-      let same = outcome_is key sitting.seat.terminal.station link.term.display is_end.shape_is is_end.keyboard_is is_end.screen_is in
+      let same = outcome_is key slot.tracked.terminal.station link.term.display is_end.shape_is is_end.keyboard_is is_end.screen_is in
       let screen : IsSendable (outcome_of key link.term.display).screen =
       subst (λ (l : Link). IsSendable l.term.display.screen) (with_same number next world.link)
       (subst (λ (p : Place). IsSendable (display_at (went (Place.At number)) p).screen) is (sendable terminal)) in
-      let stays = known.links.press key (made_of terminal line ways sitting) link terminal stood here
+      let stays = known.links.press key (made_of terminal connection transits slot) link terminal stood here
       (subst (λ (o : Outcome). IsSendable o.screen) (sym same) screen) in
-      let said : List ℕ = (seat_after_key key (with_out [] sitting.seat)).terminal.out in
-      let down : List ℕ = (made_of terminal line ways sitting).down in
-      let goes : GoesOnHere line line.out ways ways.down sitting seat said down = record { live = refl; flow = flows.down; behind_is = refl; out_is = refl } in
-      term_went_stands number terminal line ways pressed_at old (with_sitting terminal pressed_at old) next world (went (Place.At number))
+      let said : List ℕ = (tracked_after_key key (with_out [] slot.tracked)).terminal.out in
+      let down : List ℕ = (made_of terminal connection transits slot).down in
+      let goes : GoesOnHere connection connection.out transits transits.down slot tracked said down = record { live = refl; flow = flows.down; behind_is = refl; out_is = refl } in
+      term_went_stands number terminal connection transits pressed_at old (with_slot terminal pressed_at old) next world (went (Place.At number))
       (record {
-        line_is = refl;
-        ways_are = refl;
-        sitting_is = sitting_same terminal pressed_at old below;
-        other_lines = λ other differs. refl;
-        other_ways = λ other differs. refl;
-        other_sittings = λ other differs. sitting_other terminal other pressed_at old differs;
-        line_count = refl;
+        connection_is = refl;
+        transits_are = refl;
+        slot_is = slot_same terminal pressed_at old below;
+        other_connections = λ other differs. refl;
+        other_transits = λ other differs. refl;
+        other_slots = λ other differs. slot_other terminal other pressed_at old differs;
+        connection_count = refl;
         way_count = refl;
-        sitting_count = length-set old.sittings terminal pressed_at;
+        slot_count = length-set old.slots terminal pressed_at;
         pool = refl;
         panels = refl;
       })
@@ -142,15 +142,15 @@ module _ (known : Known) (key : Key) (terminal : ℕ) (old : ByteWorld) (world :
       (record {
         none_closed = stands.none_closed number;
         settled = stands.settled number;
-        flows = flows_go_on terminal line line.out ways ways.down sitting seat said down flows goes;
+        flows = flows_go_on terminal connection connection.out transits transits.down slot tracked said down flows goes;
         at = at;
-        stands = subst (λ (b : ByteLink). LinkStands b next) (sym (link_goes_on terminal line line.out ways ways.down sitting seat said down flows goes)) stays;
+        stands = subst (λ (b : ByteLink). LinkStands b next) (sym (link_goes_on terminal connection connection.out transits transits.down slot tracked said down flows goes)) stays;
       })
       stands now_facts.agree agrees is
 
 module _ (known : Known) (skips : SkipsAreThose) where
   pressed_on : (terminal : ℕ) (key : Key) (begin : Begin) (events : List MessageEvent) (old : ByteWorld) (answer : Stepped) (new : ByteWorld)
-      → IsBegin begin → Reached begin events old → IsReal (event.Key terminal key) → nat_lt terminal (length old.sittings) ≡ true
+      → IsBegin begin → Reached begin events old → IsReal (event.Key terminal key) → nat_lt terminal (length old.slots) ≡ true
       → Presses terminal key old answer new → GoesOn begin events (event.Key terminal key) old answer new
   pressed_on terminal key begin events old answer new is reached real place (Presses.refused lacks memory same) = record {
     more = [];
@@ -163,10 +163,10 @@ module _ (known : Known) (skips : SkipsAreThose) where
       let has = sym (skips begin events (event.Key terminal key) old is reached tt) ∙ place in
       let next_facts = facts_once known.worlds begin events press old is reached real.0 real.1 has in
       let stands = key_stands known key terminal old world (facts_now known.worlds begin events old is reached) reached.stands
-      (ltb-true terminal (length old.sittings) place) (world.place terminal) refl next_facts.agree next_facts.sendable in
+      (ltb-true terminal (length old.slots) place) (world.place terminal) refl next_facts.agree next_facts.sendable in
       record {
         more = press ∷ [];
-        comes_to = happens_once press answer (answer_to_key key (sitting_at terminal old).seat.terminal) answers;
+        comes_to = happens_once press answer (answer_to_key key (slot_at terminal old).tracked.terminal) answers;
         reached = reached_one begin events press old new reached real.0 real.1 has (ap (λ (w : ByteWorld). w.host.panels) made)
             (subst (λ (w : ByteWorld). WorldStands w (done (application_of begin.panels) press world)) (sym made) stands);
       }

@@ -17,7 +17,7 @@ use Rattle.telnet_wire.specs.Reading.{Rest, nothing, Delivers}
 use Rattle.telnet_wire.specs.Token.{Token, Data, End, Opt as OptToken, Sub as SubToken, Other as OtherToken, text}
 use Rattle.tn3270e_msg.specs.Header.{record_limit}
 use Rattle.world3270.specs.ByteSteps.{is_link, is_terminal, is_lost, is_held, is_up, sees_loss, free_from, free_number, may_connect}
-use Rattle.world3270.specs.ByteWorld.{ByteWorld, is_there, is_live, ways_at, sitting_at, host_there, terminal_there, up_of, down_of}
+use Rattle.world3270.specs.ByteWorld.{ByteWorld, is_there, is_live, transits_at, slot_at, host_there, terminal_there, up_of, down_of}
 use Rattle.world3270.specs.Link.{Link, is_free, is_up as is_link_up}
 use Rattle.world3270.specs.Placed.{is_queued, comes_up, comes_down, host_acts, host_notes, host_sees, terminal_sees, free_number as free_link, may_connect as may_join}
 use Rattle.world3270.specs.Refines.{SkipsAreThose, after}
@@ -84,7 +84,7 @@ live_and_held false false = refl
 up_and_held : (number : ℕ) (bytes : ByteWorld) (world : World) → WorldStands bytes world → is_up number bytes ≡ is_link_up (world.link number)
 up_and_held number bytes world stands =
     let link = stands.links number in
-    live_and_held (is_live (ways_at number bytes).down) (is_held number bytes)
+    live_and_held (is_live (transits_at number bytes).down) (is_held number bytes)
     ∙ ap (λ (lost : Bool). not (lost || not (is_held number bytes))) link.lost
     ∙ ap (λ (held : Bool). not ((world.link number).lost || not held)) (held_alike number bytes world stands)
 
@@ -95,10 +95,10 @@ host_sees_alike number bytes world stands =
     both_alike (is_lost number bytes) (world.link number).lost _ _ link.lost (λ _. link.host_here)
 
 terminal_sees_alike : (terminal : ℕ) (bytes : ByteWorld) (world : World) → WorldStands bytes world
-    → sees_loss (sitting_at terminal bytes).at bytes ≡ terminal_sees world (world.place terminal)
+    → sees_loss (slot_at terminal bytes).at bytes ≡ terminal_sees world (world.place terminal)
 terminal_sees_alike terminal bytes world stands = by_place (world.place terminal) (stands.places terminal)
   where
-    by_place : (place : Place) → IsAt (sitting_at terminal bytes) place → sees_loss (sitting_at terminal bytes).at bytes ≡ terminal_sees world place
+    by_place : (place : Place) → IsAt (slot_at terminal bytes) place → sees_loss (slot_at terminal bytes).at bytes ≡ terminal_sees world place
     by_place (Place.At number) at = ap (λ (o : Option ℕ). sees_loss o bytes) at ∙ (stands.links number).lost
     by_place (Place.Alone display) at = ap (λ (o : Option ℕ). sees_loss o bytes) at.0
 
@@ -122,10 +122,10 @@ pub same_free : (bytes : ByteWorld) (world : World) → WorldStands bytes world 
 same_free bytes world stands = free_alike most_connections 0 bytes world stands
 
 connects_alike : (terminal : ℕ) (bytes : ByteWorld) (world : World) → WorldStands bytes world
-    → may_connect (sitting_at terminal bytes).at bytes ≡ may_join world (world.place terminal)
+    → may_connect (slot_at terminal bytes).at bytes ≡ may_join world (world.place terminal)
 connects_alike terminal bytes world stands = by_place (world.place terminal) (stands.places terminal)
   where
-    by_place : (place : Place) → IsAt (sitting_at terminal bytes) place → may_connect (sitting_at terminal bytes).at bytes ≡ may_join world place
+    by_place : (place : Place) → IsAt (slot_at terminal bytes) place → may_connect (slot_at terminal bytes).at bytes ≡ may_join world place
     by_place (Place.At number) at = ap (λ (o : Option ℕ). may_connect o bytes) at
     by_place (Place.Alone display) at =
         ap (λ (o : Option ℕ). may_connect o bytes) at.0 ∙ ap (λ (o : Option ℕ). is_some o) (same_free bytes world stands)

@@ -1,93 +1,93 @@
 -- A terminal goes on at its connection, or alone: the world over bytes then stands for the world over messages.
 use Rattle.std.proofs.Common.{◌≡◌, ◌≢◌, ◌<◌, not, ℕ, Bool, true, Option, None, Some, List, [], ◌++◌, length, le_refl, refl, ap, sym, subst, ◌∙◌, length-set}
-use Rattle.host_core.specs.State.{Line, line_at}
-use Rattle.world3270.specs.ByteWorld.{ByteWorld, Under, Ways, Sitting, under_way, is_live, is_there, ways_at, sitting_at, with_sitting}
+use Rattle.host_core.specs.State.{Connection, connection_at}
+use Rattle.world3270.specs.ByteWorld.{ByteWorld, Transit, Transits, TerminalSlot, under_way, is_live, is_there, transits_at, slot_at, with_slot}
 use Rattle.world3270.specs.Link.{Link, sent}
 use Rattle.world3270.specs.Places.{EndsAgree}
-use Rattle.world3270.specs.Seats.{Seat}
-use Rattle.world3270.specs.Standing.{WorldStands, IsFlow, IsAt, IsNotClosed, IsSettled, AreWays, conn_of, rest_of, with_out, link_with}
+use Rattle.world3270.specs.TrackedTerminals.{TrackedTerminal}
+use Rattle.world3270.specs.Standing.{WorldStands, IsFlow, IsAt, IsNotClosed, IsSettled, AreTransits, conn_of, rest_of, with_out, link_with}
 use Rattle.world3270.specs.Stands.{ByteLink, LinkStands}
 use Rattle.world3270.specs.StandsLinks.{fed}
 use Rattle.world3270.specs.Terminal.{Display}
 use Rattle.world3270.specs.World.{Place, World, with_place}
-use Rattle.world3270.proofs.Frames.{IsHere, alone_there, changed_stands, flow_there, link_there, none_beyond, of_parts, sitting_same, sitting_other, with_parts}
+use Rattle.world3270.proofs.Frames.{IsHere, alone_there, changed_stands, flow_there, link_there, none_beyond, of_parts, slot_same, slot_other, with_parts}
 use Rattle.world3270.proofs.OneOfMany.{with_other, with_same}
 use Rattle.world3270.proofs.UnderWay.{more_flows, more_under_way}
 
 -- ---- a connection at whose end a terminal is
 
 -- it is made of the host's line, of what is under way, and of the terminal
-abbrev pub made_of : ℕ → Line → Ways → Sitting → ByteLink
-made_of terminal line ways sitting = with_parts (Some terminal) line ways sitting.seat.terminal.out (with_out [] sitting.seat)
+abbrev pub made_of : ℕ → Connection → Transits → TerminalSlot → ByteLink
+made_of terminal connection transits slot = with_parts (Some terminal) connection transits slot.tracked.terminal.out (with_out [] slot.tracked)
 
 -- both directions are live, or neither is; and what is under way is what the ends have to send
-pub record AreFlows (line : Line) (ways : Ways) (sitting : Sitting) : Type 0 where
-  pub together : is_live ways.up ≡ is_live ways.down
-  pub down : IsFlow (is_there line.service) line.out ways.down
-  pub up : IsFlow true sitting.seat.terminal.out ways.up
+pub record AreFlows (connection : Connection) (transits : Transits) (slot : TerminalSlot) : Type 0 where
+  pub together : is_live transits.up ≡ is_live transits.down
+  pub down : IsFlow (is_there connection.service) connection.out transits.down
+  pub up : IsFlow true slot.tracked.terminal.out transits.up
 
 -- the terminal says more, and some of what was under way down came
-pub record GoesOnHere (line : Line) (out : List ℕ) (ways : Ways) (down : Under) (sitting : Sitting) (seat : Seat) (said behind : List ℕ) : Type 0 where
-  pub live : is_live down ≡ is_live ways.down
-  pub flow : IsFlow (is_there line.service) out down
+pub record GoesOnHere (connection : Connection) (out : List ℕ) (transits : Transits) (down : Transit) (slot : TerminalSlot) (tracked : TrackedTerminal) (said behind : List ℕ) : Type 0 where
+  pub live : is_live down ≡ is_live transits.down
+  pub flow : IsFlow (is_there connection.service) out down
   pub behind_is : under_way down out ≡ behind
-  pub out_is : seat.terminal.out ≡ sitting.seat.terminal.out ++ said
+  pub out_is : tracked.terminal.out ≡ slot.tracked.terminal.out ++ said
 
 -- the connection with other bytes under way
-abbrev with_queues : ℕ → Line → Seat → Bool → List ℕ → List ℕ → ByteLink
-with_queues terminal line seat lost down up =
-    of_parts lost down up (is_there line.service) (conn_of line.service) (rest_of line.service) (Some terminal) (with_out [] seat)
+abbrev with_queues : ℕ → Connection → TrackedTerminal → Bool → List ℕ → List ℕ → ByteLink
+with_queues terminal connection tracked lost down up =
+    of_parts lost down up (is_there connection.service) (conn_of connection.service) (rest_of connection.service) (Some terminal) (with_out [] tracked)
 
-module _ (terminal : ℕ) (line : Line) (out : List ℕ) (ways : Ways) (down : Under) (sitting : Sitting) (seat : Seat) (said behind : List ℕ)
-    (flows : AreFlows line ways sitting) (goes : GoesOnHere line out ways down sitting seat said behind) where
-  up_now : under_way ways.up seat.terminal.out ≡ sent (not (is_live ways.down)) (under_way ways.up sitting.seat.terminal.out) said
+module _ (terminal : ℕ) (connection : Connection) (out : List ℕ) (transits : Transits) (down : Transit) (slot : TerminalSlot) (tracked : TrackedTerminal) (said behind : List ℕ)
+    (flows : AreFlows connection transits slot) (goes : GoesOnHere connection out transits down slot tracked said behind) where
+  up_now : under_way transits.up tracked.terminal.out ≡ sent (not (is_live transits.down)) (under_way transits.up slot.tracked.terminal.out) said
   up_now =
-      let before : List ℕ = sitting.seat.terminal.out in
-      ap (λ (o : List ℕ). under_way ways.up o) goes.out_is
-      ∙ more_under_way before said ways.up flows.up
-      ∙ ap (λ (b : Bool). sent (not b) (under_way ways.up before) said) flows.together
+      let before : List ℕ = slot.tracked.terminal.out in
+      ap (λ (o : List ℕ). under_way transits.up o) goes.out_is
+      ∙ more_under_way before said transits.up flows.up
+      ∙ ap (λ (b : Bool). sent (not b) (under_way transits.up before) said) flows.together
 
   -- The connection is as after these bytes came, and what the terminal said is under way.
-  pub link_goes_on : made_of terminal (record line { out = out }) (record ways { down = down }) (record sitting { seat = seat })
-      ≡ fed (with_out said seat) behind (made_of terminal line ways sitting)
+  pub link_goes_on : made_of terminal (record connection { out = out }) (record transits { down = down }) (record slot { tracked = tracked })
+      ≡ fed (with_out said tracked) behind (made_of terminal connection transits slot)
   link_goes_on =
-      let up : List ℕ = under_way ways.up seat.terminal.out in
-      ap (λ (b : Bool). with_queues terminal line seat (not b) (under_way down out) up) goes.live
-      ∙ ap (λ (q : List ℕ). with_queues terminal line seat (not (is_live ways.down)) q up) goes.behind_is
-      ∙ ap (λ (q : List ℕ). with_queues terminal line seat (not (is_live ways.down)) behind q) up_now
+      let up : List ℕ = under_way transits.up tracked.terminal.out in
+      ap (λ (b : Bool). with_queues terminal connection tracked (not b) (under_way down out) up) goes.live
+      ∙ ap (λ (q : List ℕ). with_queues terminal connection tracked (not (is_live transits.down)) q up) goes.behind_is
+      ∙ ap (λ (q : List ℕ). with_queues terminal connection tracked (not (is_live transits.down)) behind q) up_now
 
-  pub flows_go_on : AreFlows (record line { out = out }) (record ways { down = down }) (record sitting { seat = seat })
+  pub flows_go_on : AreFlows (record connection { out = out }) (record transits { down = down }) (record slot { tracked = tracked })
   flows_go_on = record {
     together = flows.together ∙ sym goes.live;
     down = goes.flow;
-    up = subst (λ (o : List ℕ). IsFlow true o ways.up) (sym goes.out_is) (more_flows sitting.seat.terminal.out said ways.up flows.up);
+    up = subst (λ (o : List ℕ). IsFlow true o transits.up) (sym goes.out_is) (more_flows slot.tracked.terminal.out said transits.up flows.up);
   }
 
 -- ---- a terminal goes on at its connection
 
 -- what stands there
 pub flows_here : (number terminal : ℕ) (old : ByteWorld) (was : World) → EndsAgree was → WorldStands old was → (was.link number).term_here ≡ Some terminal
-    → AreFlows (line_at number old.host) (ways_at number old) (sitting_at terminal old)
+    → AreFlows (connection_at number old.host) (transits_at number old) (slot_at terminal old)
 flows_here number terminal old was agree stands here =
-    let are = subst (λ (h : Option ℕ). AreWays h number old) here (flow_there number old was agree stands) in
+    let are = subst (λ (h : Option ℕ). AreTransits h number old) here (flow_there number old was agree stands) in
     record { together = are.together; down = are.down; up = are.up }
 
 pub stands_here : (number terminal : ℕ) (old : ByteWorld) (was : World) → EndsAgree was → WorldStands old was → (was.link number).term_here ≡ Some terminal
-    → LinkStands (made_of terminal (line_at number old.host) (ways_at number old) (sitting_at terminal old)) (was.link number)
+    → LinkStands (made_of terminal (connection_at number old.host) (transits_at number old) (slot_at terminal old)) (was.link number)
 stands_here number terminal old was agree stands here =
     subst (λ (h : Option ℕ). LinkStands (link_with h number old) (was.link number)) here (link_there number old was agree stands)
 
 -- what becomes of the world over bytes: all else is as it was
-pub record BytesWent (number terminal : ℕ) (line : Line) (ways : Ways) (sitting : Sitting) (old new : ByteWorld) : Type 0 where
-  pub line_is : line_at number new.host ≡ line
-  pub ways_are : ways_at number new ≡ ways
-  pub sitting_is : sitting_at terminal new ≡ sitting
-  pub other_lines : (other : ℕ) → other ≢ number → line_at other new.host ≡ line_at other old.host
-  pub other_ways : (other : ℕ) → other ≢ number → ways_at other new ≡ ways_at other old
-  pub other_sittings : (other : ℕ) → other ≢ terminal → sitting_at other new ≡ sitting_at other old
-  pub line_count : length new.host.lines ≡ length old.host.lines
+pub record BytesWent (number terminal : ℕ) (connection : Connection) (transits : Transits) (slot : TerminalSlot) (old new : ByteWorld) : Type 0 where
+  pub connection_is : connection_at number new.host ≡ connection
+  pub transits_are : transits_at number new ≡ transits
+  pub slot_is : slot_at terminal new ≡ slot
+  pub other_connections : (other : ℕ) → other ≢ number → connection_at other new.host ≡ connection_at other old.host
+  pub other_transits : (other : ℕ) → other ≢ number → transits_at other new ≡ transits_at other old
+  pub other_slots : (other : ℕ) → other ≢ terminal → slot_at other new ≡ slot_at other old
+  pub connection_count : length new.host.connections ≡ length old.host.connections
   pub way_count : length new.links ≡ length old.links
-  pub sitting_count : length new.sittings ≡ length old.sittings
+  pub slot_count : length new.slots ≡ length old.slots
   pub pool : new.host.pool ≡ old.host.pool
   pub panels : new.host.panels ≡ old.host.panels
 
@@ -102,26 +102,26 @@ pub record TermWent (number terminal : ℕ) (link : Link) (was now : World) : Ty
   pub pool : now.pool ≡ was.pool
 
 -- what stands in the one and in the other
-pub record EndStands (number terminal : ℕ) (line : Line) (ways : Ways) (sitting : Sitting) (link : Link) : Type 0 where
-  pub none_closed : IsNotClosed line.service
-  pub settled : IsSettled line
-  pub flows : AreFlows line ways sitting
-  pub at : sitting.at ≡ Some number
-  pub stands : LinkStands (made_of terminal line ways sitting) link
+pub record EndStands (number terminal : ℕ) (connection : Connection) (transits : Transits) (slot : TerminalSlot) (link : Link) : Type 0 where
+  pub none_closed : IsNotClosed connection.service
+  pub settled : IsSettled connection
+  pub flows : AreFlows connection transits slot
+  pub at : slot.at ≡ Some number
+  pub stands : LinkStands (made_of terminal connection transits slot) link
 
-module _ (number terminal : ℕ) (line : Line) (ways : Ways) (sitting : Sitting) (old new : ByteWorld) (link : Link) (was now : World)
-    (bytes : BytesWent number terminal line ways sitting old new) (went : TermWent number terminal link was now)
-    (end : EndStands number terminal line ways sitting link) where
+module _ (number terminal : ℕ) (connection : Connection) (transits : Transits) (slot : TerminalSlot) (old new : ByteWorld) (link : Link) (was now : World)
+    (bytes : BytesWent number terminal connection transits slot old new) (went : TermWent number terminal link was now)
+    (end : EndStands number terminal connection transits slot link) where
   -- what holds of the parts holds of those that the world has
-  its_parts : (P : Line → Ways → Sitting → Type 0) → P line ways sitting → P (line_at number new.host) (ways_at number new) (sitting_at terminal new)
+  its_parts : (P : Connection → Transits → TerminalSlot → Type 0) → P connection transits slot → P (connection_at number new.host) (transits_at number new) (slot_at terminal new)
   its_parts P holds =
-      subst (λ (l : Line). P l (ways_at number new) (sitting_at terminal new)) (sym bytes.line_is)
-      (subst (λ (w : Ways). P line w (sitting_at terminal new)) (sym bytes.ways_are)
-      (subst (λ (s : Sitting). P line ways s) (sym bytes.sitting_is) holds))
+      subst (λ (l : Connection). P l (transits_at number new) (slot_at terminal new)) (sym bytes.connection_is)
+      (subst (λ (w : Transits). P connection w (slot_at terminal new)) (sym bytes.transits_are)
+      (subst (λ (s : TerminalSlot). P connection transits s) (sym bytes.slot_is) holds))
 
-  its_flows : AreWays (Some terminal) number new
+  its_flows : AreTransits (Some terminal) number new
   its_flows =
-      let flows : AreFlows (line_at number new.host) (ways_at number new) (sitting_at terminal new) = its_parts (λ l w s. AreFlows l w s) end.flows in
+      let flows : AreFlows (connection_at number new.host) (transits_at number new) (slot_at terminal new) = its_parts (λ l w s. AreFlows l w s) end.flows in
       record { together = flows.together; down = flows.down; up = flows.up }
 
   its_link : LinkStands (link_with (Some terminal) number new) link
@@ -132,61 +132,61 @@ module _ (number terminal : ℕ) (line : Line) (ways : Ways) (sitting : Sitting)
   term_went_stands stands agree agrees place =
       changed_stands number terminal old new was now
       (record {
-        lines = bytes.other_lines;
-        ways = bytes.other_ways;
-        sittings = bytes.other_sittings;
+        connections = bytes.other_connections;
+        transits = bytes.other_transits;
+        slots = bytes.other_slots;
         links = went.other_links;
         places = went.other_places;
-        line_count = bytes.line_count;
+        connection_count = bytes.connection_count;
         way_count = bytes.way_count;
-        sitting_count = bytes.sitting_count;
+        slot_count = bytes.slot_count;
         terminals = went.terminals;
         pool = bytes.pool ∙ stands.pool ∙ sym went.pool;
         before = subst (λ (p : Place). IsHere number p) (sym place) refl;
         behind = subst (λ (p : Place). IsHere number p) (sym went.place_is) refl;
-        none_closed = subst (λ (l : Line). IsNotClosed l.service) (sym bytes.line_is) end.none_closed;
-        settled = subst (λ (l : Line). IsSettled l) (sym bytes.line_is) end.settled;
-        flow = subst (λ (h : Option ℕ). AreWays h number new) (sym (ap (λ (l : Link). l.term_here) went.link_is ∙ went.here)) its_flows;
+        none_closed = subst (λ (l : Connection). IsNotClosed l.service) (sym bytes.connection_is) end.none_closed;
+        settled = subst (λ (l : Connection). IsSettled l) (sym bytes.connection_is) end.settled;
+        flow = subst (λ (h : Option ℕ). AreTransits h number new) (sym (ap (λ (l : Link). l.term_here) went.link_is ∙ went.here)) its_flows;
         link = subst (λ (l : Link). LinkStands (link_with l.term_here number new) l) (sym went.link_is)
             (subst (λ (h : Option ℕ). LinkStands (link_with h number new) link) (sym went.here) its_link);
-        place = subst (λ (p : Place). IsAt (sitting_at terminal new) p) (sym went.place_is) (ap (λ (s : Sitting). s.at) bytes.sitting_is ∙ end.at);
+        place = subst (λ (p : Place). IsAt (slot_at terminal new) p) (sym went.place_is) (ap (λ (s : TerminalSlot). s.at) bytes.slot_is ∙ end.at);
       })
       agree stands agrees
 
 -- ---- a terminal goes on alone
 
 -- No connection changes: one that isn't there takes the place of the one that does.
-pub alone_stands : (terminal : ℕ) (sitting : Sitting) (display : Display) (old : ByteWorld) (was : World) → EndsAgree was → WorldStands old was
-    → terminal < length old.sittings → (sitting_at terminal old).at ≡ None → IsAt sitting (Place.Alone display) → EndsAgree (with_place terminal (Place.Alone display) was)
-    → WorldStands (with_sitting terminal sitting old) (with_place terminal (Place.Alone display) was)
-alone_stands terminal sitting display old was agree stands there_is alone is_alone agrees =
-    let new : ByteWorld = with_sitting terminal sitting old in
+pub alone_stands : (terminal : ℕ) (slot : TerminalSlot) (display : Display) (old : ByteWorld) (was : World) → EndsAgree was → WorldStands old was
+    → terminal < length old.slots → (slot_at terminal old).at ≡ None → IsAt slot (Place.Alone display) → EndsAgree (with_place terminal (Place.Alone display) was)
+    → WorldStands (with_slot terminal slot old) (with_place terminal (Place.Alone display) was)
+alone_stands terminal slot display old was agree stands there_is alone is_alone agrees =
+    let new : ByteWorld = with_slot terminal slot old in
     let now : World = with_place terminal (Place.Alone display) was in
     let beyond : ℕ = length old.links in
     let nobody : (was.link beyond).term_here ≡ None = none_beyond beyond old was agree stands (le_refl beyond) in
     let goes : now.place terminal ≡ Place.Alone display = with_same terminal (Place.Alone display) was.place in
     changed_stands beyond terminal old new was now
     (record {
-      lines = λ other differs. refl;
-      ways = λ other differs. refl;
-      sittings = λ other differs. sitting_other terminal other sitting old differs;
+      connections = λ other differs. refl;
+      transits = λ other differs. refl;
+      slots = λ other differs. slot_other terminal other slot old differs;
       links = λ other differs. refl;
       places = λ other differs. with_other terminal other (Place.Alone display) was.place differs;
-      line_count = refl;
+      connection_count = refl;
       way_count = refl;
-      sitting_count = length-set old.sittings terminal sitting;
+      slot_count = length-set old.slots terminal slot;
       terminals = refl;
       pool = stands.pool;
-      before = alone_there (sitting_at terminal old) (was.place terminal) beyond alone (stands.places terminal);
+      before = alone_there (slot_at terminal old) (was.place terminal) beyond alone (stands.places terminal);
       behind = subst (λ (p : Place). IsHere beyond p) (sym goes) tt;
       none_closed = stands.none_closed beyond;
       settled = stands.settled beyond;
-      flow = subst (λ (h : Option ℕ). AreWays h beyond new) (sym nobody)
-          (let none = subst (λ (h : Option ℕ). AreWays h beyond old) nobody (flow_there beyond old was agree stands) in
+      flow = subst (λ (h : Option ℕ). AreTransits h beyond new) (sym nobody)
+          (let none = subst (λ (h : Option ℕ). AreTransits h beyond old) nobody (flow_there beyond old was agree stands) in
           record { together = none.together; down = none.down; up = none.up });
       link = subst (λ (h : Option ℕ). LinkStands (link_with h beyond new) (was.link beyond)) (sym nobody)
           (subst (λ (h : Option ℕ). LinkStands (link_with h beyond old) (was.link beyond)) nobody (link_there beyond old was agree stands));
-      place = subst (λ (s : Sitting). IsAt s (now.place terminal)) (sym (sitting_same terminal sitting old there_is))
-          (subst (λ (p : Place). IsAt sitting p) (sym goes) is_alone);
+      place = subst (λ (s : TerminalSlot). IsAt s (now.place terminal)) (sym (slot_same terminal slot old there_is))
+          (subst (λ (p : Place). IsAt slot p) (sym goes) is_alone);
     })
     agree stands agrees

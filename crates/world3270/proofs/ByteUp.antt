@@ -24,7 +24,7 @@ use Rattle.host_core.specs.Messages.{ToTerminal, ToHost}
 use Rattle.host_core.specs.Says.{item_sent}
 use Rattle.host_core.specs.Session.{Conn}
 use Rattle.host_core.specs.State.{Host, Service, most_connections, service_at}
-use Rattle.host_core.specs.Takes.{Step, freed_if, took as host_took}
+use Rattle.host_core.specs.Takes.{HostStep, freed_if, took as host_took}
 use Rattle.world3270.specs.Known.{Known}
 use Rattle.world3270.specs.ByteSteps.{is_link, host_gone_if}
 use Rattle.world3270.specs.ByteWorld.{ByteWorld, is_there, host_there, terminal_at, down_of, up_of}
@@ -45,7 +45,7 @@ use Rattle.world3270.specs.World.{World, Event as MessageEvent, with_at}
 use Rattle.world3270.specs.declared.event.Event.TheVariants as event
 use Rattle.world3270.specs.declared.event.Stepped.{Stepped}
 use Rattle.world3270.proofs.Completed.{IsTaken, host_rest_is, more_delivered, none_delivered, taken_is}
-use Rattle.world3270.proofs.Frames.{line_within, way_within}
+use Rattle.world3270.proofs.Frames.{connection_within, way_within}
 use Rattle.world3270.proofs.HostItems.{IsSaidUp, IsAwaited, host_takes}
 use Rattle.world3270.proofs.HostSteps.{just_talks}
 use Rattle.world3270.proofs.Known.{Facts, Goes, facts_now, facts_once, reached_more, reached_one, reached_still}
@@ -95,16 +95,16 @@ sends_stand host_sends bytes link conn sends talk says stands may = by_lost link
 -- ---- the world over messages, behind one delivery
 
 -- the connection, and the world, once the host took a message and goes on
-abbrev link_behind : Step → List ToHost → Link → Link
+abbrev link_behind : HostStep → List ToHost → Link → Link
 link_behind step others link = record link { up = others; host = step.conn; down = sent link.lost link.down step.sends }
 
-abbrev world_behind : ℕ → Step → List ToHost → World → World
+abbrev world_behind : ℕ → HostStep → List ToHost → World → World
 world_behind number step others world = record world {
   pool = granted_if number step.grants world.pool;
   link = with_at number (link_behind step others (world.link number)) world.link;
 }
 
-is_behind : (number : ℕ) (step : Step) (others : List ToHost) (world : World) → step.closes ≡ None
+is_behind : (number : ℕ) (step : HostStep) (others : List ToHost) (world : World) → step.closes ≡ None
     → host_took_it number step others world ≡ world_behind number step others world
 is_behind number step others world none =
     ap (λ (c : Option Cause). closed_if c (record world {
@@ -125,10 +125,10 @@ all_three one two three a b c = ap (λ (x : Bool). x && (two && three)) a ∙ ap
 record OneByte (begin : Begin) (events : List MessageEvent) (number byte : ℕ) (counter : Counter) (old : ByteWorld) : Type 0 where
   some : List MessageEvent
   completed : AreDeliveries (host_rest number old) (byte ∷ []) (MessageEvent.Up number) some
-  behind : rest_of counter.line.service ≡ completed.behind
+  behind : rest_of counter.connection.service ≡ completed.behind
   reached : Reached begin (events ++ some) (took_up 1 number counter old)
-  is_open : IsOpen counter.line.service
-  there : terminal_at number (took_up 1 number counter old).sittings ≡ terminal_at number old.sittings
+  is_open : IsOpen counter.connection.service
+  there : terminal_at number (took_up 1 number counter old).slots ≡ terminal_at number old.slots
   queue : up_of number (took_up 1 number counter old) ≡ drop 1 (up_of number old)
 
 awaited : (world : World) (number : ℕ) (message : ToHost) (others : List ToHost) → FormsAreAwaited world → (world.link number).up ≡ message ∷ others
@@ -154,8 +154,8 @@ module _ (known : Known) (begin : Begin) (is : IsBegin begin) (events : List Mes
   linked : number < length old.links
   linked = way_within number old world stands below
 
-  lined : number < length old.host.lines
-  lined = line_within number old world stands below
+  lined : number < length old.host.connections
+  lined = connection_within number old world stands below
 
   host_here : link.host_here ≡ true
   host_here = sym (stands.links number).host_here ∙ there
@@ -170,7 +170,7 @@ module _ (known : Known) (begin : Begin) (is : IsBegin begin) (events : List Mes
 
   nothing_completes : (byte : ℕ) (behind : List ℕ) (counter : Counter) (rest to : Rest) (conn : Conn) → up_of number old ≡ byte ∷ behind
       → service_at number old.host ≡ Service.Open rest conn → Delivers record_limit rest (byte ∷ []) [] to
-      → counter ≡ record { pool = old.host.pool; line = record { service = Service.Open to conn; out = (counter_at number old.host).line.out } }
+      → counter ≡ record { pool = old.host.pool; connection = record { service = Service.Open to conn; out = (counter_at number old.host).connection.out } }
       → OneByte begin events number byte counter old
   nothing_completes byte behind counter rest to conn queue held delivers is_counter =
       let came = known.links.up (link_of number old) link (byte ∷ []) behind [] to (stands.links number) host_here queue
@@ -184,8 +184,8 @@ module _ (known : Known) (begin : Begin) (is : IsBegin begin) (events : List Mes
         link = link;
         below = below;
         host_here = there;
-        service = ap (λ (c : Counter). c.line.service) is_counter ∙ ap (Service.Open to) (sym (ap conn_of held));
-        out = ap (λ (c : Counter). c.line.out) is_counter ∙ sym (append-nil (counter_at number old.host).line.out);
+        service = ap (λ (c : Counter). c.connection.service) is_counter ∙ ap (Service.Open to) (sym (ap conn_of held));
+        out = ap (λ (c : Counter). c.connection.out) is_counter ∙ sym (append-nil (counter_at number old.host).connection.out);
         pool = ap (λ (c : Counter). c.pool) is_counter ∙ stands.pool;
         is_link = refl;
         others = λ other differs. refl;
@@ -216,7 +216,7 @@ module _ (known : Known) (begin : Begin) (is : IsBegin begin) (events : List Mes
   -- ---- it completes an item
 
   module _ (message : ToHost) (others : List ToHost) (e : link.up ≡ message ∷ others) where
-    abbrev step : Step
+    abbrev step : HostStep
     step = host_took (answer_to world.pool) link.host message
 
     abbrev now : World
@@ -252,7 +252,7 @@ module _ (known : Known) (begin : Begin) (is : IsBegin begin) (events : List Mes
     may_come =
         subst (λ (l : Link). MayComeAll l.term l.down) link_now ((subst WhatComesMayCome world_now known_then.may) number).0
 
-    step_is : (item : WireItem) (done : Step) → StandsUp item message → TakesItem (answer_to old.host.pool) (conn_of (service_at number old.host)) item done → done ≡ step
+    step_is : (item : WireItem) (done : HostStep) → StandsUp item message → TakesItem (answer_to old.host.pool) (conn_of (service_at number old.host)) item done → done ≡ step
     step_is item done stand taken =
         let said = subst (λ (m : List ToHost). AllByRecursion IsSaidUp m) e
         (all_said_up (application_of begin.panels) begin.pool begin.terminals events reached.are_events number) in
@@ -262,7 +262,7 @@ module _ (known : Known) (begin : Begin) (is : IsBegin begin) (events : List Mes
         ∙ ap (λ (c : Conn). host_took (answer_to old.host.pool) c message) conn_is
         ∙ ap (λ (p : List Entry). host_took (answer_to p) link.host message) stands.pool
 
-    item_completes : (item : WireItem) (done : Step) (byte : ℕ) (behind : List ℕ) (to : Rest) (counter : Counter) → up_of number old ≡ byte ∷ behind
+    item_completes : (item : WireItem) (done : HostStep) (byte : ℕ) (behind : List ℕ) (to : Rest) (counter : Counter) → up_of number old ≡ byte ∷ behind
         → Delivers record_limit (host_rest number old) (byte ∷ []) (item ∷ []) to
         → StandsUp item message → TakesItem (answer_to old.host.pool) (conn_of (service_at number old.host)) item done
         → LinkStands (record (link_of number old) { host_rest = to; up = behind }) (record link { up = others })
@@ -270,7 +270,7 @@ module _ (known : Known) (begin : Begin) (is : IsBegin begin) (events : List Mes
         → OneByte begin events number byte counter old
     item_completes item done byte behind to counter queue read stand item_taken stood_up is_counter =
         let counter_now : counter ≡ stepped number to step (counter_at number old.host) =
-        is_counter ∙ ap (λ (s : Step). stepped number to s (counter_at number old.host)) (step_is item done stand item_taken) in
+        is_counter ∙ ap (λ (s : HostStep). stepped number to s (counter_at number old.host)) (step_is item done stand item_taken) in
         let just = just_talks (answer_to world.pool) link.host message in
         let bytes_behind : behind ≡ drop 1 (up_of number old) = sym (ap (drop 1) queue) in
         let said = sends_stand known.links.sends (record (link_of number old) { host_rest = to; up = behind }) (record link { up = others })
@@ -282,8 +282,8 @@ module _ (known : Known) (begin : Begin) (is : IsBegin begin) (events : List Mes
           link = link_behind step others link;
           below = below;
           host_here = there;
-          service = ap (λ (c : Counter). c.line.service) counter_now ∙ ap (service_after to step.conn) stays;
-          out = ap (λ (c : Counter). c.line.out) counter_now;
+          service = ap (λ (c : Counter). c.connection.service) counter_now ∙ ap (service_after to step.conn) stays;
+          out = ap (λ (c : Counter). c.connection.out) counter_now;
           pool = ap (λ (c : Counter). c.pool) counter_now
               ∙ ap (λ (c : Option Cause). freed_if number c (granted_if number step.grants old.host.pool)) stays
               ∙ ap (granted_if number step.grants) stands.pool;
@@ -309,7 +309,7 @@ module _ (known : Known) (begin : Begin) (is : IsBegin begin) (events : List Mes
         }
 
   -- the item stands for the first message, and the bytes behind for the others
-  something_completes : (byte : ℕ) (behind : List ℕ) (counter : Counter) (rest to : Rest) (conn : Conn) (item : WireItem) (done : Step) → up_of number old ≡ byte ∷ behind
+  something_completes : (byte : ℕ) (behind : List ℕ) (counter : Counter) (rest to : Rest) (conn : Conn) (item : WireItem) (done : HostStep) → up_of number old ≡ byte ∷ behind
       → service_at number old.host ≡ Service.Open rest conn → Delivers record_limit rest (byte ∷ []) (item ∷ []) to
       → TakesItem (answer_to old.host.pool) conn item done → counter ≡ stepped number to done (counter_at number old.host)
       → OneByte begin events number byte counter old
@@ -354,7 +354,7 @@ record ManyBytes (begin : Begin) (events : List MessageEvent) (number : ℕ) (fr
   more : List MessageEvent
   completed : AreDeliveries (host_rest number old) front (MessageEvent.Up number) more
   reached : Reached begin (events ++ more) (took_up (length front) number counter old)
-  is_open : IsOpen counter.line.service
+  is_open : IsOpen counter.connection.service
 
 open_there : (service : Service) → IsOpen service → is_there service ≡ true
 open_there Service.Free is = absurd is
@@ -374,23 +374,23 @@ many_bytes known begin is number below [] behind events old counter reached ther
   completed = none_delivered known (host_rest number old) (MessageEvent.Up number) (host_rest_is known number old (after begin events) reached.stands);
   reached = reached_still begin events old (took_up 0 number counter old) reached
       (ap (λ (c : Counter). took_up 0 number c old) same ∙ took_none number old);
-  is_open = subst (λ (c : Counter). IsOpen c.line.service) (sym same) (there_open (service_at number old.host) (reached.stands.none_closed number) there);
+  is_open = subst (λ (c : Counter). IsOpen c.connection.service) (sym same) (there_open (service_at number old.host) (reached.stands.none_closed number) there);
 }
 many_bytes known begin is number below (byte ∷ front) behind events old counter reached there queue taken =
     let first : Counter = taken.0 in
     let linked : number < length old.links = way_within number old (after begin events) reached.stands below in
-    let lined : number < length old.host.lines = line_within number old (after begin events) reached.stands below in
+    let lined : number < length old.host.connections = connection_within number old (after begin events) reached.stands below in
     let one = one_byte known begin is events old reached number below there byte (front ++ behind) first queue taken.1 in
     let mid : ByteWorld = took_up 1 number first old in
     let counter_mid : counter_at number mid.host ≡ first = counter_is number first old linked lined in
     let there_mid : host_there number mid ≡ true =
-    ap (λ (c : Counter). is_there c.line.service) counter_mid ∙ open_there first.line.service one.is_open in
+    ap (λ (c : Counter). is_there c.connection.service) counter_mid ∙ open_there first.connection.service one.is_open in
     let others = many_bytes known begin is number below front behind (events ++ one.some) mid counter one.reached there_mid (one.queue ∙ ap (drop 1) queue)
     (subst (λ (c : Counter). TakesBytes number c front counter) (sym counter_mid) taken.2) in
     record {
       more = one.some ++ others.more;
       completed = more_delivered known (host_rest number old) (byte ∷ []) front (MessageEvent.Up number) one.some others.more one.completed
-          (subst (λ (r : Rest). AreDeliveries r front (MessageEvent.Up number) others.more) (ap (λ (c : Counter). rest_of c.line.service) counter_mid ∙ one.behind) others.completed);
+          (subst (λ (r : Rest). AreDeliveries r front (MessageEvent.Up number) others.more) (ap (λ (c : Counter). rest_of c.connection.service) counter_mid ∙ one.behind) others.completed);
       reached = subst (λ (m : List MessageEvent). Reached begin m (took_up (suc (length front)) number counter old)) (append_assoc events one.some others.more)
           (subst (λ (w : ByteWorld). Reached begin ((events ++ one.some) ++ others.more) w) (took_next number first old linked lined (length front) counter one.there)
           others.reached);
@@ -400,15 +400,15 @@ many_bytes known begin is number below (byte ∷ front) behind events old counte
 -- ---- a delivery
 
 -- the host goes on: it leaves nothing
-stops_open : (stop : Stop) (old : Counter) (bytes : List ℕ) (taken number : ℕ) (counter : Counter) (behind : ByteWorld) → IsOpen counter.line.service
+stops_open : (stop : Stop) (old : Counter) (bytes : List ℕ) (taken number : ℕ) (counter : Counter) (behind : ByteWorld) → IsOpen counter.connection.service
     → StopsFor stop old bytes taken counter → host_gone_if stop number behind ≡ behind
 stops_open Going old bytes taken number counter behind is stops = refl
 stops_open Memory old bytes taken number counter behind is stops = refl
 stops_open (ClosedStop cause) old bytes taken number counter behind is stops = absurd (subst IsOpen stops is)
 
 -- and took all bytes, unless memory was refused
-taken_up : (stop : Stop) (old counter : Counter) (bytes : List ℕ) (taken : ℕ) → StopsFor stop old bytes taken counter → is_there old.line.service ≡ true
-    → IsOpen counter.line.service → IsTaken stop taken bytes
+taken_up : (stop : Stop) (old counter : Counter) (bytes : List ℕ) (taken : ℕ) → StopsFor stop old bytes taken counter → is_there old.connection.service ≡ true
+    → IsOpen counter.connection.service → IsTaken stop taken bytes
 taken_up Going old counter bytes taken (inl all) there is = all.0
 taken_up Going old counter bytes taken (inr none) there is = let both : false ≡ true = sym (ap is_there none.1) ∙ there in absurd (cc)
 taken_up Memory old counter bytes taken stops there is = tt

@@ -22,7 +22,7 @@ use Rattle.world3270.specs.ByteWorld.{ByteWorld, is_there, terminal_at}
 use Rattle.world3270.specs.Deliveries.{AreDeliveries, host_rest, rest_of_terminal, taken_by, terminal_rest, rest_at}
 use Rattle.world3270.specs.Known.{Known}
 use Rattle.world3270.specs.Link.{Link, sent, term_left_if, term_stepped}
-use Rattle.world3270.specs.Seats.{Seat, SeatTakes}
+use Rattle.world3270.specs.TrackedTerminals.{TrackedTerminal, TrackedTakes}
 use Rattle.world3270.specs.Standing.{WorldStands, IsNotClosed, link_with, rest_of}
 use Rattle.world3270.specs.Stands.{BytesStand, LinkStands, TermStands}
 use Rattle.world3270.specs.StandsLinks.{took_down}
@@ -86,7 +86,7 @@ module _ (known : Known) where
       by_service (Service.Closed cause) e closed = absurd closed
 
   -- the terminal at a connection
-  pub terminal_there : (number terminal : ℕ) (old : ByteWorld) (world : World) → WorldStands old world → terminal_at number old.sittings ≡ Some terminal
+  pub terminal_there : (number terminal : ℕ) (old : ByteWorld) (world : World) → WorldStands old world → terminal_at number old.slots ≡ Some terminal
       → TermStands (link_with (Some terminal) number old) (world.link number)
   terminal_there number terminal old world stands found =
       let link : LinkStands (link_with (Some terminal) number old) (world.link number) =
@@ -94,9 +94,9 @@ module _ (known : Known) where
       link.term terminal (sym link.term_here)
 
   pub terminal_rest_is : (number : ℕ) (old : ByteWorld) (world : World) → WorldStands old world → IsRest record_limit (terminal_rest number old)
-  terminal_rest_is number old world stands = by_found (terminal_at number old.sittings) refl
+  terminal_rest_is number old world stands = by_found (terminal_at number old.slots) refl
     where
-      by_found : (here : Option ℕ) → terminal_at number old.sittings ≡ here → IsRest record_limit (terminal_rest number old)
+      by_found : (here : Option ℕ) → terminal_at number old.slots ≡ here → IsRest record_limit (terminal_rest number old)
       by_found None e = subst (λ (h : Option ℕ). IsRest record_limit (rest_of_terminal h old)) (sym e) (known.links.start record_limit)
       by_found (Some terminal) e =
           let term = terminal_there number terminal old world stands e in
@@ -115,10 +115,10 @@ module _ (known : Known) where
       let both : Closed cause ≡ Attached rest talk = sym closed ∙ at in absurd (cc)
   takes_none old mid byte cause closed (TakesByte.breaks rest talk fault at wrong is) = let both : Closed cause ≡ Attached rest talk = sym closed ∙ at in absurd (cc)
 
-  not_closed : (front : List ℕ) (old new : Seat) (cause : Cause) (to : Rest) (after : Term)
-      → old.terminal.link ≡ Closed cause → new.terminal.link ≡ Attached to after → SeatTakes old front new → ⊥
+  not_closed : (front : List ℕ) (old new : TrackedTerminal) (cause : Cause) (to : Rest) (after : Term)
+      → old.terminal.link ≡ Closed cause → new.terminal.link ≡ Attached to after → TrackedTakes old front new → ⊥
   not_closed [] old new cause to after closed attached taken =
-      let both : Closed cause ≡ Attached to after = sym closed ∙ ap (λ (s : Seat). s.terminal.link) (sym taken) ∙ attached in absurd (cc)
+      let both : Closed cause ≡ Attached to after = sym closed ∙ ap (λ (s : TrackedTerminal). s.terminal.link) (sym taken) ∙ attached in absurd (cc)
   not_closed (byte ∷ front) old new cause to after closed attached taken = takes_none old.terminal taken.0.terminal byte cause closed taken.1.takes
 
   abbrev Read : Rest → List ℕ → Rest → Type 0
@@ -129,8 +129,8 @@ module _ (known : Known) where
       (some ++ others.0, known.links.deliveries record_limit rest mid to (byte ∷ []) front some others.0 delivers others.1)
 
   -- the first byte, and then the others
-  module _ (byte : ℕ) (front : List ℕ) (old mid new : Seat) (rest to : Rest) (talk after : Term) (was : old.terminal.link ≡ Attached rest talk)
-      (now : new.terminal.link ≡ Attached to after) (taken : SeatTakes mid front new)
+  module _ (byte : ℕ) (front : List ℕ) (old mid new : TrackedTerminal) (rest to : Rest) (talk after : Term) (was : old.terminal.link ≡ Attached rest talk)
+      (now : new.terminal.link ≡ Attached to after) (taken : TrackedTakes mid front new)
       (others : (next : Rest) (later : Term) → IsRest record_limit next → mid.terminal.link ≡ Attached next later → Read next front to) where
     read_from : (from next : Rest) (first later : Term) (items : List WireItem) → old.terminal.link ≡ Attached from first
         → Delivers record_limit from (byte ∷ []) items next → mid.terminal.link ≡ Attached next later → Read rest (byte ∷ front) to
@@ -152,10 +152,10 @@ module _ (known : Known) where
     byte_reads (TakesByte.breaks from first fault at wrong is_mid) =
         absurd (not_closed front mid new Wire to after (ap (λ (t : Terminal). t.link) is_mid) now taken)
 
-  pub seat_reads : (front : List ℕ) (old new : Seat) (rest to : Rest) (talk after : Term) → IsRest record_limit rest
-      → old.terminal.link ≡ Attached rest talk → new.terminal.link ≡ Attached to after → SeatTakes old front new → Read rest front to
+  pub seat_reads : (front : List ℕ) (old new : TrackedTerminal) (rest to : Rest) (talk after : Term) → IsRest record_limit rest
+      → old.terminal.link ≡ Attached rest talk → new.terminal.link ≡ Attached to after → TrackedTakes old front new → Read rest front to
   seat_reads [] old new rest to talk after is was now taken =
-      let same : rest ≡ to = same_parts rest to talk after (sym was ∙ ap (λ (s : Seat). s.terminal.link) (sym taken) ∙ now) in
+      let same : rest ≡ to = same_parts rest to talk after (sym was ∙ ap (λ (s : TrackedTerminal). s.terminal.link) (sym taken) ∙ now) in
       ([], subst (λ (r : Rest). Delivers record_limit rest [] [] r) same (no_items rest is))
   seat_reads (byte ∷ front) old new rest to talk after is was now taken =
       byte_reads byte front old taken.0 new rest to talk after was now taken.2

@@ -29,20 +29,20 @@ use Rattle.shadow.specs.Taken.{taken}
 use Rattle.telnet_wire.specs.declared.wire.Verb.TheVariants.{Will, Do}
 use Rattle.tn3270e_msg.specs.Lu.{lu_of}
 use Rattle.tn3270e_msg.specs.Talk.{Comes, Talk, start_at, follow, Saying, says, sayings, closing}
-use Rattle.tn3270e_msg.specs.TermTable.{Term, term_line, grant_line}
+use Rattle.tn3270e_msg.specs.TermTable.{Term, term_transition, grant_transition}
 use Rattle.tn3270e_msg.specs.declared.device.Device.TheVariants.{Model2}
 use Rattle.tn3270e_msg.specs.declared.reply.Reply.{Reply}
 use Rattle.tn3270e_msg.specs.declared.reply.Reply.TheVariants as reply
 use Rattle.tn3270e_msg.specs.declared.reply.After.TheVariants.{Going}
-use Rattle.tn3270e_msg.specs.declared.reply.Sending.TheVariants.{SendType, TypeRequest, TypeIs, TypeReject, FunRequest, FunIs}
+use Rattle.tn3270e_msg.specs.declared.reply.OwnedMessage.TheVariants.{SendType, TypeRequest, TypeIs, TypeReject, FunRequest, FunIs}
 use Rattle.tn3270e_msg.specs.declared.term_talk.TermState.{TermState}
 use Rattle.tn3270e_msg.specs.declared.term_talk.TermState.TheVariants.{TypeAsked, FunctionsAsked, Agreed, Closed}
 use Rattle.tn3270e_msg.proofs.Agreement.{responses_alone, model_2, same_bytes}
 use Rattle.host_core.specs.Application.{Application, IsShape, IsApplication}
 use Rattle.host_core.specs.Messages.{ToTerminal, ToHost}
 use Rattle.host_core.specs.NoteLaws.{TakesNotes, IsNoteOf}
-use Rattle.host_core.specs.declared.occasion.Occasion.{Occasion}
-use Rattle.host_core.specs.declared.occasion.Occasion.TheVariants as occasions
+use Rattle.host_core.specs.declared.turn_reason.TurnReason.{TurnReason}
+use Rattle.host_core.specs.declared.turn_reason.TurnReason.TheVariants as turn_reasons
 use Rattle.world3270.specs.Always.{is_negative}
 use Rattle.world3270.specs.Given.{Given}
 use Rattle.world3270.specs.Happens.{verdict_in}
@@ -50,7 +50,7 @@ use Rattle.world3270.specs.Headline.{SentFields}
 use Rattle.world3270.specs.Unreturned.{UnmodifiedIsKept}
 use Rattle.world3270.specs.Link.{Link, sent}
 use Rattle.world3270.specs.Moments.{Kind, Talking, Serving, Moment, UnderWay, IsAt, host_talk_at, term_state_at, turn_at, pending_at, down_at, up_at}
-use Rattle.world3270.specs.Occasions.{IsOccasion, IsOpenBy, IsOpenFor, IsCleared}
+use Rattle.world3270.specs.TurnReasons.{IsOccasion, IsOpenBy, IsOpenFor, IsCleared}
 use Rattle.world3270.specs.Stages.{scene_of, once_taken, FactsAreExact, Suits, IsPainted, Operates, Sees, IsRead, Fact, Kept}
 use Rattle.world3270.specs.Terminal.{TermStep, with_talk, is_bound, bound_to, once_bound, paint_came, note_came, read_came, talked, took}
 use Rattle.world3270.specs.View.{view_of}
@@ -92,28 +92,28 @@ abbrev talk_step : Link → TermState → List ToHost → TermStep
 talk_step link state sends = record { end = with_talk link.term (start_at state); sends = sends; closes = None }
 
 -- a line of the terminal's table, that leads to a state with a reply
-record Line (wanted : Option (List ℕ)) (state : TermState) (saying : Saying) (next : TermState) (sends : List ToHost) : Type 0 where
+record TalkTransition (wanted : Option (List ℕ)) (state : TermState) (saying : Saying) (next : TermState) (sends : List ToHost) : Type 0 where
   reply : Reply
-  leads : follow Closed (start_at state) (term_line wanted state (says saying)) ≡ (start_at next, reply)
+  leads : follow Closed (start_at state) (term_transition wanted state (says saying)) ≡ (start_at next, reply)
   quiet : closing reply ≡ None
   sends_is : map ToHost.TalksUp (sayings reply) ≡ sends
 
 talk_took : (link : Link) (wanted : Option (List ℕ)) (state next : TermState) (saying : Saying) (sends : List ToHost) → link.term.talk ≡ record { wanted = wanted; talk = start_at state }
-    → Line wanted state saying next sends → took link.term (ToTerminal.TalksDown saying) ≡ talk_step link next sends
-talk_took link wanted state next saying sends e line =
+    → TalkTransition wanted state saying next sends → took link.term (ToTerminal.TalksDown saying) ≡ talk_step link next sends
+talk_took link wanted state next saying sends e transition =
     ap (λ (t : Term). talked link.term t saying) e
-    ∙ ap (λ (p : Talk TermState × Reply). record { end = with_talk link.term p.0; sends = map ToHost.TalksUp (sayings p.1); closes = closing p.1 }) line.leads
-    ∙ ap (λ c. record { end = with_talk link.term (start_at next); sends = map ToHost.TalksUp (sayings line.reply); closes = c }) line.quiet
-    ∙ ap (λ s. record { end = with_talk link.term (start_at next); sends = s; closes = None }) line.sends_is
+    ∙ ap (λ (p : Talk TermState × Reply). record { end = with_talk link.term p.0; sends = map ToHost.TalksUp (sayings p.1); closes = closing p.1 }) transition.leads
+    ∙ ap (λ c. record { end = with_talk link.term (start_at next); sends = map ToHost.TalksUp (sayings transition.reply); closes = c }) transition.quiet
+    ∙ ap (λ s. record { end = with_talk link.term (start_at next); sends = s; closes = None }) transition.sends_is
 
 -- the talk moves on
 talks : (app : Application) (link : Link) (rest : List ToTerminal) (k : Kept app (view_of link)) (from to : Moment) (saying : Saying) (sends : List ToHost) (message : ToTerminal)
-    → IsAt (view_of link) k.wanted from → message ≡ ToTerminal.TalksDown saying → Line k.wanted (term_state_at from) saying (term_state_at to) sends
+    → IsAt (view_of link) k.wanted from → message ≡ ToTerminal.TalksDown saying → TalkTransition k.wanted (term_state_at from) saying (term_state_at to) sends
     → Leads k.wanted from to sends → list_any is_negative (filter_map verdict_in sends) ≡ false → UnderWay link.lost rest (down_at to)
     → Fact k.wanted (scene_of (view_of (term_view (talk_step link (term_state_at to) sends) rest link))) to → Obeyed app link rest (took link.term message)
-talks app link rest k from to saying sends message at is line l positive left fact =
+talks app link rest k from to saying sends message at is transition l positive left fact =
     subst (λ m. Obeyed app link rest (took link.term m)) (sym is)
-    (subst (Obeyed app link rest) (sym (talk_took link k.wanted (term_state_at from) (term_state_at to) saying sends at.term_talk line))
+    (subst (Obeyed app link rest) (sym (talk_took link k.wanted (term_state_at from) (term_state_at to) saying sends at.term_talk transition))
     (record {
       kept = record {
         shape = record { begins = k.shape.begins; same = k.shape.same };
@@ -130,28 +130,28 @@ talks app link rest k from to saying sends message at is line l positive left fa
       positive = positive;
     }))
 
-granted_line : Given → (wanted : Option (List ℕ)) (lu : List ℕ) → Suits wanted lu → Line wanted TypeAsked (Saying.Sub (TypeIs Model2 lu)) (FunctionsAsked lu) (ToHost.TalksUp (Saying.Sub FunRequest) ∷ [])
-granted_line given None lu suits = record {
+granted_transition : Given → (wanted : Option (List ℕ)) (lu : List ℕ) → Suits wanted lu → TalkTransition wanted TypeAsked (Saying.Sub (TypeIs Model2 lu)) (FunctionsAsked lu) (ToHost.TalksUp (Saying.Sub FunRequest) ∷ [])
+granted_transition given None lu suits = record {
   reply = reply.Sub FunRequest Going;
-  leads = ap (λ d. follow Closed (start_at TypeAsked) (grant_line None d (lu_of lu))) model_2 ∙ ap (λ l. follow Closed (start_at TypeAsked) (grant_line None (Some Model2) l)) (given.belief.names lu suits.is_lu);
+  leads = ap (λ d. follow Closed (start_at TypeAsked) (grant_transition None d (lu_of lu))) model_2 ∙ ap (λ l. follow Closed (start_at TypeAsked) (grant_transition None (Some Model2) l)) (given.belief.names lu suits.is_lu);
   quiet = refl;
   sends_is = refl;
 }
-granted_line given (Some name) lu suits =
+granted_transition given (Some name) lu suits =
     let same : bytes_eq lu name ≡ true = ap (λ n. bytes_eq lu n) (sym suits.is_wanted) ∙ same_bytes lu in
     record {
       reply = reply.Sub FunRequest Going;
-      leads = ap (λ d. follow Closed (start_at TypeAsked) (grant_line (Some name) d (lu_of lu))) model_2
-          ∙ ap (λ l. follow Closed (start_at TypeAsked) (grant_line (Some name) (Some Model2) l)) (given.belief.names lu suits.is_lu)
+      leads = ap (λ d. follow Closed (start_at TypeAsked) (grant_transition (Some name) d (lu_of lu))) model_2
+          ∙ ap (λ l. follow Closed (start_at TypeAsked) (grant_transition (Some name) (Some Model2) l)) (given.belief.names lu suits.is_lu)
           ∙ (rw same refl);
       quiet = refl;
       sends_is = refl;
     }
 
-agreed_line : (wanted : Option (List ℕ)) (lu : List ℕ) → Line wanted (FunctionsAsked lu) (Saying.Sub FunIs) (Agreed lu) []
-agreed_line wanted lu = record {
+agreed_transition : (wanted : Option (List ℕ)) (lu : List ℕ) → TalkTransition wanted (FunctionsAsked lu) (Saying.Sub FunIs) (Agreed lu) []
+agreed_transition wanted lu = record {
   reply = _;
-  leads = ap (λ w. follow Closed (start_at (FunctionsAsked lu)) (term_line wanted (FunctionsAsked lu) (Comes.IsFunctions w))) responses_alone;
+  leads = ap (λ w. follow Closed (start_at (FunctionsAsked lu)) (term_transition wanted (FunctionsAsked lu) (Comes.IsFunctions w))) responses_alone;
   quiet = refl;
   sends_is = refl;
 }
@@ -296,10 +296,10 @@ open_by (Pf key) buffered old new f o = f o
 open_noted : (aid after : Aid) (buffered : Bool) (old new : Shadow) → after ≡ aid → (NothingIsOpen old → NothingIsOpen new) → IsOpenBy aid buffered old → IsOpenBy after buffered new
 open_noted aid after buffered old new same f o = subst (λ a. IsOpenBy a buffered new) (sym same) (open_by aid buffered old new f o)
 
-open_for : (occasion : Occasion) (old new : Shadow) → (NothingIsOpen old → NothingIsOpen new) → IsOpenFor occasion old → IsOpenFor occasion new
-open_for occasions.Agreement old new f o = f o
-open_for (occasions.Key aid buffered) old new f o = open_by aid buffered old new f o
-open_for occasions.Refusal old new f o = absurd o
+open_for : (turn_reason : TurnReason) (old new : Shadow) → (NothingIsOpen old → NothingIsOpen new) → IsOpenFor turn_reason old → IsOpenFor turn_reason new
+open_for turn_reasons.Agreement old new f o = f o
+open_for (turn_reasons.Key aid buffered) old new f o = open_by aid buffered old new f o
+open_for turn_reasons.Refusal old new f o = absurd o
 
 -- the host will see the screen with the note on it
 sees_noted : Given → (shape : Shape) (command : CommandParts) (screen : Screen) (shadow : Shadow) → IsNoteOf shape command → length screen.cells ≡ cells_in shape → Noted command screen → Sees shape screen shadow
@@ -348,7 +348,7 @@ module _ (given : Given) (app : Application) (is : IsApplication app) (link : Li
           shape = record { begins = k.shape.begins; same = k.shape.same };
           whole = noted.size ∙ k.whole;
           cursor = subst (λ n. n < cells_in link.host.shape) (sym noted.cursor) k.cursor;
-          unreturned = λ sent. kept_by given shape command screen link.term.display.erased link.term.display.left.cells is_shape note k.whole takes (k.unreturned (subst SentFields noted.aid sent));
+          unreturned = λ sent. kept_by given shape command screen link.term.display.erased link.term.display.last_restored.cells is_shape note k.whole takes (k.unreturned (subst SentFields noted.aid sent));
           exact = k.exact;
           wanted = k.wanted;
           moment = Moment.Serves lu to;
@@ -380,7 +380,7 @@ module _ (given : Given) (app : Application) (is : IsApplication app) (link : Li
         knows = given.notes.placed (cells_in link.host.shape) command link.host.shadow noted.over.writes noted.over.placed f.knows;
         held = given.notes.held link.term.display.erased command shown screen writes f.held;
         messages = given.notes.same_takes shape shown.cells (after_command command shown).cells (given.notes.form command shown noted.characters).attributes f.messages;
-        noted = noted_on given.notes.form command link.term.display.left.cells shown noted.characters writes (still_one given.notes.composes command shown noted.characters) f.noted;
+        noted = noted_on given.notes.form command link.term.display.last_restored.cells shown noted.characters writes (still_one given.notes.composes command shown noted.characters) f.noted;
       }
 
 -- ---- any message, at any moment
@@ -411,16 +411,16 @@ obeys given app is link message rest e k = by_moment k.moment k.at k.fact
     by_talk (Talking.Granting lu) at f =
         let first = front link.lost link.down message rest _ [] e at.goes_down in
         talks app link rest k (Moment.Talks (Talking.Granting lu)) (Moment.Talks (Talking.AskingFunctions lu)) (Saying.Sub (TypeIs Model2 lu)) (ToHost.TalksUp (Saying.Sub FunRequest) ∷ []) message at first.0
-        (granted_line given k.wanted lu f.1) (record { host_talk = refl; turn = refl; pending = refl; up = refl }) refl first.1
+        (granted_transition given k.wanted lu f.1) (record { host_talk = refl; turn = refl; pending = refl; up = refl }) refl first.1
         (f.0, tt)
     by_talk (Talking.Agreeing lu) at f =
         let first = front link.lost link.down message rest _ [] e at.goes_down in
         talks app link rest k (Moment.Talks (Talking.Agreeing lu)) (Moment.Serves lu Serving.Deciding) (Saying.Sub FunIs) [] message at first.0
-        (agreed_line k.wanted lu) (record { host_talk = refl; turn = refl; pending = refl; up = refl }) refl first.1
+        (agreed_transition k.wanted lu) (record { host_talk = refl; turn = refl; pending = refl; up = refl }) refl first.1
         (record {
           lock = f.0.lock;
-          occasion = subst (λ o. IsOccasion o screen.aid) (sym f.0.occasion) f.0.aid;
-          closed = subst (λ o. IsOpenFor o link.host.shadow) (sym f.0.occasion) (none_open link.host.shadow f.0.shadow);
+          turn_reason = subst (λ o. IsOccasion o screen.aid) (sym f.0.turn_reason) f.0.aid;
+          closed = subst (λ o. IsOpenFor o link.host.shadow) (sym f.0.turn_reason) (none_open link.host.shadow f.0.shadow);
           sees = record {
             exact = k.exact;
             closed = subst (λ a. IsOpenBy a false link.host.shadow) (sym f.0.aid) (none_open link.host.shadow f.0.shadow);
@@ -471,8 +471,8 @@ obeys given app is link message rest e k = by_moment k.moment k.at k.fact
         (record { host_talk = refl; turn = refl; pending = refl; up = refl }) first.1
         (record {
           lock = f.0.lock;
-          occasion = subst (IsOccasion link.host.occasion) (sym noted.aid) f.0.occasion;
-          closed = open_for link.host.occasion link.host.shadow (once_taken link.host.shape command link.host.shadow)
+          turn_reason = subst (IsOccasion link.host.turn_reason) (sym noted.aid) f.0.turn_reason;
+          closed = open_for link.host.turn_reason link.host.shadow (once_taken link.host.shape command link.host.shadow)
               (λ o. subst (λ n. NothingIsOpen (taken n command link.host.shadow)) k.whole (given.notes.opens command link.host.shadow screen noted.over f.0.sees.meets o)) f.0.closed;
           sees = sees_noted given link.host.shape command screen link.host.shadow f.1.note k.whole noted f.0.sees;
         }))
@@ -490,6 +490,6 @@ obeys given app is link message rest e k = by_moment k.moment k.at k.fact
     by_moment (Moment.Begins lu number command wants over) at f =
         let first = front link.lost link.down message rest _ _ e at.goes_down in
         talks app link rest k (Moment.Begins lu number command wants over) (Moment.Serves lu (Serving.Painting number command wants over)) (Saying.Sub FunIs) [] message at first.0
-        (agreed_line k.wanted lu) (record { host_talk = refl; turn = refl; pending = refl; up = refl }) refl first.1
+        (agreed_transition k.wanted lu) (record { host_talk = refl; turn = refl; pending = refl; up = refl }) refl first.1
         f
     by_moment (Moment.Serves lu serving) at f = by_serving lu serving at f

@@ -10,7 +10,7 @@ use Rattle.host_core.specs.Acts.{Sent, acted}
 use Rattle.host_core.specs.Application.{Application}
 use Rattle.host_core.specs.Messages.{ToTerminal, ToHost}
 use Rattle.host_core.specs.Notes.{noted}
-use Rattle.host_core.specs.Takes.{freed_if, Step, took as host_took}
+use Rattle.host_core.specs.Takes.{freed_if, HostStep, took as host_took}
 use Rattle.world3270.specs.Always.{Always}
 use Rattle.world3270.specs.Given.{Given}
 use Rattle.world3270.specs.Happens.{closed_if, came_up, left_alone, came_down, went_down, key_went, host_parted, parted, term_saw, joined, term_anew, host_left_from, host_anew, done, happens, run}
@@ -59,7 +59,7 @@ host_stays_if None link = refl
 host_stays_if (Some cause) link = refl
 
 -- what is under way, and what an end is, changes
-with_host : (link : Link) (step : Step) (rest : List ToHost) → Held link → Held (host_stepped step rest link)
+with_host : (link : Link) (step : HostStep) (rest : List ToHost) → Held link → Held (host_stepped step rest link)
 with_host link step rest held = host_leaves_if step.closes _ (λ e. let h = held e in record { host = h.host; terminal = h.terminal })
 
 with_term : (link : Link) (step : TermStep) (rest : List ToTerminal) → Held link → Held (term_stepped step rest link)
@@ -82,7 +82,7 @@ came_up_both given world number (message ∷ rest) here b =
     closed_both step.closes (record world { pool = freed_if number step.closes (granted_if number step.grants world.pool); link = with_at number new world.link })
     (record { held = all_with (λ n x. Held x) number new world.link (with_host (world.link number) step rest (b.held number)) b.held; here = λ other lu e. by_test other lu e (other == number) refl })
   where
-    step : Step
+    step : HostStep
     step = host_took (answer_to world.pool) (world.link number).host message
 
     new : Link

@@ -13,7 +13,7 @@ use Rattle.host_core.specs.Acts.{acted}
 use Rattle.host_core.specs.Application.{Application, IsApplication}
 use Rattle.host_core.specs.Messages.{ToTerminal, ToHost}
 use Rattle.host_core.specs.Notes.{noted}
-use Rattle.host_core.specs.Takes.{Answers, Step, took as host_took}
+use Rattle.host_core.specs.Takes.{Answers, HostStep, took as host_took}
 use Rattle.world3270.specs.Given.{Given}
 use Rattle.world3270.specs.Happens.{closed_if, said, freed_if, came_up, left_alone, place_after, came_down, went_down, key_went, parted, term_saw, joined, term_anew, host_left_from, done, happens, run}
 use Rattle.world3270.specs.Link.{Link, begun, unused, cut, host_left, host_stepped, host_sent, term_left, term_left_if, term_stepped}
@@ -83,7 +83,7 @@ module _ (given : Given) (app : Application) (is : IsApplication app) (IsSuch : 
   came_up_holds world number [] e g h = h
   came_up_holds world number (message ∷ rest) e g h =
       let link : Link = world.link number in
-      let step : Step = host_took (answer_to world.pool) link.host message in
+      let step : HostStep = host_took (answer_to world.pool) link.host message in
       closed_holds step.closes (record world { pool = freed_if number step.closes (granted_if number step.grants world.pool); link = with_at number (host_stepped step rest link) world.link })
       (changed world number (host_stepped step rest link) (steps.up (answer_to world.pool) link message rest e (g.links number) (h.links number)) h)
 

@@ -16,8 +16,8 @@ use Rattle.host_core.specs.Answering.{number_of}
 use Rattle.host_core.specs.Application.{Application}
 use Rattle.host_core.specs.Messages.{ToHost}
 use Rattle.host_core.specs.declared.turn.Turn.TheVariants as whose
-use Rattle.host_core.specs.declared.occasion.Occasion.{Occasion}
-use Rattle.host_core.specs.declared.occasion.Occasion.TheVariants as occasions
+use Rattle.host_core.specs.declared.turn_reason.TurnReason.{TurnReason}
+use Rattle.host_core.specs.declared.turn_reason.TurnReason.TheVariants as turn_reasons
 use Rattle.host_core.specs.Session.{Conn, Pending, agreed_lu}
 use Rattle.world3270.specs.Always.{Always, HeadlineHolds, is_refusal, NobodyRefuses}
 use Rattle.world3270.specs.Given.{Given}
@@ -25,7 +25,7 @@ use Rattle.world3270.specs.Happens.{run}
 use Rattle.world3270.specs.Headline.{SentFields, OneSessionEach, BoundIsGranted, IsHostsTurn, Agrees}
 use Rattle.world3270.specs.Link.{Link}
 use Rattle.world3270.specs.Moments.{Talking, Serving, Moment, UnderWay, term_state_at, host_talk_at, turn_at, pending_at, up_at}
-use Rattle.world3270.specs.Occasions.{IsOccasion, IsOpenBy, IsOpenFor, IsCleared, ActsOnTheKey, KnowsTheCleared, LeavesNothingOpen}
+use Rattle.world3270.specs.TurnReasons.{IsOccasion, IsOpenBy, IsOpenFor, IsCleared, ActsOnTheKey, KnowsTheCleared, LeavesNothingOpen}
 use Rattle.world3270.specs.Seen.{HostSeen, TerminalSeen, conn_seen, end_seen, host_seen, seen, seen_link, terminal_seen}
 use Rattle.world3270.specs.Stages.{scene_of, Fact, Kept}
 use Rattle.world3270.specs.Terminal.{TermEnd, bound_to}
@@ -99,8 +99,8 @@ pub record Knows (v : View) : Type 0 where
   pub meets : Meets v.host.shadow v.screen
   pub lists : ListsFields v.host.shadow v.screen
   pub told : SentFields v.screen.aid → IsTold v.host.shadow v.screen
-  pub occasion : IsOccasion v.host.occasion v.screen.aid
-  pub closed : IsOpenFor v.host.occasion v.host.shadow
+  pub turn_reason : IsOccasion v.host.turn_reason v.screen.aid
+  pub closed : IsOpenFor v.host.turn_reason v.host.shadow
   pub cleared : v.screen.aid ≡ ClearAid → IsCleared v.host.shape v.host.shadow
 
 -- the moments at which it holds the turn, with nothing that waits for an answer
@@ -109,13 +109,13 @@ knows_by wanted v (Moment.Talks talking) f t p = record {
   meets = subst (λ s. Meets s v.screen) (sym f.0.shadow) tt;
   lists = λ some. absurd (some f.0.no_fields);
   told = λ sent. absurd (subst SentFields f.0.aid sent);
-  occasion = subst (λ o. IsOccasion o v.screen.aid) (sym f.0.occasion) f.0.aid;
-  closed = subst (λ o. IsOpenFor o v.host.shadow) (sym f.0.occasion) (none_open v.host.shadow f.0.shadow);
+  turn_reason = subst (λ o. IsOccasion o v.screen.aid) (sym f.0.turn_reason) f.0.aid;
+  closed = subst (λ o. IsOpenFor o v.host.shadow) (sym f.0.turn_reason) (none_open v.host.shadow f.0.shadow);
   cleared = λ clear. absurd (let x = sym f.0.aid ∙ clear in cc);
 }
 knows_by wanted v (Moment.Begins lu number command wants over) f t p = absurd (cc)
 knows_by wanted v (Moment.Serves lu Serving.Deciding) f t p =
-    record { meets = f.sees.meets; lists = f.sees.lists; told = f.sees.told; occasion = f.occasion; closed = f.closed; cleared = f.sees.cleared }
+    record { meets = f.sees.meets; lists = f.sees.lists; told = f.sees.told; turn_reason = f.turn_reason; closed = f.closed; cleared = f.sees.cleared }
 knows_by wanted v (Moment.Serves lu (Serving.Reading number)) f t p = absurd (cc)
 knows_by wanted v (Moment.Serves lu (Serving.Reported number parts)) f t p = absurd (cc)
 knows_by wanted v (Moment.Serves lu (Serving.NotedLate number command)) f t p = absurd (cc)
@@ -155,7 +155,7 @@ agrees given app link k h =
     record {
       sees = record { meets = known.meets; protected = given.belief.seen v.host.shadow v.screen known.meets known.lists k.exact.protected };
       returned = λ sent. given.belief.told v.host.shadow v.screen known.meets known.lists k.exact.protected (known.told sent);
-      unreturned = λ sent. as_left v.erased v.left.cells v.screen.cells (k.unreturned sent);
+      unreturned = λ sent. as_left v.erased v.last_restored.cells v.screen.cells (k.unreturned sent);
     } in
     subst (λ (host : HostSeen). Agrees host h.terminal) (sym here.1)
     (subst (λ (terminal : TerminalSeen). Agrees (conn_seen link.host) terminal) (sym there.2) both)
@@ -220,7 +220,7 @@ pub acts_on_the_key : Given → Always ActsOnTheKey
 acts_on_the_key given app pool terminals events is lists few are =
     let world : World = run app events (new_world app pool terminals) in
     let g = run_good given app is events (new_world app pool terminals) are (new_good given app is pool terminals lists) in
-    λ number h. (knows_turn app (world.link number) (g.links number) h).occasion
+    λ number h. (knows_turn app (world.link number) (g.links number) h).turn_reason
 
 sent_closed : (aid : Aid) (buffered : Bool) (s : Shadow) → SentFields aid → IsOpenBy aid buffered s → NothingIsOpen s
 sent_closed EnterAid buffered s sent o = o
@@ -229,10 +229,10 @@ sent_closed NoAid buffered s sent o = absurd sent
 sent_closed ClearAid buffered s sent o = absurd sent
 sent_closed (PaAid key) buffered s sent o = absurd sent
 
-closed_by_key : (occasion : Occasion) (aid : Aid) (s : Shadow) → IsOccasion occasion aid → SentFields aid → IsOpenFor occasion s → NothingIsOpen s
-closed_by_key occasions.Agreement aid s is sent o = o
-closed_by_key (occasions.Key pressed buffered) aid s is sent o = sent_closed pressed buffered s (subst SentFields (sym is.0) sent) o
-closed_by_key occasions.Refusal aid s is sent o = absurd is
+closed_by_key : (turn_reason : TurnReason) (aid : Aid) (s : Shadow) → IsOccasion turn_reason aid → SentFields aid → IsOpenFor turn_reason s → NothingIsOpen s
+closed_by_key turn_reasons.Agreement aid s is sent o = o
+closed_by_key (turn_reasons.Key pressed buffered) aid s is sent o = sent_closed pressed buffered s (subst SentFields (sym is.0) sent) o
+closed_by_key turn_reasons.Refusal aid s is sent o = absurd is
 
 pub leaves_nothing_open : Given → Always LeavesNothingOpen
 leaves_nothing_open given app pool terminals events is lists few are =
@@ -240,7 +240,7 @@ leaves_nothing_open given app pool terminals events is lists few are =
     let g = run_good given app is events (new_world app pool terminals) are (new_good given app is pool terminals lists) in
     λ number h sent.
     let known = knows_turn app (world.link number) (g.links number) h in
-    closed_by_key (world.link number).host.occasion (world.link number).term.display.screen.aid (world.link number).host.shadow known.occasion sent known.closed
+    closed_by_key (world.link number).host.turn_reason (world.link number).term.display.screen.aid (world.link number).host.shadow known.turn_reason sent known.closed
 
 pub knows_the_cleared : Given → Always KnowsTheCleared
 knows_the_cleared given app pool terminals events is lists few are =

@@ -19,7 +19,7 @@ use Rattle.term_core.specs.declared.outcome.Outcome.TheVariants.{DeviceEnd, Refu
 use Rattle.host_core.specs.Items.{IsOther, TakesRecord, TakesRecordIf, Talks, TakesItem, verdict_of}
 use Rattle.host_core.specs.Messages.{ToHost, Verdict}
 use Rattle.host_core.specs.Session.{Conn, is_agreed}
-use Rattle.host_core.specs.Takes.{Answers, Step, form_awaited, data_came, response_came, once_agreed, talked, took}
+use Rattle.host_core.specs.Takes.{Answers, HostStep, form_awaited, data_came, response_came, once_agreed, talked, took}
 use Rattle.world3270.specs.Stands.{OutcomeIs, StandsUp}
 use Rattle.world3270.specs.StandsEnds.{IsSaid}
 
@@ -42,11 +42,11 @@ is_heard (Saying.Opt verb code) h comes k = k
 is_heard (Saying.Sub sending) h comes k = sent_is_heard sending h comes k
 
 -- an option or a subnegotiation is for the talk
-is_talk : (saying : Saying) (answers : Answers) (conn : Conn) (step : Step) → TakesItem answers conn (item_of saying) step → Talks answers conn (item_of saying) step
+is_talk : (saying : Saying) (answers : Answers) (conn : Conn) (step : HostStep) → TakesItem answers conn (item_of saying) step → Talks answers conn (item_of saying) step
 is_talk (Saying.Opt verb code) answers conn step taken = taken
 is_talk (Saying.Sub sending) answers conn step taken = taken
 
-takes_talk : (saying : Saying) (answers : Answers) (conn : Conn) (step : Step) → IsSaid saying → TakesItem answers conn (item_of saying) step
+takes_talk : (saying : Saying) (answers : Answers) (conn : Conn) (step : HostStep) → IsSaid saying → TakesItem answers conn (item_of saying) step
     → step ≡ talked answers conn conn.talk (says saying)
 takes_talk saying answers conn step said taken =
     let talks = is_talk saying answers conn step taken in
@@ -86,7 +86,7 @@ no_fault form parts fault body of_form is bad = let same = first_inbound_fault f
 -- ---- records
 
 module _ (one_header : OneHeader) (fault_or_header : FaultIsNoHeader) (one_inbound : OneInbound) where
-  data_taken : (conn : Conn) (bytes body : List ℕ) (header : Header) (parts : InboundParts) (step : Step) → header.kind ≡ Data3270 → Begins bytes header body
+  data_taken : (conn : Conn) (bytes body : List ℕ) (header : Header) (parts : InboundParts) (step : HostStep) → header.kind ≡ Data3270 → Begins bytes header body
       → parts.form ≡ form_awaited conn.pending → IsInbound parts body → TakesRecord conn bytes step → step ≡ data_came parts conn.turn conn.pending conn
   data_taken conn bytes body header parts step kind begins awaited is (TakesRecord.no_header fault has e) = absurd (fault_or_header bytes fault header body has begins)
   data_taken conn bytes body header parts step kind begins awaited is (TakesRecord.dropped other rest begins' drops e) =
@@ -104,7 +104,7 @@ module _ (one_header : OneHeader) (fault_or_header : FaultIsNoHeader) (one_inbou
       let both : Response ≡ Data3270 = sym kind' ∙ same ∙ kind in
       absurd (cc)
 
-  response_taken : (conn : Conn) (bytes body : List ℕ) (header : Header) (verdict : Verdict) (step : Step) → header.kind ≡ Response → Begins bytes header body
+  response_taken : (conn : Conn) (bytes body : List ℕ) (header : Header) (verdict : Verdict) (step : HostStep) → header.kind ≡ Response → Begins bytes header body
       → verdict_of header.flag ≡ verdict → TakesRecord conn bytes step → step ≡ response_came header.seq verdict conn.pending conn
   response_taken conn bytes body header verdict step kind begins says_it (TakesRecord.no_header fault has e) = absurd (fault_or_header bytes fault header body has begins)
   response_taken conn bytes body header verdict step kind begins says_it (TakesRecord.dropped other rest begins' drops e) =
@@ -124,14 +124,14 @@ module _ (one_header : OneHeader) (fault_or_header : FaultIsNoHeader) (one_inbou
       ∙ ap (λ (v : Verdict). response_came header.seq v conn.pending conn) says_it
 
   -- before agreement a record is dropped, whatever it stands for
-  taken_if : (agreed : Bool) (conn : Conn) (bytes : List ℕ) (step wanted : Step) → (TakesRecord conn bytes step → step ≡ wanted) → TakesRecordIf agreed conn bytes step
+  taken_if : (agreed : Bool) (conn : Conn) (bytes : List ℕ) (step wanted : HostStep) → (TakesRecord conn bytes step → step ≡ wanted) → TakesRecordIf agreed conn bytes step
       → step ≡ once_agreed agreed wanted conn
   taken_if true conn bytes step wanted is taken = is taken
   taken_if false conn bytes step wanted is taken = taken
 
   -- ---- any item
 
-  pub host_takes : (answers : Answers) (conn : Conn) (item : WireItem) (message : ToHost) (step : Step)
+  pub host_takes : (answers : Answers) (conn : Conn) (item : WireItem) (message : ToHost) (step : HostStep)
       → StandsUp item message → IsSaidUp message → IsAwaited conn message → TakesItem answers conn item step → step ≡ took answers conn message
   host_takes answers conn item (ToHost.TalksUp saying) step stands said awaited taken =
       takes_talk saying answers conn step said (subst (λ (i : WireItem). TakesItem answers conn i step) stands taken)

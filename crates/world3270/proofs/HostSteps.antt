@@ -9,7 +9,7 @@ use Rattle.datastream.specs.declared.inbound_part.Form.TheVariants.{Modified, Al
 use Rattle.shadow.specs.Belief.{Shadow}
 use Rattle.shadow.specs.Exactness.{is_erase}
 use Rattle.shadow.specs.declared.fault.HeardFault.{HeardFault}
-use Rattle.tn3270e_msg.specs.HostTable.{host_line, answer_line}
+use Rattle.tn3270e_msg.specs.HostTable.{host_transition, answer_transition}
 use Rattle.tn3270e_msg.specs.Talk.{Talk, follow, Saying, says, sayings}
 use Rattle.tn3270e_msg.specs.declared.cause.Cause.{Cause}
 use Rattle.tn3270e_msg.specs.declared.cause.Cause.TheVariants.{Negative}
@@ -21,14 +21,14 @@ use Rattle.tn3270e_msg.specs.declared.reply.Reply.TheVariants as reply
 use Rattle.host_core.specs.Messages.{ToTerminal, ToHost, Verdict}
 use Rattle.host_core.specs.declared.turn.Turn.{Turn}
 use Rattle.host_core.specs.declared.turn.Turn.TheVariants as whose
-use Rattle.host_core.specs.declared.occasion.Occasion.{Occasion}
-use Rattle.host_core.specs.declared.occasion.Occasion.TheVariants as occasions
+use Rattle.host_core.specs.declared.turn_reason.TurnReason.{TurnReason}
+use Rattle.host_core.specs.declared.turn_reason.TurnReason.TheVariants as turn_reasons
 use Rattle.host_core.specs.Session.{Conn, Pending, is_agreed}
-use Rattle.host_core.specs.Takes.{Answers, Step, quiet, closed_by, replied, granted_by, asked, talked_on, hears, believed, once_read, buffer_came, key_came, key_data_came, data_came, answered, refused, write_refused, if_answers, verdict_came, read_verdict_came, response_came, once_agreed, took}
+use Rattle.host_core.specs.Takes.{Answers, HostStep, quiet, closed_by, replied, granted_by, asked, talked_on, hears, believed, once_read, buffer_came, key_came, key_data_came, data_came, answered, refused, write_refused, if_answers, verdict_came, read_verdict_came, response_came, once_agreed, took}
 
 -- its command still waits for its answer, or nothing does
-pub record JustTalks (old : Conn) (step : Step) : Type 0 where
-  pub number : step.conn.number ≡ old.number
+pub record JustTalks (old : Conn) (step : HostStep) : Type 0 where
+  pub number : step.conn.next_seq ≡ old.next_seq
   pub values : step.conn.values ≡ old.values
   pub pending : (step.conn.pending ≡ old.pending) ⊎ (step.conn.pending ≡ Pending.Nothing)
   pub talk : List Saying
@@ -41,14 +41,14 @@ closes : (conn : Conn) (cause : Cause) → JustTalks conn (closed_by cause conn)
 closes conn cause = record { number = refl; values = refl; pending = inl refl; talk = []; says = refl }
 
 -- nothing is pending then
-settles : (conn new : Conn) → new.number ≡ conn.number → new.values ≡ conn.values → new.pending ≡ Pending.Nothing → JustTalks conn (quiet new)
+settles : (conn new : Conn) → new.next_seq ≡ conn.next_seq → new.values ≡ conn.values → new.pending ≡ Pending.Nothing → JustTalks conn (quiet new)
 settles conn new number values none = record { number = number; values = values; pending = inr none; talk = []; says = refl }
 
 replies : (conn : Conn) (grants : Option (List ℕ)) (next : Talk HostState × Reply) → JustTalks conn (replied conn grants next)
 replies conn grants next = record { number = refl; values = refl; pending = inl refl; talk = sayings next.1; says = refl }
 
 asks : (conn : Conn) (talk : Talk HostState) (answer : Result (List ℕ) Reason) (state : HostState) → JustTalks conn (asked conn talk answer state)
-asks conn talk answer (Asking device) = replies conn (granted_by answer) (follow Closed talk (answer_line device answer))
+asks conn talk answer (Asking device) = replies conn (granted_by answer) (follow Closed talk (answer_transition device answer))
 asks conn talk answer Offered = quietly conn
 asks conn talk answer Asked = quietly conn
 asks conn talk answer (Named device lu) = quietly conn
@@ -68,17 +68,17 @@ talks pool conn talk (reply.Close cause) = replies conn None (talk, reply.Close 
 -- ---- data
 
 -- what waits for an answer still does, or nothing does
-believes : (occasion : Occasion) (pending : Pending) (conn : Conn) (result : Result Shadow HeardFault) → (pending ≡ conn.pending) ⊎ (pending ≡ Pending.Nothing)
-    → JustTalks conn (believed occasion pending conn result)
-believes occasion pending conn (Ok shadow) waits = record { number = refl; values = refl; pending = waits; talk = []; says = refl }
-believes occasion pending conn (Err fault) waits = closes conn _
+believes : (turn_reason : TurnReason) (pending : Pending) (conn : Conn) (result : Result Shadow HeardFault) → (pending ≡ conn.pending) ⊎ (pending ≡ Pending.Nothing)
+    → JustTalks conn (believed turn_reason pending conn result)
+believes turn_reason pending conn (Ok shadow) waits = record { number = refl; values = refl; pending = waits; talk = []; says = refl }
+believes turn_reason pending conn (Err fault) waits = closes conn _
 
 hears_key : (parts : InboundParts) (aid : Aid) (conn : Conn) → JustTalks conn (key_came parts aid conn)
 hears_key parts NoAid conn = closes conn _
-hears_key parts Enter conn = believes (occasions.Key Enter false) conn.pending conn (hears parts conn) (inl refl)
-hears_key parts Clear conn = believes (occasions.Key Clear false) conn.pending conn (hears parts conn) (inl refl)
-hears_key parts (Pf key) conn = believes (occasions.Key (Pf key) false) conn.pending conn (hears parts conn) (inl refl)
-hears_key parts (Pa key) conn = believes (occasions.Key (Pa key) false) conn.pending conn (hears parts conn) (inl refl)
+hears_key parts Enter conn = believes (turn_reasons.Key Enter false) conn.pending conn (hears parts conn) (inl refl)
+hears_key parts Clear conn = believes (turn_reasons.Key Clear false) conn.pending conn (hears parts conn) (inl refl)
+hears_key parts (Pf key) conn = believes (turn_reasons.Key (Pf key) false) conn.pending conn (hears parts conn) (inl refl)
+hears_key parts (Pa key) conn = believes (turn_reasons.Key (Pa key) false) conn.pending conn (hears parts conn) (inl refl)
 
 hears_key_data : (parts : InboundParts) (form : Form) (conn : Conn) → JustTalks conn (key_data_came parts form conn)
 hears_key_data parts Modified conn = hears_key parts parts.aid conn
@@ -86,7 +86,7 @@ hears_key_data parts AllModified conn = closes conn _
 hears_key_data parts Buffer conn = closes conn _
 
 hears_buffer : (parts : InboundParts) (form : Form) (conn : Conn) → JustTalks conn (buffer_came parts form conn)
-hears_buffer parts Buffer conn = believes (once_read conn.occasion) Pending.Nothing conn (hears parts conn) (inr refl)
+hears_buffer parts Buffer conn = believes (once_read conn.turn_reason) Pending.Nothing conn (hears parts conn) (inr refl)
 hears_buffer parts Modified conn = closes conn _
 hears_buffer parts AllModified conn = closes conn _
 
@@ -100,7 +100,7 @@ hears_data parts whose.Terminal (Pending.Noting number command) conn = hears_key
 
 -- ---- responses
 
-if_it_answers : (b : Bool) (step : Step) (conn : Conn) → JustTalks conn step → JustTalks conn (if_answers b step conn)
+if_it_answers : (b : Bool) (step : HostStep) (conn : Conn) → JustTalks conn step → JustTalks conn (if_answers b step conn)
 if_it_answers true step conn just = just
 if_it_answers false step conn just = closes conn _
 
@@ -127,13 +127,13 @@ is_answered number verdict (Pending.Reading pending) conn = judges_read (number 
 
 -- ---- any message
 
-once_it_agreed : (b : Bool) (step : Step) (conn : Conn) → JustTalks conn step → JustTalks conn (once_agreed b step conn)
+once_it_agreed : (b : Bool) (step : HostStep) (conn : Conn) → JustTalks conn step → JustTalks conn (once_agreed b step conn)
 once_it_agreed true step conn just = just
 once_it_agreed false step conn just = quietly conn
 
 pub just_talks : (pool : Answers) (conn : Conn) (message : ToHost) → JustTalks conn (took pool conn message)
 just_talks pool conn (ToHost.TalksUp saying) =
-    let next : Talk HostState × Reply = follow Closed conn.talk (host_line conn.talk.state (says saying)) in
+    let next : Talk HostState × Reply = follow Closed conn.talk (host_transition conn.talk.state (says saying)) in
     talks pool conn next.0 next.1
 just_talks pool conn (ToHost.Data parts) = once_it_agreed (is_agreed conn.talk.state) _ conn (hears_data parts conn.turn conn.pending conn)
 just_talks pool conn (ToHost.Response number verdict) =

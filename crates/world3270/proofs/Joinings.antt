@@ -8,17 +8,17 @@ use Rattle.codes3270.specs.Size.{model_2}
 use Rattle.lu_pool.specs.declared.entry.Entry.{Entry}
 use Rattle.panels.specs.Panel.{Panels}
 use Rattle.host_core.specs.Application.{application_of}
-use Rattle.host_core.specs.State.{Line, unused, opened, line_at, with_line, most_connections}
+use Rattle.host_core.specs.State.{Connection, unused, opened, connection_at, with_connection, most_connections}
 use Rattle.world3270.specs.ByteSteps.{is_held, free_from}
-use Rattle.world3270.specs.ByteWorld.{ByteWorld, Ways, Sitting, under_way, is_live, is_there, unused_ways, begun_ways, new_sitting, sits, sits_at, new_byte_world, ways_at, sitting_at, with_ways, with_sitting, with_host, terminal_at, host_there, host_out, out_of}
+use Rattle.world3270.specs.ByteWorld.{ByteWorld, Transits, TerminalSlot, under_way, is_live, is_there, unused_transits, begun_transits, new_slot, attached_slot, is_attached_to, new_byte_world, transits_at, slot_at, with_transits, with_slot, with_host, terminal_at, host_there, host_out, out_of}
 use Rattle.world3270.specs.Link.{Link, begun, unused as unused_link}
 use Rattle.world3270.specs.Places.{EndsAgree}
-use Rattle.world3270.specs.Standing.{WorldStands, IsFlow, IsAt, IsNotClosed, IsSettled, AreWays, conn_of, rest_of, with_out, link_with}
+use Rattle.world3270.specs.Standing.{WorldStands, IsFlow, IsAt, IsNotClosed, IsSettled, AreTransits, conn_of, rest_of, with_out, link_with}
 use Rattle.world3270.specs.Stands.{LinkStands}
 use Rattle.world3270.specs.StandsLinks.{BeginStands, begun_bytes}
 use Rattle.world3270.specs.Terminal.{new_display}
 use Rattle.world3270.specs.World.{Place, World, new_world, with_at}
-use Rattle.world3270.proofs.Frames.{ways_same, ways_other, sitting_same, sitting_other, line_same, line_other, IsHere, alone_there, changed_stands}
+use Rattle.world3270.proofs.Frames.{transits_same, transits_other, slot_same, slot_other, connection_same, connection_other, IsHere, alone_there, changed_stands}
 use Rattle.world3270.proofs.OneOfMany.{with_other, with_same}
 use Rattle.world3270.proofs.Partings.{like_stands}
 
@@ -38,71 +38,71 @@ found_below (suc count) number found world is = by_test (is_held number world) i
 
 module _ (number terminal : ℕ) (wanted : Option (List ℕ)) (old : ByteWorld) where
   abbrev pub connected : ByteWorld
-  connected = with_ways number begun_ways (with_sitting terminal (sits wanted number) (with_host (with_line number opened old.host) old))
+  connected = with_transits number begun_transits (with_slot terminal (attached_slot wanted number) (with_host (with_connection number opened old.host) old))
 
   -- the connection that begins
-  begun_link : BeginStands → ways_at number connected ≡ begun_ways → line_at number connected.host ≡ opened → sitting_at terminal connected ≡ sits wanted number
+  begun_link : BeginStands → transits_at number connected ≡ begun_transits → connection_at number connected.host ≡ opened → slot_at terminal connected ≡ attached_slot wanted number
       → LinkStands (link_with (Some terminal) number connected) (begun model_2 terminal wanted)
-  begun_link begins ways line sitting =
+  begun_link begins transits connection slot =
       like_stands (begun_bytes terminal wanted) (link_with (Some terminal) number connected) (begun model_2 terminal wanted)
       (record {
-        lost = ap (λ (w : Ways). not (is_live w.down)) ways;
-        host_here = ap (λ (l : Line). is_there l.service) line;
+        lost = ap (λ (w : Transits). not (is_live w.down)) transits;
+        host_here = ap (λ (l : Connection). is_there l.service) connection;
         term_here = refl;
-        down = ap (λ (w : Ways). under_way w.down (host_out number connected)) ways ∙ ap (λ (l : Line). l.out) line;
-        up = ap (λ (w : Ways). under_way w.up (out_of (Some terminal) connected)) ways ∙ ap (λ (s : Sitting). s.seat.terminal.out) sitting;
-        host = λ e. (ap (λ (l : Line). conn_of l.service) line, ap (λ (l : Line). rest_of l.service) line);
-        seat = λ who e. ap (λ (s : Sitting). with_out [] s.seat) sitting;
+        down = ap (λ (w : Transits). under_way w.down (host_out number connected)) transits ∙ ap (λ (l : Connection). l.out) connection;
+        up = ap (λ (w : Transits). under_way w.up (out_of (Some terminal) connected)) transits ∙ ap (λ (s : TerminalSlot). s.tracked.terminal.out) slot;
+        host = λ e. (ap (λ (l : Connection). conn_of l.service) connection, ap (λ (l : Connection). rest_of l.service) connection);
+        tracked = λ who e. ap (λ (s : TerminalSlot). with_out [] s.tracked) slot;
       })
       (begins terminal wanted)
 
-  begun_flow : ways_at number connected ≡ begun_ways → AreWays (Some terminal) number connected
-  begun_flow ways = record {
-    together = ap (λ (w : Ways). is_live w.up) ways ∙ sym (ap (λ (w : Ways). is_live w.down) ways);
-    down = subst (λ (w : Ways). IsFlow (host_there number connected) (host_out number connected) w.down) (sym ways) tt;
-    up = subst (λ (w : Ways). IsFlow true (out_of (Some terminal) connected) w.up) (sym ways) tt;
+  begun_flow : transits_at number connected ≡ begun_transits → AreTransits (Some terminal) number connected
+  begun_flow transits = record {
+    together = ap (λ (w : Transits). is_live w.up) transits ∙ sym (ap (λ (w : Transits). is_live w.down) transits);
+    down = subst (λ (w : Transits). IsFlow (host_there number connected) (host_out number connected) w.down) (sym transits) tt;
+    up = subst (λ (w : Transits). IsFlow true (out_of (Some terminal) connected) w.up) (sym transits) tt;
   }
 
-  pub connected_stands : (was : World) → BeginStands → EndsAgree was → WorldStands old was → number < length old.links → terminal < length old.sittings
-      → (sitting_at terminal old).at ≡ None
+  pub connected_stands : (was : World) → BeginStands → EndsAgree was → WorldStands old was → number < length old.links → terminal < length old.slots
+      → (slot_at terminal old).at ≡ None
       → EndsAgree (record was { link = with_at number (begun model_2 terminal wanted) was.link; place = with_at terminal (Place.At number) was.place })
       → WorldStands connected (record was { link = with_at number (begun model_2 terminal wanted) was.link; place = with_at terminal (Place.At number) was.place })
   connected_stands was begins agree stands below there_is alone agrees =
       let now : World = record was { link = with_at number (begun model_2 terminal wanted) was.link; place = with_at terminal (Place.At number) was.place } in
-      let hosted : ByteWorld = with_host (with_line number opened old.host) old in
-      let seated : ByteWorld = with_sitting terminal (sits wanted number) hosted in
-      let within : number < length old.host.lines = subst (λ (n : ℕ). number < n) (stands.ways ∙ sym stands.lines) below in
-      let ways : ways_at number connected ≡ begun_ways = ways_same number begun_ways seated below in
-      let line : line_at number connected.host ≡ opened = line_same number opened old.host within in
-      let sitting : sitting_at terminal connected ≡ sits wanted number = sitting_same terminal (sits wanted number) hosted there_is in
+      let hosted : ByteWorld = with_host (with_connection number opened old.host) old in
+      let newly_tracked : ByteWorld = with_slot terminal (attached_slot wanted number) hosted in
+      let within : number < length old.host.connections = subst (λ (n : ℕ). number < n) (stands.transits ∙ sym stands.connections) below in
+      let transits : transits_at number connected ≡ begun_transits = transits_same number begun_transits newly_tracked below in
+      let connection : connection_at number connected.host ≡ opened = connection_same number opened old.host within in
+      let slot : slot_at terminal connected ≡ attached_slot wanted number = slot_same terminal (attached_slot wanted number) hosted there_is in
       let is : now.link number ≡ begun model_2 terminal wanted = with_same number (begun model_2 terminal wanted) was.link in
       let goes : now.place terminal ≡ Place.At number = with_same terminal (Place.At number) was.place in
       changed_stands number terminal old connected was now
       (record {
-        lines = λ other differs. line_other number other opened old.host differs;
-        ways = λ other differs. ways_other number other begun_ways seated differs;
-        sittings = λ other differs. sitting_other terminal other (sits wanted number) hosted differs;
+        connections = λ other differs. connection_other number other opened old.host differs;
+        transits = λ other differs. transits_other number other begun_transits newly_tracked differs;
+        slots = λ other differs. slot_other terminal other (attached_slot wanted number) hosted differs;
         links = λ other differs. with_other number other (begun model_2 terminal wanted) was.link differs;
         places = λ other differs. with_other terminal other (Place.At number) was.place differs;
-        line_count = length-set old.host.lines number opened;
-        way_count = length-set old.links number begun_ways;
-        sitting_count = length-set old.sittings terminal (sits wanted number);
+        connection_count = length-set old.host.connections number opened;
+        way_count = length-set old.links number begun_transits;
+        slot_count = length-set old.slots terminal (attached_slot wanted number);
         terminals = refl;
         pool = stands.pool;
-        before = alone_there (sitting_at terminal old) (was.place terminal) number alone (stands.places terminal);
+        before = alone_there (slot_at terminal old) (was.place terminal) number alone (stands.places terminal);
         behind = subst (λ (p : Place). IsHere number p) (sym goes) refl;
-        none_closed = subst (λ (l : Line). IsNotClosed l.service) (sym line) tt;
-        settled = subst (λ (l : Line). IsSettled l) (sym line) (λ free. absurd (cc));
-        flow = subst (λ (l : Link). AreWays l.term_here number connected) (sym is) (begun_flow ways);
-        link = subst (λ (l : Link). LinkStands (link_with l.term_here number connected) l) (sym is) (begun_link begins ways line sitting);
-        place = subst (λ (p : Place). IsAt (sitting_at terminal connected) p) (sym goes) (ap (λ (s : Sitting). s.at) sitting);
+        none_closed = subst (λ (l : Connection). IsNotClosed l.service) (sym connection) tt;
+        settled = subst (λ (l : Connection). IsSettled l) (sym connection) (λ free. absurd (cc));
+        flow = subst (λ (l : Link). AreTransits l.term_here number connected) (sym is) (begun_flow transits);
+        link = subst (λ (l : Link). LinkStands (link_with l.term_here number connected) l) (sym is) (begun_link begins transits connection slot);
+        place = subst (λ (p : Place). IsAt (slot_at terminal connected) p) (sym goes) (ap (λ (s : TerminalSlot). s.at) slot);
       })
       agree stands agrees
 
 -- ---- a terminal that begins anew
 
-pub new_is_alone : IsAt new_sitting (Place.Alone (new_display model_2))
-new_is_alone = (refl, record { detached = refl; silent = refl; shape = refl; screen = refl; keyboard = refl; left = refl; erased = refl })
+pub new_is_alone : IsAt new_slot (Place.Alone (new_display model_2))
+new_is_alone = (refl, record { detached = refl; silent = refl; shape = refl; screen = refl; keyboard = refl; last_restored = refl; erased = refl })
 
 -- ---- one of equal ones
 
@@ -115,7 +115,7 @@ get_or_equal {X} count number x = by_order (cases_lt number count)
 
 -- ---- at the begin
 
-none_from : (number count start : ℕ) → position_from (λ sitting. sits_at number sitting.at) start (replicate count new_sitting) ≡ None
+none_from : (number count start : ℕ) → position_from (λ slot. is_attached_to number slot.at) start (replicate count new_slot) ≡ None
 none_from number zero start = refl
 none_from number (suc count) start = none_from number count (start + 1)
 
@@ -123,27 +123,27 @@ module _ (panels : Panels) (pool : List Entry) (terminals : ℕ) where
   abbrev begins : ByteWorld
   begins = new_byte_world panels pool terminals
 
-  nobody : (number : ℕ) → terminal_at number begins.sittings ≡ None
-  nobody number = position_from-zero (λ sitting. sits_at number sitting.at) (replicate terminals new_sitting) ∙ none_from number terminals 0
+  nobody : (number : ℕ) → terminal_at number begins.slots ≡ None
+  nobody number = position_from-zero (λ slot. is_attached_to number slot.at) (replicate terminals new_slot) ∙ none_from number terminals 0
 
-  line_begun : (number : ℕ) → line_at number begins.host ≡ unused
-  line_begun number = get_or_equal most_connections number unused
+  connection_begun : (number : ℕ) → connection_at number begins.host ≡ unused
+  connection_begun number = get_or_equal most_connections number unused
 
-  ways_begun : (number : ℕ) → ways_at number begins ≡ unused_ways
-  ways_begun number = get_or_equal most_connections number unused_ways
+  transits_begun : (number : ℕ) → transits_at number begins ≡ unused_transits
+  transits_begun number = get_or_equal most_connections number unused_transits
 
-  flow_begun : (number : ℕ) → AreWays None number begins
+  flow_begun : (number : ℕ) → AreTransits None number begins
   flow_begun number = record {
-    together = ap (λ (w : Ways). is_live w.up) (ways_begun number) ∙ sym (ap (λ (w : Ways). is_live w.down) (ways_begun number));
-    down = subst (λ (w : Ways). IsFlow (host_there number begins) (host_out number begins) w.down) (sym (ways_begun number))
-        (ap (λ (l : Line). is_there l.service) (line_begun number));
-    up = subst (λ (w : Ways). IsFlow false [] w.up) (sym (ways_begun number)) refl;
+    together = ap (λ (w : Transits). is_live w.up) (transits_begun number) ∙ sym (ap (λ (w : Transits). is_live w.down) (transits_begun number));
+    down = subst (λ (w : Transits). IsFlow (host_there number begins) (host_out number begins) w.down) (sym (transits_begun number))
+        (ap (λ (l : Connection). is_there l.service) (connection_begun number));
+    up = subst (λ (w : Transits). IsFlow false [] w.up) (sym (transits_begun number)) refl;
   }
 
   link_begun : (number : ℕ) → LinkStands (link_with None number begins) (unused_link model_2)
   link_begun number = record {
-    lost = ap (λ (w : Ways). not (is_live w.down)) (ways_begun number);
-    host_here = ap (λ (l : Line). is_there l.service) (line_begun number);
+    lost = ap (λ (w : Transits). not (is_live w.down)) (transits_begun number);
+    host_here = ap (λ (l : Connection). is_there l.service) (connection_begun number);
     term_here = refl;
     host = λ e. absurd (cc);
     term = λ terminal e. absurd (cc);
@@ -151,13 +151,13 @@ module _ (panels : Panels) (pool : List Entry) (terminals : ℕ) where
 
   pub begin_stands : WorldStands begins (new_world (application_of panels) pool terminals)
   begin_stands = record {
-    lines = length-replicate most_connections unused;
-    ways = length-replicate most_connections unused_ways;
-    terminals = length-replicate terminals new_sitting;
+    connections = length-replicate most_connections unused;
+    transits = length-replicate most_connections unused_transits;
+    terminals = length-replicate terminals new_slot;
     pool = refl;
-    none_closed = λ number. subst (λ (l : Line). IsNotClosed l.service) (sym (line_begun number)) tt;
-    settled = λ number. subst (λ (l : Line). IsSettled l) (sym (line_begun number)) (λ free. refl);
-    flows = λ number. subst (λ (h : Option ℕ). AreWays h number begins) (sym (nobody number)) (flow_begun number);
+    none_closed = λ number. subst (λ (l : Connection). IsNotClosed l.service) (sym (connection_begun number)) tt;
+    settled = λ number. subst (λ (l : Connection). IsSettled l) (sym (connection_begun number)) (λ free. refl);
+    flows = λ number. subst (λ (h : Option ℕ). AreTransits h number begins) (sym (nobody number)) (flow_begun number);
     links = λ number. subst (λ (h : Option ℕ). LinkStands (link_with h number begins) (unused_link model_2)) (sym (nobody number)) (link_begun number);
-    places = λ terminal. subst (λ (s : Sitting). IsAt s (Place.Alone (new_display model_2))) (sym (get_or_equal terminals terminal new_sitting)) new_is_alone;
+    places = λ terminal. subst (λ (s : TerminalSlot). IsAt s (Place.Alone (new_display model_2))) (sym (get_or_equal terminals terminal new_slot)) new_is_alone;
   }

@@ -41,7 +41,7 @@ use Rattle.world3270.specs.Given.{Given}
 use Rattle.world3270.specs.Headline.{SentFields}
 use Rattle.world3270.specs.Link.{Link, sent, term_stepped}
 use Rattle.world3270.specs.Moments.{Serving, Moment, UnderWay, IsAt, turn_at, pending_at, down_at, up_at}
-use Rattle.world3270.specs.Occasions.{IsCleared, IsOpenBy}
+use Rattle.world3270.specs.TurnReasons.{IsCleared, IsOpenBy}
 use Rattle.world3270.specs.Stages.{Scene, scene_of, once_taken, FactsAreExact, Operates, Sees, IsPressed, WillSee, Fact, Kept}
 use Rattle.world3270.specs.Terminal.{Display, is_bound, bound_to, data_of, erases_if, outcome_of, key_came}
 use Rattle.world3270.specs.View.{View, view_of}
@@ -303,7 +303,7 @@ module _ (given : Given) (app : Application) (link : Link) (key : Key) (k : Kept
     shape = record { begins = k.shape.begins; same = k.shape.same };
     whole = whole;
     cursor = cursor;
-    unreturned = λ _. kept_of given.notes.still_protected erased v.left.cells f.shown.cells screen.cells held f.noted;
+    unreturned = λ _. kept_of given.notes.still_protected erased v.last_restored.cells f.shown.cells screen.cells held f.noted;
     exact = k.exact;
     wanted = k.wanted;
     moment = Moment.Serves lu from;
@@ -320,7 +320,7 @@ module _ (given : Given) (app : Application) (link : Link) (key : Key) (k : Kept
         shape = record { begins = k.shape.begins; same = k.shape.same };
         whole = whole;
         cursor = cursor;
-        unreturned = λ fields. kept_of given.notes.still_protected erased v.left.cells f.shown.cells screen.cells (held_fields erased f.shown.cells screen.cells aid keeps (subst SentFields is fields)) f.noted;
+        unreturned = λ fields. kept_of given.notes.still_protected erased v.last_restored.cells f.shown.cells screen.cells (held_fields erased f.shown.cells screen.cells aid keeps (subst SentFields is fields)) f.noted;
         exact = k.exact;
         wanted = k.wanted;
         moment = Moment.Serves lu (typing.to parts);

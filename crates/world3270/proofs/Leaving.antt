@@ -202,7 +202,7 @@ module _ (known : KnownWorlds) (begin : Begin) (events : List Event) (old : Byte
       ∙ over (HostIs number) it more keeps comes (sym (reached.stands.links number).host_here ∙ there)
 
   terminal_still : (it : Event) (more : List Event) (terminal number : ℕ) → TerminalKept app it terminal number → more ≡ once it answer → Reached begin (events ++ more) new
-      → terminal_at number old.sittings ≡ Some terminal → terminal_at number new.sittings ≡ Some terminal
+      → terminal_at number old.slots ≡ Some terminal → terminal_at number new.slots ≡ Some terminal
   terminal_still it more terminal number keeps comes reaches there =
       let before = facts_now known begin events old is reached in
       let behind = facts_now known begin (events ++ more) new is reaches in

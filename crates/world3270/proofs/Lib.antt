@@ -35,7 +35,7 @@ pub mod HostSteps
 pub mod Everywhere
 pub mod Numbers
 pub mod Sendable
-pub mod Sittings
+pub mod Slots
 pub mod Steps
 pub mod Known
 pub mod UnderWay

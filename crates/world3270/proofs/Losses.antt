@@ -9,7 +9,7 @@ use Rattle.host_core.specs.Acts.{Sent, acted}
 use Rattle.host_core.specs.Application.{Application}
 use Rattle.host_core.specs.Messages.{ToTerminal, ToHost}
 use Rattle.host_core.specs.Notes.{noted}
-use Rattle.host_core.specs.Takes.{Step, took as host_took}
+use Rattle.host_core.specs.Takes.{HostStep, took as host_took}
 use Rattle.world3270.specs.Happens.{freed_if, came_up, came_down, went_down, key_went, term_saw, joined, term_anew, host_left_from, done}
 use Rattle.world3270.specs.Link.{Link, begun, cut, sent, host_left, host_left_if, host_stepped, host_sent, term_left, term_left_if, term_stepped}
 use Rattle.world3270.specs.Losses.{IsRest, NothingNew, LostTakesNothing}
@@ -42,7 +42,7 @@ at_number link at number new fades = by_test (number == at) refl
 
 -- ---- the ends
 
-host_steps : (link : Link) (step : Step) (message : ToHost) (rest : List ToHost) (cause : Option Cause) → link.up ≡ message ∷ rest
+host_steps : (link : Link) (step : HostStep) (message : ToHost) (rest : List ToHost) (cause : Option Cause) → link.up ≡ message ∷ rest
     → Fades link (host_left_if cause (record link { up = rest; host = step.conn; down = sent link.lost link.down step.sends }))
 host_steps link step message rest None e = λ before after. record { down = nothing_out link.lost link.down step.sends before; up = (message ∷ [], e) }
 host_steps link step message rest (Some cause) e = λ before after. record { down = nothing_out link.lost link.down step.sends before; up = (message ∷ [], e) }
@@ -62,7 +62,7 @@ came_up_fades : (world : World) (at number : ℕ) (up : List ToHost) → (world.
 came_up_fades world at number [] e = as_it_is (world.link number)
 came_up_fades world at number (message ∷ rest) e =
     let link : Link = world.link at in
-    let step : Step = host_took (answer_to world.pool) link.host message in
+    let step : HostStep = host_took (answer_to world.pool) link.host message in
     let new : Link = host_stepped step rest link in
     subst (λ (links : ℕ → Link). Fades (world.link number) (links number)) (sym (closed_link step.closes (record world { pool = freed_if at step.closes (granted_if at step.grants world.pool); link = with_at at new world.link })))
     (at_number world.link at number new (host_steps link step message rest step.closes e))

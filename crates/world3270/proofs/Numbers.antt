@@ -15,7 +15,7 @@ use Rattle.host_core.specs.Application.{Application}
 use Rattle.host_core.specs.Messages.{ToTerminal, ToHost, Verdict}
 use Rattle.host_core.specs.Notes.{noted_as, may_note, noted}
 use Rattle.host_core.specs.Session.{Conn, Pending, is_agreed}
-use Rattle.host_core.specs.Takes.{Answers, Step, took as host_took}
+use Rattle.host_core.specs.Takes.{Answers, HostStep, took as host_took}
 use Rattle.world3270.specs.Always.{Always}
 use Rattle.world3270.specs.Given.{Given}
 use Rattle.world3270.specs.Link.{Link, sent, host_left_if, host_sent}
@@ -44,10 +44,10 @@ next_fits number = by_test (nat_lt number 32767) refl
 -- ---- what a host makes of a message
 
 record Numbered (conn : Conn) : Type 0 where
-  next : IsNumber conn.number
+  next : IsNumber conn.next_seq
   pending : IfSome (number_of conn.pending) IsNumber
 
-record StepFits (step : Step) : Type 0 where
+record StepFits (step : HostStep) : Type 0 where
   conn : Numbered step.conn
   sends : All FitsDown step.sends
 
@@ -57,7 +57,7 @@ still_pending old new (inr none) fits = subst (λ p. IfSome (number_of p) IsNumb
 
 host_fits : (pool : Answers) (conn : Conn) (message : ToHost) → Numbered conn → StepFits (host_took pool conn message)
 host_fits pool conn message n =
-    let step : Step = host_took pool conn message in
+    let step : HostStep = host_took pool conn message in
     let just = just_talks pool conn message in
     record {
       conn = record { next = subst IsNumber (sym just.number) n.next; pending = still_pending conn.pending step.conn.pending just.pending n.pending };
@@ -71,11 +71,11 @@ record SendingFits (sending : Sent) : Type 0 where
   message : FitsDown sending.message
 
 done_fits : (app : Application) (conn : Conn) (act : Act) → Numbered conn → SendingFits (done app conn act)
-done_fits app conn Act.Read n = record { conn = record { next = next_fits conn.number; pending = n.next }; message = n.next }
-done_fits app conn (Act.Show panel message keep values) n = record { conn = record { next = next_fits conn.number; pending = n.next }; message = n.next }
+done_fits app conn Act.Read n = record { conn = record { next = next_fits conn.next_seq; pending = n.next }; message = n.next }
+done_fits app conn (Act.Show panel message keep values) n = record { conn = record { next = next_fits conn.next_seq; pending = n.next }; message = n.next }
 
 note_fits : (text : List ℕ) (conn : Conn) → Numbered conn → SendingFits (noted_as text conn)
-note_fits text conn n = record { conn = record { next = next_fits conn.number; pending = n.next }; message = n.next }
+note_fits text conn n = record { conn = record { next = next_fits conn.next_seq; pending = n.next }; message = n.next }
 
 -- ---- what a terminal makes of a message, and of a key
 
@@ -113,8 +113,8 @@ sends link (Some sending) n fits = record {
   up = n.up;
 }
 
-acts_if : (app : Application) (link : Link) (b : Bool) → AreNumbered link → IfSome (if b then Some (done app link.host (act_on app link.host link.host.occasion)) else None) SendingFits
-acts_if app link true n = done_fits app link.host (act_on app link.host link.host.occasion) (record { next = n.next; pending = n.pending })
+acts_if : (app : Application) (link : Link) (b : Bool) → AreNumbered link → IfSome (if b then Some (done app link.host (act_on app link.host link.host.turn_reason)) else None) SendingFits
+acts_if app link true n = done_fits app link.host (act_on app link.host link.host.turn_reason) (record { next = n.next; pending = n.pending })
 acts_if app link false n = tt
 
 notes_if : (text : List ℕ) (link : Link) (b : Bool) → AreNumbered link → IfSome (if b then Some (noted_as text link.host) else None) SendingFits
@@ -126,7 +126,7 @@ steps app = record {
   never = record { next = omega arith; pending = tt; down = All-nil FitsDown; up = All-nil FitsUp };
   begins = λ terminal wanted. record { next = omega arith; pending = tt; down = All-cons FitsDown _ [] tt (All-nil FitsDown); up = All-nil FitsUp };
   up = λ pool link message rest e k n.
-      let step : Step = host_took pool link.host message in
+      let step : HostStep = host_took pool link.host message in
       let fits = host_fits pool link.host message (record { next = n.next; pending = n.pending }) in
       left_if step.closes _ (record {
         next = fits.conn.next;

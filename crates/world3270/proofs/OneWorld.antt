@@ -13,7 +13,7 @@ use Rattle.host_core.specs.Bytes.{Counter, TakesByte, TakesBytes}
 use Rattle.host_core.specs.Does.{Does as HostDoes, acted_by, noted_by}
 use Rattle.host_core.specs.Feeds.{Feeds, IsOpen, StopsFor as HostStopsFor, counter_at, with_counter}
 use Rattle.host_core.specs.Machine.{OneOutcome as OneHost}
-use Rattle.host_core.specs.State.{Host, Line, Service, line_at, service_at, with_line}
+use Rattle.host_core.specs.State.{Host, Connection, Service, connection_at, service_at, with_connection}
 use Rattle.host_core.specs.declared.acted.Acted.{Acted}
 use Rattle.host_core.specs.declared.acted.Acted.TheVariants as acted
 use Rattle.term_core.specs.Bytes.{TakesByte as TermTakesByte}
@@ -22,10 +22,10 @@ use Rattle.term_core.specs.Laws.{OneOutcome as OneTerminal}
 use Rattle.term_core.specs.Room.{out_room}
 use Rattle.term_core.specs.State.{Link, Terminal, Detached, Closed}
 use Rattle.world3270.specs.ByteRuns.{AllHappen, Runs, StopsAt, refused_at}
-use Rattle.world3270.specs.ByteSteps.{ActsHost, ComesDown, ComesUp, Connects, ConnectsIf, GoesDown, Happens, HappensIf, Is, Presses, SeatFeeds, answer_acted, answer_fed, down_came, free_number, has_place, host_gone_if, terminal_gone_if, up_came}
-use Rattle.world3270.specs.ByteWorld.{ByteWorld, down_of, sitting_at, terminal_at, up_of, with_host, with_sitting}
+use Rattle.world3270.specs.ByteSteps.{ActsHost, ComesDown, ComesUp, Connects, ConnectsIf, GoesDown, Happens, HappensIf, Is, Presses, TrackedFeeds, answer_acted, answer_fed, down_came, free_number, has_place, host_gone_if, terminal_gone_if, up_came}
+use Rattle.world3270.specs.ByteWorld.{ByteWorld, down_of, slot_at, terminal_at, up_of, with_host, with_slot}
 use Rattle.world3270.specs.OneOutcome.{EventsAreOne, RunsAreOne, StepsAreOne}
-use Rattle.world3270.specs.Seats.{History, Seat, SeatTakes, SeatTakesByte, marked}
+use Rattle.world3270.specs.TrackedTerminals.{History, TrackedTerminal, TrackedTakes, TrackedTakesByte, marked}
 use Rattle.world3270.specs.declared.event.Event.{Event}
 use Rattle.world3270.specs.declared.event.Event.TheVariants as event
 use Rattle.world3270.specs.declared.event.Ran.{Ran}
@@ -56,14 +56,14 @@ fed_of taken why = record { taken = taken; stop = why }
 abbrev up_made : ℕ → ByteWorld → Fed → Counter → ByteWorld
 up_made number old fed counter = host_gone_if fed.stop number (up_came fed.taken number (with_host (with_counter number counter old.host) old))
 
-byte_wants_open : (number : ℕ) (old new : Counter) (byte : ℕ) → TakesByte number old byte new → IsOpen old.line.service
+byte_wants_open : (number : ℕ) (old new : Counter) (byte : ℕ) → TakesByte number old byte new → IsOpen old.connection.service
 byte_wants_open number old new byte (TakesByte.goes_on rest to conn is delivers new_is) = subst IsOpen (sym is) tt
 byte_wants_open number old new byte (TakesByte.completes rest to conn item step is delivers takes new_is) = subst IsOpen (sym is) tt
 byte_wants_open number old new byte (TakesByte.breaks rest conn fault is wrong new_is) = subst IsOpen (sym is) tt
 
 -- where more bytes were taken, the line was open behind the fewer
 open_behind : (number : ℕ) (old new : Counter) (bytes : List ℕ) (fewer more : ℕ) → fewer < more → more ≤ length bytes → TakesBytes number old (take more bytes) new
-    → (mid : Counter) × TakesBytes number old (take fewer bytes) mid × IsOpen mid.line.service
+    → (mid : Counter) × TakesBytes number old (take fewer bytes) mid × IsOpen mid.connection.service
 open_behind number old new bytes fewer zero less few takes = absurd (omega arith)
 open_behind number old new [] fewer (suc more) less few takes = absurd (omega arith)
 open_behind number old new (byte ∷ bytes) zero (suc more) less few takes = (old, refl, byte_wants_open number old takes.0 byte takes.1)
@@ -93,11 +93,11 @@ module _ (one_host : OneHost) where
   host_stops number old one other bytes m n stop.Going few takes also (inr free) going less =
       let begin : 0 < n = omega arith in
       let (mid, none, is) = open_behind number old other bytes 0 n begin few also in
-      open_or_free old.line.service (subst (λ (c : Counter). IsOpen c.line.service) none is) free.1
+      open_or_free old.connection.service (subst (λ (c : Counter). IsOpen c.connection.service) none is) free.1
   host_stops number old one other bytes m n stop.Memory few takes also stops going less = going refl
   host_stops number old one other bytes m n (stop.Closed cause) few takes also stops going less =
       let (mid, mid_takes, is) = open_behind number old other bytes m n less few also in
-      open_or_closed one.line.service cause (subst (λ (c : Counter). IsOpen c.line.service) (one_host number old mid one (take m bytes) mid_takes takes) is) stops
+      open_or_closed one.connection.service cause (subst (λ (c : Counter). IsOpen c.connection.service) (one_host number old mid one (take m bytes) mid_takes takes) is) stops
 
   -- of a line that is free no byte is taken
   free_stays : (number : ℕ) (old one : Counter) (bytes : List ℕ) (m : ℕ) → m ≡ 0 → TakesBytes number old (take m bytes) one → one ≡ old
@@ -109,14 +109,14 @@ module _ (one_host : OneHost) where
   host_stops_so number old one bytes m stop.Going stop.Memory takes is other_is going also_going = absurd (also_going refl)
   host_stops_so number old one bytes m (stop.Closed cause) stop.Memory takes is other_is going also_going = absurd (also_going refl)
   host_stops_so number old one bytes m stop.Going stop.Going takes is other_is going also_going = refl
-  host_stops_so number old one bytes m stop.Going (stop.Closed cause) takes (inl is) other_is going also_going = absurd (open_or_closed one.line.service cause is.1 other_is)
+  host_stops_so number old one bytes m stop.Going (stop.Closed cause) takes (inl is) other_is going also_going = absurd (open_or_closed one.connection.service cause is.1 other_is)
   host_stops_so number old one bytes m stop.Going (stop.Closed cause) takes (inr is) other_is going also_going =
-      absurd (free_or_closed old.line.service cause is.1 (subst (λ (c : Counter). c.line.service ≡ Service.Closed cause) (free_stays number old one bytes m is.0 takes) other_is))
-  host_stops_so number old one bytes m (stop.Closed cause) stop.Going takes is (inl other_is) going also_going = absurd (open_or_closed one.line.service cause other_is.1 is)
+      absurd (free_or_closed old.connection.service cause is.1 (subst (λ (c : Counter). c.connection.service ≡ Service.Closed cause) (free_stays number old one bytes m is.0 takes) other_is))
+  host_stops_so number old one bytes m (stop.Closed cause) stop.Going takes is (inl other_is) going also_going = absurd (open_or_closed one.connection.service cause other_is.1 is)
   host_stops_so number old one bytes m (stop.Closed cause) stop.Going takes is (inr other_is) going also_going =
-      absurd (free_or_closed old.line.service cause other_is.1 (subst (λ (c : Counter). c.line.service ≡ Service.Closed cause) (free_stays number old one bytes m other_is.0 takes) is))
+      absurd (free_or_closed old.connection.service cause other_is.1 (subst (λ (c : Counter). c.connection.service ≡ Service.Closed cause) (free_stays number old one bytes m other_is.0 takes) is))
   host_stops_so number old one bytes m (stop.Closed cause) (stop.Closed other) takes is other_is going also_going =
-      ap stop.Closed (same_cause one.line.service cause other is other_is)
+      ap stop.Closed (same_cause one.connection.service cause other is other_is)
 
   one_count : (number : ℕ) (old one other : Counter) (bytes : List ℕ) (fed run : Fed) → Feeds number old bytes fed one → Feeds number old bytes run other
       → (fed.stop ≡ stop.Memory → ⊥) → (run.stop ≡ stop.Memory → ⊥) → fed.taken ≡ run.taken
@@ -150,17 +150,17 @@ module _ (one_host : OneHost) where
 
 -- ---- bytes come down
 
-seat_wants_attached : (old new : Terminal) (byte : ℕ) → TermTakesByte old byte new → IsAttached old.link
-seat_wants_attached old new byte (TermTakesByte.goes_on rest to talk is delivers new_is) = subst IsAttached (sym is) tt
-seat_wants_attached old new byte (TermTakesByte.completes rest to talk after item says closes station is delivers takes new_is) = subst IsAttached (sym is) tt
-seat_wants_attached old new byte (TermTakesByte.breaks rest talk fault is wrong new_is) = subst IsAttached (sym is) tt
+tracked_wants_attached : (old new : Terminal) (byte : ℕ) → TermTakesByte old byte new → IsAttached old.link
+tracked_wants_attached old new byte (TermTakesByte.goes_on rest to talk is delivers new_is) = subst IsAttached (sym is) tt
+tracked_wants_attached old new byte (TermTakesByte.completes rest to talk after item says closes station is delivers takes new_is) = subst IsAttached (sym is) tt
+tracked_wants_attached old new byte (TermTakesByte.breaks rest talk fault is wrong new_is) = subst IsAttached (sym is) tt
 
 -- where more bytes were taken, the terminal was attached behind the fewer
-attached_behind : (old new : Seat) (bytes : List ℕ) (fewer more : ℕ) → fewer < more → more ≤ length bytes → SeatTakes old (take more bytes) new
-    → (mid : Seat) × SeatTakes old (take fewer bytes) mid × IsAttached mid.terminal.link
+attached_behind : (old new : TrackedTerminal) (bytes : List ℕ) (fewer more : ℕ) → fewer < more → more ≤ length bytes → TrackedTakes old (take more bytes) new
+    → (mid : TrackedTerminal) × TrackedTakes old (take fewer bytes) mid × IsAttached mid.terminal.link
 attached_behind old new bytes fewer zero less few takes = absurd (omega arith)
 attached_behind old new [] fewer (suc more) less few takes = absurd (omega arith)
-attached_behind old new (byte ∷ bytes) zero (suc more) less few takes = (old, refl, seat_wants_attached old.terminal takes.0.terminal byte takes.1.takes)
+attached_behind old new (byte ∷ bytes) zero (suc more) less few takes = (old, refl, tracked_wants_attached old.terminal takes.0.terminal byte takes.1.takes)
 attached_behind old new (byte ∷ bytes) (suc fewer) (suc more) less few takes =
     let behind = attached_behind takes.0 new bytes fewer more (omega arith) (omega arith) takes.2 in
     (behind.0, (takes.0, takes.1, behind.1), behind.2)
@@ -177,77 +177,77 @@ detached_or_closed link cause detached closed = cc
 same_link_cause : (link : Link) (cause other : Cause) → link ≡ Closed cause → link ≡ Closed other → cause ≡ other
 same_link_cause link cause other is also = cc
 
-abbrev seat_of : Terminal → History → Seat
-seat_of terminal history = record { terminal = terminal; history = history }
+abbrev tracked_of : Terminal → History → TrackedTerminal
+tracked_of terminal history = record { terminal = terminal; history = history }
 
-abbrev down_made : ℕ → ℕ → ByteWorld → Fed → Seat → ByteWorld
-down_made terminal number old fed seat =
-    terminal_gone_if fed.stop terminal number (down_came fed.taken number (with_sitting terminal (record (sitting_at terminal old) { seat = seat }) old))
+abbrev down_made : ℕ → ℕ → ByteWorld → Fed → TrackedTerminal → ByteWorld
+down_made terminal number old fed tracked =
+    terminal_gone_if fed.stop terminal number (down_came fed.taken number (with_slot terminal (record (slot_at terminal old) { tracked = tracked }) old))
 
 module _ (one_terminal : OneTerminal) where
-  one_seat_byte : (old one other : Seat) (byte : ℕ) → SeatTakesByte old byte one → SeatTakesByte old byte other → one ≡ other
-  one_seat_byte old one other byte is also =
+  one_tracked_byte : (old one other : TrackedTerminal) (byte : ℕ) → TrackedTakesByte old byte one → TrackedTakesByte old byte other → one ≡ other
+  one_tracked_byte old one other byte is also =
       let same : one.terminal ≡ other.terminal = one_terminal old.terminal one.terminal other.terminal (byte ∷ []) (one.terminal, is.takes, refl) (other.terminal, also.takes, refl) in
       let history : one.history ≡ other.history = is.history ∙ ap (λ (t : Terminal). marked t.station old.history) same ∙ sym also.history in
-      ap (λ (t : Terminal). seat_of t one.history) same ∙ ap (λ (h : History). seat_of other.terminal h) history
+      ap (λ (t : Terminal). tracked_of t one.history) same ∙ ap (λ (h : History). tracked_of other.terminal h) history
 
-  one_seat : (old one other : Seat) (bytes : List ℕ) → SeatTakes old bytes one → SeatTakes old bytes other → one ≡ other
-  one_seat old one other [] is also = is ∙ sym also
-  one_seat old one other (byte ∷ bytes) is also =
-      let same = one_seat_byte old is.0 also.0 byte is.1 also.1 in
-      one_seat is.0 one other bytes is.2 (subst (λ (mid : Seat). SeatTakes mid bytes other) (sym same) also.2)
+  one_tracked : (old one other : TrackedTerminal) (bytes : List ℕ) → TrackedTakes old bytes one → TrackedTakes old bytes other → one ≡ other
+  one_tracked old one other [] is also = is ∙ sym also
+  one_tracked old one other (byte ∷ bytes) is also =
+      let same = one_tracked_byte old is.0 also.0 byte is.1 also.1 in
+      one_tracked is.0 one other bytes is.2 (subst (λ (mid : TrackedTerminal). TrackedTakes mid bytes other) (sym same) also.2)
 
   -- it doesn't stop while another goes on from the same seat with the same bytes
-  seat_stops : (old one other : Seat) (bytes : List ℕ) (m n : ℕ) (why : Stop) → n ≤ length bytes → SeatTakes old (take m bytes) one → SeatTakes old (take n bytes) other
+  tracked_stops : (old one other : TrackedTerminal) (bytes : List ℕ) (m n : ℕ) (why : Stop) → n ≤ length bytes → TrackedTakes old (take m bytes) one → TrackedTakes old (take n bytes) other
       → TermStopsFor out_room why old.terminal bytes m one.terminal → (why ≡ stop.Memory → ⊥) → m < n → ⊥
-  seat_stops old one other bytes m n stop.Going few takes also (inl at_end) going less =
+  tracked_stops old one other bytes m n stop.Going few takes also (inl at_end) going less =
       let whole = at_end.0 in
       omega (arith, whole)
-  seat_stops old one other bytes m n stop.Going few takes also (inr detached) going less =
+  tracked_stops old one other bytes m n stop.Going few takes also (inr detached) going less =
       let begin : 0 < n = omega arith in
       let (mid, none, is) = attached_behind old other bytes 0 n begin few also in
-      attached_or_detached old.terminal.link (subst (λ (s : Seat). IsAttached s.terminal.link) none is) detached.1
-  seat_stops old one other bytes m n stop.Memory few takes also stops going less = going refl
-  seat_stops old one other bytes m n (stop.Closed cause) few takes also stops going less =
+      attached_or_detached old.terminal.link (subst (λ (s : TrackedTerminal). IsAttached s.terminal.link) none is) detached.1
+  tracked_stops old one other bytes m n stop.Memory few takes also stops going less = going refl
+  tracked_stops old one other bytes m n (stop.Closed cause) few takes also stops going less =
       let (mid, mid_takes, is) = attached_behind old other bytes m n less few also in
-      attached_or_closed one.terminal.link cause (subst (λ (s : Seat). IsAttached s.terminal.link) (one_seat old mid one (take m bytes) mid_takes takes) is) stops
+      attached_or_closed one.terminal.link cause (subst (λ (s : TrackedTerminal). IsAttached s.terminal.link) (one_tracked old mid one (take m bytes) mid_takes takes) is) stops
 
-  seat_stays : (old one : Seat) (bytes : List ℕ) (m : ℕ) → m ≡ 0 → SeatTakes old (take m bytes) one → one ≡ old
-  seat_stays old one bytes m none takes = subst (λ (n : ℕ). SeatTakes old (take n bytes) one) none takes
+  tracked_stays : (old one : TrackedTerminal) (bytes : List ℕ) (m : ℕ) → m ≡ 0 → TrackedTakes old (take m bytes) one → one ≡ old
+  tracked_stays old one bytes m none takes = subst (λ (n : ℕ). TrackedTakes old (take n bytes) one) none takes
 
-  seat_stops_so : (old one : Seat) (bytes : List ℕ) (m : ℕ) (why also : Stop) → SeatTakes old (take m bytes) one → TermStopsFor out_room why old.terminal bytes m one.terminal
+  tracked_stops_so : (old one : TrackedTerminal) (bytes : List ℕ) (m : ℕ) (why also : Stop) → TrackedTakes old (take m bytes) one → TermStopsFor out_room why old.terminal bytes m one.terminal
       → TermStopsFor out_room also old.terminal bytes m one.terminal → (why ≡ stop.Memory → ⊥) → (also ≡ stop.Memory → ⊥) → why ≡ also
-  seat_stops_so old one bytes m stop.Memory also takes is other_is going also_going = absurd (going refl)
-  seat_stops_so old one bytes m stop.Going stop.Memory takes is other_is going also_going = absurd (also_going refl)
-  seat_stops_so old one bytes m (stop.Closed cause) stop.Memory takes is other_is going also_going = absurd (also_going refl)
-  seat_stops_so old one bytes m stop.Going stop.Going takes is other_is going also_going = refl
-  seat_stops_so old one bytes m stop.Going (stop.Closed cause) takes (inl is) other_is going also_going = absurd (attached_or_closed one.terminal.link cause is.1 other_is)
-  seat_stops_so old one bytes m stop.Going (stop.Closed cause) takes (inr is) other_is going also_going =
-      absurd (detached_or_closed old.terminal.link cause is.1 (subst (λ (s : Seat). s.terminal.link ≡ Closed cause) (seat_stays old one bytes m is.0 takes) other_is))
-  seat_stops_so old one bytes m (stop.Closed cause) stop.Going takes is (inl other_is) going also_going = absurd (attached_or_closed one.terminal.link cause other_is.1 is)
-  seat_stops_so old one bytes m (stop.Closed cause) stop.Going takes is (inr other_is) going also_going =
-      absurd (detached_or_closed old.terminal.link cause other_is.1 (subst (λ (s : Seat). s.terminal.link ≡ Closed cause) (seat_stays old one bytes m other_is.0 takes) is))
-  seat_stops_so old one bytes m (stop.Closed cause) (stop.Closed other) takes is other_is going also_going =
+  tracked_stops_so old one bytes m stop.Memory also takes is other_is going also_going = absurd (going refl)
+  tracked_stops_so old one bytes m stop.Going stop.Memory takes is other_is going also_going = absurd (also_going refl)
+  tracked_stops_so old one bytes m (stop.Closed cause) stop.Memory takes is other_is going also_going = absurd (also_going refl)
+  tracked_stops_so old one bytes m stop.Going stop.Going takes is other_is going also_going = refl
+  tracked_stops_so old one bytes m stop.Going (stop.Closed cause) takes (inl is) other_is going also_going = absurd (attached_or_closed one.terminal.link cause is.1 other_is)
+  tracked_stops_so old one bytes m stop.Going (stop.Closed cause) takes (inr is) other_is going also_going =
+      absurd (detached_or_closed old.terminal.link cause is.1 (subst (λ (s : TrackedTerminal). s.terminal.link ≡ Closed cause) (tracked_stays old one bytes m is.0 takes) other_is))
+  tracked_stops_so old one bytes m (stop.Closed cause) stop.Going takes is (inl other_is) going also_going = absurd (attached_or_closed one.terminal.link cause other_is.1 is)
+  tracked_stops_so old one bytes m (stop.Closed cause) stop.Going takes is (inr other_is) going also_going =
+      absurd (detached_or_closed old.terminal.link cause other_is.1 (subst (λ (s : TrackedTerminal). s.terminal.link ≡ Closed cause) (tracked_stays old one bytes m other_is.0 takes) is))
+  tracked_stops_so old one bytes m (stop.Closed cause) (stop.Closed other) takes is other_is going also_going =
       ap stop.Closed (same_link_cause one.terminal.link cause other is other_is)
 
-  one_seat_count : (old one other : Seat) (bytes : List ℕ) (fed run : Fed) → SeatFeeds old bytes fed one → SeatFeeds old bytes run other
+  one_tracked_count : (old one other : TrackedTerminal) (bytes : List ℕ) (fed run : Fed) → TrackedFeeds old bytes fed one → TrackedFeeds old bytes run other
       → (fed.stop ≡ stop.Memory → ⊥) → (run.stop ≡ stop.Memory → ⊥) → fed.taken ≡ run.taken
-  one_seat_count old one other bytes fed run is also going also_going =
+  one_tracked_count old one other bytes fed run is also going also_going =
       elim (cases_order fed.taken run.taken) [
         | inl same ↦ same
-        | inr (inl less) ↦ absurd (seat_stops old one other bytes fed.taken run.taken fed.stop also.few is.takes also.takes is.stops going less)
-        | inr (inr more) ↦ absurd (seat_stops old other one bytes run.taken fed.taken run.stop is.few also.takes is.takes also.stops also_going more)
+        | inr (inl less) ↦ absurd (tracked_stops old one other bytes fed.taken run.taken fed.stop also.few is.takes also.takes is.stops going less)
+        | inr (inr more) ↦ absurd (tracked_stops old other one bytes run.taken fed.taken run.stop is.few also.takes is.takes also.stops also_going more)
       ]
 
-  one_seat_feeding : (old one other : Seat) (bytes : List ℕ) (fed run : Fed) → SeatFeeds old bytes fed one → SeatFeeds old bytes run other
+  one_tracked_feeding : (old one other : TrackedTerminal) (bytes : List ℕ) (fed run : Fed) → TrackedFeeds old bytes fed one → TrackedFeeds old bytes run other
       → (fed.stop ≡ stop.Memory → ⊥) → (run.stop ≡ stop.Memory → ⊥) → (fed ≡ run) × (one ≡ other)
-  one_seat_feeding old one other bytes fed run is also going also_going =
-      let count : fed.taken ≡ run.taken = one_seat_count old one other bytes fed run is also going also_going in
-      let here : SeatTakes old (take fed.taken bytes) other = subst (λ (n : ℕ). SeatTakes old (take n bytes) other) (sym count) also.takes in
-      let same : one ≡ other = one_seat old one other (take fed.taken bytes) is.takes here in
+  one_tracked_feeding old one other bytes fed run is also going also_going =
+      let count : fed.taken ≡ run.taken = one_tracked_count old one other bytes fed run is also going also_going in
+      let here : TrackedTakes old (take fed.taken bytes) other = subst (λ (n : ℕ). TrackedTakes old (take n bytes) other) (sym count) also.takes in
+      let same : one ≡ other = one_tracked old one other (take fed.taken bytes) is.takes here in
       let stops : TermStopsFor out_room run.stop old.terminal bytes fed.taken other.terminal = subst (λ (n : ℕ). TermStopsFor out_room run.stop old.terminal bytes n other.terminal) (sym count) also.stops in
       let why : fed.stop ≡ run.stop =
-      seat_stops_so old one bytes fed.taken fed.stop run.stop is.takes is.stops (subst (λ (s : Seat). TermStopsFor out_room run.stop old.terminal bytes fed.taken s.terminal) (sym same) stops) going also_going in
+      tracked_stops_so old one bytes fed.taken fed.stop run.stop is.takes is.stops (subst (λ (s : TrackedTerminal). TermStopsFor out_room run.stop old.terminal bytes fed.taken s.terminal) (sym same) stops) going also_going in
       (ap (λ (taken : ℕ). fed_of taken fed.stop) count ∙ ap (λ (s : Stop). fed_of run.taken s) why, same)
 
   one_down : (terminal number : ℕ) (bytes : List ℕ) (old new other : ByteWorld) (answer reply : Stepped) → ComesDown terminal number bytes old answer new
@@ -255,10 +255,10 @@ module _ (one_terminal : OneTerminal) where
   one_down terminal number bytes old new other answer reply is none also other_none =
       let going = no_stop is.fed.stop is.fed.taken (sym (ap refused_at is.answers) ∙ none) in
       let also_going = no_stop also.fed.stop also.fed.taken (sym (ap refused_at also.answers) ∙ other_none) in
-      let same = one_seat_feeding (sitting_at terminal old).seat is.seat also.seat bytes is.fed also.fed is.feeds also.feeds going also_going in (
+      let same = one_tracked_feeding (slot_at terminal old).tracked is.tracked also.tracked bytes is.fed also.fed is.feeds also.feeds going also_going in (
         is.answers ∙ ap (λ (fed : Fed). answer_fed fed.stop fed.taken) same.0 ∙ sym also.answers,
-        is.leaves ∙ ap (λ (fed : Fed). down_made terminal number old fed is.seat) same.0
-            ∙ ap (λ (seat : Seat). down_made terminal number old also.fed seat) same.1 ∙ sym also.leaves,
+        is.leaves ∙ ap (λ (fed : Fed). down_made terminal number old fed is.tracked) same.0
+            ∙ ap (λ (tracked : TrackedTerminal). down_made terminal number old also.fed tracked) same.1 ∙ sym also.leaves,
       )
 
   one_going_down : (at : Option ℕ) (number : ℕ) (bytes : List ℕ) (old new other : ByteWorld) (answer reply : Stepped) → GoesDown at number bytes old answer new
@@ -275,7 +275,7 @@ one_press terminal key old new other answer reply (Presses.refused lacks is new_
 one_press terminal key old new other answer reply (Presses.done is new_is) none (Presses.refused lacks also other_is) other_none = absurd (not_memory reply also other_none)
 one_press terminal key old new other answer reply (Presses.done is new_is) none (Presses.done also other_is) other_none = (is ∙ sym also, new_is ∙ sym other_is)
 
-one_doing : (does : Option Sent) (old one other : Line) (act reply : Acted) → HostDoes does old act one → refused_at (answer_acted act) ≡ None
+one_doing : (does : Option Sent) (old one other : Connection) (act reply : Acted) → HostDoes does old act one → refused_at (answer_acted act) ≡ None
     → HostDoes does old reply other → refused_at (answer_acted reply) ≡ None → (act ≡ reply) × (one ≡ other)
 one_doing None old one other act reply is none also other_none = (is.0 ∙ sym also.0, is.1 ∙ sym also.1)
 one_doing (Some sent) old one other acted.Sent acted.Sent is none also other_none = (refl, is ∙ sym also)
@@ -288,9 +288,9 @@ one_act : (does : Option Sent) (number : ℕ) (old new other : ByteWorld) (answe
     → ActsHost does number old reply other → refused_at reply ≡ None → Alike answer reply new other
 one_act does number old new other answer reply is none also other_none =
     let same =
-    one_doing does (line_at number old.host) (line_at number is.host) (line_at number also.host) is.act also.act is.acts (sym (ap refused_at is.answers) ∙ none)
+    one_doing does (connection_at number old.host) (connection_at number is.host) (connection_at number also.host) is.act also.act is.acts (sym (ap refused_at is.answers) ∙ none)
     also.acts (sym (ap refused_at also.answers) ∙ other_none) in
-    let host : is.host ≡ also.host = is.others ∙ ap (λ (line : Line). with_line number line old.host) same.1 ∙ sym also.others in
+    let host : is.host ≡ also.host = is.others ∙ ap (λ (connection : Connection). with_connection number connection old.host) same.1 ∙ sym also.others in
     (is.answers ∙ ap answer_acted same.0 ∙ sym also.answers, is.leaves ∙ ap (λ (h : Host). with_host h old) host ∙ sym also.leaves)
 
 one_connection : (terminal : ℕ) (wanted : Option (List ℕ)) (number : ℕ) (old new other : ByteWorld) (answer reply : Stepped) → Connects terminal wanted number old answer new
@@ -322,7 +322,7 @@ module _ (one_host : OneHost) (one_terminal : OneTerminal) where
   one_happening (event.Up number count) old new other answer reply is none also other_none =
       one_up one_host number (take count (up_of number old)) old new other answer reply is none also other_none
   one_happening (event.Down number count) old new other answer reply is none also other_none =
-      one_going_down one_terminal (terminal_at number old.sittings) number (take count (down_of number old)) old new other answer reply is none also other_none
+      one_going_down one_terminal (terminal_at number old.slots) number (take count (down_of number old)) old new other answer reply is none also other_none
   one_happening (event.Act number) old new other answer reply is none also other_none =
       one_act (acted_by (application_of old.host.panels) (service_at number old.host)) number old new other answer reply is none also other_none
   one_happening (event.Note number text) old new other answer reply is none also other_none =

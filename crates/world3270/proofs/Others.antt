@@ -17,7 +17,7 @@ use Rattle.lu_pool.specs.declared.entry.Entry.{Entry}
 use Rattle.shadow.specs.Belief.{Shadow}
 use Rattle.shadow.specs.Exactness.{is_erase}
 use Rattle.shadow.specs.declared.fault.HeardFault.{HeardFault}
-use Rattle.tn3270e_msg.specs.HostTable.{host_line}
+use Rattle.tn3270e_msg.specs.HostTable.{host_transition}
 use Rattle.tn3270e_msg.specs.Talk.{Talk, follow, says}
 use Rattle.tn3270e_msg.specs.declared.cause.Cause.{Cause}
 use Rattle.tn3270e_msg.specs.declared.cause.Cause.TheVariants.{Negative}
@@ -32,10 +32,10 @@ use Rattle.host_core.specs.Messages.{ToTerminal, ToHost, Verdict}
 use Rattle.host_core.specs.Notes.{noted}
 use Rattle.host_core.specs.declared.turn.Turn.{Turn}
 use Rattle.host_core.specs.declared.turn.Turn.TheVariants as whose
-use Rattle.host_core.specs.declared.occasion.Occasion.{Occasion}
-use Rattle.host_core.specs.declared.occasion.Occasion.TheVariants as occasions
+use Rattle.host_core.specs.declared.turn_reason.TurnReason.{TurnReason}
+use Rattle.host_core.specs.declared.turn_reason.TurnReason.TheVariants as turn_reasons
 use Rattle.host_core.specs.Session.{Conn, Pending, is_agreed}
-use Rattle.host_core.specs.Takes.{Answers, Step, quiet, closed_by, asked, talked_on, hears, believed, once_read, buffer_came, key_came, key_data_came, data_came, refused, write_refused, if_answers, verdict_came, read_verdict_came, response_came, once_agreed, took as host_took}
+use Rattle.host_core.specs.Takes.{Answers, HostStep, quiet, closed_by, asked, talked_on, hears, believed, once_read, buffer_came, key_came, key_data_came, data_came, refused, write_refused, if_answers, verdict_came, read_verdict_came, response_came, once_agreed, took as host_took}
 use Rattle.world3270.specs.Always.{Always}
 use Rattle.world3270.specs.Given.{Given}
 use Rattle.world3270.specs.Happens.{closed_if, freed_if, came_up, came_down, went_down, key_went, term_saw, joined, term_anew, done}
@@ -56,7 +56,7 @@ closed_link (Some cause) world = refl
 came_up_link : (world : World) (at number : ℕ) (up : List ToHost) → (number == at) ≡ false → (came_up at up world).link number ≡ world.link number
 came_up_link world at number [] e = refl
 came_up_link world at number (message ∷ rest) e =
-    let step : Step = host_took (answer_to world.pool) (world.link at).host message in
+    let step : HostStep = host_took (answer_to world.pool) (world.link at).host message in
     let new : Link = host_stepped step rest (world.link at) in
     ap (λ (links : ℕ → Link). links number) (closed_link step.closes (record world { pool = freed_if at step.closes (granted_if at step.grants world.pool); link = with_at at new world.link }))
     ∙ with_other at number new world.link (differs number at e)
@@ -143,16 +143,16 @@ talked_grants pool conn talk (reply.Refused reason) lu e = absurd (cc)
 talked_grants pool conn talk (reply.Close cause) lu e = absurd (cc)
 
 -- records grant nothing
-believed_grants : (occasion : Occasion) (pending : Pending) (conn : Conn) (result : Result Shadow HeardFault) → (believed occasion pending conn result).grants ≡ None
-believed_grants occasion pending conn (Ok shadow) = refl
-believed_grants occasion pending conn (Err fault) = refl
+believed_grants : (turn_reason : TurnReason) (pending : Pending) (conn : Conn) (result : Result Shadow HeardFault) → (believed turn_reason pending conn result).grants ≡ None
+believed_grants turn_reason pending conn (Ok shadow) = refl
+believed_grants turn_reason pending conn (Err fault) = refl
 
 key_grants : (parts : InboundParts) (aid : Aid) (conn : Conn) → (key_came parts aid conn).grants ≡ None
 key_grants parts NoAid conn = refl
-key_grants parts Enter conn = believed_grants (occasions.Key Enter false) conn.pending conn (hears parts conn)
-key_grants parts Clear conn = believed_grants (occasions.Key Clear false) conn.pending conn (hears parts conn)
-key_grants parts (Pf key) conn = believed_grants (occasions.Key (Pf key) false) conn.pending conn (hears parts conn)
-key_grants parts (Pa key) conn = believed_grants (occasions.Key (Pa key) false) conn.pending conn (hears parts conn)
+key_grants parts Enter conn = believed_grants (turn_reasons.Key Enter false) conn.pending conn (hears parts conn)
+key_grants parts Clear conn = believed_grants (turn_reasons.Key Clear false) conn.pending conn (hears parts conn)
+key_grants parts (Pf key) conn = believed_grants (turn_reasons.Key (Pf key) false) conn.pending conn (hears parts conn)
+key_grants parts (Pa key) conn = believed_grants (turn_reasons.Key (Pa key) false) conn.pending conn (hears parts conn)
 
 key_data_grants : (parts : InboundParts) (form : Form) (conn : Conn) → (key_data_came parts form conn).grants ≡ None
 key_data_grants parts Modified conn = key_grants parts parts.aid conn
@@ -160,7 +160,7 @@ key_data_grants parts AllModified conn = refl
 key_data_grants parts Buffer conn = refl
 
 buffer_grants : (parts : InboundParts) (form : Form) (conn : Conn) → (buffer_came parts form conn).grants ≡ None
-buffer_grants parts Buffer conn = believed_grants (once_read conn.occasion) Pending.Nothing conn (hears parts conn)
+buffer_grants parts Buffer conn = believed_grants (once_read conn.turn_reason) Pending.Nothing conn (hears parts conn)
 buffer_grants parts Modified conn = refl
 buffer_grants parts AllModified conn = refl
 
@@ -172,14 +172,14 @@ data_grants parts whose.Host (Pending.Noting number command) conn = refl
 data_grants parts whose.Terminal Pending.Nothing conn = key_data_grants parts parts.form conn
 data_grants parts whose.Terminal (Pending.Noting number command) conn = key_data_grants parts parts.form conn
 
-if_answers_grants : (b : Bool) (step : Step) (conn : Conn) → step.grants ≡ None → (if_answers b step conn).grants ≡ None
+if_answers_grants : (b : Bool) (step : HostStep) (conn : Conn) → step.grants ≡ None → (if_answers b step conn).grants ≡ None
 if_answers_grants true step conn e = e
 if_answers_grants false step conn e = refl
 
 write_refused_grants : (command : CommandParts) (conn : Conn) → (write_refused command conn).grants ≡ None
 write_refused_grants command conn = by_test (is_erase command.code)
   where
-    by_test : (b : Bool) → Step.grants (if b then closed_by Negative conn else quiet (refused conn)) ≡ None
+    by_test : (b : Bool) → HostStep.grants (if b then closed_by Negative conn else quiet (refused conn)) ≡ None
     by_test true = refl
     by_test false = refl
 
@@ -197,7 +197,7 @@ response_grants number verdict (Pending.Writing pending command) conn = if_answe
 response_grants number verdict (Pending.Noting pending command) conn = if_answers_grants (number == pending) _ conn (verdict_grants command verdict conn)
 response_grants number verdict (Pending.Reading pending) conn = read_verdict_grants (number == pending) verdict conn
 
-once_agreed_grants : (b : Bool) (step : Step) (conn : Conn) → step.grants ≡ None → (once_agreed b step conn).grants ≡ None
+once_agreed_grants : (b : Bool) (step : HostStep) (conn : Conn) → step.grants ≡ None → (once_agreed b step conn).grants ≡ None
 once_agreed_grants true step conn e = e
 once_agreed_grants false step conn e = refl
 
@@ -206,7 +206,7 @@ not_both granted lu none some = absurd (cc)
 
 grants : (pool : Answers) (conn : Conn) (message : ToHost) (lu : List ℕ) → (host_took pool conn message).grants ≡ Some lu → IsAnswer pool lu
 grants pool conn (ToHost.TalksUp saying) lu e =
-    let next : Talk HostState × Reply = follow Closed conn.talk (host_line conn.talk.state (says saying)) in
+    let next : Talk HostState × Reply = follow Closed conn.talk (host_transition conn.talk.state (says saying)) in
     talked_grants pool conn next.0 next.1 lu e
 grants pool conn (ToHost.Data parts) lu e = absurd (not_both _ lu (once_agreed_grants (is_agreed conn.talk.state) (data_came parts conn.turn conn.pending conn) conn (data_grants parts conn.turn conn.pending conn)) e)
 grants pool conn (ToHost.Response number verdict) lu e =
@@ -233,7 +233,7 @@ came_up_holds : Given → (world : World) (at number : ℕ) (lu : List ℕ) (up 
     → holder (came_up at up world).pool lu ≡ Some number
 came_up_holds given world at number lu [] sound e held = held
 came_up_holds given world at number lu (message ∷ rest) sound e held =
-    let step : Step = host_took (answer_to world.pool) (world.link at).host message in
+    let step : HostStep = host_took (answer_to world.pool) (world.link at).host message in
     ap (λ pool. holder pool lu) (closed_pool step.closes (record world { pool = freed_if at step.closes (granted_if at step.grants world.pool); link = with_at at (host_stepped step rest (world.link at)) world.link }))
     ∙ freed_holds given (granted_if at step.grants world.pool) at number lu step.closes e
     (granted_holds given world.pool at number lu step.grants sound (grants (answer_to world.pool) (world.link at).host message) held)
@@ -274,7 +274,7 @@ pub came_up_was : Given → (world : World) (at number : ℕ) (lu : List ℕ) (u
     → holder world.pool lu ≡ Some number
 came_up_was given world at number lu [] e held = held
 came_up_was given world at number lu (message ∷ rest) e held =
-    let step : Step = host_took (answer_to world.pool) (world.link at).host message in
+    let step : HostStep = host_took (answer_to world.pool) (world.link at).host message in
     granted_was given world.pool at number lu step.grants (grants (answer_to world.pool) (world.link at).host message) e
     (freed_if_was given (granted_if at step.grants world.pool) at number lu step.closes
     (ap (λ pool. holder pool lu) (sym (closed_pool step.closes (record world { pool = freed_if at step.closes (granted_if at step.grants world.pool); link = with_at at (host_stepped step rest (world.link at)) world.link }))) ∙ held))

@@ -3,19 +3,19 @@ use Rattle.std.proofs.Common.{◌≡◌, ◌<◌, not, ℕ, Bool, true, false, O
 use Rattle.std.proofs.lemmas.List.{length-set}
 use Rattle.lu_pool.specs.Holders.{given_back}
 use Rattle.telnet_wire.specs.Reading.{Rest}
-use Rattle.host_core.specs.State.{Host, Line, unused, line_at, service_at}
-use Rattle.world3270.specs.ByteSteps.{lost_ways, host_gone, terminal_gone}
-use Rattle.world3270.specs.ByteWorld.{ByteWorld, Under, Ways, Sitting, under_way, cut, left, is_live, is_there, ways_at, sitting_at, with_ways, with_sitting, host_there, host_out, out_of}
+use Rattle.host_core.specs.State.{Host, Connection, unused, connection_at, service_at}
+use Rattle.world3270.specs.ByteSteps.{lost_transits, host_gone, terminal_gone}
+use Rattle.world3270.specs.ByteWorld.{ByteWorld, Transit, Transits, TerminalSlot, under_way, cut, sender_gone, is_live, is_there, transits_at, slot_at, with_transits, with_slot, host_there, host_out, out_of}
 use Rattle.world3270.specs.Happens.{host_parted, parted}
 use Rattle.world3270.specs.Link.{Link, cut as link_cut, host_left, term_left}
 use Rattle.world3270.specs.Places.{EndsAgree, UpIsHeld}
-use Rattle.world3270.specs.Seats.{Seat}
-use Rattle.world3270.specs.Standing.{WorldStands, IsFlow, IsAt, IsNotClosed, IsSettled, AreWays, conn_of, rest_of, seat_of, link_with}
+use Rattle.world3270.specs.TrackedTerminals.{TrackedTerminal}
+use Rattle.world3270.specs.Standing.{WorldStands, IsFlow, IsAt, IsNotClosed, IsSettled, AreTransits, conn_of, rest_of, tracked_of, link_with}
 use Rattle.world3270.specs.Stands.{BytesUp, BytesDown, ByteLink, Holds, LinkStands}
 use Rattle.world3270.specs.StandsLinks.{LossStands, HostLeaves, TermLeaves}
 use Rattle.world3270.specs.Terminal.{Display}
 use Rattle.world3270.specs.World.{Place, World, with_link}
-use Rattle.world3270.proofs.Frames.{ways_same, ways_other, sitting_same, sitting_other, line_same, line_other, IsHere, beyond_is_alone, changed_stands, flow_there, is_within, link_there, sits_same, who_was_there}
+use Rattle.world3270.proofs.Frames.{transits_same, transits_other, slot_same, slot_other, connection_same, connection_other, IsHere, beyond_is_alone, changed_stands, flow_there, is_within, link_there, sits_same, who_was_there}
 use Rattle.world3270.proofs.OneOfMany.{with_other, with_same}
 use Rattle.world3270.proofs.UnderWay.{cut_under_way}
 
@@ -29,7 +29,7 @@ pub record Alike (old new : ByteLink) (link : Link) : Type 0 where
   pub down : new.down ≡ old.down
   pub up : new.up ≡ old.up
   pub host : link.host_here ≡ true → (new.host ≡ old.host) × (new.host_rest ≡ old.host_rest)
-  pub seat : (terminal : ℕ) → link.term_here ≡ Some terminal → new.seat ≡ old.seat
+  pub tracked : (terminal : ℕ) → link.term_here ≡ Some terminal → new.tracked ≡ old.tracked
 
 pub like_stands : (old new : ByteLink) (link : Link) → Alike old new link → LinkStands old link → LinkStands new link
 like_stands old new link like stands = record {
@@ -40,10 +40,10 @@ like_stands old new link like stands = record {
     host = same.0 ∙ host.host;
     up = subst (λ (r : Rest). BytesUp r new.up link.up) (sym same.1) (subst (λ (b : List ℕ). BytesUp old.host_rest b link.up) (sym like.up) host.up);
   };
-  term = λ terminal here. let term = stands.term terminal here in let same = like.seat terminal here in record {
+  term = λ terminal here. let term = stands.term terminal here in let same = like.tracked terminal here in record {
     rest = term.rest;
-    holds = subst (λ (s : Seat). Holds term.rest s link.term) (sym same) term.holds;
-    silent = ap (λ (s : Seat). s.terminal.out) same ∙ term.silent;
+    holds = subst (λ (s : TrackedTerminal). Holds term.rest s link.term) (sym same) term.holds;
+    silent = ap (λ (s : TrackedTerminal). s.terminal.out) same ∙ term.silent;
     down = subst (λ (b : List ℕ). BytesDown term.rest b link.down) (sym like.down) term.down;
   };
 }
@@ -51,56 +51,56 @@ like_stands old new link like stands = record {
 -- ---- one direction of a lost connection
 
 -- it is lost, what was under way still is, and it fits its sender
-pub record Passes (out : List ℕ) (under : Under) (there : Bool) (now_out : List ℕ) (now : Under) : Type 0 where
+pub record Passes (out : List ℕ) (under : Transit) (there : Bool) (now_out : List ℕ) (now : Transit) : Type 0 where
   pub lost : is_live now ≡ false
   pub same : under_way now now_out ≡ under_way under out
   pub flow : IsFlow there now_out now
 
-cut_passes : (there : Bool) (out : List ℕ) (under : Under) → (is_live under ≡ true → there ≡ true) → IsFlow there out under
+cut_passes : (there : Bool) (out : List ℕ) (under : Transit) → (is_live under ≡ true → there ≡ true) → IsFlow there out under
     → Passes out under there out (cut (length out) under)
-cut_passes there out Under.Live lives flow = record { lost = refl; same = cut_under_way Under.Live out; flow = le_refl (length out) }
-cut_passes there out (Under.Cut kept) lives flow = record { lost = refl; same = refl; flow = flow }
-cut_passes there out (Under.Left bytes) lives flow = record { lost = refl; same = refl; flow = flow }
+cut_passes there out Transit.Live lives flow = record { lost = refl; same = cut_under_way Transit.Live out; flow = le_refl (length out) }
+cut_passes there out (Transit.Cut kept) lives flow = record { lost = refl; same = refl; flow = flow }
+cut_passes there out (Transit.SenderGone bytes) lives flow = record { lost = refl; same = refl; flow = flow }
 
-pub left_passes : (out : List ℕ) (under : Under) → Passes out under false [] (left out under)
-left_passes out Under.Live = record { lost = refl; same = refl; flow = refl }
-left_passes out (Under.Cut kept) = record { lost = refl; same = refl; flow = refl }
-left_passes out (Under.Left bytes) = record { lost = refl; same = refl; flow = refl }
+pub left_passes : (out : List ℕ) (under : Transit) → Passes out under false [] (sender_gone out under)
+left_passes out Transit.Live = record { lost = refl; same = refl; flow = refl }
+left_passes out (Transit.Cut kept) = record { lost = refl; same = refl; flow = refl }
+left_passes out (Transit.SenderGone bytes) = record { lost = refl; same = refl; flow = refl }
 
 -- ---- both directions
 
 -- what is lost: the ways, the host's line, who is there, and what a terminal there has to send, as they are then
-pub record Gone (number : ℕ) (old new : ByteWorld) (was here : Option ℕ) (line : Line) (ways : Ways) (out : List ℕ) : Type 0 where
-  pub ways_are : ways_at number new ≡ ways
-  pub line_is : line_at number new.host ≡ line
+pub record Gone (number : ℕ) (old new : ByteWorld) (was here : Option ℕ) (connection : Connection) (transits : Transits) (out : List ℕ) : Type 0 where
+  pub transits_are : transits_at number new ≡ transits
+  pub connection_is : connection_at number new.host ≡ connection
   pub out_is : out_of here new ≡ out
-  pub down : Passes (host_out number old) (ways_at number old).down (is_there line.service) line.out ways.down
-  pub up : Passes (out_of was old) (ways_at number old).up (is_some here) out ways.up
+  pub down : Passes (host_out number old) (transits_at number old).down (is_there connection.service) connection.out transits.down
+  pub up : Passes (out_of was old) (transits_at number old).up (is_some here) out transits.up
 
-module _ (number : ℕ) (old new : ByteWorld) (was here : Option ℕ) (line : Line) (ways : Ways) (out : List ℕ) (gone : Gone number old new was here line ways out) where
-  pub gone_flow : AreWays here number new
+module _ (number : ℕ) (old new : ByteWorld) (was here : Option ℕ) (connection : Connection) (transits : Transits) (out : List ℕ) (gone : Gone number old new was here connection transits out) where
+  pub gone_flow : AreTransits here number new
   gone_flow = record {
-    together = ap (λ (w : Ways). is_live w.up) gone.ways_are ∙ gone.up.lost ∙ sym gone.down.lost ∙ sym (ap (λ (w : Ways). is_live w.down) gone.ways_are);
-    down = subst (λ (w : Ways). IsFlow (host_there number new) (host_out number new) w.down) (sym gone.ways_are)
-        (subst (λ (l : Line). IsFlow (is_there l.service) l.out ways.down) (sym gone.line_is) gone.down.flow);
-    up = subst (λ (w : Ways). IsFlow (is_some here) (out_of here new) w.up) (sym gone.ways_are)
-        (subst (λ (o : List ℕ). IsFlow (is_some here) o ways.up) (sym gone.out_is) gone.up.flow);
+    together = ap (λ (w : Transits). is_live w.up) gone.transits_are ∙ gone.up.lost ∙ sym gone.down.lost ∙ sym (ap (λ (w : Transits). is_live w.down) gone.transits_are);
+    down = subst (λ (w : Transits). IsFlow (host_there number new) (host_out number new) w.down) (sym gone.transits_are)
+        (subst (λ (l : Connection). IsFlow (is_there l.service) l.out transits.down) (sym gone.connection_is) gone.down.flow);
+    up = subst (λ (w : Transits). IsFlow (is_some here) (out_of here new) w.up) (sym gone.transits_are)
+        (subst (λ (o : List ℕ). IsFlow (is_some here) o transits.up) (sym gone.out_is) gone.up.flow);
   }
 
-  pub gone_stands : (link : Link) → (link.host_here ≡ true → line.service ≡ service_at number old.host)
-      → ((terminal : ℕ) → link.term_here ≡ Some terminal → seat_of here new ≡ seat_of was old)
-      → LinkStands (record (link_with was number old) { lost = true; host_here = is_there line.service; term_here = here }) link
+  pub gone_stands : (link : Link) → (link.host_here ≡ true → connection.service ≡ service_at number old.host)
+      → ((terminal : ℕ) → link.term_here ≡ Some terminal → tracked_of here new ≡ tracked_of was old)
+      → LinkStands (record (link_with was number old) { lost = true; host_here = is_there connection.service; term_here = here }) link
       → LinkStands (link_with here number new) link
-  gone_stands link host seat stands =
-      like_stands (record (link_with was number old) { lost = true; host_here = is_there line.service; term_here = here }) (link_with here number new) link
+  gone_stands link host tracked stands =
+      like_stands (record (link_with was number old) { lost = true; host_here = is_there connection.service; term_here = here }) (link_with here number new) link
       (record {
-        lost = ap (λ (w : Ways). not (is_live w.down)) gone.ways_are ∙ ap not gone.down.lost;
-        host_here = ap (λ (l : Line). is_there l.service) gone.line_is;
+        lost = ap (λ (w : Transits). not (is_live w.down)) gone.transits_are ∙ ap not gone.down.lost;
+        host_here = ap (λ (l : Connection). is_there l.service) gone.connection_is;
         term_here = refl;
-        down = ap (λ (w : Ways). under_way w.down (host_out number new)) gone.ways_are ∙ ap (λ (l : Line). under_way ways.down l.out) gone.line_is ∙ gone.down.same;
-        up = ap (λ (w : Ways). under_way w.up (out_of here new)) gone.ways_are ∙ ap (λ (o : List ℕ). under_way ways.up o) gone.out_is ∙ gone.up.same;
-        host = λ e. let same = ap (λ (l : Line). l.service) gone.line_is ∙ host e in (ap conn_of same, ap rest_of same);
-        seat = seat;
+        down = ap (λ (w : Transits). under_way w.down (host_out number new)) gone.transits_are ∙ ap (λ (l : Connection). under_way transits.down l.out) gone.connection_is ∙ gone.down.same;
+        up = ap (λ (w : Transits). under_way w.up (out_of here new)) gone.transits_are ∙ ap (λ (o : List ℕ). under_way transits.up o) gone.out_is ∙ gone.up.same;
+        host = λ e. let same = ap (λ (l : Connection). l.service) gone.connection_is ∙ host e in (ap conn_of same, ap rest_of same);
+        tracked = tracked;
       })
       stands
 
@@ -110,111 +110,111 @@ module _ (number : ℕ) (old : ByteWorld) (was : World) (agree : EndsAgree was) 
   abbrev here : Option ℕ
   here = (was.link number).term_here
 
-  its_flow : AreWays here number old
+  its_flow : AreTransits here number old
   its_flow = flow_there number old was agree stands
 
   its_link : LinkStands (link_with here number old) (was.link number)
   its_link = link_there number old was agree stands
 
   module _ (held : UpIsHeld was) where
-    pub lives : is_live (ways_at number old).down ≡ true → (was.link number).lost ≡ false
+    pub lives : is_live (transits_at number old).down ≡ true → (was.link number).lost ≡ false
     lives live = sym its_link.lost ∙ ap not live
 
-    lost_down : Passes (host_out number old) (ways_at number old).down (host_there number old) (host_out number old) (lost_ways number old).down
-    lost_down = cut_passes (host_there number old) (host_out number old) (ways_at number old).down
+    lost_down : Passes (host_out number old) (transits_at number old).down (host_there number old) (host_out number old) (lost_transits number old).down
+    lost_down = cut_passes (host_there number old) (host_out number old) (transits_at number old).down
         (λ live. its_link.host_here ∙ (held number (lives live)).host) its_flow.down
 
-    pub lost_up : Passes (out_of here old) (ways_at number old).up (is_some here) (out_of here old) (lost_ways number old).up
+    pub lost_up : Passes (out_of here old) (transits_at number old).up (is_some here) (out_of here old) (lost_transits number old).up
     lost_up =
-        let up : Under = (ways_at number old).up in
+        let up : Transit = (transits_at number old).up in
         subst (λ (h : Option ℕ). Passes (out_of here old) up (is_some here) (out_of here old) (cut (length (out_of h old)) up)) (sym (who_was_there number old was agree stands))
-        (cut_passes (is_some here) (out_of here old) (ways_at number old).up
+        (cut_passes (is_some here) (out_of here old) (transits_at number old).up
         (λ live. (held number (lives (sym its_flow.together ∙ live))).terminal) its_flow.up)
 
     -- ---- it is lost, or the host leaves it
 
     pub lost_stands : LossStands → number < length old.links → EndsAgree (with_link number (link_cut (was.link number)) was)
-        → WorldStands (with_ways number (lost_ways number old) old) (with_link number (link_cut (was.link number)) was)
+        → WorldStands (with_transits number (lost_transits number old) old) (with_link number (link_cut (was.link number)) was)
     lost_stands loss below agrees =
-        let new : ByteWorld = with_ways number (lost_ways number old) old in
+        let new : ByteWorld = with_transits number (lost_transits number old) old in
         let now : World = with_link number (link_cut (was.link number)) was in
-        let nobody : ℕ = length old.sittings in
+        let nobody : ℕ = length old.slots in
         let same = sits_same here old new refl in
         let is : now.link number ≡ link_cut (was.link number) = with_same number (link_cut (was.link number)) was.link in
-        let gone : Gone number old new here here (line_at number old.host) (lost_ways number old) (out_of here old) = record {
-          ways_are = ways_same number (lost_ways number old) old below;
-          line_is = refl;
+        let gone : Gone number old new here here (connection_at number old.host) (lost_transits number old) (out_of here old) = record {
+          transits_are = transits_same number (lost_transits number old) old below;
+          connection_is = refl;
           out_is = same.0;
           down = lost_down;
           up = lost_up;
         } in
         changed_stands number nobody old new was now
         (record {
-          lines = λ other differs. refl;
-          ways = λ other differs. ways_other number other (lost_ways number old) old differs;
-          sittings = λ other differs. refl;
+          connections = λ other differs. refl;
+          transits = λ other differs. transits_other number other (lost_transits number old) old differs;
+          slots = λ other differs. refl;
           links = λ other differs. with_other number other (link_cut (was.link number)) was.link differs;
           places = λ other differs. refl;
-          line_count = refl;
-          way_count = length-set old.links number (lost_ways number old);
-          sitting_count = refl;
+          connection_count = refl;
+          way_count = length-set old.links number (lost_transits number old);
+          slot_count = refl;
           terminals = refl;
           pool = stands.pool;
           before = beyond_is_alone number old was stands;
           behind = beyond_is_alone number old was stands;
           none_closed = stands.none_closed number;
           settled = stands.settled number;
-          flow = subst (λ (l : Link). AreWays l.term_here number new) (sym is)
-              (gone_flow number old new here here (line_at number old.host) (lost_ways number old) (out_of here old) gone);
+          flow = subst (λ (l : Link). AreTransits l.term_here number new) (sym is)
+              (gone_flow number old new here here (connection_at number old.host) (lost_transits number old) (out_of here old) gone);
           link = subst (λ (l : Link). LinkStands (link_with l.term_here number new) l) (sym is)
-              (gone_stands number old new here here (line_at number old.host) (lost_ways number old) (out_of here old) gone (link_cut (was.link number))
+              (gone_stands number old new here here (connection_at number old.host) (lost_transits number old) (out_of here old) gone (link_cut (was.link number))
               (λ e. refl) (λ terminal e. same.1) (loss (link_with here number old) (was.link number) its_link));
           place = stands.places nobody;
         })
         agree stands agrees
 
     -- the ways of a connection that the host leaves
-    abbrev host_ways : Ways
-    host_ways = record (lost_ways number old) { down = left (host_out number old) (ways_at number old).down }
+    abbrev host_transits : Transits
+    host_transits = record (lost_transits number old) { down = sender_gone (host_out number old) (transits_at number old).down }
 
     pub host_gone_stands : HostLeaves → number < length old.links → EndsAgree (host_parted number was)
         → WorldStands (host_gone number old) (host_parted number was)
     host_gone_stands leaves below agrees =
         let new : ByteWorld = host_gone number old in
         let now : World = host_parted number was in
-        let nobody : ℕ = length old.sittings in
+        let nobody : ℕ = length old.slots in
         let same = sits_same here old new refl in
         let given : Host = record old.host { pool = given_back number old.host.pool } in
         let is : now.link number ≡ host_left (was.link number) = with_same number (host_left (was.link number)) was.link in
-        let within : number < length old.host.lines = subst (λ (n : ℕ). number < n) (stands.ways ∙ sym stands.lines) below in
-        let line : line_at number new.host ≡ unused = line_same number unused given within in
-        let gone : Gone number old new here here unused host_ways (out_of here old) = record {
-          ways_are = ways_same number host_ways old below;
-          line_is = line;
+        let within : number < length old.host.connections = subst (λ (n : ℕ). number < n) (stands.transits ∙ sym stands.connections) below in
+        let connection : connection_at number new.host ≡ unused = connection_same number unused given within in
+        let gone : Gone number old new here here unused host_transits (out_of here old) = record {
+          transits_are = transits_same number host_transits old below;
+          connection_is = connection;
           out_is = same.0;
-          down = left_passes (host_out number old) (ways_at number old).down;
+          down = left_passes (host_out number old) (transits_at number old).down;
           up = lost_up;
         } in
         changed_stands number nobody old new was now
         (record {
-          lines = λ other differs. line_other number other unused given differs;
-          ways = λ other differs. ways_other number other host_ways old differs;
-          sittings = λ other differs. refl;
+          connections = λ other differs. connection_other number other unused given differs;
+          transits = λ other differs. transits_other number other host_transits old differs;
+          slots = λ other differs. refl;
           links = λ other differs. with_other number other (host_left (was.link number)) was.link differs;
           places = λ other differs. refl;
-          line_count = length-set old.host.lines number unused;
-          way_count = length-set old.links number host_ways;
-          sitting_count = refl;
+          connection_count = length-set old.host.connections number unused;
+          way_count = length-set old.links number host_transits;
+          slot_count = refl;
           terminals = refl;
           pool = ap (given_back number) stands.pool;
           before = beyond_is_alone number old was stands;
           behind = beyond_is_alone number old was stands;
-          none_closed = subst (λ (l : Line). IsNotClosed l.service) (sym line) tt;
-          settled = subst (λ (l : Line). IsSettled l) (sym line) (λ free. refl);
-          flow = subst (λ (l : Link). AreWays l.term_here number new) (sym is)
-              (gone_flow number old new here here unused host_ways (out_of here old) gone);
+          none_closed = subst (λ (l : Connection). IsNotClosed l.service) (sym connection) tt;
+          settled = subst (λ (l : Connection). IsSettled l) (sym connection) (λ free. refl);
+          flow = subst (λ (l : Link). AreTransits l.term_here number new) (sym is)
+              (gone_flow number old new here here unused host_transits (out_of here old) gone);
           link = subst (λ (l : Link). LinkStands (link_with l.term_here number new) l) (sym is)
-              (gone_stands number old new here here unused host_ways (out_of here old) gone (host_left (was.link number))
+              (gone_stands number old new here here unused host_transits (out_of here old) gone (host_left (was.link number))
               (λ e. absurd (cc)) (λ terminal e. same.1) (leaves (link_with here number old) (was.link number) its_link));
           place = stands.places nobody;
         })
@@ -223,50 +223,50 @@ module _ (number : ℕ) (old : ByteWorld) (was : World) (agree : EndsAgree was) 
     -- ---- a terminal leaves it
 
     -- the ways of a connection that this terminal leaves
-    abbrev terminal_ways : ℕ → Ways
-    terminal_ways terminal = record (lost_ways number old) { up = left (sitting_at terminal old).seat.terminal.out (ways_at number old).up }
+    abbrev terminal_transits : ℕ → Transits
+    terminal_transits terminal = record (lost_transits number old) { up = sender_gone (slot_at terminal old).tracked.terminal.out (transits_at number old).up }
 
-    pub parted_stands : TermLeaves → (terminal : ℕ) (sitting : Sitting) (display : Display) → terminal < length old.sittings
-        → was.place terminal ≡ Place.At number → IsAt sitting (Place.Alone display) → EndsAgree (parted terminal number display was)
-        → WorldStands (terminal_gone sitting terminal number old) (parted terminal number display was)
-    parted_stands leaves terminal sitting display there_is at alone agrees =
-        let new : ByteWorld = terminal_gone sitting terminal number old in
+    pub parted_stands : TermLeaves → (terminal : ℕ) (slot : TerminalSlot) (display : Display) → terminal < length old.slots
+        → was.place terminal ≡ Place.At number → IsAt slot (Place.Alone display) → EndsAgree (parted terminal number display was)
+        → WorldStands (terminal_gone slot terminal number old) (parted terminal number display was)
+    parted_stands leaves terminal slot display there_is at alone agrees =
+        let new : ByteWorld = terminal_gone slot terminal number old in
         let now : World = parted terminal number display was in
         let holds : here ≡ Some terminal = (agree terminal number).0 at in
         let below : number < length old.links = is_within number old was agree stands terminal holds in
-        let line : Line = line_at number old.host in
+        let connection : Connection = connection_at number old.host in
         let is : now.link number ≡ term_left (was.link number) = with_same number (term_left (was.link number)) was.link in
         let goes : now.place terminal ≡ Place.Alone display = with_same terminal (Place.Alone display) was.place in
-        let gone : Gone number old new here None line (terminal_ways terminal) [] = record {
-          ways_are = ways_same number (terminal_ways terminal) (with_sitting terminal sitting old) below;
-          line_is = refl;
+        let gone : Gone number old new here None connection (terminal_transits terminal) [] = record {
+          transits_are = transits_same number (terminal_transits terminal) (with_slot terminal slot old) below;
+          connection_is = refl;
           out_is = refl;
           down = lost_down;
-          up = subst (λ (h : Option ℕ). Passes (out_of h old) (ways_at number old).up false [] (left (sitting_at terminal old).seat.terminal.out (ways_at number old).up)) (sym holds)
-              (left_passes (sitting_at terminal old).seat.terminal.out (ways_at number old).up);
+          up = subst (λ (h : Option ℕ). Passes (out_of h old) (transits_at number old).up false [] (sender_gone (slot_at terminal old).tracked.terminal.out (transits_at number old).up)) (sym holds)
+              (left_passes (slot_at terminal old).tracked.terminal.out (transits_at number old).up);
         } in
         changed_stands number terminal old new was now
         (record {
-          lines = λ other differs. refl;
-          ways = λ other differs. ways_other number other (terminal_ways terminal) (with_sitting terminal sitting old) differs;
-          sittings = λ other differs. sitting_other terminal other sitting old differs;
+          connections = λ other differs. refl;
+          transits = λ other differs. transits_other number other (terminal_transits terminal) (with_slot terminal slot old) differs;
+          slots = λ other differs. slot_other terminal other slot old differs;
           links = λ other differs. with_other number other (term_left (was.link number)) was.link differs;
           places = λ other differs. with_other terminal other (Place.Alone display) was.place differs;
-          line_count = refl;
-          way_count = length-set old.links number (terminal_ways terminal);
-          sitting_count = length-set old.sittings terminal sitting;
+          connection_count = refl;
+          way_count = length-set old.links number (terminal_transits terminal);
+          slot_count = length-set old.slots terminal slot;
           terminals = refl;
           pool = stands.pool;
           before = subst (λ (p : Place). IsHere number p) (sym at) refl;
           behind = subst (λ (p : Place). IsHere number p) (sym goes) tt;
           none_closed = stands.none_closed number;
           settled = stands.settled number;
-          flow = subst (λ (l : Link). AreWays l.term_here number new) (sym is)
-              (gone_flow number old new here None line (terminal_ways terminal) [] gone);
+          flow = subst (λ (l : Link). AreTransits l.term_here number new) (sym is)
+              (gone_flow number old new here None connection (terminal_transits terminal) [] gone);
           link = subst (λ (l : Link). LinkStands (link_with l.term_here number new) l) (sym is)
-              (gone_stands number old new here None line (terminal_ways terminal) [] gone (term_left (was.link number))
+              (gone_stands number old new here None connection (terminal_transits terminal) [] gone (term_left (was.link number))
               (λ e. refl) (λ who e. absurd (cc)) (leaves (link_with here number old) (was.link number) its_link));
-          place = subst (λ (s : Sitting). IsAt s (now.place terminal)) (sym (sitting_same terminal sitting old there_is))
-              (subst (λ (p : Place). IsAt sitting p) (sym goes) alone);
+          place = subst (λ (s : TerminalSlot). IsAt s (now.place terminal)) (sym (slot_same terminal slot old there_is))
+              (subst (λ (p : Place). IsAt slot p) (sym goes) alone);
         })
         agree stands agrees

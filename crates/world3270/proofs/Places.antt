@@ -10,7 +10,7 @@ use Rattle.host_core.specs.Acts.{Sent, acted}
 use Rattle.host_core.specs.Application.{Application}
 use Rattle.host_core.specs.Messages.{ToTerminal, ToHost}
 use Rattle.host_core.specs.Notes.{noted}
-use Rattle.host_core.specs.Takes.{Step, took as host_took}
+use Rattle.host_core.specs.Takes.{HostStep, took as host_took}
 use Rattle.world3270.specs.Always.{Always}
 use Rattle.world3270.specs.Happens.{closed_if, said, freed_if, came_up, left_alone, place_after, came_down, went_down, key_went, parted, term_saw, joined, term_anew, host_left_from, host_anew, done, happens, run}
 use Rattle.world3270.specs.Link.{Link, is_free, begun, cut, host_left, host_left_if, host_stepped, host_sent, term_left, term_left_if, term_stepped}
@@ -102,7 +102,7 @@ host_leaves_it (Some cause) link = refl
 came_up_agrees : (world : World) (number : ℕ) (up : List ToHost) → EndsAgree world → EndsAgree (came_up number up world)
 came_up_agrees world number [] a = a
 came_up_agrees world number (message ∷ rest) a =
-    let step : Step = host_took (answer_to world.pool) (world.link number).host message in
+    let step : HostStep = host_took (answer_to world.pool) (world.link number).host message in
     let new : Link = host_stepped step rest (world.link number) in
     closed_agrees step.closes (record world { pool = freed_if number step.closes (granted_if number step.grants world.pool); link = with_at number new world.link })
     (link_changed world.link world.place number new (host_leaves_it step.closes _) a)

@@ -5,7 +5,7 @@ use Rattle.keyboard.specs.declared.key.Key.TheVariants as key
 use Rattle.tn3270e_msg.specs.Device.{device_of}
 use Rattle.world3270.specs.ExampleApplication.{example}
 use Rattle.world3270.specs.ExampleEnds.{presses, after, end_on, bound_and_shows}
-use Rattle.world3270.specs.ExampleLosses.{noted_typing, noted_lost, left_typing, left_in, waits_noted, LosingRun}
+use Rattle.world3270.specs.ExampleLosses.{noted_typing, noted_lost, left_typing, remains_in, waits_noted, LosingRun}
 use Rattle.world3270.specs.ExampleNotes.{hello, hello_seen}
 use Rattle.world3270.specs.ExampleScreens.{typing_sign_on}
 use Rattle.world3270.specs.Placed.{is_skipped}
@@ -27,10 +27,10 @@ shows_the_note : end_on 0 (after noted_lost) ≡ bound_and_shows (typing_sign_on
 unfolding start asks signed acted_on agree request_taken agreement_taken device_of onward backward
 shows_the_note = once_signed (end_on 0) loses (bound_and_shows (typing_sign_on hello_seen)) refl
 
-waits_alone : left_in (after left_typing) ≡ Some waits_noted
+waits_alone : remains_in (after left_typing) ≡ Some waits_noted
 unfolding start asks signed acted_on agree request_taken agreement_taken device_of onward backward
-waits_alone = once_signed left_in (loses ++ (Event.TermSees 0 ∷ [])) (Some waits_noted) refl
+waits_alone = once_signed remains_in (loses ++ (Event.TermSees 0 ∷ [])) (Some waits_noted) refl
 
 pub losing_run : LosingRun
 unfolding is_well_formed is_well_noted
-losing_run = record { are_events = are_events left_typing refl; nothing_seen = sees_nothing; came = shows_the_note; left = waits_alone }
+losing_run = record { are_events = are_events left_typing refl; nothing_seen = sees_nothing; came = shows_the_note; remains = waits_alone }

@@ -17,7 +17,7 @@ use Rattle.host_core.specs.Acts.{Sent, acted}
 use Rattle.host_core.specs.Application.{Application}
 use Rattle.host_core.specs.Messages.{ToTerminal, ToHost}
 use Rattle.host_core.specs.Notes.{noted}
-use Rattle.host_core.specs.Takes.{Step, pool_after, took as host_took}
+use Rattle.host_core.specs.Takes.{HostStep, pool_after, took as host_took}
 use Rattle.world3270.specs.Happens.{closed_if, said, came_up, place_after, came_down, went_down, key_went, term_saw, joined, term_anew, host_left_from, done, happens, run}
 use Rattle.world3270.specs.Link.{Link, sent as sent_on, host_left, host_left_if, host_stepped, host_sent, term_left, term_left_if, term_stepped, begun}
 use Rattle.world3270.specs.Placed.{has_place, free_number}
@@ -141,7 +141,7 @@ up_named : (world : World) (number : ℕ) (up : List ToHost) → (world.link num
 up_named world number [] e h = h
 up_named world number (message ∷ rest) e h =
     let link : Link = world.link number in
-    let step : Step = host_took (answer_to world.pool) link.host message in
+    let step : HostStep = host_took (answer_to world.pool) link.host message in
     let said_all = subst (λ (m : List ToHost). AllByRecursion IsSaidUp m) e (h number).up in
     closed_named step.closes (record world { pool = pool_after number step world.pool; link = with_at number (host_stepped step rest link) world.link })
     (changed number (host_stepped step rest link) world.link

@@ -10,12 +10,12 @@ use Rattle.term_core.specs.State.{Link as Attachment, talk_phase, phase_of}
 use Rattle.host_core.specs.Session.{Conn}
 use Rattle.host_core.specs.State.{Service, service_at}
 use Rattle.world3270.specs.Known.{KnownWorlds}
-use Rattle.world3270.specs.ByteWorld.{ByteWorld, is_there, sitting_at, terminal_at}
+use Rattle.world3270.specs.ByteWorld.{ByteWorld, is_there, slot_at, terminal_at}
 use Rattle.world3270.specs.Headline.{IsLive, BoundIsGranted, IsHostsTurn, Agrees, Headline}
 use Rattle.world3270.specs.Link.{Link}
 use Rattle.world3270.specs.Refines.{HeadlineIsSeen, after}
 use Rattle.world3270.specs.Seen.{HostSeen, TerminalSeen, SeenLink, conn_seen, end_seen, host_seen, seen, seen_link, terminal_seen}
-use Rattle.world3270.specs.SeenBytes.{attached_seen, bound_of, seat_seen, seen_bytes, seen_connection, service_seen}
+use Rattle.world3270.specs.SeenBytes.{attached_seen, bound_of, tracked_seen, seen_bytes, seen_connection, service_seen}
 use Rattle.world3270.specs.Standing.{WorldStands, IsNotClosed, conn_of, link_of, link_with}
 use Rattle.world3270.specs.Stands.{LinkStands}
 use Rattle.world3270.specs.Terminal.{bound_to}
@@ -42,7 +42,7 @@ host_part (Service.Closed cause) here conn is there same = absurd is
 
 -- the terminal's end with these parts
 abbrev seen_as : ℕ → Option (List ℕ) → Screen → Screen → Bool → TerminalSeen
-seen_as number bound screen left erased = record { number = number; bound = bound; screen = screen; left = left; erased = erased }
+seen_as number bound screen left erased = record { number = number; bound = bound; screen = screen; last_restored = left; erased = erased }
 
 -- a connection with these parts
 abbrev linked : Bool → Option HostSeen → Option TerminalSeen → SeenLink
@@ -56,15 +56,15 @@ module _ (bytes : ByteWorld) (world : World) (stands : WorldStands bytes world) 
       let link : Link = world.link number in
       let term = is.term terminal (sym is.term_here) in
       let end = term.holds.is_end in
-      let seat = (sitting_at terminal bytes).seat in
-      let bound : bound_of (phase_of seat.terminal.link) ≡ bound_to link.term.talk.talk.state =
+      let tracked = (slot_at terminal bytes).tracked in
+      let bound : bound_of (phase_of tracked.terminal.link) ≡ bound_to link.term.talk.talk.state =
       ap (λ (l : Attachment). bound_of (phase_of l)) term.holds.attached ∙ same_bound term.holds.talk.talk.state
       ∙ ap (λ (t : Term). bound_to t.talk.state) end.talk_is in
-      let same : seat_seen terminal seat ≡ end_seen terminal link.term =
-      ap (λ (b : Option (List ℕ)). seen_as terminal b seat.terminal.station.screen seat.history.left seat.history.erased) bound
-      ∙ ap (λ (s : Screen). seen_as terminal (bound_to link.term.talk.talk.state) s seat.history.left seat.history.erased) end.screen_is
-      ∙ ap (λ (s : Screen). seen_as terminal (bound_to link.term.talk.talk.state) link.term.display.screen s seat.history.erased) end.left_is
-      ∙ ap (λ (e : Bool). seen_as terminal (bound_to link.term.talk.talk.state) link.term.display.screen link.term.display.left e) end.erased_is in
+      let same : tracked_seen terminal tracked ≡ end_seen terminal link.term =
+      ap (λ (b : Option (List ℕ)). seen_as terminal b tracked.terminal.station.screen tracked.history.last_restored tracked.history.erased) bound
+      ∙ ap (λ (s : Screen). seen_as terminal (bound_to link.term.talk.talk.state) s tracked.history.last_restored tracked.history.erased) end.screen_is
+      ∙ ap (λ (s : Screen). seen_as terminal (bound_to link.term.talk.talk.state) link.term.display.screen s tracked.history.erased) end.last_restored_is
+      ∙ ap (λ (e : Bool). seen_as terminal (bound_to link.term.talk.talk.state) link.term.display.screen link.term.display.last_restored e) end.erased_is in
       ap (λ (t : TerminalSeen). Some t) same ∙ ap (λ (h : Option ℕ). terminal_seen h link.term) is.term_here
 
   -- A connection over bytes is seen as the one over messages that it represents.
@@ -74,10 +74,10 @@ module _ (bytes : ByteWorld) (world : World) (stands : WorldStands bytes world) 
       let is : LinkStands (link_of number bytes) link = stands.links number in
       let host : service_seen (service_at number bytes.host) ≡ host_seen link.host_here link.host =
       host_part (service_at number bytes.host) link.host_here link.host (stands.none_closed number) is.host_here (λ here. (is.host here).host) in
-      let terminal : attached_seen (terminal_at number bytes.sittings) bytes ≡ terminal_seen link.term_here link.term =
-      terminal_part number (terminal_at number bytes.sittings) is in
-      ap (λ (l : Bool). linked l (service_seen (service_at number bytes.host)) (attached_seen (terminal_at number bytes.sittings) bytes)) is.lost
-      ∙ ap (λ (h : Option HostSeen). linked link.lost h (attached_seen (terminal_at number bytes.sittings) bytes)) host
+      let terminal : attached_seen (terminal_at number bytes.slots) bytes ≡ terminal_seen link.term_here link.term =
+      terminal_part number (terminal_at number bytes.slots) is in
+      ap (λ (l : Bool). linked l (service_seen (service_at number bytes.host)) (attached_seen (terminal_at number bytes.slots) bytes)) is.lost
+      ∙ ap (λ (h : Option HostSeen). linked link.lost h (attached_seen (terminal_at number bytes.slots) bytes)) host
       ∙ ap (λ (t : Option TerminalSeen). linked link.lost (host_seen link.host_here link.host) t) terminal
 
   live_seen : (number : ℕ) (lu : List ℕ) → IsLive (seen_connection number bytes) lu → IsLive (seen_link (world.link number)) lu

@@ -49,10 +49,10 @@ use Rattle.host_core.specs.NoteLaws.{TakesNotes, IsProperNote}
 use Rattle.host_core.specs.Notes.{IsNoteText, note_command, noted_as, may_note, noted}
 use Rattle.host_core.specs.declared.turn.Turn.{Turn}
 use Rattle.host_core.specs.declared.turn.Turn.TheVariants as whose
-use Rattle.host_core.specs.declared.occasion.Occasion.{Occasion}
-use Rattle.host_core.specs.declared.occasion.Occasion.TheVariants as occasions
+use Rattle.host_core.specs.declared.turn_reason.TurnReason.{TurnReason}
+use Rattle.host_core.specs.declared.turn_reason.TurnReason.TheVariants as turn_reasons
 use Rattle.host_core.specs.Session.{Conn, Pending, is_agreed}
-use Rattle.host_core.specs.Takes.{Step, took as host_took}
+use Rattle.host_core.specs.Takes.{HostStep, took as host_took}
 use Rattle.world3270.specs.Given.{Given}
 use Rattle.world3270.specs.Happens.{run}
 use Rattle.world3270.specs.Link.{Link, host_left_if, host_sent}
@@ -217,10 +217,10 @@ key_texts app conn Enter buffered texts known = read_or_led app conn Enter (is_t
 key_texts app conn (Pf key) buffered texts known = read_or_led app conn (Pf key) (is_to_be_read app conn (Pf key) && not buffered) known
 key_texts app conn (Pa key) buffered texts known = read_or_led app conn (Pa key) (is_to_be_read app conn (Pa key) && not buffered) known
 
-act_texts : (app : Application) (conn : Conn) (occasion : Occasion) → AreTexts conn.values → AreTexts (learned conn.shadow (app.fields conn.panel) conn.values) → ActsOnTexts (act_on app conn occasion)
-act_texts app conn occasions.Agreement texts known = texts
-act_texts app conn (occasions.Key aid buffered) texts known = key_texts app conn aid buffered texts known
-act_texts app conn occasions.Refusal texts known = texts
+act_texts : (app : Application) (conn : Conn) (turn_reason : TurnReason) → AreTexts conn.values → AreTexts (learned conn.shadow (app.fields conn.panel) conn.values) → ActsOnTexts (act_on app conn turn_reason)
+act_texts app conn turn_reasons.Agreement texts known = texts
+act_texts app conn (turn_reasons.Key aid buffered) texts known = key_texts app conn aid buffered texts known
+act_texts app conn turn_reasons.Refusal texts known = texts
 
 wanted_is : (app : Application) (conn : Conn) (panel : ℕ) (message : Message) (keep : Bool) (values : Values) → AsksForScreens app → AreTexts values → IsScreen (wanted_by app conn panel message keep values)
 wanted_is app conn panel message false values asks texts = asks panel values message false texts
@@ -345,11 +345,11 @@ sends link (Some sending) c is = record {
 
 -- where the host may act, the screen meets what it believes, and so what it learns is characters
 acts_by : (app : Application) → AsksForScreens app → (link : Link) (turn : Turn) (pending : Pending) (agreed : Bool) → Kept app (view_of link) → CanSend link
-    → link.host.turn ≡ turn → link.host.pending ≡ pending → IfSome (if may_act turn pending agreed then Some (done app link.host (act_on app link.host link.host.occasion)) else None) SendsTexts
+    → link.host.turn ≡ turn → link.host.pending ≡ pending → IfSome (if may_act turn pending agreed then Some (done app link.host (act_on app link.host link.host.turn_reason)) else None) SendsTexts
 acts_by app asks link whose.Host Pending.Nothing true k c turns pends =
     let known = knows_at app (view_of link) k turns pends in
     let texts = learned_texts link.host.shadow link.term.display.screen (app.fields link.host.panel) link.host.values known.meets c.screen.storable c.values in
-    done_texts app link.host (act_on app link.host link.host.occasion) asks c.values (act_texts app link.host link.host.occasion c.values texts)
+    done_texts app link.host (act_on app link.host link.host.turn_reason) asks c.values (act_texts app link.host link.host.turn_reason c.values texts)
 acts_by app asks link whose.Host Pending.Nothing false k c turns pends = tt
 acts_by app asks link whose.Host (Pending.Writing number command) agreed k c turns pends = tt
 acts_by app asks link whose.Host (Pending.Reading number) agreed k c turns pends = tt
@@ -381,7 +381,7 @@ steps read given app is asks same = record {
   never = record { screen = blank_sendable app.begins same; spelt = All-nil CanBeSpelt; writes = All-nil IsWritten; values = All-nil AreCharacters };
   begins = λ terminal wanted. record { screen = blank_sendable app.begins same; spelt = All-nil CanBeSpelt; writes = All-cons IsWritten _ [] tt (All-nil IsWritten); values = All-nil AreCharacters };
   up = λ pool link message rest e k c.
-      let step : Step = host_took pool link.host message in
+      let step : HostStep = host_took pool link.host message in
       let just = just_talks pool link.host message in
       left_if step.closes _ (record {
         screen = c.screen;

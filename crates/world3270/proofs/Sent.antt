@@ -13,7 +13,7 @@ use Rattle.shadow.specs.Belief.{Shadow}
 use Rattle.shadow.specs.Openness.{IsClearedBelief}
 use Rattle.host_core.specs.NoteLaws.{IsNoteOf}
 use Rattle.world3270.specs.Headline.{SentFields}
-use Rattle.world3270.specs.Occasions.{IsCleared}
+use Rattle.world3270.specs.TurnReasons.{IsCleared}
 
 -- what was sent for a key is data of the modified fields, with the key's identifier
 either : (P : InboundParts → Type 0) (b : Bool) (first second : InboundParts) → P first → P second → P (if b then first else second)

@@ -7,13 +7,13 @@ use Rattle.lu_pool.specs.Asking.{answer_to}
 use Rattle.shadow.specs.Asked.{field_at}
 use Rattle.shadow.specs.Belief.{Fact, Belief}
 use Rattle.tn3270e_msg.specs.Device.{device_of}
-use Rattle.tn3270e_msg.specs.HostTable.{host_line}
+use Rattle.tn3270e_msg.specs.HostTable.{host_transition}
 use Rattle.tn3270e_msg.specs.Talk.{RequestsFunctions, IsFunctions, follow, Saying}
-use Rattle.tn3270e_msg.specs.TermTable.{term_line}
-use Rattle.tn3270e_msg.specs.declared.functions.Wants.{Wants}
-use Rattle.tn3270e_msg.specs.declared.functions.Wants.TheVariants.{ResponsesAlone}
+use Rattle.tn3270e_msg.specs.TermTable.{term_transition}
+use Rattle.tn3270e_msg.specs.declared.functions.FunctionsOffer.{FunctionsOffer}
+use Rattle.tn3270e_msg.specs.declared.functions.FunctionsOffer.TheVariants.{ResponsesAlone}
 use Rattle.tn3270e_msg.specs.declared.host_talk.HostState.TheVariants.{Closed as HostClosed}
-use Rattle.tn3270e_msg.specs.declared.reply.Sending.TheVariants.{FunRequest, FunIs}
+use Rattle.tn3270e_msg.specs.declared.reply.OwnedMessage.TheVariants.{FunRequest, FunIs}
 use Rattle.tn3270e_msg.specs.declared.term_talk.TermState.TheVariants.{Closed as TermClosed}
 use Rattle.host_core.specs.Answering.{number_of}
 use Rattle.host_core.specs.Application.{Application}
@@ -34,16 +34,16 @@ use Rattle.world3270.proofs.RunsInPieces.{runs_compose}
 
 -- ---- the talk's last steps, over what both ends want
 
-unfoldable pub request_taken : Wants → World → World
+unfoldable pub request_taken : FunctionsOffer → World → World
 request_taken wanted world =
     let conn = (world.link 0).host in
-    let next = follow HostClosed conn.talk (host_line conn.talk.state (RequestsFunctions wanted)) in
+    let next = follow HostClosed conn.talk (host_transition conn.talk.state (RequestsFunctions wanted)) in
     host_took_it 0 (talked_on (answer_to world.pool) conn next.0 next.1) [] world
 
-unfoldable pub agreement_taken : Wants → World → World
+unfoldable pub agreement_taken : FunctionsOffer → World → World
 agreement_taken wanted world =
     let end = (world.link 0).term in
-    term_took_it 0 0 (replied end (follow TermClosed end.talk.talk (term_line end.talk.wanted end.talk.talk.state (IsFunctions wanted))))
+    term_took_it 0 0 (replied end (follow TermClosed end.talk.talk (term_transition end.talk.wanted end.talk.talk.state (IsFunctions wanted))))
     (drop 1 (world.link 0).down) world
 
 -- a request for functions has come to the host, and nothing behind it
@@ -61,14 +61,14 @@ unfolding request_taken
 requested app world is =
     ap (λ (here : Bool). if here && is_queued (world.link 0).up then came_up 0 (world.link 0).up world else world) is.here
     ∙ ap (λ (up : List ToHost). if is_queued up then came_up 0 up world else world) is.up
-    ∙ ap (λ (wanted : Wants). request_taken wanted world) responses_alone
+    ∙ ap (λ (wanted : FunctionsOffer). request_taken wanted world) responses_alone
 
 agreed : (app : Application) (world : World) → IsAgreed world → happens app (Event.Down 0) world ≡ agreement_taken ResponsesAlone world
 unfolding agreement_taken
 agreed app world is =
     ap (λ (here : Option ℕ). if is_some here && is_queued (world.link 0).down then went_down 0 here world else world) is.here
     ∙ ap (λ (down : List ToTerminal). if is_queued down then came_down 0 0 down world else world) is.down
-    ∙ ap (λ (wanted : Wants). agreement_taken wanted world) responses_alone
+    ∙ ap (λ (wanted : FunctionsOffer). agreement_taken wanted world) responses_alone
 
 -- the host has taken the request, and acted
 unfoldable pub acted_on : Application → World → World

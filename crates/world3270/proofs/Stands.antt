@@ -34,12 +34,12 @@ use Rattle.telnet_wire.specs.declared.wire.Verb.TheVariants.{Do}
 use Rattle.tn3270e_msg.specs.Header.{Begins, record_limit, error_response, always_response}
 use Rattle.tn3270e_msg.specs.Laws.{OneHeader, FaultIsNoHeader}
 use Rattle.tn3270e_msg.specs.Talk.{Comes, NoTalk, Hears, Talk, items_sent, follow, Saying, says, sayings, item_of, closing}
-use Rattle.tn3270e_msg.specs.TermTable.{Term, term_line, term_start}
+use Rattle.tn3270e_msg.specs.TermTable.{Term, term_transition, term_start}
 use Rattle.tn3270e_msg.specs.declared.cause.Cause.{Cause}
 use Rattle.tn3270e_msg.specs.declared.header.Header.{Header}
 use Rattle.tn3270e_msg.specs.declared.header.DataType.TheVariants.{Data3270}
-use Rattle.tn3270e_msg.specs.declared.hearing.Line.{Line}
-use Rattle.tn3270e_msg.specs.declared.hearing.Line.TheVariants.{Stays}
+use Rattle.tn3270e_msg.specs.declared.hearing.Transition.{Transition}
+use Rattle.tn3270e_msg.specs.declared.hearing.Transition.TheVariants.{Stays}
 use Rattle.tn3270e_msg.specs.declared.reply.Reply.{Reply}
 use Rattle.tn3270e_msg.specs.declared.reply.Reply.TheVariants as reply
 use Rattle.tn3270e_msg.specs.declared.term_talk.TermState.{TermState}
@@ -56,7 +56,7 @@ use Rattle.term_core.proofs.Lengths.{read_buffer_fits, read_modified_fits}
 use Rattle.world3270.proofs.StandsFits.{talk_comes}
 use Rattle.host_core.specs.Says.{command_header, read_buffer_command}
 use Rattle.world3270.specs.Stands.{IsPaint, IsRead, IsNoted, StandsUp, IsEnd}
-use Rattle.world3270.specs.Seats.{History, ByteEnd, ByteStep, left_by}
+use Rattle.world3270.specs.TrackedTerminals.{History, ByteEnd, ByteStep, restored_by}
 use Rattle.world3270.specs.StandsEnds.{PaintStands, IsSaid, NamesWanted, IsOpen, IsBelieved, ItemComes, TermTakes, is_painted, WritesAreMarked, TermPresses}
 use Rattle.world3270.specs.StandsLinks.{NothingStands, StandsCompose, StandsGoOn, BeginStands}
 use Rattle.world3270.specs.Terminal.{Display, TermEnd, TermStep, bound_to, is_bound, quiet, replied, paint_came, note_came, read_came, once_bound, took, erases_if, outcome_of, data_of}
@@ -158,10 +158,10 @@ takes_talk : (saying : Saying) (talk next : Term) (old new : Station) (end : Ter
 takes_talk saying talk next old new end sent closes h wish is unmarked taken =
     let talks = saying_talks talk.talk.state saying talk next old new sent closes taken in
     let heard = said_is_heard saying h talks.0.takes.comes talks.0.takes.hears in
-    let gives : (next.talk, talks.0.reply) ≡ follow at.Closed end.talk.talk (term_line end.talk.wanted end.talk.talk.state (says saying)) =
+    let gives : (next.talk, talks.0.reply) ≡ follow at.Closed end.talk.talk (term_transition end.talk.wanted end.talk.talk.state (says saying)) =
     talks.0.takes.gives
-    ∙ ap (λ comes. follow at.Closed talk.talk (term_line talk.wanted talk.talk.state comes)) heard
-    ∙ ap (λ (t : Term). follow at.Closed t.talk (term_line t.wanted t.talk.state (says saying))) is.talk_is in
+    ∙ ap (λ comes. follow at.Closed talk.talk (term_transition talk.wanted talk.talk.state comes)) heard
+    ∙ ap (λ (t : Term). follow at.Closed t.talk (term_transition t.wanted t.talk.state (says saying))) is.talk_is in
     replied_same end talk next old new talks.0.reply _ sent closes is unmarked talks.0.takes.wanted gives talks.0.sends talks.0.ends talks.1
     (talk_comes end.talk.talk end.talk.wanted wish (says saying))
 
@@ -169,13 +169,13 @@ takes_talk saying talk next old new end sent closes h wish is unmarked taken =
 
 -- before it is bound a terminal drops a record
 dropped : (talk next : Term) (old new : Station) (bytes : List ℕ) (end : TermEnd) (sent : List WireItem) (closes : Option Cause)
-    → IsSide talk old end → old.took_write ≡ false → term_line talk.wanted talk.talk.state NoTalk ≡ Stays reply.Nothing → TalksOn talk old (Record bytes) sent closes next new
+    → IsSide talk old end → old.took_write ≡ false → term_transition talk.wanted talk.talk.state NoTalk ≡ Stays reply.Nothing → TalksOn talk old (Record bytes) sent closes next new
     → SameItem next new sent closes false (quiet end)
 dropped talk next old new bytes end sent closes is unmarked stays talks =
     let gives : (next.talk, talks.0.reply) ≡ (talk.talk, reply.Nothing) =
     talks.0.takes.gives
-    ∙ ap (λ comes. follow at.Closed talk.talk (term_line talk.wanted talk.talk.state comes)) talks.0.takes.hears
-    ∙ ap (λ (line : Line TermState). follow at.Closed talk.talk line) stays in
+    ∙ ap (λ comes. follow at.Closed talk.talk (term_transition talk.wanted talk.talk.state comes)) talks.0.takes.hears
+    ∙ ap (λ (transition : Transition TermState). follow at.Closed talk.talk transition) stays in
     let answer : talks.0.reply ≡ reply.Nothing = ap (λ (q : Talk TermState × Reply). q.1) gives in
     record {
       is_end = record {
@@ -197,15 +197,15 @@ record_came : (state : TermState) (talk next : Term) (old new : Station) (bytes 
     → TakesItemIn state talk old (Record bytes) sent closes next new
     → SameItem next new sent closes (is_some (bound_to state) && marks) (once_bound (is_some (bound_to state)) step end)
 record_came at.Waiting talk next old new bytes end sent closes step marks e o is unmarked bound taken =
-    dropped talk next old new bytes end sent closes is unmarked (ap (λ (s : TermState). term_line talk.wanted s NoTalk) e) taken
+    dropped talk next old new bytes end sent closes is unmarked (ap (λ (s : TermState). term_transition talk.wanted s NoTalk) e) taken
 record_came at.Willing talk next old new bytes end sent closes step marks e o is unmarked bound taken =
-    dropped talk next old new bytes end sent closes is unmarked (ap (λ (s : TermState). term_line talk.wanted s NoTalk) e) taken
+    dropped talk next old new bytes end sent closes is unmarked (ap (λ (s : TermState). term_transition talk.wanted s NoTalk) e) taken
 record_came at.TypeAsked talk next old new bytes end sent closes step marks e o is unmarked bound taken =
-    dropped talk next old new bytes end sent closes is unmarked (ap (λ (s : TermState). term_line talk.wanted s NoTalk) e) taken
+    dropped talk next old new bytes end sent closes is unmarked (ap (λ (s : TermState). term_transition talk.wanted s NoTalk) e) taken
 record_came (at.FunctionsAsked lu) talk next old new bytes end sent closes step marks e o is unmarked bound taken =
-    dropped talk next old new bytes end sent closes is unmarked (ap (λ (s : TermState). term_line talk.wanted s NoTalk) e) taken
+    dropped talk next old new bytes end sent closes is unmarked (ap (λ (s : TermState). term_transition talk.wanted s NoTalk) e) taken
 record_came (at.Refused reason) talk next old new bytes end sent closes step marks e o is unmarked bound taken =
-    dropped talk next old new bytes end sent closes is unmarked (ap (λ (s : TermState). term_line talk.wanted s NoTalk) e) taken
+    dropped talk next old new bytes end sent closes is unmarked (ap (λ (s : TermState). term_transition talk.wanted s NoTalk) e) taken
 record_came (at.Agreed lu) talk next old new bytes end sent closes step marks e o is unmarked bound taken = bound taken.0 taken.1
 record_came (at.Closed cause) talk next old new bytes end sent closes step marks e o is unmarked bound taken = absurd o
 
@@ -223,7 +223,7 @@ record_comes talk next old new bytes end sent closes step marks o is unmarked bo
 record Obeys (old new : Station) (sent : List WireItem) (closes : Option Cause) (header : Header) (command : CommandParts) : Type 0 where
   said : sent ≡ answer_of header command old
   closed : closes ≡ None
-  left : new ≡ obeyed command old
+  becomes : new ≡ obeyed command old
 
 -- a note frees no keyboard
 note_restores : (command : CommandParts) → IsNote command → (asked_by command).restore ≡ false
@@ -239,31 +239,31 @@ note_marks_nothing command note =
 
 -- what a write leaves is the screen behind it; else the history stays
 record Leaves (marks : Bool) (before after : Display) : Type 0 where
-  left : after.left ≡ (if marks then after.screen else before.left)
+  last_restored : after.last_restored ≡ (if marks then after.screen else before.last_restored)
   erased : after.erased ≡ (if marks then false else before.erased)
 
 leaves_painted : (bound : Bool) (number : ℕ) (wanted : WantedScreen) (end : TermEnd) → Leaves bound end.display (once_bound bound (paint_came number wanted end) end).end.display
-leaves_painted true number wanted end = record { left = refl; erased = refl }
-leaves_painted false number wanted end = record { left = refl; erased = refl }
+leaves_painted true number wanted end = record { last_restored = refl; erased = refl }
+leaves_painted false number wanted end = record { last_restored = refl; erased = refl }
 
 leaves_read : (bound : Bool) (end : TermEnd) → Leaves false end.display (once_bound bound (read_came end) end).end.display
-leaves_read true end = record { left = refl; erased = refl }
-leaves_read false end = record { left = refl; erased = refl }
+leaves_read true end = record { last_restored = refl; erased = refl }
+leaves_read false end = record { last_restored = refl; erased = refl }
 
 leaves_noted : (bound : Bool) (number : ℕ) (command : CommandParts) (end : TermEnd) → Leaves false end.display (once_bound bound (note_came number command end) end).end.display
-leaves_noted true number command end = record { left = refl; erased = refl }
-leaves_noted false number command end = record { left = refl; erased = refl }
+leaves_noted true number command end = record { last_restored = refl; erased = refl }
+leaves_noted false number command end = record { last_restored = refl; erased = refl }
 
 leaves : (message : ToTerminal) (end : TermEnd) → Leaves (is_painted end message) end.display (took end message).end.display
-leaves (ToTerminal.TalksDown saying) end = record { left = refl; erased = refl }
+leaves (ToTerminal.TalksDown saying) end = record { last_restored = refl; erased = refl }
 leaves (ToTerminal.Paint number wanted believed) end = leaves_painted (is_bound end) number wanted end
 leaves (ToTerminal.ReadBuffer number) end = leaves_read (is_bound end) end
 leaves (ToTerminal.Note number command) end = leaves_noted (is_bound end) number command end
 
-same_left : (marks : Bool) (station : Station) (old : History) (before after : Display) → old.left ≡ before.left → old.erased ≡ before.erased → station.screen ≡ after.screen
-    → Leaves marks before after → ((left_by marks station.screen old).left ≡ after.left) × ((left_by marks station.screen old).erased ≡ after.erased)
-same_left true station old before after left erased screen now = (screen ∙ sym now.left, sym now.erased)
-same_left false station old before after left erased screen now = (left ∙ sym now.left, erased ∙ sym now.erased)
+same_restored : (marks : Bool) (station : Station) (old : History) (before after : Display) → old.last_restored ≡ before.last_restored → old.erased ≡ before.erased → station.screen ≡ after.screen
+    → Leaves marks before after → ((restored_by marks station.screen old).last_restored ≡ after.last_restored) × ((restored_by marks station.screen old).erased ≡ after.erased)
+same_restored true station old before after left erased screen now = (screen ∙ sym now.last_restored, sym now.erased)
+same_restored false station old before after left erased screen now = (left ∙ sym now.last_restored, erased ∙ sym now.erased)
 
 and_true : (b : Bool) → (b && true) ≡ b
 and_true true = refl
@@ -290,7 +290,7 @@ module _ (one_header : OneHeader) (fault_or_header : FaultIsNoHeader) where
       record {
         said = a ∙ ap (λ (h : Header). answer_of h command' old) both.0 ∙ ap (λ (x : CommandParts). answer_of header x old) commands;
         closed = b;
-        left = c ∙ ap (λ (x : CommandParts). obeyed x old) commands;
+        becomes = c ∙ ap (λ (x : CommandParts). obeyed x old) commands;
       }
 
   -- ---- a paint
@@ -315,8 +315,8 @@ module _ (one_header : OneHeader) (fault_or_header : FaultIsNoHeader) where
         is_end = record {
           shape_is = is.shape_is;
           talk_is = same ∙ is.talk_is;
-          screen_is = ap (λ (s : Station). s.screen) done.left ∙ ap (after_command p.command) is.screen_is ∙ p.paints.paints end.display.screen b.size b.meets;
-          keyboard_is = ap (λ (s : Station). s.keyboard) done.left ∙ ap (λ (r : Bool). freed_if r old.keyboard) parts.1 ∙ ap freed is.keyboard_is;
+          screen_is = ap (λ (s : Station). s.screen) done.becomes ∙ ap (after_command p.command) is.screen_is ∙ p.paints.paints end.display.screen b.size b.meets;
+          keyboard_is = ap (λ (s : Station). s.keyboard) done.becomes ∙ ap (λ (r : Bool). freed_if r old.keyboard) parts.1 ∙ ap freed is.keyboard_is;
         };
         said = subst (λ (items : List WireItem). Pairwise StandsUp items (ToHost.Response number Verdict.Positive ∷ []))
             (sym (done.said ∙ ap (λ (d : Option (List ℕ)). data_sent old.number d ++ done_response always_response number) silent))
@@ -325,7 +325,7 @@ module _ (one_header : OneHeader) (fault_or_header : FaultIsNoHeader) where
             (sym (done.said ∙ ap (λ (d : Option (List ℕ)). data_sent old.number d ++ done_response always_response number) silent))
             (omega arith, tt);
         closed = done.closed;
-        wrote = ap (λ (s : Station). s.took_write) done.left ∙ p.paints.writes;
+        wrote = ap (λ (s : Station). s.took_write) done.becomes ∙ p.paints.writes;
       }
 
   -- ---- a read
@@ -341,15 +341,15 @@ module _ (one_header : OneHeader) (fault_or_header : FaultIsNoHeader) where
         is_end = record {
           shape_is = is.shape_is;
           talk_is = same ∙ is.talk_is;
-          screen_is = ap (λ (s : Station). s.screen) done.left ∙ is.screen_is;
-          keyboard_is = ap (λ (s : Station). s.keyboard) done.left ∙ is.keyboard_is;
+          screen_is = ap (λ (s : Station). s.screen) done.becomes ∙ is.screen_is;
+          keyboard_is = ap (λ (s : Station). s.keyboard) done.becomes ∙ is.keyboard_is;
         };
         said = subst (λ (items : List WireItem). Pairwise StandsUp items (ToHost.Data (buffer_data end.display.screen) ∷ []))
             (sym done.said) ((old.number, read_buffer old.screen, refl, inbound), tt);
         fit = subst (λ (items : List WireItem). AllByRecursion (CanCome record_limit) items)
             (sym done.said) (omega (arith, read_buffer_fits old.screen (ap (λ (s : Screen). length s.cells) is.screen_is ∙ r.size)), tt);
         closed = done.closed;
-        wrote = ap (λ (s : Station). s.took_write) done.left;
+        wrote = ap (λ (s : Station). s.took_write) done.becomes;
       }
 
   -- ---- a note
@@ -365,8 +365,8 @@ module _ (one_header : OneHeader) (fault_or_header : FaultIsNoHeader) where
         is_end = record {
           shape_is = is.shape_is;
           talk_is = same ∙ is.talk_is;
-          screen_is = ap (λ (s : Station). s.screen) done.left ∙ ap (after_command command) is.screen_is;
-          keyboard_is = ap (λ (s : Station). s.keyboard) done.left ∙ ap (λ (r : Bool). freed_if r old.keyboard) restores ∙ is.keyboard_is;
+          screen_is = ap (λ (s : Station). s.screen) done.becomes ∙ ap (after_command command) is.screen_is;
+          keyboard_is = ap (λ (s : Station). s.keyboard) done.becomes ∙ ap (λ (r : Bool). freed_if r old.keyboard) restores ∙ is.keyboard_is;
         };
         said = subst (λ (items : List WireItem). Pairwise StandsUp items (ToHost.Response number Verdict.Positive ∷ []))
             (sym (done.said ∙ ap (λ (d : Option (List ℕ)). data_sent old.number d ++ done_response always_response number) silent))
@@ -375,7 +375,7 @@ module _ (one_header : OneHeader) (fault_or_header : FaultIsNoHeader) where
             (sym (done.said ∙ ap (λ (d : Option (List ℕ)). data_sent old.number d ++ done_response always_response number) silent))
             (omega arith, tt);
         closed = done.closed;
-        wrote = ap (λ (s : Station). s.took_write) done.left ∙ note_marks_nothing command note;
+        wrote = ap (λ (s : Station). s.took_write) done.becomes ∙ note_marks_nothing command note;
       }
 
   -- ---- any message
@@ -411,9 +411,9 @@ module _ (one_header : OneHeader) (fault_or_header : FaultIsNoHeader) where
   pub term_takes : SentIsRead → TermTakes
   term_takes reads message item old end step comes =
       let same = same_item reads message item old end step comes in
-      let history : step.end.history ≡ left_by (is_painted end message) step.end.station.screen old.history =
-      comes.takes.history ∙ ap (λ (w : Bool). left_by w step.end.station.screen old.history) same.wrote in
-      let left = same_left (is_painted end message) step.end.station old.history end.display (took end message).end.display comes.is_end.left_is comes.is_end.erased_is
+      let history : step.end.history ≡ restored_by (is_painted end message) step.end.station.screen old.history =
+      comes.takes.history ∙ ap (λ (w : Bool). restored_by w step.end.station.screen old.history) same.wrote in
+      let left = same_restored (is_painted end message) step.end.station old.history end.display (took end message).end.display comes.is_end.last_restored_is comes.is_end.erased_is
       same.is_end.screen_is (leaves message end) in
       record {
         is_end = record {
@@ -421,7 +421,7 @@ module _ (one_header : OneHeader) (fault_or_header : FaultIsNoHeader) where
           talk_is = same.is_end.talk_is;
           screen_is = same.is_end.screen_is;
           keyboard_is = same.is_end.keyboard_is;
-          left_is = ap (λ (h : History). h.left) history ∙ left.0;
+          last_restored_is = ap (λ (h : History). h.last_restored) history ∙ left.0;
           erased_is = ap (λ (h : History). h.erased) history ∙ left.1;
         };
         said = same.said;
@@ -477,7 +477,7 @@ term_presses ascend listed whole reads key old rest end holds sendable =
           talk_is = is.talk_is;
           screen_is = ap (λ (o : Outcome). o.screen) outcome;
           keyboard_is = ap (λ (o : Outcome). o.keyboard) outcome;
-          left_is = is.left_is;
+          last_restored_is = is.last_restored_is;
           erased_is = ap (λ (b : Bool). b || erases_if (key_outcome key station).answer key) is.erased_is
               ∙ ap (λ (o : Outcome). end.display.erased || erases_if o.answer key) outcome;
         };
@@ -561,7 +561,7 @@ begin_stands written is_rest empty terminal wanted = record {
     holds = record {
       talk = term_start wanted;
       attached = refl;
-      is_end = record { shape_is = refl; talk_is = refl; screen_is = refl; keyboard_is = refl; left_is = refl; erased_is = refl };
+      is_end = record { shape_is = refl; talk_is = refl; screen_is = refl; keyboard_is = refl; last_restored_is = refl; erased_is = refl };
     };
     silent = refl;
     down = record { is_rest = is_rest record_limit; items = OptItem Do 40 ∷ []; delivers = written record_limit (OptItem Do 40) tt; each = (refl, tt) };

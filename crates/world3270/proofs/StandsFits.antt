@@ -8,19 +8,19 @@ use Rattle.std.proofs.lemmas.Bool.Decides.{nat_tests}
 use Rattle.telnet_wire.specs.Items.{CanCome}
 use Rattle.tn3270e_msg.specs.Device.{device_of, device_text}
 use Rattle.tn3270e_msg.specs.Lu.{is_lu, is_lu_letter, lu_of}
-use Rattle.tn3270e_msg.specs.Talk.{Comes, Will, Wont, Do, Dont, OtherWill, OtherDo, SendsType, RequestsType, IsType, RejectsType, RequestsFunctions, IsFunctions, BreaksForm, NoTalk, Talk, follow, IsSending, payload_sent, items_sent}
-use Rattle.tn3270e_msg.specs.TermTable.{term_line, grant_line}
+use Rattle.tn3270e_msg.specs.Talk.{Comes, Will, Wont, Do, Dont, OtherWill, OtherDo, SendsType, RequestsType, IsType, RejectsType, RequestsFunctions, IsFunctions, BreaksForm, NoTalk, Talk, follow, IsOwnedMessage, payload_sent, items_sent}
+use Rattle.tn3270e_msg.specs.TermTable.{term_transition, grant_transition}
 use Rattle.tn3270e_msg.specs.declared.cause.Cause.TheVariants as cause
 use Rattle.tn3270e_msg.specs.declared.device.Device.{Device}
 use Rattle.tn3270e_msg.specs.declared.device.Device.TheVariants as device
-use Rattle.tn3270e_msg.specs.declared.functions.Wants.TheVariants.{ResponsesAlone, ResponsesAndMore, NoResponses}
-use Rattle.tn3270e_msg.specs.declared.hearing.Line.{Line}
-use Rattle.tn3270e_msg.specs.declared.hearing.Line.TheVariants as line
+use Rattle.tn3270e_msg.specs.declared.functions.FunctionsOffer.TheVariants.{ResponsesAlone, ResponsesAndMore, NoResponses}
+use Rattle.tn3270e_msg.specs.declared.hearing.Transition.{Transition}
+use Rattle.tn3270e_msg.specs.declared.hearing.Transition.TheVariants as transition
 use Rattle.tn3270e_msg.specs.declared.reply.After.TheVariants as behind
 use Rattle.tn3270e_msg.specs.declared.reply.Reply.{Reply}
 use Rattle.tn3270e_msg.specs.declared.reply.Reply.TheVariants as reply
-use Rattle.tn3270e_msg.specs.declared.reply.Sending.{Sending}
-use Rattle.tn3270e_msg.specs.declared.reply.Sending.TheVariants as sent
+use Rattle.tn3270e_msg.specs.declared.reply.OwnedMessage.{OwnedMessage}
+use Rattle.tn3270e_msg.specs.declared.reply.OwnedMessage.TheVariants as sent
 use Rattle.tn3270e_msg.specs.declared.term_talk.TermState.{TermState}
 use Rattle.tn3270e_msg.specs.declared.term_talk.TermState.TheVariants as at
 use Rattle.tn3270e_msg.specs.Header.{record_limit}
@@ -29,20 +29,20 @@ use Rattle.world3270.specs.StandsEnds.{NamesWanted}
 -- ---- what a talk sends of LUs is their names
 
 abbrev pub Fits : Reply → Type 0
-Fits (reply.Sub sending after) = IsSending sending
+Fits (reply.Sub sending after) = IsOwnedMessage sending
 Fits _ = Unit {0}
 
-abbrev LineFits : Line TermState → Type 0
-LineFits (line.Stays answer) = Fits answer
-LineFits (line.Goes state answer) = Fits answer
-LineFits (line.Refuses state sending) = IsSending sending
-LineFits (line.Closes cause) = Unit {0}
+abbrev TransitionFits : Transition TermState → Type 0
+TransitionFits (transition.Stays answer) = Fits answer
+TransitionFits (transition.Goes state answer) = Fits answer
+TransitionFits (transition.Refuses state sending) = IsOwnedMessage sending
+TransitionFits (transition.Closes cause) = Unit {0}
 
-granted_if : (same : Bool) (lu : List ℕ) → LineFits (if same then line.Goes (at.FunctionsAsked lu) (reply.Sub sent.FunRequest behind.Going) else line.Closes cause.BadTalk)
+granted_if : (same : Bool) (lu : List ℕ) → TransitionFits (if same then transition.Goes (at.FunctionsAsked lu) (reply.Sub sent.FunRequest behind.Going) else transition.Closes cause.BadTalk)
 granted_if true lu = tt
 granted_if false lu = tt
 
-grant_fits : (wanted : Option (List ℕ)) (type : Option Device) (lu : Option (List ℕ)) → LineFits (grant_line wanted type lu)
+grant_fits : (wanted : Option (List ℕ)) (type : Option Device) (lu : Option (List ℕ)) → TransitionFits (grant_transition wanted type lu)
 grant_fits None None lu = tt
 grant_fits (Some name) None lu = tt
 grant_fits None (Some device.Model2) None = tt
@@ -78,115 +78,115 @@ grant_fits (Some name) (Some device.Model5) (Some lu) = tt
 grant_fits (Some name) (Some device.Model5E) None = tt
 grant_fits (Some name) (Some device.Model5E) (Some lu) = tt
 
-line_fits : (wanted : Option (List ℕ)) (state : TermState) → NamesWanted state wanted → (comes : Comes) → LineFits (term_line wanted state comes)
-line_fits wanted (at.Closed cause) h comes = tt
-line_fits wanted (at.Refused reason) h comes = tt
-line_fits wanted at.Waiting h Will = tt
-line_fits wanted at.Waiting h Wont = tt
-line_fits wanted at.Waiting h Do = tt
-line_fits wanted at.Waiting h Dont = tt
-line_fits wanted at.Waiting h (OtherWill code) = tt
-line_fits wanted at.Waiting h (OtherDo code) = tt
-line_fits wanted at.Waiting h SendsType = tt
-line_fits wanted at.Waiting h (RequestsType type name) = tt
-line_fits wanted at.Waiting h (IsType type name) = tt
-line_fits wanted at.Waiting h (RejectsType reason) = tt
-line_fits wanted at.Waiting h (RequestsFunctions ResponsesAlone) = tt
-line_fits wanted at.Waiting h (RequestsFunctions ResponsesAndMore) = tt
-line_fits wanted at.Waiting h (RequestsFunctions NoResponses) = tt
-line_fits wanted at.Waiting h (IsFunctions ResponsesAlone) = tt
-line_fits wanted at.Waiting h (IsFunctions ResponsesAndMore) = tt
-line_fits wanted at.Waiting h (IsFunctions NoResponses) = tt
-line_fits wanted at.Waiting h BreaksForm = tt
-line_fits wanted at.Waiting h NoTalk = tt
-line_fits wanted at.Willing h Will = tt
-line_fits wanted at.Willing h Wont = tt
-line_fits wanted at.Willing h Do = tt
-line_fits wanted at.Willing h Dont = tt
-line_fits wanted at.Willing h (OtherWill code) = tt
-line_fits wanted at.Willing h (OtherDo code) = tt
-line_fits wanted at.Willing h SendsType = h
-line_fits wanted at.Willing h (RequestsType type name) = tt
-line_fits wanted at.Willing h (IsType type name) = tt
-line_fits wanted at.Willing h (RejectsType reason) = tt
-line_fits wanted at.Willing h (RequestsFunctions ResponsesAlone) = tt
-line_fits wanted at.Willing h (RequestsFunctions ResponsesAndMore) = tt
-line_fits wanted at.Willing h (RequestsFunctions NoResponses) = tt
-line_fits wanted at.Willing h (IsFunctions ResponsesAlone) = tt
-line_fits wanted at.Willing h (IsFunctions ResponsesAndMore) = tt
-line_fits wanted at.Willing h (IsFunctions NoResponses) = tt
-line_fits wanted at.Willing h BreaksForm = tt
-line_fits wanted at.Willing h NoTalk = tt
-line_fits wanted at.TypeAsked h Will = tt
-line_fits wanted at.TypeAsked h Wont = tt
-line_fits wanted at.TypeAsked h Do = tt
-line_fits wanted at.TypeAsked h Dont = tt
-line_fits wanted at.TypeAsked h (OtherWill code) = tt
-line_fits wanted at.TypeAsked h (OtherDo code) = tt
-line_fits wanted at.TypeAsked h SendsType = tt
-line_fits wanted at.TypeAsked h (RequestsType type name) = tt
-line_fits wanted at.TypeAsked h (IsType type name) = grant_fits wanted (device_of type) (lu_of name)
-line_fits wanted at.TypeAsked h (RejectsType reason) = tt
-line_fits wanted at.TypeAsked h (RequestsFunctions ResponsesAlone) = tt
-line_fits wanted at.TypeAsked h (RequestsFunctions ResponsesAndMore) = tt
-line_fits wanted at.TypeAsked h (RequestsFunctions NoResponses) = tt
-line_fits wanted at.TypeAsked h (IsFunctions ResponsesAlone) = tt
-line_fits wanted at.TypeAsked h (IsFunctions ResponsesAndMore) = tt
-line_fits wanted at.TypeAsked h (IsFunctions NoResponses) = tt
-line_fits wanted at.TypeAsked h BreaksForm = tt
-line_fits wanted at.TypeAsked h NoTalk = tt
-line_fits wanted (at.FunctionsAsked lu) h Will = tt
-line_fits wanted (at.FunctionsAsked lu) h Wont = tt
-line_fits wanted (at.FunctionsAsked lu) h Do = tt
-line_fits wanted (at.FunctionsAsked lu) h Dont = tt
-line_fits wanted (at.FunctionsAsked lu) h (OtherWill code) = tt
-line_fits wanted (at.FunctionsAsked lu) h (OtherDo code) = tt
-line_fits wanted (at.FunctionsAsked lu) h SendsType = tt
-line_fits wanted (at.FunctionsAsked lu) h (RequestsType type name) = tt
-line_fits wanted (at.FunctionsAsked lu) h (IsType type name) = tt
-line_fits wanted (at.FunctionsAsked lu) h (RejectsType reason) = tt
-line_fits wanted (at.FunctionsAsked lu) h (RequestsFunctions ResponsesAlone) = tt
-line_fits wanted (at.FunctionsAsked lu) h (RequestsFunctions ResponsesAndMore) = tt
-line_fits wanted (at.FunctionsAsked lu) h (RequestsFunctions NoResponses) = tt
-line_fits wanted (at.FunctionsAsked lu) h (IsFunctions ResponsesAlone) = tt
-line_fits wanted (at.FunctionsAsked lu) h (IsFunctions ResponsesAndMore) = tt
-line_fits wanted (at.FunctionsAsked lu) h (IsFunctions NoResponses) = tt
-line_fits wanted (at.FunctionsAsked lu) h BreaksForm = tt
-line_fits wanted (at.FunctionsAsked lu) h NoTalk = tt
-line_fits wanted (at.Agreed lu) h Will = tt
-line_fits wanted (at.Agreed lu) h Wont = tt
-line_fits wanted (at.Agreed lu) h Do = tt
-line_fits wanted (at.Agreed lu) h Dont = tt
-line_fits wanted (at.Agreed lu) h (OtherWill code) = tt
-line_fits wanted (at.Agreed lu) h (OtherDo code) = tt
-line_fits wanted (at.Agreed lu) h SendsType = tt
-line_fits wanted (at.Agreed lu) h (RequestsType type name) = tt
-line_fits wanted (at.Agreed lu) h (IsType type name) = tt
-line_fits wanted (at.Agreed lu) h (RejectsType reason) = tt
-line_fits wanted (at.Agreed lu) h (RequestsFunctions ResponsesAlone) = tt
-line_fits wanted (at.Agreed lu) h (RequestsFunctions ResponsesAndMore) = tt
-line_fits wanted (at.Agreed lu) h (RequestsFunctions NoResponses) = tt
-line_fits wanted (at.Agreed lu) h (IsFunctions ResponsesAlone) = tt
-line_fits wanted (at.Agreed lu) h (IsFunctions ResponsesAndMore) = tt
-line_fits wanted (at.Agreed lu) h (IsFunctions NoResponses) = tt
-line_fits wanted (at.Agreed lu) h BreaksForm = tt
-line_fits wanted (at.Agreed lu) h NoTalk = tt
+transition_fits : (wanted : Option (List ℕ)) (state : TermState) → NamesWanted state wanted → (comes : Comes) → TransitionFits (term_transition wanted state comes)
+transition_fits wanted (at.Closed cause) h comes = tt
+transition_fits wanted (at.Refused reason) h comes = tt
+transition_fits wanted at.Waiting h Will = tt
+transition_fits wanted at.Waiting h Wont = tt
+transition_fits wanted at.Waiting h Do = tt
+transition_fits wanted at.Waiting h Dont = tt
+transition_fits wanted at.Waiting h (OtherWill code) = tt
+transition_fits wanted at.Waiting h (OtherDo code) = tt
+transition_fits wanted at.Waiting h SendsType = tt
+transition_fits wanted at.Waiting h (RequestsType type name) = tt
+transition_fits wanted at.Waiting h (IsType type name) = tt
+transition_fits wanted at.Waiting h (RejectsType reason) = tt
+transition_fits wanted at.Waiting h (RequestsFunctions ResponsesAlone) = tt
+transition_fits wanted at.Waiting h (RequestsFunctions ResponsesAndMore) = tt
+transition_fits wanted at.Waiting h (RequestsFunctions NoResponses) = tt
+transition_fits wanted at.Waiting h (IsFunctions ResponsesAlone) = tt
+transition_fits wanted at.Waiting h (IsFunctions ResponsesAndMore) = tt
+transition_fits wanted at.Waiting h (IsFunctions NoResponses) = tt
+transition_fits wanted at.Waiting h BreaksForm = tt
+transition_fits wanted at.Waiting h NoTalk = tt
+transition_fits wanted at.Willing h Will = tt
+transition_fits wanted at.Willing h Wont = tt
+transition_fits wanted at.Willing h Do = tt
+transition_fits wanted at.Willing h Dont = tt
+transition_fits wanted at.Willing h (OtherWill code) = tt
+transition_fits wanted at.Willing h (OtherDo code) = tt
+transition_fits wanted at.Willing h SendsType = h
+transition_fits wanted at.Willing h (RequestsType type name) = tt
+transition_fits wanted at.Willing h (IsType type name) = tt
+transition_fits wanted at.Willing h (RejectsType reason) = tt
+transition_fits wanted at.Willing h (RequestsFunctions ResponsesAlone) = tt
+transition_fits wanted at.Willing h (RequestsFunctions ResponsesAndMore) = tt
+transition_fits wanted at.Willing h (RequestsFunctions NoResponses) = tt
+transition_fits wanted at.Willing h (IsFunctions ResponsesAlone) = tt
+transition_fits wanted at.Willing h (IsFunctions ResponsesAndMore) = tt
+transition_fits wanted at.Willing h (IsFunctions NoResponses) = tt
+transition_fits wanted at.Willing h BreaksForm = tt
+transition_fits wanted at.Willing h NoTalk = tt
+transition_fits wanted at.TypeAsked h Will = tt
+transition_fits wanted at.TypeAsked h Wont = tt
+transition_fits wanted at.TypeAsked h Do = tt
+transition_fits wanted at.TypeAsked h Dont = tt
+transition_fits wanted at.TypeAsked h (OtherWill code) = tt
+transition_fits wanted at.TypeAsked h (OtherDo code) = tt
+transition_fits wanted at.TypeAsked h SendsType = tt
+transition_fits wanted at.TypeAsked h (RequestsType type name) = tt
+transition_fits wanted at.TypeAsked h (IsType type name) = grant_fits wanted (device_of type) (lu_of name)
+transition_fits wanted at.TypeAsked h (RejectsType reason) = tt
+transition_fits wanted at.TypeAsked h (RequestsFunctions ResponsesAlone) = tt
+transition_fits wanted at.TypeAsked h (RequestsFunctions ResponsesAndMore) = tt
+transition_fits wanted at.TypeAsked h (RequestsFunctions NoResponses) = tt
+transition_fits wanted at.TypeAsked h (IsFunctions ResponsesAlone) = tt
+transition_fits wanted at.TypeAsked h (IsFunctions ResponsesAndMore) = tt
+transition_fits wanted at.TypeAsked h (IsFunctions NoResponses) = tt
+transition_fits wanted at.TypeAsked h BreaksForm = tt
+transition_fits wanted at.TypeAsked h NoTalk = tt
+transition_fits wanted (at.FunctionsAsked lu) h Will = tt
+transition_fits wanted (at.FunctionsAsked lu) h Wont = tt
+transition_fits wanted (at.FunctionsAsked lu) h Do = tt
+transition_fits wanted (at.FunctionsAsked lu) h Dont = tt
+transition_fits wanted (at.FunctionsAsked lu) h (OtherWill code) = tt
+transition_fits wanted (at.FunctionsAsked lu) h (OtherDo code) = tt
+transition_fits wanted (at.FunctionsAsked lu) h SendsType = tt
+transition_fits wanted (at.FunctionsAsked lu) h (RequestsType type name) = tt
+transition_fits wanted (at.FunctionsAsked lu) h (IsType type name) = tt
+transition_fits wanted (at.FunctionsAsked lu) h (RejectsType reason) = tt
+transition_fits wanted (at.FunctionsAsked lu) h (RequestsFunctions ResponsesAlone) = tt
+transition_fits wanted (at.FunctionsAsked lu) h (RequestsFunctions ResponsesAndMore) = tt
+transition_fits wanted (at.FunctionsAsked lu) h (RequestsFunctions NoResponses) = tt
+transition_fits wanted (at.FunctionsAsked lu) h (IsFunctions ResponsesAlone) = tt
+transition_fits wanted (at.FunctionsAsked lu) h (IsFunctions ResponsesAndMore) = tt
+transition_fits wanted (at.FunctionsAsked lu) h (IsFunctions NoResponses) = tt
+transition_fits wanted (at.FunctionsAsked lu) h BreaksForm = tt
+transition_fits wanted (at.FunctionsAsked lu) h NoTalk = tt
+transition_fits wanted (at.Agreed lu) h Will = tt
+transition_fits wanted (at.Agreed lu) h Wont = tt
+transition_fits wanted (at.Agreed lu) h Do = tt
+transition_fits wanted (at.Agreed lu) h Dont = tt
+transition_fits wanted (at.Agreed lu) h (OtherWill code) = tt
+transition_fits wanted (at.Agreed lu) h (OtherDo code) = tt
+transition_fits wanted (at.Agreed lu) h SendsType = tt
+transition_fits wanted (at.Agreed lu) h (RequestsType type name) = tt
+transition_fits wanted (at.Agreed lu) h (IsType type name) = tt
+transition_fits wanted (at.Agreed lu) h (RejectsType reason) = tt
+transition_fits wanted (at.Agreed lu) h (RequestsFunctions ResponsesAlone) = tt
+transition_fits wanted (at.Agreed lu) h (RequestsFunctions ResponsesAndMore) = tt
+transition_fits wanted (at.Agreed lu) h (RequestsFunctions NoResponses) = tt
+transition_fits wanted (at.Agreed lu) h (IsFunctions ResponsesAlone) = tt
+transition_fits wanted (at.Agreed lu) h (IsFunctions ResponsesAndMore) = tt
+transition_fits wanted (at.Agreed lu) h (IsFunctions NoResponses) = tt
+transition_fits wanted (at.Agreed lu) h BreaksForm = tt
+transition_fits wanted (at.Agreed lu) h NoTalk = tt
 
 abbrev AnswerFits : Talk TermState × Reply → Type 0
 AnswerFits answer = Fits answer.1
 
-refused_fits : (last : Bool) (talk : Talk TermState) (state : TermState) (sending : Sending) → IsSending sending
+refused_fits : (last : Bool) (talk : Talk TermState) (state : TermState) (sending : OwnedMessage) → IsOwnedMessage sending
     → AnswerFits
     (if last then (record { state = at.Closed cause.TooMany; refusals_left = 0 }, reply.Sub sending (behind.Close cause.TooMany))
     else (record { state = state; refusals_left = talk.refusals_left - 1 }, reply.Sub sending behind.Going))
 refused_fits true talk state sending h = h
 refused_fits false talk state sending h = h
 
-follow_fits : (talk : Talk TermState) (next : Line TermState) → LineFits next → AnswerFits (follow at.Closed talk next)
-follow_fits talk (line.Stays answer) h = h
-follow_fits talk (line.Goes state answer) h = h
-follow_fits talk (line.Refuses state sending) h = refused_fits (talk.refusals_left - 1 == 0) talk state sending h
-follow_fits talk (line.Closes cause) h = tt
+follow_fits : (talk : Talk TermState) (next : Transition TermState) → TransitionFits next → AnswerFits (follow at.Closed talk next)
+follow_fits talk (transition.Stays answer) h = h
+follow_fits talk (transition.Goes state answer) h = h
+follow_fits talk (transition.Refuses state sending) h = refused_fits (talk.refusals_left - 1 == 0) talk state sending h
+follow_fits talk (transition.Closes cause) h = tt
 
 -- ---- names are short
 
@@ -207,7 +207,7 @@ type_fits device.Model4E = omega arith
 type_fits device.Model5 = omega arith
 type_fits device.Model5E = omega arith
 
-pub payload_fits : (sending : Sending) → IsSending sending → length (payload_sent sending) ≤ 256
+pub payload_fits : (sending : OwnedMessage) → IsOwnedMessage sending → length (payload_sent sending) ≤ 256
 payload_fits sent.SendType h = omega arith
 payload_fits (sent.TypeRequest None) h = omega arith
 payload_fits (sent.TypeRequest (Some lu)) h = simp length-append (omega (arith, name_fits lu h))
@@ -227,10 +227,10 @@ reply_comes (reply.Close cause) h = tt
 
 -- what a talk answers
 pub answer_fits : (talk : Talk TermState) (wanted : Option (List ℕ)) → NamesWanted talk.state wanted → (comes : Comes)
-    → Fits (follow at.Closed talk (term_line wanted talk.state comes)).1
-answer_fits talk wanted h comes = follow_fits talk (term_line wanted talk.state comes) (line_fits wanted talk.state h comes)
+    → Fits (follow at.Closed talk (term_transition wanted talk.state comes)).1
+answer_fits talk wanted h comes = follow_fits talk (term_transition wanted talk.state comes) (transition_fits wanted talk.state h comes)
 
 -- what a talk says can come
 pub talk_comes : (talk : Talk TermState) (wanted : Option (List ℕ)) → NamesWanted talk.state wanted → (comes : Comes)
-    → AllByRecursion (CanCome record_limit) (items_sent (follow at.Closed talk (term_line wanted talk.state comes)).1)
+    → AllByRecursion (CanCome record_limit) (items_sent (follow at.Closed talk (term_transition wanted talk.state comes)).1)
 talk_comes talk wanted h comes = reply_comes _ (answer_fits talk wanted h comes)

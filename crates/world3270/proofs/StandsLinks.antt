@@ -11,7 +11,7 @@ use Rattle.telnet_wire.specs.Reading.{Rest, nothing, Delivers, GoesWrong}
 use Rattle.telnet_wire.specs.Token.{text}
 use Rattle.telnet_wire.specs.declared.wire.WireFault.{WireFault}
 use Rattle.tn3270e_msg.specs.Talk.{Saying, follow, says, sayings}
-use Rattle.tn3270e_msg.specs.TermTable.{Term, term_line}
+use Rattle.tn3270e_msg.specs.TermTable.{Term, term_transition}
 use Rattle.tn3270e_msg.specs.declared.cause.Cause.{Cause}
 use Rattle.tn3270e_msg.specs.declared.term_talk.TermState.TheVariants.{Closed}
 use Rattle.term_core.specs.Bytes.{TakesByte, before_byte, link_after}
@@ -21,7 +21,7 @@ use Rattle.term_core.specs.State.{Station, Terminal, Attached}
 use Rattle.host_core.specs.Messages.{ToTerminal, ToHost}
 use Rattle.world3270.specs.Always.{is_refusal}
 use Rattle.world3270.specs.Link.{Link, sent, term_left_if, term_stepped}
-use Rattle.world3270.specs.Seats.{History, Seat, marked, SeatTakes, HistoryFollows, seat_after_key, ByteStep, end_at, EndTakes}
+use Rattle.world3270.specs.TrackedTerminals.{History, TrackedTerminal, marked, TrackedTakes, HistoryFollows, tracked_after_key, ByteStep, end_at, EndTakes}
 use Rattle.world3270.specs.Stands.{StandsDown, StandsUp, BytesUp, BytesDown, ByteLink, IsEnd, Holds, HostStands, TermStands, LinkStands}
 use Rattle.world3270.specs.StandsEnds.{TakesKeepSendable, TermTakes, is_painted, WritesAreMarked, TermPresses}
 use Rattle.world3270.specs.StandsLinks.{StandsCompose, StandsGoOn, PressStands, MayComeAll, NoneCloses, took_down, fed, DownStands, DownIsNotRefused, any_painted, BytesAreMarked, HostSends, UpStands, LossStands, HostLeaves, TermLeaves}
@@ -34,7 +34,7 @@ pub history_follows : HistoryFollows
 history_follows old [] new taken =
     (old.history, ap (λ (t : Terminal). record { terminal = t; history = old.history }) taken)
 history_follows old (byte ∷ bytes) new taken =
-    let mid : Seat = record { terminal = taken.0; history = marked taken.0.station old.history } in
+    let mid : TrackedTerminal = record { terminal = taken.0; history = marked taken.0.station old.history } in
     let more = history_follows mid bytes new taken.2 in
     (more.0, (mid, record { takes = taken.1; history = refl }, more.1))
 
@@ -58,14 +58,14 @@ sent_twice false queue some others = append_assoc queue some others
 -- ---- keys
 
 -- what it said is handed on
-silenced : (rest : Rest) (seat : Seat) (end : TermEnd) → Holds rest seat end → Holds rest (record seat { terminal = record seat.terminal { out = [] } }) end
-silenced rest seat end holds = record { talk = holds.talk; attached = holds.attached; is_end = holds.is_end }
+silenced : (rest : Rest) (tracked : TrackedTerminal) (end : TermEnd) → Holds rest tracked end → Holds rest (record tracked { terminal = record tracked.terminal { out = [] } }) end
+silenced rest tracked end holds = record { talk = holds.talk; attached = holds.attached; is_end = holds.is_end }
 
 pub press_stands : TermPresses → StandsCompose StandsUp → PressStands
 press_stands presses compose key bytes link terminal stands here sendable =
     let term = stands.term terminal here in
-    let at_key = presses key bytes.seat term.rest link.term term.holds sendable in
-    let new : Seat = seat_after_key key bytes.seat in
+    let at_key = presses key bytes.tracked term.rest link.term term.holds sendable in
+    let new : TrackedTerminal = tracked_after_key key bytes.tracked in
     let out : new.terminal.out ≡ sent_bytes at_key.items = at_key.sent ∙ ap (λ (b : List ℕ). b ++ sent_bytes at_key.items) term.silent in
     record {
       lost = stands.lost;
@@ -88,7 +88,7 @@ press_stands presses compose key bytes link terminal stands here sendable =
 -- ---- what comes down
 
 -- the connection once messages came down, and what the terminal said to them
-record Ran (link now : Link) (old new : Seat) (behind : List ℕ) : Type 0 where
+record Ran (link now : Link) (old new : TrackedTerminal) (behind : List ℕ) : Type 0 where
   lost : now.lost ≡ link.lost
   host_here : now.host_here ≡ link.host_here
   host : now.host ≡ link.host
@@ -105,7 +105,7 @@ record Ran (link now : Link) (old new : Seat) (behind : List ℕ) : Type 0 where
   none : list_any is_refusal sends ≡ false
 
 -- the first of the messages came down
-record CameSome (link : Link) (old new : Seat) (behind : List ℕ) : Type 0 where
+record CameSome (link : Link) (old new : TrackedTerminal) (behind : List ℕ) : Type 0 where
   taken : List ToTerminal
   others : List ToTerminal
   whole : link.down ≡ taken ++ others
@@ -135,7 +135,7 @@ bound_refuses_none false step end none = refl
 
 none_refused : (end : TermEnd) (message : ToTerminal) → list_any is_refusal (took end message).sends ≡ false
 none_refused end (ToTerminal.TalksDown saying) =
-    talk_refuses_none (sayings (follow Closed end.talk.talk (term_line end.talk.wanted end.talk.talk.state (says saying))).1)
+    talk_refuses_none (sayings (follow Closed end.talk.talk (term_transition end.talk.wanted end.talk.talk.state (says saying))).1)
 none_refused end (ToTerminal.Paint number wanted believed) = bound_refuses_none (is_bound end) (paint_came number wanted end) end refl
 none_refused end (ToTerminal.ReadBuffer number) = bound_refuses_none (is_bound end) (read_came end) end refl
 none_refused end (ToTerminal.Note number command) = bound_refuses_none (is_bound end) (note_came number command end) end refl
@@ -148,17 +148,17 @@ stepped_stays : (step : TermStep) (rest others : List ToTerminal) (link : Link) 
 stepped_stays step rest others link goes_on same =
     ap (λ (c : Option Cause). term_left_if c (stayed step rest link)) goes_on ∙ ap (λ (m : List ToTerminal). stayed step m link) (sym same)
 
-ran_nothing : (link : Link) (old new : Seat) (behind : List ℕ) (rest : Rest) → Holds rest old link.term → BytesDown rest behind link.down → new ≡ old → Ran link link old new behind
+ran_nothing : (link : Link) (old new : TrackedTerminal) (behind : List ℕ) (rest : Rest) → Holds rest old link.term → BytesDown rest behind link.down → new ≡ old → Ran link link old new behind
 ran_nothing link old new behind rest holds down same = record {
   lost = refl;
   host_here = refl;
   host = refl;
   term_here = refl;
   rest = rest;
-  holds = subst (λ (s : Seat). Holds rest s link.term) (sym same) holds;
+  holds = subst (λ (s : TrackedTerminal). Holds rest s link.term) (sym same) holds;
   down = down;
   says = [];
-  out = ap (λ (s : Seat). s.terminal.out) same ∙ sym (append-nil old.terminal.out);
+  out = ap (λ (s : TrackedTerminal). s.terminal.out) same ∙ sym (append-nil old.terminal.out);
   sends = [];
   up = sent_nothing link.lost link.up;
   said = tt;
@@ -167,7 +167,7 @@ ran_nothing link old new behind rest holds down same = record {
 }
 
 -- a byte before that completes nothing
-ran_since : (link now : Link) (old mid new : Seat) (behind : List ℕ) → mid.terminal.out ≡ old.terminal.out → Ran link now mid new behind → Ran link now old new behind
+ran_since : (link now : Link) (old mid new : TrackedTerminal) (behind : List ℕ) → mid.terminal.out ≡ old.terminal.out → Ran link now mid new behind → Ran link now old new behind
 ran_since link now old mid new behind out ran = record {
   lost = ran.lost;
   host_here = ran.host_here;
@@ -186,7 +186,7 @@ ran_since link now old mid new behind out ran = record {
 }
 
 -- an item before, to which it says some
-one_more : (link now : Link) (step : TermStep) (rest : List ToTerminal) (old mid new : Seat) (behind : List ℕ) (some : List WireItem)
+one_more : (link now : Link) (step : TermStep) (rest : List ToTerminal) (old mid new : TrackedTerminal) (behind : List ℕ) (some : List WireItem)
     → Pairwise StandsUp some step.sends → AllByRecursion (CanCome record_limit) some → list_any is_refusal step.sends ≡ false
     → mid.terminal.out ≡ old.terminal.out ++ sent_bytes some → Ran (stayed step rest link) now mid new behind → Ran link now old new behind
 one_more link now step rest old mid new behind some said fit none out ran = record {
@@ -208,7 +208,7 @@ one_more link now step rest old mid new behind some said fit none out ran = reco
 }
 
 -- and the messages behind it
-came_more : (message : ToTerminal) (others : List ToTerminal) (link : Link) (old mid new : Seat) (behind : List ℕ) (some : List WireItem)
+came_more : (message : ToTerminal) (others : List ToTerminal) (link : Link) (old mid new : TrackedTerminal) (behind : List ℕ) (some : List WireItem)
     → link.down ≡ message ∷ others → (took link.term message).closes ≡ None → Pairwise StandsUp some (took link.term message).sends
     → AllByRecursion (CanCome record_limit) some → mid.terminal.out ≡ old.terminal.out ++ sent_bytes some
     → CameSome (stayed (took link.term message) others link) mid new behind → CameSome link old new behind
@@ -235,18 +235,18 @@ none_for_none Stands [] stand = refl
 none_for_none Stands (message ∷ messages) stand = absurd stand
 
 -- what is to be shown of some bytes, wherever they are taken
-abbrev Comes : List ℕ → List ℕ → Seat → Type 0
-Comes front behind new = (old : Seat) (rest : Rest) (link : Link)
+abbrev Comes : List ℕ → List ℕ → TrackedTerminal → Type 0
+Comes front behind new = (old : TrackedTerminal) (rest : Rest) (link : Link)
     → Holds rest old link.term → BytesDown rest (front ++ behind) link.down → MayComeAll link.term link.down → NoneCloses link.term link.down
-    → IsSendable link.term.display.screen → SeatTakes old front new → CameSome link old new behind
+    → IsSendable link.term.display.screen → TrackedTakes old front new → CameSome link old new behind
 
 module _ (takes : TermTakes) (keeps : TakesKeepSendable) (goes_on : StandsGoOn StandsDown) (final : WrongIsFinal) where
   -- an item that stands for the first message
-  item_comes : (item : WireItem) (taken others : List ToTerminal) (link : Link) (talk after : Term) (old mid new : Seat) (to : Rest) (front behind : List ℕ) (says : List WireItem) (closes : Option Cause)
+  item_comes : (item : WireItem) (taken others : List ToTerminal) (link : Link) (talk after : Term) (old mid new : TrackedTerminal) (to : Rest) (front behind : List ℕ) (says : List WireItem) (closes : Option Cause)
       → Comes front behind new → link.down ≡ taken ++ others → Pairwise StandsDown (item ∷ []) taken → BytesDown to (front ++ behind) others
       → MayComeAll link.term link.down → NoneCloses link.term link.down → IsSendable link.term.display.screen → IsEnd (end_at talk old) link.term
       → EndTakes (end_at talk old) item (record { end = end_at after mid; says = says; closes = closes })
-      → mid.terminal.link ≡ link_after to after closes → mid.terminal.out ≡ old.terminal.out ++ sent_bytes says → SeatTakes mid front new → CameSome link old new behind
+      → mid.terminal.link ≡ link_after to after closes → mid.terminal.out ≡ old.terminal.out ++ sent_bytes says → TrackedTakes mid front new → CameSome link old new behind
   item_comes item [] others link talk after old mid new to front behind says closes comes whole each down may none can is taken at out more = absurd each
   item_comes item (message ∷ []) others link talk after old mid new to front behind says closes comes whole each down may none can is taken at out more =
       let all = subst (λ (m : List ToTerminal). MayComeAll link.term m) whole may in
@@ -260,7 +260,7 @@ module _ (takes : TermTakes) (keeps : TakesKeepSendable) (goes_on : StandsGoOn S
   item_comes item (message ∷ other ∷ more) others link talk after old mid new to front behind says closes comes whole each down may none can is taken at out rest = absurd each.1
 
   -- what the terminal takes with a byte, as the end takes it
-  end_takes : (item : WireItem) (talk same after : Term) (old mid : Seat) (says : List WireItem) (closes : Option Cause) (station : Station) → same ≡ talk → station ≡ mid.terminal.station
+  end_takes : (item : WireItem) (talk same after : Term) (old mid : TrackedTerminal) (says : List WireItem) (closes : Option Cause) (station : Station) → same ≡ talk → station ≡ mid.terminal.station
       → TakesItem same (before_byte old.terminal.station) item says closes after station → mid.history ≡ marked mid.terminal.station old.history
       → EndTakes (end_at talk old) item (record { end = end_at after mid; says = says; closes = closes })
   end_takes item talk same after old mid says closes station is is_mid taken history = record {
@@ -269,9 +269,9 @@ module _ (takes : TermTakes) (keeps : TakesKeepSendable) (goes_on : StandsGoOn S
     history = history;
   }
 
-  byte_comes : (byte : ℕ) (front behind : List ℕ) (old mid new : Seat) (rest : Rest) (link : Link)
+  byte_comes : (byte : ℕ) (front behind : List ℕ) (old mid new : TrackedTerminal) (rest : Rest) (link : Link)
       → Comes front behind new → Holds rest old link.term → BytesDown rest (byte ∷ (front ++ behind)) link.down → MayComeAll link.term link.down → NoneCloses link.term link.down
-      → IsSendable link.term.display.screen → mid.history ≡ marked mid.terminal.station old.history → TakesByte old.terminal byte mid.terminal → SeatTakes mid front new
+      → IsSendable link.term.display.screen → mid.history ≡ marked mid.terminal.station old.history → TakesByte old.terminal byte mid.terminal → TrackedTakes mid front new
       → CameSome link old new behind
   byte_comes byte front behind old mid new rest link comes holds down may none can history (TakesByte.goes_on rest' to talk' at' delivers is_mid) more =
       let is = holds.is_end in
@@ -288,7 +288,7 @@ module _ (takes : TermTakes) (keeps : TakesKeepSendable) (goes_on : StandsGoOn S
           talk_is = is.talk_is;
           screen_is = ap (λ (t : Terminal). t.station.screen) is_mid ∙ is.screen_is;
           keyboard_is = ap (λ (t : Terminal). t.station.keyboard) is_mid ∙ is.keyboard_is;
-          left_is = ap (λ (h : History). h.left) stays ∙ is.left_is;
+          last_restored_is = ap (λ (h : History). h.last_restored) stays ∙ is.last_restored_is;
           erased_is = ap (λ (h : History). h.erased) stays ∙ is.erased_is;
         };
       })
@@ -309,7 +309,7 @@ module _ (takes : TermTakes) (keeps : TakesKeepSendable) (goes_on : StandsGoOn S
       let parts = link_parts rest rest' holds.talk talk' (sym holds.attached ∙ at') in
       absurd (not_wrong final rest byte (front ++ behind) fault link.down down (subst (λ (r : Rest). GoesWrong record_limit r (byte ∷ []) fault) (sym parts.0) wrong))
 
-  bytes_come : (front behind : List ℕ) (new : Seat) → Comes front behind new
+  bytes_come : (front behind : List ℕ) (new : TrackedTerminal) → Comes front behind new
   bytes_come [] behind new old rest link holds down may none can taken =
       record { taken = []; others = link.down; whole = refl; ran = ran_nothing link old new behind rest holds down taken }
   bytes_come (byte ∷ front) behind new old rest link holds down may none can taken =
@@ -321,7 +321,7 @@ module _ (takes : TermTakes) (keeps : TakesKeepSendable) (goes_on : StandsGoOn S
   or_false true = refl
   or_false false = refl
 
-  item_marks : WritesAreMarked → (item : WireItem) (taken others : List ToTerminal) (link : Link) (talk after : Term) (old mid : Seat) (to : Rest) (behind : List ℕ) (says : List WireItem) (closes : Option Cause)
+  item_marks : WritesAreMarked → (item : WireItem) (taken others : List ToTerminal) (link : Link) (talk after : Term) (old mid : TrackedTerminal) (to : Rest) (behind : List ℕ) (says : List WireItem) (closes : Option Cause)
       (whole : link.down ≡ taken ++ others) (each : Pairwise StandsDown (item ∷ []) taken) (down : BytesDown to behind others)
       (may : MayComeAll link.term link.down) (none : NoneCloses link.term link.down) (can : IsSendable link.term.display.screen) (is : IsEnd (end_at talk old) link.term)
       (takes_it : EndTakes (end_at talk old) item (record { end = end_at after mid; says = says; closes = closes }))
@@ -336,7 +336,7 @@ module _ (takes : TermTakes) (keeps : TakesKeepSendable) (goes_on : StandsGoOn S
       (record { stands = each.0; may = all.0; sendable = can; is_end = is; takes = takes_it }) ∙ or_false (is_painted link.term message)
   item_marks marks item (message ∷ other ∷ more) others link talk after old mid to behind says closes whole each down may none can is takes_it at out = absurd each.1
 
-  byte_marks : WritesAreMarked → (byte : ℕ) (behind : List ℕ) (old new : Seat) (rest : Rest) (link : Link)
+  byte_marks : WritesAreMarked → (byte : ℕ) (behind : List ℕ) (old new : TrackedTerminal) (rest : Rest) (link : Link)
       (holds : Holds rest old link.term) (down : BytesDown rest (byte ∷ behind) link.down) (may : MayComeAll link.term link.down) (none : NoneCloses link.term link.down)
       (can : IsSendable link.term.display.screen) (history : new.history ≡ marked new.terminal.station old.history) (taken : TakesByte old.terminal byte new.terminal)
       → new.terminal.station.took_write ≡ any_painted link.term (byte_comes byte [] behind old new new rest link (bytes_come [] behind new) holds down may none can history taken refl).taken
@@ -354,8 +354,8 @@ module _ (takes : TermTakes) (keeps : TakesKeepSendable) (goes_on : StandsGoOn S
       absurd (not_wrong final rest byte behind fault link.down down (subst (λ (r : Rest). GoesWrong record_limit r (byte ∷ []) fault) (sym parts.0) wrong))
 
 -- what both ends have once the terminal took what came
-ran_stands : StandsCompose StandsUp → (bytes : ByteLink) (link now : Link) (behind : List ℕ) (new : Seat)
-    → LinkStands bytes link → bytes.seat.terminal.out ≡ [] → Ran link now bytes.seat new behind → LinkStands (fed new behind bytes) now
+ran_stands : StandsCompose StandsUp → (bytes : ByteLink) (link now : Link) (behind : List ℕ) (new : TrackedTerminal)
+    → LinkStands bytes link → bytes.tracked.terminal.out ≡ [] → Ran link now bytes.tracked new behind → LinkStands (fed new behind bytes) now
 ran_stands compose bytes link now behind new stands silent ran =
     let out : new.terminal.out ≡ sent_bytes ran.says = ran.out ∙ ap (λ (b : List ℕ). b ++ sent_bytes ran.says) silent in
     record {
@@ -375,7 +375,7 @@ pub down_stands : TermTakes → TakesKeepSendable → StandsCompose StandsUp →
 down_stands takes keeps compose goes_on final bytes link front behind new ready queue taken =
     let term = ready.stands.term ready.terminal ready.here in
     let down : BytesDown term.rest (front ++ behind) link.down = subst (λ (b : List ℕ). BytesDown term.rest b link.down) queue term.down in
-    let came = bytes_come takes keeps goes_on final front behind new bytes.seat term.rest link term.holds down ready.may ready.none ready.sendable taken in
+    let came = bytes_come takes keeps goes_on final front behind new bytes.tracked term.rest link term.holds down ready.may ready.none ready.sendable taken in
     record {
       taken = came.taken;
       others = came.others;
@@ -387,14 +387,14 @@ pub down_is_not_refused : TermTakes → TakesKeepSendable → StandsGoOn StandsD
 down_is_not_refused takes keeps goes_on final bytes link front behind new ready queue taken =
     let term = ready.stands.term ready.terminal ready.here in
     let down : BytesDown term.rest (front ++ behind) link.down = subst (λ (b : List ℕ). BytesDown term.rest b link.down) queue term.down in
-    let ran = (bytes_come takes keeps goes_on final front behind new bytes.seat term.rest link term.holds down ready.may ready.none ready.sendable taken).ran in
+    let ran = (bytes_come takes keeps goes_on final front behind new bytes.tracked term.rest link term.holds down ready.may ready.none ready.sendable taken).ran in
     record { says = ran.says; out = ran.out; fit = ran.fit; sends = ran.sends; said = ran.said; none = ran.none }
 
 pub bytes_are_marked : TermTakes → TakesKeepSendable → StandsCompose StandsUp → StandsGoOn StandsDown → WrongIsFinal → WritesAreMarked → BytesAreMarked
 bytes_are_marked takes keeps compose goes_on final marks bytes link byte behind new ready queue taken =
     let term = ready.stands.term ready.terminal ready.here in
     let down : BytesDown term.rest (byte ∷ behind) link.down = subst (λ (b : List ℕ). BytesDown term.rest b link.down) queue term.down in
-    let came = byte_comes takes keeps goes_on final byte [] behind bytes.seat new new term.rest link (bytes_come takes keeps goes_on final [] behind new) term.holds down
+    let came = byte_comes takes keeps goes_on final byte [] behind bytes.tracked new new term.rest link (bytes_come takes keeps goes_on final [] behind new) term.holds down
     ready.may ready.none ready.sendable taken.history taken.takes refl in
     record {
       came = record {
@@ -403,7 +403,7 @@ bytes_are_marked takes keeps compose goes_on final marks bytes link byte behind 
         whole = came.whole;
         stands = ran_stands compose bytes link (took_down came.taken came.others link) behind new ready.stands term.silent came.ran;
       };
-      marked = byte_marks takes keeps goes_on final marks byte behind bytes.seat new term.rest link term.holds down ready.may ready.none ready.sendable taken.history taken.takes;
+      marked = byte_marks takes keeps goes_on final marks byte behind bytes.tracked new term.rest link term.holds down ready.may ready.none ready.sendable taken.history taken.takes;
     }
 
 -- ---- the host, and losses
@@ -430,11 +430,11 @@ host_sends compose bytes link conn items messages stands fit said = record {
 }
 
 same_term : (bytes with_bytes : ByteLink) (link with_link : Link) → TermStands bytes link
-    → with_bytes.seat ≡ bytes.seat → with_bytes.down ≡ bytes.down → with_link.term ≡ link.term → with_link.down ≡ link.down → TermStands with_bytes with_link
+    → with_bytes.tracked ≡ bytes.tracked → with_bytes.down ≡ bytes.down → with_link.term ≡ link.term → with_link.down ≡ link.down → TermStands with_bytes with_link
 same_term bytes with_bytes link with_link term a b c d = record {
   rest = term.rest;
-  holds = subst (λ (s : Seat). Holds term.rest s with_link.term) (sym a) (subst (λ (e : TermEnd). Holds term.rest bytes.seat e) (sym c) term.holds);
-  silent = ap (λ (s : Seat). s.terminal.out) a ∙ term.silent;
+  holds = subst (λ (s : TrackedTerminal). Holds term.rest s with_link.term) (sym a) (subst (λ (e : TermEnd). Holds term.rest bytes.tracked e) (sym c) term.holds);
+  silent = ap (λ (s : TrackedTerminal). s.terminal.out) a ∙ term.silent;
   down = subst (λ (q : List ℕ). BytesDown term.rest q with_link.down) (sym b) (subst (λ (m : List ToTerminal). BytesDown term.rest bytes.down m) (sym d) term.down);
 }
 

@@ -4,7 +4,7 @@ use Rattle.std.proofs.lemmas.Bool.{lt-ltb}
 use Rattle.std.proofs.lemmas.List.{set-get_or}
 use Rattle.host_core.specs.Acts.{Sent}
 use Rattle.host_core.specs.Does.{Does as HostDoes}
-use Rattle.host_core.specs.State.{Host, Line, Service, unused, line_at, with_line, most_connections, phase_of, service_at}
+use Rattle.host_core.specs.State.{Host, Connection, Service, unused, connection_at, with_connection, most_connections, phase_of, service_at}
 use Rattle.host_core.specs.declared.phase.Phase.TheVariants as phase
 use Rattle.host_core.specs.declared.acted.Acted.{Acted}
 use Rattle.world3270.specs.ByteWorld.{ByteWorld, host_there, is_there, terminal_there, with_host}
@@ -30,12 +30,12 @@ neither : (linked : Bool) → (linked && false) ≡ false
 neither true = refl
 neither false = refl
 
-same_host : (number : ℕ) (old host : Host) → line_at number host ≡ line_at number old → host ≡ with_line number (line_at number host) old → host ≡ old
-same_host number old host line others =
-    others ∙ ap (λ (l : Line). with_line number l old) line ∙ ap (λ ls. record old { lines = ls }) (set-get_or old.lines number unused)
+same_host : (number : ℕ) (old host : Host) → connection_at number host ≡ connection_at number old → host ≡ with_connection number (connection_at number host) old → host ≡ old
+same_host number old host connection others =
+    others ∙ ap (λ (l : Connection). with_connection number l old) connection ∙ ap (λ ls. record old { connections = ls }) (set-get_or old.connections number unused)
 
 pub host_acted : (event : Event) (does : Option Sent) (number : ℕ) (old : ByteWorld) (act : Acted) (answer : Stepped) (host : Host)
-    → number < most_connections → HostDoes does (line_at number old.host) act (line_at number host) → host ≡ with_line number (line_at number host) old.host
+    → number < most_connections → HostDoes does (connection_at number old.host) act (connection_at number host) → host ≡ with_connection number (connection_at number host) old.host
     → answer ≡ answer_acted act → has_place event old ≡ (is_link number && is_some does)
     → (ActsHost does number old answer (with_host host old) → Happens event old answer (with_host host old))
     → Steps event old answer (with_host host old)

@@ -18,7 +18,7 @@ use Rattle.term_core.specs.declared.outcome.Outcome.{Outcome}
 use Rattle.term_core.specs.declared.outcome.Outcome.TheVariants.{DeviceEnd, Refused}
 use Rattle.host_core.specs.Application.{Application, application_of}
 use Rattle.host_core.specs.Messages.{ToTerminal, ToHost, Verdict}
-use Rattle.host_core.specs.Takes.{Step, pool_after, took as host_took}
+use Rattle.host_core.specs.Takes.{HostStep, pool_after, took as host_took}
 use Rattle.world3270.specs.Always.{is_refusal}
 use Rattle.world3270.specs.ByteWorld.{ByteWorld}
 use Rattle.world3270.specs.Happens.{came_down, came_up, closed_if, done, happens, place_after, said, went_down}
@@ -72,7 +72,7 @@ closed_links : (closes : Option Cause) (world : World) (number : ℕ) → (close
 closed_links None world number = refl
 closed_links (Some cause) world number = refl
 
-host_stays : (step : Step) (rest : List ToHost) (link : Link) → step.closes ≡ None → Stays link (host_stepped step rest link)
+host_stays : (step : HostStep) (rest : List ToHost) (link : Link) → step.closes ≡ None → Stays link (host_stepped step rest link)
 host_stays step rest link none =
     subst (λ (c : Option Cause). Stays link (host_left_if c (record link { up = rest; host = step.conn; down = sent link.lost link.down step.sends }))) (sym none)
     (record { lost = refl; host = refl; terminal = refl })
@@ -88,7 +88,7 @@ up_stays : (number : ℕ) (up : List ToHost) (world : World) → (came_up number
 up_stays number [] world none other = same (world.link other)
 up_stays number (message ∷ rest) world none other =
     let link : Link = world.link number in
-    let step : Step = host_took (answer_to world.pool) link.host message in
+    let step : HostStep = host_took (answer_to world.pool) link.host message in
     let then_is : World = record world { pool = pool_after number step world.pool; link = with_at number (host_stepped step rest link) world.link } in
     subst (λ (l : Link). Stays (world.link other) l) (sym (closed_links step.closes then_is other))
     (one_stays world.link number (host_stepped step rest link) (host_stays step rest link (none_closes step.closes then_is none)) other)

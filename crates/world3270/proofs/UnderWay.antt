@@ -4,7 +4,7 @@ use Rattle.std.proofs.lemmas.List.{take-append-le}
 use Rattle.telnet_wire.specs.Items.{WireItem, sent_bytes}
 use Rattle.host_core.specs.Messages.{ToTerminal}
 use Rattle.host_core.specs.Session.{Conn}
-use Rattle.world3270.specs.ByteWorld.{Under, under_way, came, cut, is_live, is_senders}
+use Rattle.world3270.specs.ByteWorld.{Transit, under_way, came, cut, is_live, is_senders}
 use Rattle.world3270.specs.Link.{Link, sent}
 use Rattle.world3270.specs.Standing.{IsFlow}
 use Rattle.world3270.specs.Stands.{ByteLink, LinkStands}
@@ -13,15 +13,15 @@ use Rattle.world3270.specs.StandsLinks.{HostSends, said_down, sent_down}
 -- ---- a sender says more
 
 -- on a lost connection that vanishes
-pub more_under_way : (out more : List ℕ) (under : Under) → IsFlow true out under → under_way under (out ++ more) ≡ sent (not (is_live under)) (under_way under out) more
-more_under_way out more Under.Live flow = refl
-more_under_way out more (Under.Cut kept) flow = take-append-le kept out more flow
-more_under_way out more (Under.Left bytes) flow = absurd (cc)
+pub more_under_way : (out more : List ℕ) (under : Transit) → IsFlow true out under → under_way under (out ++ more) ≡ sent (not (is_live under)) (under_way under out) more
+more_under_way out more Transit.Live flow = refl
+more_under_way out more (Transit.Cut kept) flow = take-append-le kept out more flow
+more_under_way out more (Transit.SenderGone bytes) flow = absurd (cc)
 
-pub more_flows : (out more : List ℕ) (under : Under) → IsFlow true out under → IsFlow true (out ++ more) under
-more_flows out more Under.Live flow = tt
-more_flows out more (Under.Cut kept) flow = let whole = length-append out more in omega (arith, flow, whole)
-more_flows out more (Under.Left bytes) flow = flow
+pub more_flows : (out more : List ℕ) (under : Transit) → IsFlow true out under → IsFlow true (out ++ more) under
+more_flows out more Transit.Live flow = tt
+more_flows out more (Transit.Cut kept) flow = let whole = length-append out more in omega (arith, flow, whole)
+more_flows out more (Transit.SenderGone bytes) flow = flow
 
 -- and stands for anything that the host sends
 vanishes : {X : Type 0} (lost : Bool) (queue some others : List X) → lost ≡ true → sent lost queue some ≡ sent lost queue others
@@ -51,32 +51,32 @@ drop_take (suc count) (suc kept) (byte ∷ out) =
     let less : suc kept - suc count ≡ kept - count = omega arith in
     ap (λ (n : ℕ). take n (drop count out)) less ∙ drop_take count kept out
 
-pub came_under_way : (count : ℕ) (under : Under) (out : List ℕ)
+pub came_under_way : (count : ℕ) (under : Transit) (out : List ℕ)
     → under_way (came count under) (if is_senders under then drop count out else out) ≡ drop count (under_way under out)
-came_under_way count Under.Live out = refl
-came_under_way count (Under.Cut kept) out = drop_take count kept out
-came_under_way count (Under.Left bytes) out = refl
+came_under_way count Transit.Live out = refl
+came_under_way count (Transit.Cut kept) out = drop_take count kept out
+came_under_way count (Transit.SenderGone bytes) out = refl
 
 -- what was cut is still no more than its sender has to send
-pub came_flows : (there : Bool) (count : ℕ) (out : List ℕ) (under : Under) → IsFlow there out under
+pub came_flows : (there : Bool) (count : ℕ) (out : List ℕ) (under : Transit) → IsFlow there out under
     → IsFlow there (if is_senders under then drop count out else out) (came count under)
-came_flows there count out Under.Live flow = tt
-came_flows there count out (Under.Cut kept) flow = fewer kept flow
+came_flows there count out Transit.Live flow = tt
+came_flows there count out (Transit.Cut kept) flow = fewer kept flow
   where
     fewer : (kept : ℕ) → kept ≤ length out → kept - count ≤ length (drop count out)
     fewer kept few = omega (arith, length-drop count out, few)
-came_flows there count out (Under.Left bytes) flow = flow
+came_flows there count out (Transit.SenderGone bytes) flow = flow
 
 -- it is lost as before, and its bytes are its sender's as before
-pub came_live : (count : ℕ) (under : Under) → is_live (came count under) ≡ is_live under
-came_live count Under.Live = refl
-came_live count (Under.Cut kept) = refl
-came_live count (Under.Left bytes) = refl
+pub came_live : (count : ℕ) (under : Transit) → is_live (came count under) ≡ is_live under
+came_live count Transit.Live = refl
+came_live count (Transit.Cut kept) = refl
+came_live count (Transit.SenderGone bytes) = refl
 
-pub came_senders : (count : ℕ) (under : Under) → is_senders (came count under) ≡ is_senders under
-came_senders count Under.Live = refl
-came_senders count (Under.Cut kept) = refl
-came_senders count (Under.Left bytes) = refl
+pub came_senders : (count : ℕ) (under : Transit) → is_senders (came count under) ≡ is_senders under
+came_senders count Transit.Live = refl
+came_senders count (Transit.Cut kept) = refl
+came_senders count (Transit.SenderGone bytes) = refl
 
 -- ---- it is lost
 
@@ -84,7 +84,7 @@ all_taken : (out : List ℕ) → take (length out) out ≡ out
 all_taken [] = refl
 all_taken (byte ∷ out) = ap (λ (bytes : List ℕ). byte ∷ bytes) (all_taken out)
 
-pub cut_under_way : (under : Under) (out : List ℕ) → under_way (cut (length out) under) out ≡ under_way under out
-cut_under_way Under.Live out = all_taken out
-cut_under_way (Under.Cut kept) out = refl
-cut_under_way (Under.Left bytes) out = refl
+pub cut_under_way : (under : Transit) (out : List ℕ) → under_way (cut (length out) under) out ≡ under_way under out
+cut_under_way Transit.Live out = all_taken out
+cut_under_way (Transit.Cut kept) out = refl
+cut_under_way (Transit.SenderGone bytes) out = refl

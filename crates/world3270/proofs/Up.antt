@@ -18,7 +18,7 @@ use Rattle.shadow.specs.Laws.{Believed}
 use Rattle.shadow.specs.Openness.{NothingIsOpen}
 use Rattle.shadow.specs.declared.fault.HeardFault.{HeardFault}
 use Rattle.telnet_wire.specs.declared.wire.Verb.TheVariants.{Will}
-use Rattle.tn3270e_msg.specs.HostTable.{host_line, answer_line, request_line, named_line, granted}
+use Rattle.tn3270e_msg.specs.HostTable.{host_transition, answer_transition, request_transition, named_transition, granted}
 use Rattle.tn3270e_msg.specs.Message.{Connect}
 use Rattle.tn3270e_msg.specs.Talk.{Comes, Talk, start_at, follow, IsLuIfSome, Saying, says}
 use Rattle.tn3270e_msg.specs.declared.device.Device.TheVariants.{Model2}
@@ -27,26 +27,26 @@ use Rattle.tn3270e_msg.specs.declared.host_talk.HostState.TheVariants.{Offered, 
 use Rattle.tn3270e_msg.specs.declared.reply.Reason.{Reason}
 use Rattle.tn3270e_msg.specs.declared.reply.Reply.{Reply}
 use Rattle.tn3270e_msg.specs.declared.reply.Reply.TheVariants as reply
-use Rattle.tn3270e_msg.specs.declared.reply.Sending.TheVariants.{SendType, TypeRequest, TypeIs, TypeReject, FunRequest, FunIs}
+use Rattle.tn3270e_msg.specs.declared.reply.OwnedMessage.TheVariants.{SendType, TypeRequest, TypeIs, TypeReject, FunRequest, FunIs}
 use Rattle.tn3270e_msg.proofs.Agreement.{responses_alone, model_2}
 use Rattle.host_core.specs.Application.{Application}
 use Rattle.host_core.specs.Messages.{ToTerminal, ToHost, Verdict}
 use Rattle.host_core.specs.declared.turn.Turn.TheVariants as whose
-use Rattle.host_core.specs.declared.occasion.Occasion.{Occasion}
-use Rattle.host_core.specs.declared.occasion.Occasion.TheVariants as occasions
+use Rattle.host_core.specs.declared.turn_reason.TurnReason.{TurnReason}
+use Rattle.host_core.specs.declared.turn_reason.TurnReason.TheVariants as turn_reasons
 use Rattle.host_core.specs.Session.{Conn, Pending, is_agreed}
-use Rattle.host_core.specs.Takes.{Step, Answers, quiet, with_talk, replied, granted_by, talked_on, talked, hears, believed, once_read, key_came, key_data_came, data_came, answered, if_answers, response_came, once_agreed, took}
+use Rattle.host_core.specs.Takes.{HostStep, Answers, quiet, with_talk, replied, granted_by, talked_on, talked, hears, believed, once_read, key_came, key_data_came, data_came, answered, if_answers, response_came, once_agreed, took}
 use Rattle.world3270.specs.Given.{Given}
 use Rattle.world3270.specs.Link.{Link, sent}
 use Rattle.world3270.specs.Moments.{Kind, awaiting, Talking, Serving, Moment, UnderWay, IsAt, host_talk_at, term_state_at, turn_at, pending_at, down_at, up_at}
-use Rattle.world3270.specs.Occasions.{IsOccasion, IsOpenBy, IsOpenFor}
+use Rattle.world3270.specs.TurnReasons.{IsOccasion, IsOpenBy, IsOpenFor}
 use Rattle.world3270.specs.Stages.{scene_of, once_taken, FactsAreExact, Suits, Sees, IsPressed, WillBeHeard, IsRead, Fact, Kept}
 use Rattle.world3270.specs.View.{view_of}
 use Rattle.world3270.proofs.OneOfMany.{same_number}
 use Rattle.world3270.proofs.Queues.{more, front, nothing}
 
 -- the connection once the host took the message before the rest
-abbrev pub host_view : Step → List ToHost → Link → Link
+abbrev pub host_view : HostStep → List ToHost → Link → Link
 host_view step rest link = record link { up = rest; host = step.conn; down = sent link.lost link.down step.sends }
 
 -- the LU that the host's end has, if it has one
@@ -54,11 +54,11 @@ abbrev pub claim : Conn → Option (List ℕ)
 claim conn = granted conn.talk.state
 
 -- what a step grants is what the pool answered, and the host's end has it then
-pub data Grants (pool : List Entry) (old : Conn) (step : Step) : Type 0 where
+pub data Grants (pool : List Entry) (old : Conn) (step : HostStep) : Type 0 where
   none : step.grants ≡ None → claim step.conn ≡ claim old → Grants pool old step
   one : (name : Option (List ℕ)) (lu : List ℕ) → step.grants ≡ Some lu → claim step.conn ≡ Some lu → answer_to pool name ≡ Ok lu → Grants pool old step
 
-pub record Answered (app : Application) (pool : List Entry) (link : Link) (rest : List ToHost) (step : Step) : Type 0 where
+pub record Answered (app : Application) (pool : List Entry) (link : Link) (rest : List ToHost) (step : HostStep) : Type 0 where
   pub kept : Kept app (view_of (host_view step rest link))
   pub open_end : step.closes ≡ None
   pub grants : Grants pool link.host step
@@ -70,7 +70,7 @@ record Leads (wanted : Option (List ℕ)) (from to : Moment) (sends : List ToTer
   term : term_state_at to ≡ term_state_at from
   down : down_at from ++ sends ≡ down_at to
 
-leads : (link : Link) (step : Step) (rest : List ToHost) (wanted : Option (List ℕ)) (from to : Moment) → IsAt (view_of link) wanted from → Leads wanted from to step.sends
+leads : (link : Link) (step : HostStep) (rest : List ToHost) (wanted : Option (List ℕ)) (from to : Moment) → IsAt (view_of link) wanted from → Leads wanted from to step.sends
     → step.conn.talk ≡ host_talk_at to → step.conn.turn ≡ turn_at to → step.conn.pending ≡ pending_at to → UnderWay link.lost rest (up_at wanted to) → IsAt (view_of (host_view step rest link)) wanted to
 leads link step rest wanted from to at l talk turn pending left = record {
   host_talk = talk;
@@ -83,7 +83,7 @@ leads link step rest wanted from to at l talk turn pending left = record {
 
 -- ---- the talk
 
-abbrev talk_step : Link → Talk HostState → List ToTerminal → Option (List ℕ) → Step
+abbrev talk_step : Link → Talk HostState → List ToTerminal → Option (List ℕ) → HostStep
 talk_step link next sends grants = record { conn = with_talk link.host next; sends = sends; grants = grants; closes = None }
 
 -- the talk moves on, by a step that is known
@@ -121,18 +121,18 @@ asking_type wanted = Saying.Sub (TypeRequest wanted)
 abbrev at_asking : Talk HostState
 at_asking = start_at (Asking Model2)
 
-asks_pool : Given → (wanted : Option (List ℕ)) → IsLuIfSome wanted → follow HostClosed (start_at Asked) (host_line Asked (says (asking_type wanted))) ≡ (at_asking, reply.AskPool wanted)
-asks_pool given None is = ap (λ d. follow HostClosed (start_at Asked) (request_line d None)) model_2
+asks_pool : Given → (wanted : Option (List ℕ)) → IsLuIfSome wanted → follow HostClosed (start_at Asked) (host_transition Asked (says (asking_type wanted))) ≡ (at_asking, reply.AskPool wanted)
+asks_pool given None is = ap (λ d. follow HostClosed (start_at Asked) (request_transition d None)) model_2
 asks_pool given (Some name) is =
-    ap (λ d. follow HostClosed (start_at Asked) (request_line d (Some (Connect name)))) model_2
-    ∙ ap (λ l. follow HostClosed (start_at Asked) (named_line Model2 l)) (given.belief.names name is)
+    ap (λ d. follow HostClosed (start_at Asked) (request_transition d (Some (Connect name)))) model_2
+    ∙ ap (λ l. follow HostClosed (start_at Asked) (named_transition Model2 l)) (given.belief.names name is)
 
 pool_asked : Given → (pool : Answers) (conn : Conn) (wanted : Option (List ℕ)) → IsLuIfSome wanted
-    → talked pool conn (start_at Asked) (says (asking_type wanted)) ≡ replied conn (granted_by (pool wanted)) (follow HostClosed at_asking (answer_line Model2 (pool wanted)))
+    → talked pool conn (start_at Asked) (says (asking_type wanted)) ≡ replied conn (granted_by (pool wanted)) (follow HostClosed at_asking (answer_transition Model2 (pool wanted)))
 pool_asked given pool conn wanted is = ap (λ (p : Talk HostState × Reply). talked_on pool conn p.0 p.1) (asks_pool given wanted is)
 
-abbrev answered_by : Conn → Result (List ℕ) Reason → Step
-answered_by conn answer = replied conn (granted_by answer) (follow HostClosed at_asking (answer_line Model2 answer))
+abbrev answered_by : Conn → Result (List ℕ) Reason → HostStep
+answered_by conn answer = replied conn (granted_by answer) (follow HostClosed at_asking (answer_transition Model2 answer))
 
 suits : Given → (pool : List Entry) (wanted : Option (List ℕ)) (lu : List ℕ) → IsSound pool → IsLuIfSome wanted → answer_to pool wanted ≡ Ok lu → Suits wanted lu
 suits given pool None lu sound is e = record { is_lu = given.pool.lus pool None lu sound e; is_wanted = tt }
@@ -183,7 +183,7 @@ module _ (app : Application) (pool : List Entry) (link : Link) (rest : List ToHo
     grants = Grants.none refl (ap (λ (t : Talk HostState). granted t.state) talk);
   }
 
-  as_step : (m message : ToHost) (step : Step) → message ≡ m → took (answer_to pool) link.host m ≡ step → Answered app pool link rest step → Answered app pool link rest (took (answer_to pool) link.host message)
+  as_step : (m message : ToHost) (step : HostStep) → message ≡ m → took (answer_to pool) link.host m ≡ step → Answered app pool link rest step → Answered app pool link rest (took (answer_to pool) link.host message)
   as_step m message step e is a = subst (λ x. Answered app pool link rest (took (answer_to pool) link.host x)) (sym e) (subst (Answered app pool link rest) (sym is) a)
 
 -- ---- responses
@@ -207,10 +207,10 @@ data IsKeyTime (pending : Pending) : Type 0 where
   note_waits : (number : ℕ) (command : CommandParts) → pending ≡ Pending.Noting number command → IsKeyTime pending
 
 key_data_took : (parts : InboundParts) (conn : Conn) (aid : Aid) → parts.form ≡ Modified → parts.aid ≡ aid → (aid ≡ NoAid → ⊥)
-    → key_data_came parts parts.form conn ≡ believed (occasions.Key aid false) conn.pending conn (hears parts conn)
+    → key_data_came parts parts.form conn ≡ believed (turn_reasons.Key aid false) conn.pending conn (hears parts conn)
 key_data_took parts conn aid form is some = ap (λ f. key_data_came parts f conn) form ∙ ap (λ a. key_came parts a conn) is ∙ by_aid aid some
   where
-    by_aid : (a : Aid) → (a ≡ NoAid → ⊥) → key_came parts a conn ≡ believed (occasions.Key a false) conn.pending conn (hears parts conn)
+    by_aid : (a : Aid) → (a ≡ NoAid → ⊥) → key_came parts a conn ≡ believed (turn_reasons.Key a false) conn.pending conn (hears parts conn)
     by_aid NoAid n = absurd (n refl)
     by_aid Enter n = refl
     by_aid Clear n = refl
@@ -222,14 +222,14 @@ data_took parts conn pending turns (IsKeyTime.nothing_waits e) = ap (λ p. data_
 data_took parts conn pending turns (IsKeyTime.note_waits number command e) = ap (λ p. data_came parts conn.turn p conn) e ∙ ap (λ t. data_came parts t (Pending.Noting number command) conn) turns
 
 key_took : (pool : Answers) (conn : Conn) (parts : InboundParts) (aid : Aid) → is_agreed conn.talk.state ≡ true → conn.turn ≡ whose.Terminal → IsKeyTime conn.pending → parts.form ≡ Modified → parts.aid ≡ aid → (aid ≡ NoAid → ⊥)
-    → took pool conn (ToHost.Data parts) ≡ believed (occasions.Key aid false) conn.pending conn (hears parts conn)
+    → took pool conn (ToHost.Data parts) ≡ believed (turn_reasons.Key aid false) conn.pending conn (hears parts conn)
 key_took pool conn parts aid agrees turns time form is some =
     ap (λ b. once_agreed b (data_came parts conn.turn conn.pending conn) conn) agrees
     ∙ data_took parts conn conn.pending turns time
     ∙ key_data_took parts conn aid form is some
 
 buffer_took : (pool : Answers) (conn : Conn) (screen : Screen) (number : ℕ) → is_agreed conn.talk.state ≡ true → conn.pending ≡ Pending.Reading number
-    → took pool conn (ToHost.Data (buffer_data screen)) ≡ believed (once_read conn.occasion) Pending.Nothing conn (hears (buffer_data screen) conn)
+    → took pool conn (ToHost.Data (buffer_data screen)) ≡ believed (once_read conn.turn_reason) Pending.Nothing conn (hears (buffer_data screen) conn)
 buffer_took pool conn screen number agrees pends =
     let parts : InboundParts = buffer_data screen in
     ap (λ b. once_agreed b (data_came parts conn.turn conn.pending conn) conn) agrees
@@ -244,16 +244,16 @@ all_open Enter buffered s o = o
 all_open Clear buffered s o = o
 all_open (Pf key) buffered s o = o
 
-open_read : (occasion : Occasion) (s old : Shadow) → NothingIsOpen s → IsOpenFor occasion old → IsOpenFor (once_read occasion) s
-open_read occasions.Agreement s old o was = o
-open_read (occasions.Key aid buffered) s old o was = all_open aid true s o
-open_read occasions.Refusal s old o was = absurd was
+open_read : (turn_reason : TurnReason) (s old : Shadow) → NothingIsOpen s → IsOpenFor turn_reason old → IsOpenFor (once_read turn_reason) s
+open_read turn_reasons.Agreement s old o was = o
+open_read (turn_reasons.Key aid buffered) s old o was = all_open aid true s o
+open_read turn_reasons.Refusal s old o was = absurd was
 
 -- the key that was pressed is still the reason, once its screen was read
-read_occasion : (occasion : Occasion) (aid : Aid) → IsOccasion occasion aid → IsOccasion (once_read occasion) aid
-read_occasion occasions.Agreement aid is = is
-read_occasion (occasions.Key pressed buffered) aid is = is
-read_occasion occasions.Refusal aid is = absurd is
+read_occasion : (turn_reason : TurnReason) (aid : Aid) → IsOccasion turn_reason aid → IsOccasion (once_read turn_reason) aid
+read_occasion turn_reasons.Agreement aid is = is
+read_occasion (turn_reasons.Key pressed buffered) aid is = is
+read_occasion turn_reasons.Refusal aid is = absurd is
 
 module _ (given : Given) (app : Application) (pool : List Entry) (link : Link) (rest : List ToHost) (k : Kept app (view_of link)) where
   abbrev screen : Screen
@@ -263,15 +263,15 @@ module _ (given : Given) (app : Application) (pool : List Entry) (link : Link) (
   size = cells_in link.host.shape
 
   -- what is heard is believed, and it is the host's turn
-  believes : (lu : List ℕ) (from to : Serving) (parts : InboundParts) (occasion : Occasion) (pending : Pending) (Then : Shadow → Type 0) (r : Result Shadow HeardFault)
+  believes : (lu : List ℕ) (from to : Serving) (parts : InboundParts) (turn_reason : TurnReason) (pending : Pending) (Then : Shadow → Type 0) (r : Result Shadow HeardFault)
       → IsAt (view_of link) k.wanted (Moment.Serves lu from) → IfOk r KnownIsExact → IfOk r ProtectedIsExact → IsOkAnd r Then
       → whose.Host ≡ turn_at (Moment.Serves lu to) → pending ≡ pending_at (Moment.Serves lu to) → down_at (Moment.Serves lu from) ++ [] ≡ down_at (Moment.Serves lu to) → UnderWay link.lost rest (up_at k.wanted (Moment.Serves lu to))
       → ((shadow : Shadow) → Then shadow
-      → Fact k.wanted (record { shape = link.host.shape; shadow = shadow; occasion = occasion; lock = link.term.display.keyboard.lock; screen = screen; left = link.term.display.left; erased = link.term.display.erased }) (Moment.Serves lu to))
-      → Answered app pool link rest (believed occasion pending link.host r)
-  believes lu from to parts occasion pending Then (Ok shadow) at knows protects ok turn pends down left fact =
-      serves app pool link rest k lu from to (record link.host { shadow = shadow; turn = whose.Host; pending = pending; occasion = occasion }) at refl refl (record { known = knows; protected = protects }) turn pends down left (fact shadow ok)
-  believes lu from to parts occasion pending Then (Err fault) at knows protects ok turn pends down left fact = absurd ok
+      → Fact k.wanted (record { shape = link.host.shape; shadow = shadow; turn_reason = turn_reason; lock = link.term.display.keyboard.lock; screen = screen; last_restored = link.term.display.last_restored; erased = link.term.display.erased }) (Moment.Serves lu to))
+      → Answered app pool link rest (believed turn_reason pending link.host r)
+  believes lu from to parts turn_reason pending Then (Ok shadow) at knows protects ok turn pends down left fact =
+      serves app pool link rest k lu from to (record link.host { shadow = shadow; turn = whose.Host; pending = pending; turn_reason = turn_reason }) at refl refl (record { known = knows; protected = protects }) turn pends down left (fact shadow ok)
+  believes lu from to parts turn_reason pending Then (Err fault) at knows protects ok turn pends down left fact = absurd ok
 
   -- a key's data
   hears_key : (lu : List ℕ) (from to : Serving) (parts : InboundParts) (message : ToHost) (Then : Shadow → Type 0) → IsAt (view_of link) k.wanted (Moment.Serves lu from) → IsPressed (scene_of (view_of link)) parts
@@ -279,12 +279,12 @@ module _ (given : Given) (app : Application) (pool : List Entry) (link : Link) (
       → whose.Host ≡ turn_at (Moment.Serves lu to) → pending_at (Moment.Serves lu from) ≡ pending_at (Moment.Serves lu to) → down_at (Moment.Serves lu from) ++ [] ≡ down_at (Moment.Serves lu to)
       → UnderWay link.lost rest (up_at k.wanted (Moment.Serves lu to))
       → ((shadow : Shadow) → Then shadow
-      → Fact k.wanted (record { shape = link.host.shape; shadow = shadow; occasion = occasions.Key screen.aid false; lock = link.term.display.keyboard.lock; screen = screen; left = link.term.display.left; erased = link.term.display.erased }) (Moment.Serves lu to))
+      → Fact k.wanted (record { shape = link.host.shape; shadow = shadow; turn_reason = turn_reasons.Key screen.aid false; lock = link.term.display.keyboard.lock; screen = screen; last_restored = link.term.display.last_restored; erased = link.term.display.erased }) (Moment.Serves lu to))
       → Answered app pool link rest (took (answer_to pool) link.host message)
   hears_key lu from to parts message Then at p will e turns time turn pends down left fact =
-      as_step app pool link rest k (ToHost.Data parts) message (believed (occasions.Key screen.aid false) link.host.pending link.host (hears parts link.host)) e
+      as_step app pool link rest k (ToHost.Data parts) message (believed (turn_reasons.Key screen.aid false) link.host.pending link.host (hears parts link.host)) e
       (key_took (answer_to pool) link.host parts screen.aid (agreed_at app pool link rest k lu from at) (at.turn ∙ turns) (subst IsKeyTime (sym at.pending) time) p.form p.pressed p.some)
-      (believes lu from to parts (occasions.Key screen.aid false) link.host.pending Then (hears parts link.host) at
+      (believes lu from to parts (turn_reasons.Key screen.aid false) link.host.pending Then (hears parts link.host) at
       (given.belief.heard_exact size link.host.shadow parts k.exact.known) (given.belief.heard_protected size link.host.shadow parts k.exact.protected) will turn (at.pending ∙ pends) down left fact)
 
   -- a response to a write
@@ -303,13 +303,13 @@ module _ (given : Given) (app : Application) (pool : List Entry) (link : Link) (
       → parts ≡ buffer_data screen → message ≡ ToHost.Data parts → UnderWay link.lost rest [] → Answered app pool link rest (took (answer_to pool) link.host message)
   hears_buffer lu number parts message at f is e left =
       let read : InboundParts = buffer_data screen in
-      as_step app pool link rest k (ToHost.Data read) message (believed (once_read link.host.occasion) Pending.Nothing link.host (hears read link.host)) (e ∙ ap (λ p. ToHost.Data p) is)
+      as_step app pool link rest k (ToHost.Data read) message (believed (once_read link.host.turn_reason) Pending.Nothing link.host (hears read link.host)) (e ∙ ap (λ p. ToHost.Data p) is)
       (buffer_took (answer_to pool) link.host screen number (agreed_at app pool link rest k lu (Serving.Reported number parts) at) at.pending)
-      (believes lu (Serving.Reported number parts) Serving.Deciding read (once_read link.host.occasion) Pending.Nothing (λ s. Sees link.host.shape screen s × NothingIsOpen s) (hears read link.host) at
+      (believes lu (Serving.Reported number parts) Serving.Deciding read (once_read link.host.turn_reason) Pending.Nothing (λ s. Sees link.host.shape screen s × NothingIsOpen s) (hears read link.host) at
       (given.belief.heard_exact size link.host.shadow read k.exact.known) (given.belief.heard_protected size link.host.shadow read k.exact.protected)
       (by_result (heard size link.host.shadow read) (subst (λ n. IsOkAnd (heard n link.host.shadow read) (Believed false screen)) k.whole (given.belief.reads link.host.shadow screen f.decides.sees.meets))
       (given.belief.heard_exact size link.host.shadow read k.exact.known) (given.belief.heard_protected size link.host.shadow read k.exact.protected) (given.belief.read_leaves size link.host.shadow read refl))
-      refl refl refl left (λ shadow sees. record { lock = f.decides.lock; occasion = read_occasion link.host.occasion screen.aid f.decides.occasion; closed = open_read link.host.occasion shadow link.host.shadow sees.1 f.decides.closed; sees = sees.0 }))
+      refl refl refl left (λ shadow sees. record { lock = f.decides.lock; turn_reason = read_occasion link.host.turn_reason screen.aid f.decides.turn_reason; closed = open_read link.host.turn_reason shadow link.host.shadow sees.1 f.decides.closed; sees = sees.0 }))
     where
       by_result : (r : Result Shadow HeardFault) → IsOkAnd r (Believed false screen) → IfOk r KnownIsExact → IfOk r ProtectedIsExact → IfOk r NothingIsOpen → IsOkAnd r (λ s. Sees link.host.shape screen s × NothingIsOpen s)
       by_result (Ok s) believed known protected closed =
@@ -339,7 +339,7 @@ answers given app pool sound link message rest e k = by_moment k.moment k.at k.f
     by_talk (Talking.AskingFunctions lu) at f =
         let first = front link.lost link.up message rest _ [] e at.goes_up in
         talks app pool link rest k (Talking.AskingFunctions lu) (Talking.Agreeing lu) (Saying.Sub FunRequest) (ToTerminal.TalksDown (Saying.Sub FunIs) ∷ []) None message at first.0
-        (ap (λ w. let next = follow HostClosed (start_at (Named Model2 lu)) (host_line (Named Model2 lu) (Comes.RequestsFunctions w)) in talked_on (answer_to pool) link.host next.0 next.1) responses_alone)
+        (ap (λ w. let next = follow HostClosed (start_at (Named Model2 lu)) (host_transition (Named Model2 lu) (Comes.RequestsFunctions w)) in talked_on (answer_to pool) link.host next.0 next.1) responses_alone)
         (Grants.none refl (claim_at link.host (start_at (Named Model2 lu)) at.host_talk)) (record { term = refl; down = refl }) first.1 f
     by_talk Talking.Offering at f = no_more at.goes_up
     by_talk Talking.AskingType at f = no_more at.goes_up
@@ -355,7 +355,7 @@ answers given app pool sound link message rest e k = by_moment k.moment k.at k.f
     by_serving lu (Serving.AnsweredLate number command) at f =
         let first = front link.lost link.up message rest _ [] e at.goes_up in
         hears_response given app pool link rest k lu (Serving.AnsweredLate number command) Serving.Deciding Kind.ANote number command message at first.0 refl f.sees.exact refl refl refl first.1
-        (record { lock = f.lock; occasion = f.occasion; closed = f.closed; sees = f.sees })
+        (record { lock = f.lock; turn_reason = f.turn_reason; closed = f.closed; sees = f.sees })
     by_serving lu (Serving.Answering kind number command) at f =
         let first = front link.lost link.up message rest _ [] e at.goes_up in
         hears_response given app pool link rest k lu (Serving.Answering kind number command) Serving.Operating kind number command message at first.0 refl f.exact refl refl refl first.1
@@ -368,16 +368,16 @@ answers given app pool sound link message rest e k = by_moment k.moment k.at k.f
     by_serving lu (Serving.KeyAlone parts) at f =
         let first = front link.lost link.up message rest _ [] e at.goes_up in
         hears_key given app pool link rest k lu (Serving.KeyAlone parts) Serving.Deciding parts message (Sees link.host.shape screen) at f.0 f.1 first.0 refl (IsKeyTime.nothing_waits refl) refl refl refl first.1
-        (λ shadow sees. record { lock = f.0.lock; occasion = (refl, f.0.some); closed = sees.closed; sees = sees })
+        (λ shadow sees. record { lock = f.0.lock; turn_reason = (refl, f.0.some); closed = sees.closed; sees = sees })
     by_serving lu (Serving.KeyNoted number command parts) at f =
         let first = front link.lost link.up message rest _ [] e at.goes_up in
         hears_key given app pool link rest k lu (Serving.KeyNoted number command parts) (Serving.NotedLate number command) parts message (Sees link.host.shape screen) at f.0 f.1 first.0 refl (IsKeyTime.note_waits number command refl) refl refl refl first.1
-        (λ shadow sees. (record { lock = f.0.lock; occasion = (refl, f.0.some); closed = sees.closed; sees = sees }, record { note = f.2.note; takes = f.2.takes }))
+        (λ shadow sees. (record { lock = f.0.lock; turn_reason = (refl, f.0.some); closed = sees.closed; sees = sees }, record { note = f.2.note; takes = f.2.takes }))
     by_serving lu (Serving.KeyBefore number command parts) at f =
         let first = front link.lost link.up message rest _ _ e at.goes_up in
         hears_key given app pool link rest k lu (Serving.KeyBefore number command parts) (Serving.AnsweredLate number command) parts message (λ shadow. Sees link.host.shape screen (once_taken link.host.shape command shadow)) at f.0 f.1 first.0 refl
         (IsKeyTime.note_waits number command refl) refl refl refl first.1
-        (λ shadow sees. record { lock = f.0.lock; occasion = (refl, f.0.some); closed = sees.closed; sees = sees })
+        (λ shadow sees. record { lock = f.0.lock; turn_reason = (refl, f.0.some); closed = sees.closed; sees = sees })
     by_serving lu Serving.Deciding at f = no_more at.goes_up
     by_serving lu (Serving.Reading number) at f = no_more at.goes_up
     by_serving lu (Serving.NotedLate number command) at f = no_more at.goes_up

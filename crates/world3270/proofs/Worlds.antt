@@ -21,7 +21,7 @@ use Rattle.host_core.specs.Application.{Application, IsShape, IsApplication}
 use Rattle.host_core.specs.Messages.{ToTerminal, ToHost, Verdict}
 use Rattle.host_core.specs.Notes.{IsNoteText, may_note, noted_as, noted}
 use Rattle.host_core.specs.Session.{Conn, is_agreed}
-use Rattle.host_core.specs.Takes.{freed_if, Step, took as host_took}
+use Rattle.host_core.specs.Takes.{freed_if, HostStep, took as host_took}
 use Rattle.world3270.specs.Always.{is_negative}
 use Rattle.world3270.specs.Given.{Given}
 use Rattle.world3270.specs.Happens.{closed_if, verdict_in, said, came_up, host_acted, host_noted, left_alone, place_after, came_down, went_down, key_went, host_parted, parted, term_saw, joined, term_anew, host_left_from, host_anew, done, happens, run, RunsCompose}
@@ -76,7 +76,7 @@ replaced app pool link causes verdicts number new g r = record {
 pub granted_other : Given → (pool : List Entry) (number other : ℕ) (lu have : List ℕ) → holder pool lu ≡ None → holder pool have ≡ Some other → holder (granted_to number lu pool) have ≡ Some other
 granted_other given pool number other lu have free held = given.pool.others_stay pool number lu have (λ same. let x = ap (holder pool) same in absurd (cc)) ∙ held
 
-took_with : Given → (app : Application) (world : World) (number : ℕ) (step : Step) (new : Link) → GoodWorld app world → (world.link number).host_here ≡ true → Kept app (view_of new) → new.host ≡ step.conn
+took_with : Given → (app : Application) (world : World) (number : ℕ) (step : HostStep) (new : Link) → GoodWorld app world → (world.link number).host_here ≡ true → Kept app (view_of new) → new.host ≡ step.conn
     → Grants world.pool (world.link number).host step → Good app (granted_if number step.grants world.pool) (with_at number new world.link) world.causes world.verdicts
 took_with given app world number step new g here kept host (Grants.none ungranted same) =
     subst (λ grants. Good app (granted_if number grants world.pool) (with_at number new world.link) world.causes world.verdicts) (sym ungranted)
@@ -104,7 +104,7 @@ came_up_good : Given → (app : Application) (world : World) (number : ℕ) (up 
 came_up_good given app world number [] e here g = g
 came_up_good given app world number (message ∷ rest) e here g =
     let link : Link = world.link number in
-    let step : Step = host_took (answer_to world.pool) link.host message in
+    let step : HostStep = host_took (answer_to world.pool) link.host message in
     let a = answers given app world.pool g.sound link message rest e (g.links number) in
     subst (λ c. GoodWorld app (closed_if c (record world { pool = freed_if number c (granted_if number step.grants world.pool); link = with_at number (host_left_if c (host_view step rest link)) world.link }))) (sym a.open_end)
     (took_with given app world number step (host_view step rest link) g here a.kept refl a.grants)
@@ -120,8 +120,8 @@ record SameEnd (old new : Link) : Type 0 where
   claims : claim new.host ≡ claim old.host
   here : new.host_here ≡ old.host_here
 
-acted_same : (app : Application) (link : Link) (b : Bool) → SameEnd link (host_sent (if b then Some (done_act app link.host (act_on app link.host link.host.occasion)) else None) link)
-acted_same app link true = record { claims = act_claims app link.host (act_on app link.host link.host.occasion); here = refl }
+acted_same : (app : Application) (link : Link) (b : Bool) → SameEnd link (host_sent (if b then Some (done_act app link.host (act_on app link.host link.host.turn_reason)) else None) link)
+acted_same app link true = record { claims = act_claims app link.host (act_on app link.host link.host.turn_reason); here = refl }
 acted_same app link false = record { claims = refl; here = refl }
 
 noted_same : (text : List ℕ) (link : Link) (b : Bool) → SameEnd link (host_sent (if b then Some (noted_as text link.host) else None) link)
@@ -227,7 +227,7 @@ unused_kept given app is = record {
     goes_down = record { vanished = ToTerminal.TalksDown (Saying.Opt Do 40) ∷ []; whole = refl; none = λ e. absurd (cc) };
     goes_up = record { vanished = []; whole = refl; none = λ _. refl };
   };
-  fact = (record { shadow = refl; occasion = refl; lock = refl; aid = refl; no_fields = no_field (replicate (cells_in app.begins) (Char 0)) 0 (cells_in app.begins) }, tt);
+  fact = (record { shadow = refl; turn_reason = refl; lock = refl; aid = refl; no_fields = no_field (replicate (cells_in app.begins) (Char 0)) 0 (cells_in app.begins) }, tt);
 }
 
 begun_kept : Given → (app : Application) → IsApplication app → (terminal : ℕ) (wanted : Option (List ℕ)) → IsLuIfSome wanted → Kept app (view_of (begun app.begins terminal wanted))
@@ -247,7 +247,7 @@ begun_kept given app is terminal wanted lu = record {
     goes_down = record { vanished = []; whole = refl; none = λ _. refl };
     goes_up = record { vanished = []; whole = refl; none = λ _. refl };
   };
-  fact = (record { shadow = refl; occasion = refl; lock = refl; aid = refl; no_fields = no_field (replicate (cells_in app.begins) (Char 0)) 0 (cells_in app.begins) }, lu);
+  fact = (record { shadow = refl; turn_reason = refl; lock = refl; aid = refl; no_fields = no_field (replicate (cells_in app.begins) (Char 0)) 0 (cells_in app.begins) }, lu);
 }
 
 joined_good : Given → (app : Application) → IsApplication app → (world : World) (terminal : ℕ) (wanted : Option (List ℕ)) → IsLuIfSome wanted → (number : Option ℕ) → GoodWorld app world → GoodWorld app (joined app terminal wanted number world)

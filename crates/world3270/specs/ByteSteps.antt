@@ -11,16 +11,16 @@ use Rattle.host_core.specs.Application.{application_of}
 use Rattle.host_core.specs.Bytes.{Counter}
 use Rattle.host_core.specs.Does.{Does as HostDoes, acted_by, noted_by}
 use Rattle.host_core.specs.Feeds.{Feeds, counter_at, with_counter}
-use Rattle.host_core.specs.State.{Host, line_at, service_at, with_line, new_host, most_connections, given_up}
+use Rattle.host_core.specs.State.{Host, connection_at, service_at, with_connection, new_host, most_connections, given_up}
 use Rattle.host_core.specs.declared.acted.Acted.{Acted}
 use Rattle.host_core.specs.declared.acted.Acted.TheVariants as acted
 use Rattle.host_core.specs.State.{opened}
 use Rattle.term_core.specs.Feeds.{StopsFor}
 use Rattle.term_core.specs.Presses.{LacksKeyRoom, answer_to_key}
 use Rattle.term_core.specs.Room.{out_room}
-use Rattle.world3270.specs.ByteWorld.{ByteWorld, Ways, Sitting, alone, begun_ways, came, cut, left, is_live, is_senders, new_sitting, sits, ways_at, sitting_at, with_ways, with_sitting, with_host, host_there, terminal_there, terminal_at, host_out, terminal_out, down_of, up_of}
+use Rattle.world3270.specs.ByteWorld.{ByteWorld, Transits, TerminalSlot, alone, begun_transits, came, cut, sender_gone, is_live, is_senders, new_slot, attached_slot, transits_at, slot_at, with_transits, with_slot, with_host, host_there, terminal_there, terminal_at, host_out, terminal_out, down_of, up_of}
 use Rattle.world3270.specs.Placed.{is_queued}
-use Rattle.world3270.specs.Seats.{Seat, SeatTakes, seat_after_key}
+use Rattle.world3270.specs.TrackedTerminals.{TrackedTerminal, TrackedTakes, tracked_after_key}
 use Rattle.world3270.specs.declared.event.Event.{Event}
 use Rattle.world3270.specs.declared.event.Event.TheVariants as event
 use Rattle.world3270.specs.declared.event.Stepped.{Stepped}
@@ -32,10 +32,10 @@ abbrev pub is_link : ℕ → Bool
 is_link number = nat_lt number most_connections
 
 abbrev pub is_terminal : ℕ → ByteWorld → Bool
-is_terminal terminal world = nat_lt terminal (length world.sittings)
+is_terminal terminal world = nat_lt terminal (length world.slots)
 
 abbrev pub is_lost : ℕ → ByteWorld → Bool
-is_lost number world = not (is_live (ways_at number world).down)
+is_lost number world = not (is_live (transits_at number world).down)
 
 -- an end is held
 abbrev pub is_held : ℕ → ByteWorld → Bool
@@ -43,7 +43,7 @@ is_held number world = host_there number world || terminal_there number world
 
 -- an end is held, and the connection isn't lost
 abbrev pub is_up : ℕ → ByteWorld → Bool
-is_up number world = is_live (ways_at number world).down && is_held number world
+is_up number world = is_live (transits_at number world).down && is_held number world
 
 abbrev pub sees_loss : Option ℕ → ByteWorld → Bool
 sees_loss None world = false
@@ -70,8 +70,8 @@ has_place (event.Act number) world = is_link number && is_some (acted_by (applic
 has_place (event.Note number text) world = is_link number && is_some (noted_by text (service_at number world.host))
 has_place (event.Lose number) world = is_link number && is_up number world
 has_place (event.HostSees number) world = is_link number && (is_lost number world && host_there number world)
-has_place (event.TermSees terminal) world = is_terminal terminal world && sees_loss (sitting_at terminal world).at world
-has_place (event.Connect terminal wanted) world = is_terminal terminal world && may_connect (sitting_at terminal world).at world
+has_place (event.TermSees terminal) world = is_terminal terminal world && sees_loss (slot_at terminal world).at world
+has_place (event.Connect terminal wanted) world = is_terminal terminal world && may_connect (slot_at terminal world).at world
 has_place (event.RestartTerm terminal) world = is_terminal terminal world
 has_place event.RestartHost world = true
 
@@ -79,9 +79,9 @@ has_place event.RestartHost world = true
 
 -- A terminal is fed bytes: it took so many of them, one after another, and its history follows. While it is at a connection, its output
 -- buffer has at least the room that a terminal makes.
-pub record SeatFeeds (old : Seat) (bytes : List ℕ) (fed : Fed) (new : Seat) : Type 0 where
+pub record TrackedFeeds (old : TrackedTerminal) (bytes : List ℕ) (fed : Fed) (new : TrackedTerminal) : Type 0 where
   pub few : fed.taken ≤ length bytes
-  pub takes : SeatTakes old (take fed.taken bytes) new
+  pub takes : TrackedTakes old (take fed.taken bytes) new
   pub stops : StopsFor out_room fed.stop old.terminal bytes fed.taken new.terminal
 
 -- memory was refused behind so many bytes
@@ -95,45 +95,45 @@ answer_fed stop.Memory taken = refused_behind taken
 answer_fed (stop.Closed cause) taken = stepped.Done
 
 -- of what a terminal has to send, so many bytes are sent
-abbrev pub sent_of : ℕ → Sitting → Sitting
-sent_of count old = record old { seat = record old.seat { terminal = record old.seat.terminal { out = drop count old.seat.terminal.out } } }
+abbrev pub sent_of : ℕ → TerminalSlot → TerminalSlot
+sent_of count old = record old { tracked = record old.tracked { terminal = record old.tracked.terminal { out = drop count old.tracked.terminal.out } } }
 
 abbrev pub terminal_told : Bool → ℕ → Option ℕ → ByteWorld → ByteWorld
-terminal_told true count (Some terminal) world = with_sitting terminal (sent_of count (sitting_at terminal world)) world
+terminal_told true count (Some terminal) world = with_slot terminal (sent_of count (slot_at terminal world)) world
 terminal_told true count None world = world
 terminal_told false count at world = world
 
 abbrev pub host_told : Bool → ℕ → ℕ → ByteWorld → ByteWorld
 host_told true count number world =
-    with_host (with_line number (record (line_at number world.host) { out = drop count (line_at number world.host).out }) world.host) world
+    with_host (with_connection number (record (connection_at number world.host) { out = drop count (connection_at number world.host).out }) world.host) world
 host_told false count number world = world
 
 -- so many bytes came up, or down
 abbrev pub up_came : ℕ → ℕ → ByteWorld → ByteWorld
 up_came count number world =
-    let ways = ways_at number world in
-    with_ways number (record ways { up = came count ways.up }) (terminal_told (is_senders ways.up) count (terminal_at number world.sittings) world)
+    let transits = transits_at number world in
+    with_transits number (record transits { up = came count transits.up }) (terminal_told (is_senders transits.up) count (terminal_at number world.slots) world)
 
 abbrev pub down_came : ℕ → ℕ → ByteWorld → ByteWorld
 down_came count number world =
-    let ways = ways_at number world in
-    with_ways number (record ways { down = came count ways.down }) (host_told (is_senders ways.down) count number world)
+    let transits = transits_at number world in
+    with_transits number (record transits { down = came count transits.down }) (host_told (is_senders transits.down) count number world)
 
 -- ---- an end leaves, and the connection is lost
 
-abbrev pub lost_ways : ℕ → ByteWorld → Ways
-lost_ways number world =
-    record { down = cut (length (host_out number world)) (ways_at number world).down; up = cut (length (terminal_out number world)) (ways_at number world).up }
+abbrev pub lost_transits : ℕ → ByteWorld → Transits
+lost_transits number world =
+    record { down = cut (length (host_out number world)) (transits_at number world).down; up = cut (length (terminal_out number world)) (transits_at number world).up }
 
 abbrev pub host_gone : ℕ → ByteWorld → ByteWorld
 host_gone number world =
-    with_ways number (record (lost_ways number world) { down = left (host_out number world) (ways_at number world).down }) (with_host (given_up number world.host) world)
+    with_transits number (record (lost_transits number world) { down = sender_gone (host_out number world) (transits_at number world).down }) (with_host (given_up number world.host) world)
 
 -- what is before the operator then stays, but for what this makes of it
-abbrev pub terminal_gone : Sitting → ℕ → ℕ → ByteWorld → ByteWorld
-terminal_gone sitting terminal number world =
-    with_ways number (record (lost_ways number world) { up = left (sitting_at terminal world).seat.terminal.out (ways_at number world).up })
-    (with_sitting terminal sitting world)
+abbrev pub terminal_gone : TerminalSlot → ℕ → ℕ → ByteWorld → ByteWorld
+terminal_gone slot terminal number world =
+    with_transits number (record (lost_transits number world) { up = sender_gone (slot_at terminal world).tracked.terminal.out (transits_at number world).up })
+    (with_slot terminal slot world)
 
 abbrev pub host_gone_if : Stop → ℕ → ByteWorld → ByteWorld
 host_gone_if stop.Going number world = world
@@ -143,7 +143,7 @@ host_gone_if (stop.Closed cause) number world = host_gone number world
 abbrev pub terminal_gone_if : Stop → ℕ → ℕ → ByteWorld → ByteWorld
 terminal_gone_if stop.Going terminal number world = world
 terminal_gone_if stop.Memory terminal number world = world
-terminal_gone_if (stop.Closed cause) terminal number world = terminal_gone (alone (sitting_at terminal world)) terminal number world
+terminal_gone_if (stop.Closed cause) terminal number world = terminal_gone (alone (slot_at terminal world)) terminal number world
 
 -- ---- deliveries
 
@@ -156,10 +156,10 @@ pub record ComesUp (number : ℕ) (bytes : List ℕ) (old : ByteWorld) (answer :
 
 pub record ComesDown (terminal number : ℕ) (bytes : List ℕ) (old : ByteWorld) (answer : Stepped) (new : ByteWorld) : Type 0 where
   pub fed : Fed
-  pub seat : Seat
-  pub feeds : SeatFeeds (sitting_at terminal old).seat bytes fed seat
+  pub tracked : TrackedTerminal
+  pub feeds : TrackedFeeds (slot_at terminal old).tracked bytes fed tracked
   pub answers : answer ≡ answer_fed fed.stop fed.taken
-  pub leaves : new ≡ terminal_gone_if fed.stop terminal number (down_came fed.taken number (with_sitting terminal (record (sitting_at terminal old) { seat = seat }) old))
+  pub leaves : new ≡ terminal_gone_if fed.stop terminal number (down_came fed.taken number (with_slot terminal (record (slot_at terminal old) { tracked = tracked }) old))
 
 abbrev pub GoesDown : Option ℕ → ℕ → List ℕ → ByteWorld → Stepped → ByteWorld → Type 0
 GoesDown None number bytes old answer new = ⊥
@@ -174,10 +174,10 @@ answer_pressed (pressed.Send aid) = stepped.Done
 
 -- the key sends, memory for its data is refused, and nothing changed; or the key is pressed
 pub data Presses (terminal : ℕ) (key : Key) (old : ByteWorld) (answer : Stepped) (new : ByteWorld) : Type 0 where
-  refused : LacksKeyRoom out_room key (sitting_at terminal old).seat.terminal → answer ≡ stepped.Memory → new ≡ old
+  refused : LacksKeyRoom out_room key (slot_at terminal old).tracked.terminal → answer ≡ stepped.Memory → new ≡ old
       → Presses terminal key old answer new
-  done : answer ≡ answer_pressed (answer_to_key key (sitting_at terminal old).seat.terminal)
-      → new ≡ with_sitting terminal (record (sitting_at terminal old) { seat = seat_after_key key (sitting_at terminal old).seat }) old
+  done : answer ≡ answer_pressed (answer_to_key key (slot_at terminal old).tracked.terminal)
+      → new ≡ with_slot terminal (record (slot_at terminal old) { tracked = tracked_after_key key (slot_at terminal old).tracked }) old
       → Presses terminal key old answer new
 
 abbrev pub answer_acted : Acted → Stepped
@@ -189,8 +189,8 @@ answer_acted acted.Memory = stepped.Memory
 pub record ActsHost (does : Option Sent) (number : ℕ) (old : ByteWorld) (answer : Stepped) (new : ByteWorld) : Type 0 where
   pub act : Acted
   pub host : Host
-  pub acts : HostDoes does (line_at number old.host) act (line_at number host)
-  pub others : host ≡ with_line number (line_at number host) old.host
+  pub acts : HostDoes does (connection_at number old.host) act (connection_at number host)
+  pub others : host ≡ with_connection number (connection_at number host) old.host
   pub answers : answer ≡ answer_acted act
   pub leaves : new ≡ with_host host old
 
@@ -200,7 +200,7 @@ pub record ActsHost (does : Option Sent) (number : ℕ) (old : ByteWorld) (answe
 pub data Connects (terminal : ℕ) (wanted : Option (List ℕ)) (number : ℕ) (old : ByteWorld) (answer : Stepped) (new : ByteWorld) : Type 0 where
   refused : answer ≡ stepped.Memory → new ≡ old → Connects terminal wanted number old answer new
   done : answer ≡ stepped.Done
-      → new ≡ with_ways number begun_ways (with_sitting terminal (sits wanted number) (with_host (with_line number opened old.host) old))
+      → new ≡ with_transits number begun_transits (with_slot terminal (attached_slot wanted number) (with_host (with_connection number opened old.host) old))
       → Connects terminal wanted number old answer new
 
 abbrev pub ConnectsIf : ℕ → Option (List ℕ) → Option ℕ → ByteWorld → Stepped → ByteWorld → Type 0
@@ -209,11 +209,11 @@ ConnectsIf terminal wanted (Some number) old answer new = Connects terminal want
 
 abbrev pub saw_loss : ℕ → Option ℕ → ByteWorld → ByteWorld
 saw_loss terminal None world = world
-saw_loss terminal (Some number) world = terminal_gone (alone (sitting_at terminal world)) terminal number world
+saw_loss terminal (Some number) world = terminal_gone (alone (slot_at terminal world)) terminal number world
 
 abbrev pub terminal_anew : ℕ → Option ℕ → ByteWorld → ByteWorld
-terminal_anew terminal None world = with_sitting terminal new_sitting world
-terminal_anew terminal (Some number) world = terminal_gone new_sitting terminal number world
+terminal_anew terminal None world = with_slot terminal new_slot world
+terminal_anew terminal (Some number) world = terminal_gone new_slot terminal number world
 
 abbrev pub host_gone_if_there : ℕ → ByteWorld → ByteWorld
 host_gone_if_there number world = if host_there number world then host_gone number world else world
@@ -235,14 +235,14 @@ Is made answer new = (answer ≡ stepped.Done) × (new ≡ made)
 abbrev pub Happens : Event → ByteWorld → Stepped → ByteWorld → Type 0
 Happens (event.Key terminal key) old answer new = Presses terminal key old answer new
 Happens (event.Up number count) old answer new = ComesUp number (take count (up_of number old)) old answer new
-Happens (event.Down number count) old answer new = GoesDown (terminal_at number old.sittings) number (take count (down_of number old)) old answer new
+Happens (event.Down number count) old answer new = GoesDown (terminal_at number old.slots) number (take count (down_of number old)) old answer new
 Happens (event.Act number) old answer new = ActsHost (acted_by (application_of old.host.panels) (service_at number old.host)) number old answer new
 Happens (event.Note number text) old answer new = ActsHost (noted_by text (service_at number old.host)) number old answer new
-Happens (event.Lose number) old answer new = Is (with_ways number (lost_ways number old) old) answer new
+Happens (event.Lose number) old answer new = Is (with_transits number (lost_transits number old) old) answer new
 Happens (event.HostSees number) old answer new = Is (host_gone number old) answer new
-Happens (event.TermSees terminal) old answer new = Is (saw_loss terminal (sitting_at terminal old).at old) answer new
+Happens (event.TermSees terminal) old answer new = Is (saw_loss terminal (slot_at terminal old).at old) answer new
 Happens (event.Connect terminal wanted) old answer new = ConnectsIf terminal wanted (free_number old) old answer new
-Happens (event.RestartTerm terminal) old answer new = Is (terminal_anew terminal (sitting_at terminal old).at old) answer new
+Happens (event.RestartTerm terminal) old answer new = Is (terminal_anew terminal (slot_at terminal old).at old) answer new
 Happens event.RestartHost old answer new = Is (host_anew (host_gone_below most_connections old)) answer new
 
 -- an event that has no place is skipped, and changes nothing

@@ -6,7 +6,7 @@ use Rattle.telnet_wire.specs.Reading.{Rest, Delivers, nothing}
 use Rattle.tn3270e_msg.specs.Header.{record_limit}
 use Rattle.host_core.specs.State.{service_at}
 use Rattle.term_core.specs.State.{Link, Detached, Attached, Closed}
-use Rattle.world3270.specs.ByteWorld.{ByteWorld, sitting_at, terminal_at}
+use Rattle.world3270.specs.ByteWorld.{ByteWorld, slot_at, terminal_at}
 use Rattle.world3270.specs.Standing.{rest_of}
 use Rattle.world3270.specs.World.{Event as MessageEvent}
 use Rattle.world3270.specs.declared.event.Stepped.{Stepped}
@@ -25,11 +25,11 @@ rest_at (Closed cause) = nothing
 
 abbrev pub rest_of_terminal : Option ℕ → ByteWorld → Rest
 rest_of_terminal None world = nothing
-rest_of_terminal (Some terminal) world = rest_at (sitting_at terminal world).seat.terminal.link
+rest_of_terminal (Some terminal) world = rest_at (slot_at terminal world).tracked.terminal.link
 
 -- what the decoder of the terminal at a connection holds
 abbrev pub terminal_rest : ℕ → ByteWorld → Rest
-terminal_rest number world = rest_of_terminal (terminal_at number world.sittings) world
+terminal_rest number world = rest_of_terminal (terminal_at number world.slots) world
 
 -- ---- a delivery
 

@@ -29,18 +29,18 @@ left_typing = noted_lost ++ Event.TermSees 0 ∷ []
 -- ---- where it leads
 
 -- what a terminal that is alone shows, and whether it takes keys
-pub record Left : Type 0 where
+pub record Remains : Type 0 where
   pub screen : Screen
   pub lock : Lock
 
-abbrev pub left_at : Place → Option Left
-left_at (Place.At number) = None
-left_at (Place.Alone display) = Some (record { screen = display.screen; lock = display.keyboard.lock })
+abbrev pub remains_at : Place → Option Remains
+remains_at (Place.At number) = None
+remains_at (Place.Alone display) = Some (record { screen = display.screen; lock = display.keyboard.lock })
 
-abbrev pub left_in : World → Option Left
-left_in world = left_at (world.place 0)
+abbrev pub remains_in : World → Option Remains
+remains_in world = remains_at (world.place 0)
 
-abbrev pub waits_noted : Left
+abbrev pub waits_noted : Remains
 waits_noted = record { screen = typing_sign_on hello_seen; lock = Wait }
 
 -- While a connection is up no terminal sees its loss. What was under way still comes, and isn't answered; then the terminal keeps its
@@ -49,4 +49,4 @@ pub record LosingRun : Type 0 where
   pub are_events : AreEvents left_typing
   pub nothing_seen : is_skipped example (Event.TermSees 0) (after noted_typing) ≡ true
   pub came : end_on 0 (after noted_lost) ≡ bound_and_shows (typing_sign_on hello_seen)
-  pub left : left_in (after left_typing) ≡ Some waits_noted
+  pub remains : remains_in (after left_typing) ≡ Some waits_noted

@@ -63,7 +63,7 @@ pub record RestartingRun : Type 0 where
   pub cleared : shown_by (after cleared_entry) ≡ unformatted Clear no_message
   pub knows : ((after cleared_entry).link 0).host.shadow ≡ Shadow.Unformatted (replicate 32 (Some 0))
   pub shown_anew : end_on 0 (after answered_clear) ≡ bound_and_shows fresh_sign_on
-  pub left : apart (after terminal_anew) ≡ host_waits
+  pub released : apart (after terminal_anew) ≡ host_waits
   pub freed : apart (after loss_seen) ≡ host_left alone
   pub granted : end_on 0 (after back_at_host) ≡ bound_and_shows fresh_sign_on
   pub restarted : apart (after host_anew) ≡ host_left (Place.At 0)

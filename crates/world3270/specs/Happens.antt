@@ -10,7 +10,7 @@ use Rattle.host_core.specs.Messages.{ToTerminal, ToHost, Verdict}
 use Rattle.host_core.specs.Acts.{acted}
 use Rattle.host_core.specs.Notes.{noted}
 use Rattle.lu_pool.specs.Holders.{given_back, all_free}
-use Rattle.host_core.specs.Takes.{Step, pool_after, took as host_took}
+use Rattle.host_core.specs.Takes.{HostStep, pool_after, took as host_took}
 use Rattle.world3270.specs.Terminal.{Display, TermStep, new_display, after_key, key_came, took as term_took}
 use Rattle.world3270.specs.Link.{Link, begun, cut, host_left, host_stepped, host_sent, term_left, term_stepped}
 use Rattle.world3270.specs.Placed.{has_place, free_number}
@@ -37,7 +37,7 @@ freed_if number None pool = pool
 freed_if number (Some cause) pool = given_back number pool
 
 -- the host takes a message
-abbrev pub host_took_it : ℕ → Step → List ToHost → World → World
+abbrev pub host_took_it : ℕ → HostStep → List ToHost → World → World
 host_took_it number step rest world =
     closed_if step.closes (record world {
       pool = pool_after number step world.pool;

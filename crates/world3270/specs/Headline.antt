@@ -83,7 +83,7 @@ pub record IsAsLeft (erased : Bool) (left now : Field) : Type 0 where
 -- (d) Each unprotected field that wasn't returned has the text that the host left there, or nulls if Erase Input was pressed since.
 abbrev pub KeptTheUnreturned : TerminalSeen → Type 0
 KeptTheUnreturned terminal =
-    SentFields terminal.screen.aid → Pairwise (IsAsLeft terminal.erased) (fields terminal.left.cells) (fields terminal.screen.cells)
+    SentFields terminal.screen.aid → Pairwise (IsAsLeft terminal.erased) (fields terminal.last_restored.cells) (fields terminal.screen.cells)
 
 pub record Agrees (host : HostSeen) (terminal : TerminalSeen) : Type 0 where
   pub sees : SeesTheScreen host.shadow terminal.screen

@@ -3,13 +3,13 @@ use Rattle.std.specs.Prelude.{◌≡◌, ℕ, List, [], ◌∷◌, ◌++◌, Som
 use Rattle.lu_pool.specs.Asking.{answer_to}
 use Rattle.tn3270e_msg.specs.declared.cause.Cause.{Cause}
 use Rattle.host_core.specs.Messages.{ToTerminal, ToHost, Verdict}
-use Rattle.host_core.specs.Takes.{Step, took as host_took}
+use Rattle.host_core.specs.Takes.{HostStep, took as host_took}
 use Rattle.world3270.specs.Happens.{came_up, came_down}
 use Rattle.world3270.specs.Terminal.{TermStep, took as term_took}
 use Rattle.world3270.specs.World.{World}
 
 -- what each end makes of a message on a connection
-abbrev pub host_step : ℕ → ToHost → World → Step
+abbrev pub host_step : ℕ → ToHost → World → HostStep
 host_step number message world = host_took (answer_to world.pool) (world.link number).host message
 
 abbrev pub term_step : ℕ → ToTerminal → World → TermStep

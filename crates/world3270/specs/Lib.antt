@@ -8,7 +8,7 @@ pub mod Headline
 pub mod Unreturned
 pub mod Always
 pub mod History
-pub mod Occasions
+pub mod TurnReasons
 pub mod Given
 pub mod View
 pub mod Moments
@@ -23,7 +23,7 @@ pub mod ExampleNotes
 pub mod ExampleTargets
 pub mod ExampleLosses
 pub mod Example
-pub mod Seats
+pub mod TrackedTerminals
 pub mod Stands
 pub mod StandsEnds
 pub mod StandsLinks
@@ -34,7 +34,7 @@ pub mod Forms
 pub mod Numbers
 pub mod Sendable
 pub mod ByteWorld
-pub mod Flows
+pub mod InFlight
 pub mod NoteTexts
 pub mod ByteSteps
 pub mod Standing

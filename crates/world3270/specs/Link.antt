@@ -6,7 +6,7 @@ use Rattle.tn3270e_msg.specs.declared.cause.Cause.{Cause}
 use Rattle.host_core.specs.Messages.{ToTerminal, ToHost}
 use Rattle.tn3270e_msg.specs.Talk.{Saying}
 use Rattle.host_core.specs.Session.{Conn, new_conn}
-use Rattle.host_core.specs.Takes.{Step}
+use Rattle.host_core.specs.Takes.{HostStep}
 use Rattle.host_core.specs.Acts.{Sent}
 use Rattle.world3270.specs.Terminal.{TermEnd, TermStep, new_end}
 
@@ -72,7 +72,7 @@ abbrev pub host_left_if : Option Cause → Link → Link
 host_left_if None link = link
 host_left_if (Some cause) link = host_left link
 
-abbrev pub host_stepped : Step → List ToHost → Link → Link
+abbrev pub host_stepped : HostStep → List ToHost → Link → Link
 host_stepped step rest link =
     host_left_if step.closes (record link { up = rest; host = step.conn; down = sent link.lost link.down step.sends })
 

@@ -11,7 +11,7 @@ use Rattle.tn3270e_msg.specs.declared.device.Device.TheVariants.{Model2}
 use Rattle.tn3270e_msg.specs.declared.host_talk.HostState.{HostState}
 use Rattle.tn3270e_msg.specs.declared.host_talk.HostState.TheVariants.{Offered, Asked, Named, Agreed as HostAgreed}
 use Rattle.tn3270e_msg.specs.declared.reply.Reason.{Reason}
-use Rattle.tn3270e_msg.specs.declared.reply.Sending.TheVariants.{SendType, TypeRequest, TypeIs, TypeReject, FunRequest, FunIs}
+use Rattle.tn3270e_msg.specs.declared.reply.OwnedMessage.TheVariants.{SendType, TypeRequest, TypeIs, TypeReject, FunRequest, FunIs}
 use Rattle.tn3270e_msg.specs.declared.term_talk.TermState.{TermState}
 use Rattle.tn3270e_msg.specs.declared.term_talk.TermState.TheVariants.{Waiting, Willing, TypeAsked, FunctionsAsked, Agreed, Refused}
 use Rattle.host_core.specs.Messages.{ToTerminal, ToHost, Verdict}

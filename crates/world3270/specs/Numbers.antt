@@ -17,7 +17,7 @@ number_answered (ToHost.Response number verdict) = Some number
 -- The number of the host's next command has 15 bits, and so have those of the command that isn't answered yet, of each that goes
 -- down, and of each response that comes up.
 pub record AreNumbered (link : Link) : Type 0 where
-  pub next : IsNumber link.host.number
+  pub next : IsNumber link.host.next_seq
   pub pending : IfSome (number_of link.host.pending) IsNumber
   pub down : All (λ message. IfSome (number_in message) IsNumber) link.down
   pub up : All (λ message. IfSome (number_answered message) IsNumber) link.up

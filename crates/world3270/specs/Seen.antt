@@ -22,7 +22,7 @@ pub record TerminalSeen : Type 0 where
   pub number : ℕ
   pub bound : Option (List ℕ)  -- the LU that it is bound to
   pub screen : Screen
-  pub left : Screen  -- the screen that the host's last restoring write left
+  pub last_restored : Screen  -- the screen that the host's last restoring write left
   pub erased : Bool  -- whether Erase Input was pressed since then
 
 -- a connection, with those of its ends that are attached
@@ -55,7 +55,7 @@ end_seen number end = record {
   number = number;
   bound = bound_to end.talk.talk.state;
   screen = end.display.screen;
-  left = end.display.left;
+  last_restored = end.display.last_restored;
   erased = end.display.erased;
 }
 

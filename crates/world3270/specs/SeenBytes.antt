@@ -5,8 +5,8 @@ use Rattle.term_core.specs.declared.phase.TermPhase.TheVariants as phase
 use Rattle.term_core.specs.State.{phase_of}
 use Rattle.host_core.specs.State.{Service, service_at}
 use Rattle.world3270.specs.ByteSteps.{is_lost}
-use Rattle.world3270.specs.ByteWorld.{ByteWorld, sitting_at, terminal_at}
-use Rattle.world3270.specs.Seats.{Seat}
+use Rattle.world3270.specs.ByteWorld.{ByteWorld, slot_at, terminal_at}
+use Rattle.world3270.specs.TrackedTerminals.{TrackedTerminal}
 use Rattle.world3270.specs.Seen.{HostSeen, TerminalSeen, SeenLink, Seen, conn_seen}
 
 -- the host's end: none where the host has left the connection, or has closed it
@@ -23,25 +23,25 @@ bound_of phase.Talking = None
 bound_of (phase.Refused reason) = None
 bound_of (phase.Closed cause) = None
 
-abbrev pub seat_seen : ℕ → Seat → TerminalSeen
-seat_seen number seat = record {
+abbrev pub tracked_seen : ℕ → TrackedTerminal → TerminalSeen
+tracked_seen number tracked = record {
   number = number;
-  bound = bound_of (phase_of seat.terminal.link);
-  screen = seat.terminal.station.screen;
-  left = seat.history.left;
-  erased = seat.history.erased;
+  bound = bound_of (phase_of tracked.terminal.link);
+  screen = tracked.terminal.station.screen;
+  last_restored = tracked.history.last_restored;
+  erased = tracked.history.erased;
 }
 
 -- the terminal's end, where a terminal is attached
 abbrev pub attached_seen : Option ℕ → ByteWorld → Option TerminalSeen
 attached_seen None world = None
-attached_seen (Some terminal) world = Some (seat_seen terminal (sitting_at terminal world).seat)
+attached_seen (Some terminal) world = Some (tracked_seen terminal (slot_at terminal world).tracked)
 
 abbrev pub seen_connection : ℕ → ByteWorld → SeenLink
 seen_connection number world = record {
   lost = is_lost number world;
   host = service_seen (service_at number world.host);
-  terminal = attached_seen (terminal_at number world.sittings) world;
+  terminal = attached_seen (terminal_at number world.slots) world;
 }
 
 abbrev pub seen_bytes : ByteWorld → Seen

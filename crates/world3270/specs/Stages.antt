@@ -24,11 +24,11 @@ use Rattle.tn3270e_msg.specs.Talk.{IsLuIfSome}
 use Rattle.host_core.specs.Application.{Application}
 use Rattle.host_core.specs.Laws.{IsPaintable}
 use Rattle.host_core.specs.NoteLaws.{HasMessageRow, TakesNotes, IsNoteOf}
-use Rattle.host_core.specs.declared.occasion.Occasion.{Occasion}
-use Rattle.host_core.specs.declared.occasion.Occasion.TheVariants as occasions
+use Rattle.host_core.specs.declared.turn_reason.TurnReason.{TurnReason}
+use Rattle.host_core.specs.declared.turn_reason.TurnReason.TheVariants as turn_reasons
 use Rattle.world3270.specs.Headline.{SentFields}
 use Rattle.world3270.specs.Moments.{Talking, Serving, Moment, IsAt}
-use Rattle.world3270.specs.Occasions.{IsOccasion, IsOpenBy, IsOpenFor, IsCleared}
+use Rattle.world3270.specs.TurnReasons.{IsOccasion, IsOpenBy, IsOpenFor, IsCleared}
 use Rattle.world3270.specs.Unreturned.{NotedSince, UnmodifiedIsKept}
 use Rattle.world3270.specs.View.{View}
 
@@ -36,20 +36,20 @@ use Rattle.world3270.specs.View.{View}
 pub record Scene : Type 0 where
   pub shape : Shape
   pub shadow : Shadow
-  pub occasion : Occasion
+  pub turn_reason : TurnReason
   pub lock : Lock
   pub screen : Screen
-  pub left : Screen
+  pub last_restored : Screen
   pub erased : Bool
 
 abbrev pub scene_of : View → Scene
 scene_of v = record {
   shape = v.host.shape;
   shadow = v.host.shadow;
-  occasion = v.host.occasion;
+  turn_reason = v.host.turn_reason;
   lock = v.lock;
   screen = v.screen;
-  left = v.left;
+  last_restored = v.last_restored;
   erased = v.erased;
 }
 
@@ -76,7 +76,7 @@ pub record Suits (wanted : Option (List ℕ)) (lu : List ℕ) : Type 0 where
 -- both ends as they are at the begin of a connection, but for the talk
 pub record IsNew (s : Scene) : Type 0 where
   pub shadow : s.shadow ≡ Shadow.NothingKnown
-  pub occasion : s.occasion ≡ occasions.Agreement
+  pub turn_reason : s.turn_reason ≡ turn_reasons.Agreement
   pub lock : s.lock ≡ Wait
   pub aid : s.screen.aid ≡ NoAid
   pub no_fields : fields s.screen.cells ≡ []
@@ -103,7 +103,7 @@ pub record Operates (shadow : Shadow) (s : Scene) : Type 0 where
   pub knows : Knows shadow
   pub held : Held s.erased shown.cells s.screen.cells
   pub messages : HasMessageRow s.shape shown.cells
-  pub noted : NotedSince s.left.cells shown.cells
+  pub noted : NotedSince s.last_restored.cells shown.cells
 
 -- the host knows the screen
 pub record Sees (shape : Shape) (screen : Screen) (shadow : Shadow) : Type 0 where
@@ -131,8 +131,8 @@ WillSee s shadow parts = WillBeHeard s.shape shadow parts (Sees s.shape s.screen
 -- the host decides on the key that was pressed
 pub record Decides (s : Scene) (shadow : Shadow) : Type 0 where
   pub lock : s.lock ≡ Wait
-  pub occasion : IsOccasion s.occasion s.screen.aid
-  pub closed : IsOpenFor s.occasion shadow
+  pub turn_reason : IsOccasion s.turn_reason s.screen.aid
+  pub closed : IsOpenFor s.turn_reason shadow
   pub sees : Sees s.shape s.screen shadow
 
 -- the screen is read first, as it never is after Clear
@@ -188,7 +188,7 @@ pub record Kept (app : Application) (v : View) : Type 0 where
   pub shape : SameShape app v
   pub whole : length v.screen.cells ≡ cells_in v.host.shape
   pub cursor : v.screen.cursor < cells_in v.host.shape
-  pub unreturned : SentFields v.screen.aid → UnmodifiedIsKept v.erased v.left.cells v.screen.cells
+  pub unreturned : SentFields v.screen.aid → UnmodifiedIsKept v.erased v.last_restored.cells v.screen.cells
   pub exact : FactsAreExact v.host.shadow
   pub wanted : Option (List ℕ)
   pub moment : Moment

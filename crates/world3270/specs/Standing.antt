@@ -3,11 +3,11 @@ use Rattle.std.specs.Prelude.{◌≡◌, ◌≤◌, ⊤, ℕ, Bool, false, List,
 use Rattle.codes3270.specs.Size.{model_2}
 use Rattle.telnet_wire.specs.Reading.{Rest, nothing}
 use Rattle.host_core.specs.Session.{Conn, new_conn}
-use Rattle.host_core.specs.State.{Service, Line, line_at, service_at, most_connections}
+use Rattle.host_core.specs.State.{Service, Connection, connection_at, service_at, most_connections}
 use Rattle.term_core.specs.State.{Detached}
 use Rattle.world3270.specs.ByteSteps.{is_lost}
-use Rattle.world3270.specs.ByteWorld.{ByteWorld, Under, Sitting, under_way, is_live, is_there, new_seat, ways_at, sitting_at, host_there, terminal_at, host_out, out_of, down_of}
-use Rattle.world3270.specs.Seats.{Seat}
+use Rattle.world3270.specs.ByteWorld.{ByteWorld, Transit, TerminalSlot, under_way, is_live, is_there, new_tracked, transits_at, slot_at, host_there, terminal_at, host_out, out_of, down_of}
+use Rattle.world3270.specs.TrackedTerminals.{TrackedTerminal}
 use Rattle.world3270.specs.Stands.{ByteLink, LinkStands}
 use Rattle.world3270.specs.Terminal.{Display}
 use Rattle.world3270.specs.World.{Place, World}
@@ -26,58 +26,58 @@ rest_of (Service.Open rest conn) = rest
 rest_of (Service.Closed cause) = nothing
 
 -- what a terminal has to send is under way, and no longer its own
-abbrev pub with_out : List ℕ → Seat → Seat
-with_out out seat = record seat { terminal = record seat.terminal { out = out } }
+abbrev pub with_out : List ℕ → TrackedTerminal → TrackedTerminal
+with_out out tracked = record tracked { terminal = record tracked.terminal { out = out } }
 
-abbrev pub seat_of : Option ℕ → ByteWorld → Seat
-seat_of None world = new_seat
-seat_of (Some terminal) world = with_out [] (sitting_at terminal world).seat
+abbrev pub tracked_of : Option ℕ → ByteWorld → TrackedTerminal
+tracked_of None world = new_tracked
+tracked_of (Some terminal) world = with_out [] (slot_at terminal world).tracked
 
 -- as it is where this terminal, if one, is at its end
 abbrev pub link_with : Option ℕ → ℕ → ByteWorld → ByteLink
 link_with here number world = record {
   lost = is_lost number world;
   down = down_of number world;
-  up = under_way (ways_at number world).up (out_of here world);
+  up = under_way (transits_at number world).up (out_of here world);
   host_here = host_there number world;
   host = conn_of (service_at number world.host);
   host_rest = rest_of (service_at number world.host);
   term_here = here;
-  seat = seat_of here world;
+  tracked = tracked_of here world;
 }
 
 abbrev pub link_of : ℕ → ByteWorld → ByteLink
-link_of number world = link_with (terminal_at number world.sittings) number world
+link_of number world = link_with (terminal_at number world.slots) number world
 
 -- ---- what is under way
 
 -- What was cut is no more than its sender has to send; and a sender that is there hasn't left.
-abbrev pub IsFlow : Bool → List ℕ → Under → Type 0
-IsFlow there out Under.Live = ⊤
-IsFlow there out (Under.Cut kept) = kept ≤ length out
-IsFlow there out (Under.Left bytes) = there ≡ false
+abbrev pub IsFlow : Bool → List ℕ → Transit → Type 0
+IsFlow there out Transit.Live = ⊤
+IsFlow there out (Transit.Cut kept) = kept ≤ length out
+IsFlow there out (Transit.SenderGone bytes) = there ≡ false
 
 -- A connection is lost in both directions, or in none.
-pub record AreWays (here : Option ℕ) (number : ℕ) (world : ByteWorld) : Type 0 where
-  pub together : is_live (ways_at number world).up ≡ is_live (ways_at number world).down
-  pub down : IsFlow (host_there number world) (host_out number world) (ways_at number world).down
-  pub up : IsFlow (is_some here) (out_of here world) (ways_at number world).up
+pub record AreTransits (here : Option ℕ) (number : ℕ) (world : ByteWorld) : Type 0 where
+  pub together : is_live (transits_at number world).up ≡ is_live (transits_at number world).down
+  pub down : IsFlow (host_there number world) (host_out number world) (transits_at number world).down
+  pub up : IsFlow (is_some here) (out_of here world) (transits_at number world).up
 
 -- ---- terminals
 
 -- a terminal that is alone: it is a model 2 with that screen, keyboard and history, and has nothing to send
-pub record IsAlone (seat : Seat) (display : Display) : Type 0 where
-  pub detached : seat.terminal.link ≡ Detached
-  pub silent : seat.terminal.out ≡ []
+pub record IsAlone (tracked : TrackedTerminal) (display : Display) : Type 0 where
+  pub detached : tracked.terminal.link ≡ Detached
+  pub silent : tracked.terminal.out ≡ []
   pub shape : display.shape ≡ model_2
-  pub screen : seat.terminal.station.screen ≡ display.screen
-  pub keyboard : seat.terminal.station.keyboard ≡ display.keyboard
-  pub left : seat.history.left ≡ display.left
-  pub erased : seat.history.erased ≡ display.erased
+  pub screen : tracked.terminal.station.screen ≡ display.screen
+  pub keyboard : tracked.terminal.station.keyboard ≡ display.keyboard
+  pub last_restored : tracked.history.last_restored ≡ display.last_restored
+  pub erased : tracked.history.erased ≡ display.erased
 
-abbrev pub IsAt : Sitting → Place → Type 0
-IsAt sitting (Place.At number) = sitting.at ≡ Some number
-IsAt sitting (Place.Alone display) = (sitting.at ≡ None) × IsAlone sitting.seat display
+abbrev pub IsAt : TerminalSlot → Place → Type 0
+IsAt slot (Place.At number) = slot.at ≡ Some number
+IsAt slot (Place.Alone display) = (slot.at ≡ None) × IsAlone slot.tracked display
 
 -- ---- the world
 
@@ -88,16 +88,16 @@ IsNotClosed (Service.Open rest conn) = ⊤
 IsNotClosed (Service.Closed cause) = ⊥
 
 -- a number that is free has nothing to send
-abbrev pub IsSettled : Line → Type 0
-IsSettled line = is_there line.service ≡ false → line.out ≡ []
+abbrev pub IsSettled : Connection → Type 0
+IsSettled connection = is_there connection.service ≡ false → connection.out ≡ []
 
 pub record WorldStands (bytes : ByteWorld) (world : World) : Type 0 where
-  pub lines : length bytes.host.lines ≡ most_connections
-  pub ways : length bytes.links ≡ most_connections
-  pub terminals : length bytes.sittings ≡ world.terminals
+  pub connections : length bytes.host.connections ≡ most_connections
+  pub transits : length bytes.links ≡ most_connections
+  pub terminals : length bytes.slots ≡ world.terminals
   pub pool : bytes.host.pool ≡ world.pool
   pub none_closed : (number : ℕ) → IsNotClosed (service_at number bytes.host)
-  pub settled : (number : ℕ) → IsSettled (line_at number bytes.host)
-  pub flows : (number : ℕ) → AreWays (terminal_at number bytes.sittings) number bytes
+  pub settled : (number : ℕ) → IsSettled (connection_at number bytes.host)
+  pub flows : (number : ℕ) → AreTransits (terminal_at number bytes.slots) number bytes
   pub links : (number : ℕ) → LinkStands (link_of number bytes) (world.link number)
-  pub places : (terminal : ℕ) → IsAt (sitting_at terminal bytes) (world.place terminal)
+  pub places : (terminal : ℕ) → IsAt (slot_at terminal bytes) (world.place terminal)

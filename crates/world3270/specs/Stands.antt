@@ -25,7 +25,7 @@ use Rattle.host_core.specs.Says.{command_header, read_buffer_command}
 use Rattle.tn3270e_msg.specs.Talk.{item_of}
 use Rattle.host_core.specs.Session.{Conn}
 use Rattle.world3270.specs.Link.{Link}
-use Rattle.world3270.specs.Seats.{Seat, ByteEnd, end_at}
+use Rattle.world3270.specs.TrackedTerminals.{TrackedTerminal, ByteEnd, end_at}
 use Rattle.world3270.specs.Terminal.{TermEnd}
 
 -- ---- one item down
@@ -109,7 +109,7 @@ pub record ByteLink : Type 0 where
   pub host : Conn
   pub host_rest : Rest
   pub term_here : Option ℕ
-  pub seat : Seat
+  pub tracked : TrackedTerminal
 
 -- the terminal is a model 2; talk, screen and keyboard are those of the end, and so is their history
 pub record IsEnd (bytes : ByteEnd) (end : TermEnd) : Type 0 where
@@ -117,14 +117,14 @@ pub record IsEnd (bytes : ByteEnd) (end : TermEnd) : Type 0 where
   pub talk_is : bytes.talk ≡ end.talk
   pub screen_is : bytes.station.screen ≡ end.display.screen
   pub keyboard_is : bytes.station.keyboard ≡ end.display.keyboard
-  pub left_is : bytes.history.left ≡ end.display.left
+  pub last_restored_is : bytes.history.last_restored ≡ end.display.last_restored
   pub erased_is : bytes.history.erased ≡ end.display.erased
 
 -- a terminal whose decoder holds this rest is attached, and holds the end
-pub record Holds (rest : Rest) (seat : Seat) (end : TermEnd) : Type 0 where
+pub record Holds (rest : Rest) (tracked : TrackedTerminal) (end : TermEnd) : Type 0 where
   pub talk : Term
-  pub attached : seat.terminal.link ≡ Attached rest talk
-  pub is_end : IsEnd (end_at talk seat) end
+  pub attached : tracked.terminal.link ≡ Attached rest talk
+  pub is_end : IsEnd (end_at talk tracked) end
 
 -- the host's end, and what comes up to it
 pub record HostStands (bytes : ByteLink) (link : Link) : Type 0 where
@@ -134,8 +134,8 @@ pub record HostStands (bytes : ByteLink) (link : Link) : Type 0 where
 -- the terminal's end, and what comes down to it; all that the terminal said is under way
 pub record TermStands (bytes : ByteLink) (link : Link) : Type 0 where
   pub rest : Rest
-  pub holds : Holds rest bytes.seat link.term
-  pub silent : bytes.seat.terminal.out ≡ []
+  pub holds : Holds rest bytes.tracked link.term
+  pub silent : bytes.tracked.terminal.out ≡ []
   pub down : BytesDown rest bytes.down link.down
 
 -- Of an end that was left nothing is said: no step reads it, or what is under way to it.

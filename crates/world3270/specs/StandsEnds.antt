@@ -15,13 +15,13 @@ use Rattle.shadow.specs.Pairs.{Pairwise}
 use Rattle.telnet_wire.specs.Items.{WireItem, Record, CanCome, sent_bytes}
 use Rattle.telnet_wire.specs.Reading.{Rest}
 use Rattle.tn3270e_msg.specs.Header.{Begins, record_limit, always_response}
-use Rattle.tn3270e_msg.specs.Talk.{IsSending, IsLuIfSome, Saying}
+use Rattle.tn3270e_msg.specs.Talk.{IsOwnedMessage, IsLuIfSome, Saying}
 use Rattle.tn3270e_msg.specs.declared.term_talk.TermState.{TermState}
 use Rattle.tn3270e_msg.specs.declared.term_talk.TermState.TheVariants.{Willing, Closed}
 use Rattle.term_core.specs.Presses.{key_outcome}
 use Rattle.host_core.specs.Messages.{ToTerminal}
 use Rattle.host_core.specs.Says.{command_header}
-use Rattle.world3270.specs.Seats.{Seat, ByteEnd, ByteStep, EndTakes, seat_after_key}
+use Rattle.world3270.specs.TrackedTerminals.{TrackedTerminal, ByteEnd, ByteStep, EndTakes, tracked_after_key}
 use Rattle.world3270.specs.Stands.{StandsDown, StandsUp, IsEnd, Holds}
 use Rattle.world3270.specs.Terminal.{TermEnd, TermStep, is_bound, took, key_came}
 
@@ -38,7 +38,7 @@ PaintStands = (number : ℕ) (wanted : WantedScreen) (believed : Shadow) (bytes 
 -- what is said of LUs is their names
 abbrev pub IsSaid : Saying → Type 0
 IsSaid (Saying.Opt verb code) = ⊤
-IsSaid (Saying.Sub sending) = IsSending sending
+IsSaid (Saying.Sub sending) = IsOwnedMessage sending
 
 -- the talk hasn't closed the connection
 abbrev pub IsOpen : TermState → Type 0
@@ -106,7 +106,7 @@ TakesKeepSendable = (message : ToTerminal) (item : WireItem) (end : TermEnd)
 -- ---- what it makes of a key
 
 -- it stays attached; what it sent stands behind what it had to send before
-pub record SameKey (old new : Seat) (rest : Rest) (step : TermStep) : Type 0 where
+pub record SameKey (old new : TrackedTerminal) (rest : Rest) (step : TermStep) : Type 0 where
   pub holds : Holds rest new step.end
   pub items : List WireItem
   pub sent : new.terminal.out ≡ old.terminal.out ++ sent_bytes items
@@ -116,6 +116,6 @@ pub record SameKey (old new : Seat) (rest : Rest) (step : TermStep) : Type 0 whe
 
 -- A terminal makes of a key what it makes of it over messages, where the screen that it leaves can be sent.
 abbrev pub TermPresses : Type 0
-TermPresses = (key : Key) (old : Seat) (rest : Rest) (end : TermEnd)
+TermPresses = (key : Key) (old : TrackedTerminal) (rest : Rest) (end : TermEnd)
     → Holds rest old end → IsSendable (key_outcome key old.terminal.station).screen
-    → SameKey old (seat_after_key key old) rest (key_came key end)
+    → SameKey old (tracked_after_key key old) rest (key_came key end)

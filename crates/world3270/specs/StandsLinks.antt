@@ -14,7 +14,7 @@ use Rattle.host_core.specs.Messages.{ToTerminal, ToHost}
 use Rattle.host_core.specs.Session.{Conn, new_conn}
 use Rattle.world3270.specs.Always.{is_refusal}
 use Rattle.world3270.specs.Link.{Link, begun, sent, host_left, term_left, term_stepped}
-use Rattle.world3270.specs.Seats.{Seat, SeatTakesByte, SeatTakes, seated, seat_after_key}
+use Rattle.world3270.specs.TrackedTerminals.{TrackedTerminal, TrackedTakesByte, TrackedTakes, newly_tracked, tracked_after_key}
 use Rattle.world3270.specs.Stands.{StandsDown, StandsUp, BytesStand, ByteLink, LinkStands}
 use Rattle.world3270.specs.StandsEnds.{MayCome, is_painted}
 use Rattle.world3270.specs.Terminal.{TermEnd, took, key_came}
@@ -58,7 +58,7 @@ begun_bytes terminal wanted = record {
   host = new_conn model_2;
   host_rest = nothing;
   term_here = Some terminal;
-  seat = seated wanted;
+  tracked = newly_tracked wanted;
 }
 
 abbrev pub BeginStands : Type 0
@@ -67,15 +67,15 @@ BeginStands = (terminal : ℕ) (wanted : Option (List ℕ)) → LinkStands (begu
 -- ---- a connection, as its terminal goes on
 
 -- what the terminal said is under way; on a lost connection it vanishes
-abbrev pub handed_on : Seat → ByteLink → ByteLink
-handed_on seat bytes =
-    record bytes { up = sent bytes.lost bytes.up seat.terminal.out; seat = record seat { terminal = record seat.terminal { out = [] } } }
+abbrev pub handed_on : TrackedTerminal → ByteLink → ByteLink
+handed_on tracked bytes =
+    record bytes { up = sent bytes.lost bytes.up tracked.terminal.out; tracked = record tracked { terminal = record tracked.terminal { out = [] } } }
 
 -- A connection stands for one over messages after a key, where the screen that it leaves can be sent.
 abbrev pub PressStands : Type 0
 PressStands = (key : Key) (bytes : ByteLink) (link : Link) (terminal : ℕ)
-    → LinkStands bytes link → link.term_here ≡ Some terminal → IsSendable (key_outcome key bytes.seat.terminal.station).screen
-    → LinkStands (handed_on (seat_after_key key bytes.seat) bytes) (term_stepped (key_came key link.term) link.down link)
+    → LinkStands bytes link → link.term_here ≡ Some terminal → IsSendable (key_outcome key bytes.tracked.terminal.station).screen
+    → LinkStands (handed_on (tracked_after_key key bytes.tracked) bytes) (term_stepped (key_came key link.term) link.down link)
 
 -- each message may come when it does
 abbrev pub MayComeAll : TermEnd → List ToTerminal → Type 0
@@ -98,8 +98,8 @@ took_down [] others link = link
 took_down (message ∷ messages) others link = took_down messages others (term_stepped (took link.term message) (messages ++ others) link)
 
 -- the terminal took bytes, and these are behind them
-abbrev pub fed : Seat → List ℕ → ByteLink → ByteLink
-fed seat behind bytes = record (handed_on seat bytes) { down = behind }
+abbrev pub fed : TrackedTerminal → List ℕ → ByteLink → ByteLink
+fed tracked behind bytes = record (handed_on tracked bytes) { down = behind }
 
 -- it stands for one on which the first of the messages came down
 pub record CameDown (bytes : ByteLink) (link : Link) : Type 0 where
@@ -119,11 +119,11 @@ pub record IsReady (bytes : ByteLink) (link : Link) : Type 0 where
 
 -- A connection stands for one over messages after any bytes that the terminal takes off its queue.
 abbrev pub DownStands : Type 0
-DownStands = (bytes : ByteLink) (link : Link) (front behind : List ℕ) (new : Seat)
-    → IsReady bytes link → bytes.down ≡ front ++ behind → SeatTakes bytes.seat front new → CameDown (fed new behind bytes) link
+DownStands = (bytes : ByteLink) (link : Link) (front behind : List ℕ) (new : TrackedTerminal)
+    → IsReady bytes link → bytes.down ≡ front ++ behind → TrackedTakes bytes.tracked front new → CameDown (fed new behind bytes) link
 
 -- what a terminal said to bytes: items behind what it had to send, none of which refuses a command
-pub record SaysOnlyPositive (old new : Seat) : Type 0 where
+pub record SaysOnlyPositive (old new : TrackedTerminal) : Type 0 where
   pub says : List WireItem
   pub out : new.terminal.out ≡ old.terminal.out ++ sent_bytes says
   pub fit : AllByRecursion (CanCome record_limit) says
@@ -133,8 +133,8 @@ pub record SaysOnlyPositive (old new : Seat) : Type 0 where
 
 -- A terminal refuses no command, whether or not anybody is at the other end.
 abbrev pub DownIsNotRefused : Type 0
-DownIsNotRefused = (bytes : ByteLink) (link : Link) (front behind : List ℕ) (new : Seat)
-    → IsReady bytes link → bytes.down ≡ front ++ behind → SeatTakes bytes.seat front new → SaysOnlyPositive bytes.seat new
+DownIsNotRefused = (bytes : ByteLink) (link : Link) (front behind : List ℕ) (new : TrackedTerminal)
+    → IsReady bytes link → bytes.down ≡ front ++ behind → TrackedTakes bytes.tracked front new → SaysOnlyPositive bytes.tracked new
 
 -- whether one of the messages is a paint that finds the terminal bound
 abbrev pub any_painted : TermEnd → List ToTerminal → Bool
@@ -144,12 +144,12 @@ any_painted end (message ∷ messages) = is_painted end message || any_painted (
 -- the byte that came marks a write where such a paint came down with it
 pub record CameMarked (bytes : ByteLink) (link : Link) : Type 0 where
   pub came : CameDown bytes link
-  pub marked : bytes.seat.terminal.station.took_write ≡ any_painted link.term came.taken
+  pub marked : bytes.tracked.terminal.station.took_write ≡ any_painted link.term came.taken
 
 -- A byte marks a write exactly where it completes a paint that finds the terminal bound.
 abbrev pub BytesAreMarked : Type 0
-BytesAreMarked = (bytes : ByteLink) (link : Link) (byte : ℕ) (behind : List ℕ) (new : Seat)
-    → IsReady bytes link → bytes.down ≡ byte ∷ behind → SeatTakesByte bytes.seat byte new → CameMarked (fed new behind bytes) link
+BytesAreMarked = (bytes : ByteLink) (link : Link) (byte : ℕ) (behind : List ℕ) (new : TrackedTerminal)
+    → IsReady bytes link → bytes.down ≡ byte ∷ behind → TrackedTakesByte bytes.tracked byte new → CameMarked (fed new behind bytes) link
 
 -- ---- a connection, as its host goes on, and as it is lost
 

@@ -15,7 +15,7 @@ use Rattle.keyboard.specs.declared.key.Pressed.{Pressed}
 use Rattle.keyboard.specs.declared.key.Pressed.TheVariants.{Done, Refused, Send}
 use Rattle.shadow.specs.Painted.{plainly_painted}
 use Rattle.tn3270e_msg.specs.Talk.{Talk, follow, Saying, says, sayings, closing}
-use Rattle.tn3270e_msg.specs.TermTable.{Term, term_start, term_line}
+use Rattle.tn3270e_msg.specs.TermTable.{Term, term_start, term_transition}
 use Rattle.tn3270e_msg.specs.declared.cause.Cause.{Cause}
 use Rattle.tn3270e_msg.specs.declared.reply.Reply.{Reply}
 use Rattle.tn3270e_msg.specs.declared.term_talk.TermState.{TermState}
@@ -28,13 +28,13 @@ pub record Display : Type 0 where
   pub shape : Shape
   pub screen : Screen
   pub keyboard : Keyboard
-  pub left : Screen
+  pub last_restored : Screen
   pub erased : Bool
 
 -- the screen is blank, and the keyboard waits
 abbrev pub new_display : Shape → Display
 new_display shape =
-    record { shape = shape; screen = blank_screen (cells_in shape); keyboard = fresh; left = blank_screen (cells_in shape); erased = false }
+    record { shape = shape; screen = blank_screen (cells_in shape); keyboard = fresh; last_restored = blank_screen (cells_in shape); erased = false }
 
 -- the end of a connection that a terminal holds
 pub record TermEnd : Type 0 where
@@ -75,14 +75,14 @@ abbrev pub replied : TermEnd → Talk TermState × Reply → TermStep
 replied end talked = record { end = with_talk end talked.0; sends = map ToHost.TalksUp (sayings talked.1); closes = closing talked.1 }
 
 abbrev pub talked : TermEnd → Term → Saying → TermStep
-talked end talk saying = replied end (follow Closed talk.talk (term_line talk.wanted talk.talk.state (says saying)))
+talked end talk saying = replied end (follow Closed talk.talk (term_transition talk.wanted talk.talk.state (says saying)))
 
 -- the wanted screen is painted, and the keyboard freed
 abbrev pub painted : WantedScreen → Display → Display
 painted wanted display = record display {
   screen = plainly_painted wanted display.screen;
   keyboard = freed display.keyboard;
-  left = plainly_painted wanted display.screen;
+  last_restored = plainly_painted wanted display.screen;
   erased = false;
 }
 

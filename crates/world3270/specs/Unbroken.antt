@@ -11,7 +11,7 @@ use Rattle.tn3270e_msg.specs.Header.{record_limit}
 use Rattle.host_core.specs.State.{service_at}
 use Rattle.world3270.specs.Always.{NobodyRefuses}
 use Rattle.world3270.specs.ByteSteps.{Steps, is_lost}
-use Rattle.world3270.specs.ByteWorld.{ByteWorld, host_there, sitting_at, terminal_at, up_of}
+use Rattle.world3270.specs.ByteWorld.{ByteWorld, host_there, slot_at, terminal_at, up_of}
 use Rattle.world3270.specs.Refines.{Begin, GoesOn, IsBegin, IsReached, Reached, after}
 use Rattle.world3270.specs.Standing.{rest_of}
 use Rattle.world3270.specs.World.{Event as MessageEvent}
@@ -29,7 +29,7 @@ IsDelivery event = ⊥
 pub record SameEnds (number : ℕ) (old new : ByteWorld) : Type 0 where
   pub lost : is_lost number new ≡ is_lost number old
   pub host : host_there number new ≡ host_there number old
-  pub terminal : terminal_at number new.sittings ≡ terminal_at number old.sittings
+  pub terminal : terminal_at number new.slots ≡ terminal_at number old.slots
 
 -- Whatever comes up or down, neither end closes the connection, nor any other.
 abbrev pub DeliveriesCloseNothing : Type 0
@@ -54,7 +54,7 @@ terminal_leaves terminal event = false
 pub record EndsStay (event : Event) (old new : ByteWorld) : Type 0 where
   pub host : (number : ℕ) → host_leaves number event ≡ false → host_there number old ≡ true → host_there number new ≡ true
   pub terminal : (terminal number : ℕ) → terminal_leaves terminal event ≡ false
-      → terminal_at number old.sittings ≡ Some terminal → terminal_at number new.sittings ≡ Some terminal
+      → terminal_at number old.slots ≡ Some terminal → terminal_at number new.slots ≡ Some terminal
 
 -- In no step does an end close a connection by a cause: an end that has left saw a loss, or restarted.
 abbrev pub NobodyCloses : Type 0
@@ -78,11 +78,11 @@ NothingIsRefused = (bytes : ByteWorld) (number sequence : ℕ) (outcome : Outcom
 -- What a terminal said in a step: items behind what it had to send, and each response among them says that the command was carried out.
 pub record SaysNoRefusal (terminal : ℕ) (old new : ByteWorld) : Type 0 where
   pub says : List WireItem
-  pub sent : (sitting_at terminal new).seat.terminal.out ≡ (sitting_at terminal old).seat.terminal.out ++ sent_bytes says
+  pub sent : (slot_at terminal new).tracked.terminal.out ≡ (slot_at terminal old).tracked.terminal.out ++ sent_bytes says
   pub fit : AllByRecursion (CanCome record_limit) says
   pub carried_out : (sequence : ℕ) (outcome : Outcome) (before behind : List WireItem) → says ≡ before ++ response sequence outcome ∷ behind → outcome ≡ DeviceEnd
 
 -- A terminal refuses nothing that comes to it, whether or not its host is still there to read the response.
 abbrev pub TerminalsRefuseNothing : Type 0
 TerminalsRefuseNothing = (terminal number count : ℕ) (old : ByteWorld) (answer : Stepped) (new : ByteWorld)
-    → IsReached old → terminal_at number old.sittings ≡ Some terminal → Steps (event.Down number count) old answer new → SaysNoRefusal terminal old new
+    → IsReached old → terminal_at number old.slots ≡ Some terminal → Steps (event.Down number count) old answer new → SaysNoRefusal terminal old new

@@ -18,7 +18,7 @@ pub record View : Type 0 where
   pub shape : Shape
   pub screen : Screen
   pub lock : Lock
-  pub left : Screen
+  pub last_restored : Screen
   pub erased : Bool
 
 abbrev pub view_of : Link → View
@@ -31,6 +31,6 @@ view_of link = record {
   shape = link.term.display.shape;
   screen = link.term.display.screen;
   lock = link.term.display.keyboard.lock;
-  left = link.term.display.left;
+  last_restored = link.term.display.last_restored;
   erased = link.term.display.erased;
 }

@@ -3,7 +3,8 @@ ghost use Rattle.tn3270e_msg.specs.Talk.{IsLuIfSome};
 ghost use Rattle.world3270.specs.Refines.{IsReal};
 
 use crate::note_text::NoteText;
-use keyboard::{Key, Refusal, keys_are_real};
+use keyboard::laws::keys_are_real;
+use keyboard::{Key, Refusal};
 use tn3270e_msg::Lu;
 
 /// An event, at a terminal or on a connection, by its number. Bytes come up to the host and down to the terminal, so many.
@@ -57,7 +58,7 @@ pub struct Ran {
     pub part: usize,
 }
 
-/// Does nothing: its contract says that an event's key, name or text is one of those that there are.
+/// Law: an event's key, name or text is one of those that there are.
 pub(crate) fn events_are_real(event: &Event)
     ensures { IsReal event.now }
 {
@@ -78,7 +79,7 @@ pub(crate) fn events_are_real(event: &Event)
     }
 }
 
-/// Does nothing: its contract says that what a terminal wants is named as LUs are.
+/// Law: what a terminal wants is named as LUs are.
 fn names_are_lus(wanted: &Option<Lu>)
     ensures { IsLuIfSome wanted.now }
 {

@@ -2,16 +2,16 @@
 ghost use Rattle.std.specs.Prelude.{◌≡◌, ◌<◌, ◌≤◌, None, Some, true, false, is_some, length, IfOk, IfSome, replicate, take};
 ghost use Rattle.host_core.specs.Feeds.{Feeds, counter_at, with_counter};
 ghost use Rattle.host_core.specs.State.{most_connections};
-ghost use Rattle.world3270.specs.ByteSteps.{Connects, SeatFeeds, Steps, answer_acted, answer_fed, answer_pressed, down_came, free_number, has_place, host_gone, host_gone_below, host_gone_if, host_gone_if_there, host_told, is_held, is_link, is_up, lost_ways, terminal_gone, terminal_gone_if, terminal_told, up_came};
-ghost use Rattle.world3270.specs.ByteWorld.{alone, down_of, host_out, host_there, is_senders, ways_at, new_byte_world, new_sitting, sitting_at, terminal_at, terminal_out, terminal_there, unused_ways, up_of, with_host, with_sitting, with_ways};
-ghost use Rattle.world3270.specs.Flows.{out_among};
+ghost use Rattle.world3270.specs.ByteSteps.{Connects, TrackedFeeds, Steps, answer_acted, answer_fed, answer_pressed, down_came, free_number, has_place, host_gone, host_gone_below, host_gone_if, host_gone_if_there, host_told, is_held, is_link, is_up, lost_transits, terminal_gone, terminal_gone_if, terminal_told, up_came};
+ghost use Rattle.world3270.specs.ByteWorld.{alone, down_of, host_out, host_there, is_senders, transits_at, new_byte_world, new_slot, slot_at, terminal_at, terminal_out, terminal_there, unused_transits, up_of, with_host, with_slot, with_transits};
+ghost use Rattle.world3270.specs.InFlight.{out_among};
 ghost use Rattle.world3270.specs.Placed.{is_queued};
 ghost use Rattle.world3270.specs.declared.event.Event.TheVariants as event;
 
 use crate::event::{Event, Stepped};
+use crate::link::{Link, first};
 use crate::note_text::NoteText;
-use crate::seat::Chair;
-use crate::way::{Cable, first};
+use crate::terminal_slot::TerminalSlot;
 use host_core::{Acted, Host, MOST_CONNECTIONS, Phase};
 use keyboard::{Key, Pressed};
 use lu_pool::Pool;
@@ -26,8 +26,8 @@ use tn3270e_msg::{Fed, Lu, Stop};
 #[derive(Drop)]
 pub(crate) struct Network {
     host: Host,
-    links: Vec<Cable>,
-    seats: Vec<Chair>,
+    links: Vec<Link>,
+    slots: Vec<TerminalSlot>,
 }
 
 impl Model for Network {
@@ -37,47 +37,47 @@ impl Model for Network {
 
     ghost Value = { ByteWorld };
 
-    ghost view = { λ network. record { host = network.host; links = network.links.items; sittings = network.seats.items } };
+    ghost view = { λ network. record { host = network.host; links = network.links.items; slots = network.slots.items } };
 
     ghost invariant = { λ network. length network.links.items ≡ most_connections };
 }
 
 /// So many connections, never used.
-fn unused_links(alloc: Global) -> Result<Vec<Cable>, Memory>
-    ensures { IfOk result (λ links. links.items ≡ replicate most_connections unused_ways) }
+fn unused_links(alloc: Global) -> Result<Vec<Link>, Memory>
+    ensures { IfOk result (λ links. links.items ≡ replicate most_connections unused_transits) }
 {
     let mut links = Vec::with_capacity(alloc, MOST_CONNECTIONS)?;
     for _ in 0..MOST_CONNECTIONS {
-        links.push(Cable::unused(alloc))?;
+        links.push(Link::unused(alloc))?;
     }
     Ok(links)
 }
 
 /// So many terminals, that begin.
-fn new_seats(alloc: Global, terminals: usize) -> Result<Vec<Chair>, Memory>
-    ensures { IfOk result (λ seats. seats.items ≡ replicate terminals new_sitting) }
+fn new_slots(alloc: Global, terminals: usize) -> Result<Vec<TerminalSlot>, Memory>
+    ensures { IfOk result (λ slots. slots.items ≡ replicate terminals new_slot) }
 {
-    let mut seats = Vec::with_capacity(alloc, terminals)?;
+    let mut slots = Vec::with_capacity(alloc, terminals)?;
     for _ in 0..terminals {
-        seats.push(Chair::new(alloc)?)?;
+        slots.push(TerminalSlot::new(alloc)?)?;
     }
-    Ok(seats)
+    Ok(slots)
 }
 
 /// The terminal that holds an end of a connection, if one does.
-fn terminal_at(seats: &[Chair], conn: usize) -> Option<usize>
-    ensures found { result ≡ terminal_at conn seats.now }
-    ensures below { IfSome result (λ terminal. terminal < length seats.now) }
+fn terminal_at(slots: &[TerminalSlot], conn: usize) -> Option<usize>
+    ensures found { result ≡ terminal_at conn slots.now }
+    ensures below { IfSome result (λ terminal. terminal < length slots.now) }
 {
-    seats.iter().position(|chair| chair.is_at(conn))
+    slots.iter().position(|slot| slot.is_at(conn))
 }
 
 /// What the terminal at a connection has to send: nothing where none is.
-fn out_at(seats: &[Chair], conn: usize) -> &[u8]
-    ensures { result.now ≡ out_among (terminal_at conn seats.now) seats.now }
+fn out_at(slots: &[TerminalSlot], conn: usize) -> &[u8]
+    ensures { result.now ≡ out_among (terminal_at conn slots.now) slots.now }
 {
-    match terminal_at(seats, conn) {
-        Some(terminal) => seats[terminal].out(),
+    match terminal_at(slots, conn) {
+        Some(terminal) => slots[terminal].out(),
         None => &[],
     }
 }
@@ -139,9 +139,9 @@ impl Network {
         ensures { IfOk result (λ network. network ≡ new_byte_world panels pool terminals) }
     {
         let links = unused_links(alloc)?;
-        let seats = new_seats(alloc, terminals)?;
+        let slots = new_slots(alloc, terminals)?;
         let host = Host::new(alloc, panels, pool)?;
-        Ok(Network { host, links, seats })
+        Ok(Network { host, links, slots })
     }
 
     /// The host.
@@ -153,17 +153,17 @@ impl Network {
 
     /// A terminal, by its number.
     pub(crate) fn terminal(&self, terminal: usize) -> &Terminal
-        requires { terminal < length self.now.sittings }
-        ensures { result.now.terminal ≡ (sitting_at terminal self.now).seat.terminal }
+        requires { terminal < length self.now.slots }
+        ensures { result.now.terminal ≡ (slot_at terminal self.now).tracked.terminal }
     {
-        self.seats[terminal].terminal()
+        self.slots[terminal].terminal()
     }
 
     /// What the terminal at a connection has to send: nothing where none is.
     fn terminal_out(&self, conn: usize) -> &[u8]
         ensures { result.now ≡ terminal_out conn self.now }
     {
-        out_at(&self.seats, conn)
+        out_at(&self.slots, conn)
     }
 
     /// What is under way to the host.
@@ -200,13 +200,13 @@ impl Network {
         requires { conn < most_connections }
         ensures { result ≡ is_held conn self.now }
     {
-        self.host_there(conn) || terminal_at(&self.seats, conn).is_some()
+        self.host_there(conn) || terminal_at(&self.slots, conn).is_some()
     }
 
     /// A connection is lost.
     fn cut(&mut self, conn: usize)
         requires { conn < most_connections }
-        ensures { self.new ≡ with_ways conn (lost_ways conn self.old) self.old }
+        ensures { self.new ≡ with_transits conn (lost_transits conn self.old) self.old }
     {
         let down = self.host.out(conn).len();
         let up = self.terminal_out(conn).len();
@@ -225,23 +225,23 @@ impl Network {
 
     /// A terminal leaves its connection, which is lost.
     fn terminal_leaves(&mut self, terminal: usize, conn: usize)
-        requires terminal { terminal < length self.old.sittings }
+        requires terminal { terminal < length self.old.slots }
         requires number { conn < most_connections }
-        ensures { self.new ≡ terminal_gone (alone (sitting_at terminal self.old)) terminal conn self.old }
+        ensures { self.new ≡ terminal_gone (alone (slot_at terminal self.old)) terminal conn self.old }
     {
         let down = self.host.out(conn).len();
-        let unsent = self.seats[terminal].leave();
+        let unsent = self.slots[terminal].leave();
         self.links[conn].terminal_leaves(down, unsent);
     }
 
     /// A terminal leaves its connection, which is lost, and begins anew.
     fn terminal_leaves_anew(&mut self, terminal: usize, conn: usize)
-        requires terminal { terminal < length self.old.sittings }
+        requires terminal { terminal < length self.old.slots }
         requires number { conn < most_connections }
-        ensures { self.new ≡ terminal_gone new_sitting terminal conn self.old }
+        ensures { self.new ≡ terminal_gone new_slot terminal conn self.old }
     {
         let down = self.host.out(conn).len();
-        let unsent = self.seats[terminal].leave_anew();
+        let unsent = self.slots[terminal].leave_anew();
         self.links[conn].terminal_leaves(down, unsent);
     }
 
@@ -269,8 +269,8 @@ impl Network {
     pub(crate) fn press(&mut self, terminal: usize, key: Key) -> Stepped
         ensures { Steps (event.Key terminal key) self.old result self.new }
     {
-        if terminal < self.seats.len() {
-            match self.seats[terminal].press(key) {
+        if terminal < self.slots.len() {
+            match self.slots[terminal].press(key) {
                 Ok(pressed) => pressed_as(pressed),
                 Err(_) => Stepped::Memory,
             }
@@ -325,10 +325,10 @@ impl Network {
     pub(crate) fn term_sees(&mut self, terminal: usize) -> Stepped
         ensures { Steps (event.TermSees terminal) self.old result self.new }
     {
-        if terminal >= self.seats.len() {
+        if terminal >= self.slots.len() {
             return Stepped::Skipped;
         }
-        let Some(conn) = self.seats[terminal].at() else {
+        let Some(conn) = self.slots[terminal].at() else {
             return Stepped::Skipped;
         };
         if self.links[conn].is_live() {
@@ -342,16 +342,16 @@ impl Network {
     pub(crate) fn restart_term(&mut self, terminal: usize) -> Stepped
         ensures { Steps (event.RestartTerm terminal) self.old result self.new }
     {
-        if terminal >= self.seats.len() {
+        if terminal >= self.slots.len() {
             return Stepped::Skipped;
         }
-        match self.seats[terminal].at() {
+        match self.slots[terminal].at() {
             Some(conn) => {
                 self.terminal_leaves_anew(terminal, conn);
                 Stepped::Done
             }
             None => {
-                self.seats[terminal].restart();
+                self.slots[terminal].restart();
                 Stepped::Done
             }
         }
@@ -373,13 +373,13 @@ impl Network {
 
     /// A terminal that is alone begins a connection on a number that nobody holds.
     fn begin(&mut self, terminal: usize, conn: usize, wanted: Option<Lu>) -> Stepped
-        requires terminal { terminal < length self.old.sittings }
+        requires terminal { terminal < length self.old.slots }
         requires number { conn < most_connections }
-        requires alone { (sitting_at terminal self.old).at ≡ None }
+        requires alone { (slot_at terminal self.old).at ≡ None }
         requires free { is_held conn self.old ≡ false }
         ensures { Connects terminal wanted conn self.old result self.new }
     {
-        match self.seats[terminal].sit(&mut self.host, conn, wanted) {
+        match self.slots[terminal].attach(&mut self.host, conn, wanted) {
             Ok(()) => {
                 self.links[conn].begin();
                 Stepped::Done
@@ -392,10 +392,10 @@ impl Network {
     pub(crate) fn connect(&mut self, terminal: usize, wanted: Option<Lu>) -> Stepped
         ensures { Steps (event.Connect terminal wanted) self.old result self.new }
     {
-        if terminal >= self.seats.len() {
+        if terminal >= self.slots.len() {
             return Stepped::Skipped;
         }
-        match self.seats[terminal].at() {
+        match self.slots[terminal].at() {
             Some(_) => Stepped::Skipped,
             None => match self.free_number() {
                 Some(conn) => self.begin(terminal, conn, wanted),
@@ -438,7 +438,7 @@ impl Network {
         ensures fed { Feeds conn (counter_at conn self.old.host) (take count (up_of conn self.old)) result (counter_at conn self.new.host) }
         ensures others { self.new ≡ with_host (with_counter conn (counter_at conn self.new.host) self.old.host) self.old }
     {
-        let out = out_at(&self.seats, conn);
+        let out = out_at(&self.slots, conn);
         let bytes = first(self.links[conn].up.under_way(out), count);
         self.host.feed(conn, bytes)
     }
@@ -457,11 +457,11 @@ impl Network {
     /// The first bytes of the terminal at a connection are sent, where what comes is the terminal's.
     fn tell_terminal(&mut self, is_its: bool, conn: usize, count: usize)
         requires { is_its ≡ true → count ≤ length (terminal_out conn self.old) }
-        ensures { self.new ≡ terminal_told is_its count (terminal_at conn self.old.sittings) self.old }
+        ensures { self.new ≡ terminal_told is_its count (terminal_at conn self.old.slots) self.old }
     {
         if is_its {
-            match terminal_at(&self.seats, conn) {
-                Some(terminal) => self.seats[terminal].sent(count),
+            match terminal_at(&self.slots, conn) {
+                Some(terminal) => self.slots[terminal].sent(count),
                 None => {}
             }
         }
@@ -470,7 +470,7 @@ impl Network {
     /// So many bytes came down.
     fn came_down(&mut self, conn: usize, count: usize)
         requires number { conn < most_connections }
-        requires count { is_senders (ways_at conn self.old).down ≡ true → count ≤ length (host_out conn self.old) }
+        requires count { is_senders (transits_at conn self.old).down ≡ true → count ≤ length (host_out conn self.old) }
         ensures { self.new ≡ down_came count conn self.old }
     {
         let is_its = self.links[conn].down.is_senders();
@@ -481,7 +481,7 @@ impl Network {
     /// So many bytes came up.
     fn came_up(&mut self, conn: usize, count: usize)
         requires number { conn < most_connections }
-        requires count { is_senders (ways_at conn self.old).up ≡ true → count ≤ length (terminal_out conn self.old) }
+        requires count { is_senders (transits_at conn self.old).up ≡ true → count ≤ length (terminal_out conn self.old) }
         ensures { self.new ≡ up_came count conn self.old }
     {
         let is_its = self.links[conn].up.is_senders();
@@ -525,12 +525,12 @@ impl Network {
     /// The terminal that bytes come down to, if they do: so many of those under way to it, or all.
     fn comes_down(&self, conn: usize, count: usize) -> Option<usize>
         ensures place { is_some result ≡ has_place (event.Down conn count) self.now }
-        ensures found { IfSome result (λ terminal. terminal_at conn self.now.sittings ≡ Some terminal) }
-        ensures below { IfSome result (λ terminal. terminal < length self.now.sittings) }
+        ensures found { IfSome result (λ terminal. terminal_at conn self.now.slots ≡ Some terminal) }
+        ensures below { IfSome result (λ terminal. terminal < length self.now.slots) }
         ensures number { IfSome result (λ terminal. conn < most_connections) }
     {
         if conn < MOST_CONNECTIONS && are_queued(self.queued_down(conn), count) {
-            terminal_at(&self.seats, conn)
+            terminal_at(&self.slots, conn)
         } else {
             None
         }
@@ -538,18 +538,18 @@ impl Network {
 
     /// A terminal takes bytes that are under way to it: so many of them, or all.
     fn feed_terminal(&mut self, terminal: usize, conn: usize, count: usize) -> Fed
-        requires terminal { terminal < length self.old.sittings }
+        requires terminal { terminal < length self.old.slots }
         requires number { conn < most_connections }
-        ensures fed { SeatFeeds (sitting_at terminal self.old).seat (take count (down_of conn self.old)) result (sitting_at terminal self.new).seat }
-        ensures others { self.new ≡ with_sitting terminal (record (sitting_at terminal self.old) { seat = (sitting_at terminal self.new).seat }) self.old }
+        ensures fed { TrackedFeeds (slot_at terminal self.old).tracked (take count (down_of conn self.old)) result (slot_at terminal self.new).tracked }
+        ensures others { self.new ≡ with_slot terminal (record (slot_at terminal self.old) { tracked = (slot_at terminal self.new).tracked }) self.old }
     {
         let bytes = first(self.links[conn].down.under_way(self.host.out(conn)), count);
-        self.seats[terminal].feed(bytes)
+        self.slots[terminal].feed(bytes)
     }
 
     /// A terminal leaves a connection that it has closed.
     fn terminal_leaves_closed(&mut self, terminal: usize, conn: usize, stop: &Stop)
-        requires terminal { terminal < length self.old.sittings }
+        requires terminal { terminal < length self.old.slots }
         requires number { conn < most_connections }
         ensures { self.new ≡ terminal_gone_if stop.now terminal conn self.old }
     {

@@ -3,13 +3,13 @@ ghost use Rattle.std.specs.Prelude.{◌≡◌, ◌<◌, length, IfOk};
 ghost use Rattle.host_core.specs.State.{most_connections};
 ghost use Rattle.world3270.specs.ByteRuns.{Runs, refused_at};
 ghost use Rattle.world3270.specs.ByteSteps.{Steps};
-ghost use Rattle.world3270.specs.ByteWorld.{IsTerminalCount, down_of, new_byte_world, sitting_at, up_of};
+ghost use Rattle.world3270.specs.ByteWorld.{IsTerminalCount, down_of, new_byte_world, slot_at, up_of};
 ghost use Rattle.world3270.specs.Headline.{Headline};
 ghost use Rattle.world3270.specs.Refines.{IsReached, RunOverMessages, StepOverMessages};
 ghost use Rattle.world3270.specs.SeenBytes.{seen_bytes};
 
-use crate::bytes_follow_messages;
 use crate::event::{Event, Ran, Stepped, events_are_real};
+use crate::laws::bytes_follow_messages;
 use crate::network::Network;
 use host_core::Host;
 use lu_pool::Pool;
@@ -82,8 +82,8 @@ impl World {
 
     /// A terminal, by its number.
     pub fn terminal(&self, terminal: usize) -> &Terminal
-        requires { terminal < length self.now.sittings }
-        ensures { result.now.terminal ≡ (sitting_at terminal self.now).seat.terminal }
+        requires { terminal < length self.now.slots }
+        ensures { result.now.terminal ≡ (slot_at terminal self.now).tracked.terminal }
     {
         self.network.terminal(terminal)
     }
@@ -104,7 +104,7 @@ impl World {
         self.network.queued_down(conn)
     }
 
-    /// Does nothing: its contract says that the headline holds of what is seen of this world, whatever happened to it.
+    /// Law: the headline holds of what is seen of this world, whatever happened to it.
     pub fn headline_holds(&self)
         ensures { Headline (seen_bytes self.now) }
     {
@@ -112,7 +112,7 @@ impl World {
         bytes_follow_messages();
     }
 
-    /// Does nothing: its contract says that the bytes of this world represent a world over messages, to which some list of events
+    /// Law: the bytes of this world represent a world over messages, to which some list of events
     /// leads. The laws of [`bytes_follow_messages`] apply to it.
     pub fn represents_messages(&self)
         ensures { IsReached self.now }

@@ -78,7 +78,7 @@ fn wanted_by(wanting: Wanting, shadow: &Shadow) -> Wanted {
         }
         put(&mut wanted, place, want_of(wanting, place, known, is_open));
     }
-    wanted.aim(
+    wanted.set_cursor_and_reset(
         Addr::first().forward(CHANGED_EVERY),
         wanting == Wanting::Changed,
     );

@@ -7,7 +7,7 @@ use presentation::Screen;
 use shadow::Shadow;
 use std::alloc::{AllocError, Global};
 use telnet_wire::{Verb, put_option, put_record, put_sub, put_sub_parts};
-use tn3270e_msg::{Sending, put_sub_message};
+use tn3270e_msg::{OwnedMessage, put_sub_message};
 
 /// A call that appends.
 #[derive(Clone, Copy)]
@@ -48,7 +48,7 @@ fn screen_of_fields() -> Screen {
 fn put_paint(out: &mut Vec<u8>, cursor: Addr) -> Result<(), AllocError> {
     let shadow = Shadow::blank();
     let mut wanted = Wanted::filled(Want::Char(0xC1));
-    wanted.aim(cursor, false);
+    wanted.set_cursor_and_reset(cursor, false);
     if shadow.fits(&wanted) {
         shadow.paint(out, &wanted)
     } else {
@@ -75,7 +75,7 @@ impl Appended {
             Appends::Option => put_option(out, Verb::Do, 40),
             Appends::Sub => put_sub(out, MIXED),
             Appends::SubParts => put_sub_parts(out, &[MIXED, MIXED]),
-            Appends::SubMessage => put_sub_message(out, &Sending::FunRequest.message()),
+            Appends::SubMessage => put_sub_message(out, &OwnedMessage::FunRequest.message()),
             Appends::Begin => {
                 CommandWriter::new(out).begin(CommandCode::EraseWrite, Wcc::from_byte(0xC3))
             }

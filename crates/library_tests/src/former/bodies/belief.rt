@@ -7,7 +7,7 @@ use crate::former::bodies::wanted::FormerWanted;
 use arrayvec::ArrayVec;
 use codes3270::{Addr, Aid, CELL_COUNT, Cell, Wcc};
 use datastream::{Command, CommandCode, CommandWriter, Form, Inbound, Memory, Order, Orders};
-use shadow::{Fact, HeardFault, Mark};
+use shadow::{Fact, HeardFault, MdtState};
 
 /// What was believed of a screen.
 #[derive(Drop)]
@@ -21,8 +21,8 @@ pub(crate) enum FormerShadow {
 /// A cell that was just stored, or read.
 fn stored_cell(cell: Cell) -> Known {
     match cell {
-        Cell::Attr(attr) if attr.mdt => Known::Attr(attr.with_mdt(false), Mark::On),
-        Cell::Attr(attr) => Known::Attr(attr, Mark::Off),
+        Cell::Attr(attr) if attr.mdt => Known::Attr(attr.with_mdt(false), MdtState::On),
+        Cell::Attr(attr) => Known::Attr(attr, MdtState::Off),
         Cell::Char(char) => Known::Char(Some(char), true),
     }
 }
@@ -54,7 +54,7 @@ fn store(cells: &mut [Known], orders: Orders<'_>) -> bool {
 fn marks_off(cells: &mut [Known]) {
     for cell in cells.iter_mut() {
         if let Known::Attr(attr, _) = *cell {
-            *cell = Known::Attr(attr, Mark::Off);
+            *cell = Known::Attr(attr, MdtState::Off);
         }
     }
 }
@@ -138,7 +138,7 @@ impl FormerShadow {
             return Err(HeardFault::NoSuchField);
         }
         match self {
-            FormerShadow::Unformatted(chars) if chars.len() < inbound.lead().len() => {
+            FormerShadow::Unformatted(chars) if chars.len() < inbound.leading_text().len() => {
                 Err(HeardFault::Contradiction)
             }
             _ => Ok(FormerShadow::Nothing),
@@ -238,7 +238,7 @@ impl FormerShadow {
 /// What is known of one of these cells. An attribute whose MDT isn't known has it off here.
 pub(crate) fn known_in(cells: &[Known], at: usize) -> Option<Cell> {
     match cells.get(at)? {
-        Known::Attr(attr, mark) => Some(Cell::Attr(attr.with_mdt(*mark == Mark::On))),
+        Known::Attr(attr, mark) => Some(Cell::Attr(attr.with_mdt(*mark == MdtState::On))),
         Known::Char(char, _) => char.map(Cell::Char),
     }
 }

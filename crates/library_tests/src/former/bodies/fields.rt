@@ -1,13 +1,13 @@
 //! The list of fields that a belief was, in fixed space.
 use arrayvec::ArrayVec;
 use codes3270::{Attr, CELL_COUNT, Display};
-use shadow::{Fact, Mark};
+use shadow::{Fact, MdtState};
 
 /// What is known of a cell.
 #[derive(Clone, Copy)]
 pub(crate) enum Known {
     /// An attribute, without its modified data tag, and what is known of that.
-    Attr(Attr, Mark),
+    Attr(Attr, MdtState),
     /// A character, if it is known, and whether the write at hand stored it.
     Char(Option<u8>, bool),
 }
@@ -23,7 +23,7 @@ impl Default for Known {
 pub(crate) struct Head {
     pub(crate) place: usize,
     pub(crate) attr: Attr,
-    pub(crate) mark: Mark,
+    pub(crate) mark: MdtState,
     pub(crate) length: usize,
     pub(crate) fact: Fact,
     pub(crate) start: usize,
@@ -32,7 +32,7 @@ pub(crate) struct Head {
 
 impl Head {
     /// A field of which nothing is known but where it is.
-    pub(crate) fn new(place: usize, attr: Attr, mark: Mark, length: usize) -> Head {
+    pub(crate) fn new(place: usize, attr: Attr, mark: MdtState, length: usize) -> Head {
         Head {
             place,
             attr,
@@ -53,7 +53,7 @@ impl Default for Head {
             display: Display::Normal,
             mdt: false,
         };
-        Head::new(0, attr, Mark::Unknown, 0)
+        Head::new(0, attr, MdtState::Unknown, 0)
     }
 }
 

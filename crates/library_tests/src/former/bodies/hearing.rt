@@ -3,7 +3,7 @@ use crate::former::bodies::fields::{Fields, Head, Lent};
 use arrayvec::ArrayVec;
 use codes3270::{CELL_COUNT, attr_code};
 use datastream::{Inbound, ReturnedFields};
-use shadow::{Fact, HeardFault, Mark};
+use shadow::{Fact, HeardFault, MdtState};
 
 /// The returned text of each field.
 type Texts<'a> = ArrayVec<Option<&'a [u8]>, CELL_COUNT>;
@@ -114,10 +114,10 @@ fn is_without_nulls(value: &[u8], text: &[u8]) -> bool {
 /// Whether it can't be that a text, or none, came for a field.
 fn contradicts(head: Head, lent: Lent<'_>, came: Option<&[u8]>) -> bool {
     let Some(text) = came else {
-        return head.attr.protected && head.mark == Mark::On;
+        return head.attr.protected && head.mark == MdtState::On;
     };
     let denies = lent.fact == Fact::Exact && !is_without_nulls(lent.text, text);
-    head.length < text.len() || head.attr.protected && (head.mark == Mark::Off || denies)
+    head.length < text.len() || head.attr.protected && (head.mark == MdtState::Off || denies)
 }
 
 fn any_contradicts(fields: &Fields, texts: &Texts<'_>) -> bool {
@@ -132,7 +132,7 @@ fn any_contradicts(fields: &Fields, texts: &Texts<'_>) -> bool {
 fn any_erased(fields: &Fields, texts: &Texts<'_>) -> bool {
     fields.heads().iter().zip(texts.as_slice()).any(|(head, text)| text.is_none()
         && !head.attr.protected
-        && head.mark == Mark::On)
+        && head.mark == MdtState::On)
 }
 
 /// What is known of a field that a terminal didn't return.
@@ -170,7 +170,11 @@ fn after_long(fields: &Fields, texts: &Texts<'_>) -> Fields {
     let erased = any_erased(fields, texts);
     let mut after = Fields::new();
     for (head, text) in fields.heads().iter().zip(texts.as_slice()) {
-        let mark = if text.is_some() { Mark::On } else { Mark::Off };
+        let mark = if text.is_some() {
+            MdtState::On
+        } else {
+            MdtState::Off
+        };
         let lent = lent_after(*head, fields.lent(*head), erased, *text, &blank);
         after.push(Head { mark, ..*head }, lent);
     }
@@ -187,7 +191,7 @@ pub(crate) fn after_attention(fields: &Fields) -> Fields {
         } else if head.length == 0 {
             after.push(
                 Head {
-                    mark: Mark::Unknown,
+                    mark: MdtState::Unknown,
                     ..*head
                 },
                 blank.null(0),
@@ -195,7 +199,7 @@ pub(crate) fn after_attention(fields: &Fields) -> Fields {
         } else {
             after.push(
                 Head {
-                    mark: Mark::Unknown,
+                    mark: MdtState::Unknown,
                     ..*head
                 },
                 blank.unknown(head.length),
@@ -210,7 +214,7 @@ pub(crate) fn heard_fields(fields: &Fields, inbound: &Inbound<'_>) -> Result<Fie
     if any_nowhere(fields, inbound.returned()) {
         return Err(HeardFault::NoSuchField);
     }
-    if !inbound.lead().is_empty() {
+    if !inbound.leading_text().is_empty() {
         return Err(HeardFault::Contradiction);
     }
     match texts_of(fields, inbound.returned()) {

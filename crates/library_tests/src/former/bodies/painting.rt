@@ -4,7 +4,7 @@ use crate::former::bodies::fields::{Fields, Known};
 use crate::former::bodies::wanted::FormerWanted;
 use codes3270::{Addr, Attr, CELLS, Cell, attr_code, storable};
 use datastream::{CommandWriter, Memory, Want};
-use shadow::Mark;
+use shadow::MdtState;
 
 fn is_attribute(want: &Want) -> bool {
     matches!(want, Want::Attr(_))
@@ -61,7 +61,11 @@ pub(crate) fn fits_fields(fields: &Fields, wants: &[Want]) -> bool {
 fn is_there(known: Known, cell: Cell) -> bool {
     match (known, cell) {
         (Known::Attr(believed, mark), Cell::Attr(attr)) => {
-            let wanted = if attr.mdt { Mark::On } else { Mark::Off };
+            let wanted = if attr.mdt {
+                MdtState::On
+            } else {
+                MdtState::Off
+            };
             same_attr(believed, attr) && mark == wanted
         }
         (Known::Char(char, _), Cell::Char(byte)) => char == Some(byte),

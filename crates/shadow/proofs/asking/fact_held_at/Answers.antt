@@ -2,13 +2,13 @@ use Rattle.std.proofs.Common.{ap, sym, ◌∙◌, arith, refl, Some}
 use Rattle.shadow.specs.Asked.{kind_of}
 use Rattle.std.specs.Prelude.{option_map}
 use Rattle.shadow.specs.Belief.{Belief}
-use Rattle.shadow.specs.declared.place.Place.TheVariants.{Known, Told, Unknown}
+use Rattle.shadow.specs.declared.cell_belief.CellBelief.TheVariants.{Known, Told, Unknown}
 use Rattle.shadow.proofs.Placed.{with_found, with_missed}
 use Rattle.shadow.proofs.asking.fact_held_at.Goals as goal
 
 pub returns-in-Attr : goal.returns-in-Attr
 returns-in-Attr c =
-    ap Some c.kind.ensures ∙ sym (ap (option_map (λ (b : Belief). kind_of b.fact)) (with_found c.args.place c.args.places.now c.in-Attr.field-0 c.in-Attr.field-1 c.in-Attr.telling (omega arith) c.in-Attr.ensures.place))
+    ap Some c.kind.ensures ∙ sym (ap (option_map (λ (b : Belief). kind_of b.fact)) (with_found c.args.place c.args.places.now c.in-Attr.field-0 c.in-Attr.field-1 c.in-Attr.knowledge (omega arith) c.in-Attr.ensures.place))
 
 pub returns-in-Known : goal.returns-in-Known
 returns-in-Known c =

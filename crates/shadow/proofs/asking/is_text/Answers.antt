@@ -4,7 +4,7 @@ use Rattle.datastream.specs.Inbound.{without_nulls}
 use Rattle.shadow.specs.Asked.{value_of}
 use Rattle.shadow.specs.Belief.{Fact}
 use Rattle.shadow.specs.InPlace.{chars_known, known_text}
-use Rattle.shadow.specs.declared.place.Place.{Place}
+use Rattle.shadow.specs.declared.cell_belief.CellBelief.{CellBelief}
 use Rattle.shadow.proofs.Placed.{exact_held, any_held}
 use Rattle.shadow.proofs.asking.is_text.Goals as goal
 
@@ -14,7 +14,7 @@ returns-then-all_known c =
     let text = c.args.text.now in
     rw (c.in-Cells.is, ← c.ahead.ensures.places)
     (c.are_text.ensures
-    ∙ ap (λ (ahead : List Place). bytes_eq (without_nulls (known_text (chars_known ahead))) text) same
+    ∙ ap (λ (ahead : List CellBelief). bytes_eq (without_nulls (known_text (chars_known ahead))) text) same
     ∙ sym (ap (λ (fact : Fact). bytes_eq (without_nulls (value_of fact)) text) (exact_held c.ahead.result (sym c.all_known.ensures ∙ c.if-all_known.true))))
 
 pub returns-else-all_known : goal.returns-else-all_known

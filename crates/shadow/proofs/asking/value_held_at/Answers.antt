@@ -2,14 +2,14 @@ use Rattle.std.proofs.Common.{ap, sym, ◌∙◌, arith, refl}
 use Rattle.shadow.specs.Asked.{value_of}
 use Rattle.std.specs.Prelude.{option_and_then, slice_get}
 use Rattle.shadow.specs.Belief.{Belief}
-use Rattle.shadow.specs.declared.place.Place.TheVariants.{Known, Told, Unknown}
+use Rattle.shadow.specs.declared.cell_belief.CellBelief.TheVariants.{Known, Told, Unknown}
 use Rattle.shadow.proofs.Placed.{with_found, with_missed}
 use Rattle.shadow.proofs.asking.value_held_at.Goals as goal
 
 pub returns-in-Attr : goal.returns-in-Attr
 returns-in-Attr c =
     let index = c.args.index in
-    c.character.ensures ∙ sym (ap (option_and_then (λ (b : Belief). slice_get (value_of b.fact) index)) (with_found c.args.place c.args.places.now c.in-Attr.field-0 c.in-Attr.field-1 c.in-Attr.telling (omega arith) c.in-Attr.ensures.place))
+    c.character.ensures ∙ sym (ap (option_and_then (λ (b : Belief). slice_get (value_of b.fact) index)) (with_found c.args.place c.args.places.now c.in-Attr.field-0 c.in-Attr.field-1 c.in-Attr.knowledge (omega arith) c.in-Attr.ensures.place))
 
 pub returns-in-Known : goal.returns-in-Known
 returns-in-Known c =

@@ -1,6 +1,6 @@
 use Rattle.std.proofs.Common.{◌∙◌, ◌&&◌, ap, sym, refl, arith, length, List, Bool, ℕ, nat_eq, ◌++◌, ◌+◌, drop}
-use Rattle.shadow.specs.declared.place.Place.{Place}
-use Rattle.shadow.specs.declared.place.Place.TheVariants.{Known, Told, Unknown}
+use Rattle.shadow.specs.declared.cell_belief.CellBelief.{CellBelief}
+use Rattle.shadow.specs.declared.cell_belief.CellBelief.TheVariants.{Known, Told, Unknown}
 use Rattle.shadow.specs.InPlace.{chars_known}
 use Rattle.shadow.proofs.Placed.{field_found, field_missed}
 use Rattle.shadow.proofs.fitting.is_field_at.Goals as goal
@@ -10,7 +10,7 @@ returns-then-same_attr c =
     let whole = c.args.places.now in
     let p = c.args.place in
     let count = c.args.count in
-    ap (λ (n : ℕ). nat_eq n count) (c.count_chars.ensures ∙ ap (λ (ps : List Place). length (chars_known ps)) c.ahead.ensures.places)
+    ap (λ (n : ℕ). nat_eq n count) (c.count_chars.ensures ∙ ap (λ (ps : List CellBelief). length (chars_known ps)) c.ahead.ensures.places)
     ∙ ap (λ (t : Bool). t && nat_eq (length (chars_known (drop (p + 1) whole ++ whole))) count) (sym (sym c.same_attr.ensures ∙ c.if-same_attr.true))
     ∙ sym (field_found p c.args.attr count whole c.in-Attr.there c.in-Attr.field-1 c.in-Attr.field-2 (omega arith) c.in-Attr.ensures.place)
 

@@ -1,5 +1,5 @@
 use Rattle.std.proofs.Common.{◌≡◌, ◌∙◌, ◌+◌, ◌++◌, ◌-◌, ap, arith, subst, drop, take, List, ℕ}
-use Rattle.shadow.specs.declared.place.Place.{Place}
+use Rattle.shadow.specs.declared.cell_belief.CellBelief.{CellBelief}
 use Rattle.shadow.specs.Filled.{Fill, fill_of, fill_after, change_of, front_filled}
 use Rattle.shadow.proofs.Changing.{key_changed}
 use Rattle.shadow.proofs.KeyWalks.{Between, begins, step, finished}
@@ -19,12 +19,12 @@ loop-place-preserved c =
     let at = c.loop-place.place in
     let held = c.attribute_at-held.result in
     let end = c.attribute_from-end.result in
-    let f = fill_after c.loop-place.filled (fill_of c.loop-place.filling) in
+    let f = fill_after c.loop-place.filled (fill_of c.loop-place.update) in
     let one = change_of c.key_change_of-one.result in
     let k = end - at - 1 in
     let there : at + 1 + k ≡ end = omega (arith, c.attribute_from-end.ensures.place) in
     let set_is = c.set_head.ensures ∙ head_changed now at held f one (omega (arith, c.attribute_at-held.ensures.whole)) c.attribute_at-held.ensures.place c.loop-place.invariant.walked.stands in
-    let after = c.fill_between.ensures ∙ ap (λ (ps : List Place). take (at + 1) ps ++ front_filled one.fill (drop (at + 1) ps)) set_is in
+    let after = c.fill_between.ensures ∙ ap (λ (ps : List CellBelief). take (at + 1) ps ++ front_filled one.fill (drop (at + 1) ps)) set_is in
     let next = step whole f at k now c.fill_between.new.places held one c.loop-place.invariant.walked (omega (arith, c.attribute_at-held.ensures.whole)) c.attribute_at-held.ensures.place c.key_change_of-one.ensures (omega (arith, c.attribute_from-end.ensures.place)) after in
     record {
       within = c.attribute_from-end.ensures.within;
@@ -33,14 +33,14 @@ loop-place-preserved c =
 
 pub returns-clause-fields : goal.returns-clause-fields
 returns-clause-fields c =
-    let last = fill_after c.loop-place.filled (fill_of c.loop-place.filling) in
-    let all = c.fill_front.ensures ∙ ap (λ (g : Fill). front_filled g c.loop-place.places) c.filling_after.ensures
+    let last = fill_after c.loop-place.filled (fill_of c.loop-place.update) in
+    let all = c.fill_front.ensures ∙ ap (λ (g : Fill). front_filled g c.loop-place.places) c.update_after.ensures
     ∙ finished c.args.places.now last c.loop-place.place c.loop-place.places c.loop-place.invariant.walked (omega arith) in
     (key_changed c.args.places.now c.fill_front.new.places c.requires all).0
 
 pub returns-clause-held : goal.returns-clause-held
 returns-clause-held c =
-    let last = fill_after c.loop-place.filled (fill_of c.loop-place.filling) in
-    let all = c.fill_front.ensures ∙ ap (λ (g : Fill). front_filled g c.loop-place.places) c.filling_after.ensures
+    let last = fill_after c.loop-place.filled (fill_of c.loop-place.update) in
+    let all = c.fill_front.ensures ∙ ap (λ (g : Fill). front_filled g c.loop-place.places) c.update_after.ensures
     ∙ finished c.args.places.now last c.loop-place.place c.loop-place.places c.loop-place.invariant.walked (omega arith) in
     (key_changed c.args.places.now c.fill_front.new.places c.requires all).1

@@ -7,7 +7,7 @@ use Rattle.shadow.proofs.hearing.after_attention.Given as goal
 abbrev pub invariant-loop-place : goal.invariant-loop-place
 invariant-loop-place l = record {
   within : l.place ≤ cell_count;
-  walked : Between l.fn.places (fill_after l.filled (fill_of l.filling)) l.place l.places;
+  walked : Between l.fn.places (fill_after l.filled (fill_of l.update)) l.place l.places;
 }
 
 abbrev pub decreases-loop-place : goal.decreases-loop-place

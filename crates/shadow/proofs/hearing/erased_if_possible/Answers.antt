@@ -14,8 +14,8 @@ loop-place-init c =
     let start = fields_until whole 0 p c.attribute_from-place.ensures.place in
     record {
       stands = c.attribute_from-place.ensures.stands;
-      possible = ap (λ (bs : List Belief). is_possible bs c.args.returned) start ∙ ap (is_possible (beliefs_held whole p (drop p whole))) (sym c.new-coming.ensures);
-      lost = ap (λ (bs : List Belief). any_lost bs c.args.returned) start ∙ ap (any_lost (beliefs_held whole p (drop p whole))) (sym c.new-coming.ensures);
+      possible = ap (λ (bs : List Belief). is_possible bs c.args.returned) start ∙ ap (is_possible (beliefs_held whole p (drop p whole))) (sym c.new-returned_cursor.ensures);
+      lost = ap (λ (bs : List Belief). any_lost bs c.args.returned) start ∙ ap (any_lost (beliefs_held whole p (drop p whole))) (sym c.new-returned_cursor.ensures);
     }
 
 pub loop-place-preserved : goal.loop-place-preserved
@@ -24,7 +24,7 @@ loop-place-preserved c =
     let n = c.loop-place.place in
     let m = c.attribute_from-next.result in
     let held = c.attribute_at-held.result in
-    let came = c.loop-place.coming in
+    let came = c.loop-place.returned_cursor in
     let ahead = drop (n + 1) whole ++ whole in
     let behind = came_behind held n came in
     let here = c.attribute_at-held.ensures.place in

@@ -7,8 +7,8 @@ use Rattle.shadow.proofs.hearing.erased_if_possible.Given as goal
 abbrev pub invariant-loop-place : goal.invariant-loop-place
 invariant-loop-place l = record {
   stands : length (chars_known (drop l.place l.places)) ≡ 0;
-  possible : is_possible (beliefs_held l.places 0 l.places) l.fn.returned ≡ is_possible (beliefs_held l.places l.place (drop l.place l.places)) l.coming;
-  lost : any_lost (beliefs_held l.places 0 l.places) l.fn.returned ≡ (l.erased || any_lost (beliefs_held l.places l.place (drop l.place l.places)) l.coming);
+  possible : is_possible (beliefs_held l.places 0 l.places) l.fn.returned ≡ is_possible (beliefs_held l.places l.place (drop l.place l.places)) l.returned_cursor;
+  lost : any_lost (beliefs_held l.places 0 l.places) l.fn.returned ≡ (l.erased || any_lost (beliefs_held l.places l.place (drop l.place l.places)) l.returned_cursor);
 }
 
 abbrev pub decreases-loop-place : goal.decreases-loop-place

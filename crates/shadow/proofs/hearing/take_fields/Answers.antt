@@ -8,14 +8,14 @@ pub loop-place-init : goal.loop-place-init
 loop-place-init c =
     let whole = c.args.places.now in
     let first = c.attribute_from-place.result in
-    let walked : Between c.args.erased whole Fill.Same first c.new-coming.result c.args.returned whole =
-    subst (λ (came : List Returned). Between c.args.erased whole Fill.Same first came c.args.returned whole) (sym c.new-coming.ensures)
+    let walked : Between c.args.erased whole Fill.Same first c.new-returned_cursor.result c.args.returned whole =
+    subst (λ (came : List Returned). Between c.args.erased whole Fill.Same first came c.args.returned whole) (sym c.new-returned_cursor.ensures)
     (begins c.args.erased whole first c.args.returned c.attribute_from-place.ensures.place) in
     record {
       within = c.attribute_from-place.ensures.within;
-      filling = Fill.Same;
+      update = Fill.Same;
       walked = walked;
-      none = λ over. sym (same_front whole) ∙ finished c.args.erased whole Fill.Same first c.new-coming.result c.args.returned whole walked (omega (arith, c.attribute_from-place.ensures.whole));
+      none = λ over. sym (same_front whole) ∙ finished c.args.erased whole Fill.Same first c.new-returned_cursor.result c.args.returned whole walked (omega (arith, c.attribute_from-place.ensures.whole));
     }
 
 pub loop-place-preserved : goal.loop-place-preserved
@@ -25,12 +25,12 @@ loop-place-preserved c =
     let held = c.attribute_at-held.result in
     let end = c.attribute_from-end.result in
     let one = change_of c.change_after-one.result in
-    let is_one : one ≡ long_change c.args.erased held (unreturned_at held (drop (at + 1) now ++ now)) (text_came held at c.loop-place.coming) =
+    let is_one : one ≡ long_change c.args.erased held (unreturned_at held (drop (at + 1) now ++ now)) (text_came held at c.loop-place.returned_cursor) =
     c.change_after-one.ensures ∙ ap (long_change c.args.erased held (unreturned_at held (drop (at + 1) now ++ now))) (c.take-text.ensures.text) in
     record {
       within = c.attribute_from-end.ensures.within;
-      filling = fill_after (end - at - 1) one.fill;
-      walked = passed c.args.erased c.args.places.now c.loop-place.invariant.filling at end c.loop-place.coming c.take-text.new.self c.args.returned now c.set_head.new.self c.fill_between.new.places held one
+      update = fill_after (end - at - 1) one.fill;
+      walked = passed c.args.erased c.args.places.now c.loop-place.invariant.update at end c.loop-place.returned_cursor c.take-text.new.self c.args.returned now c.set_head.new.self c.fill_between.new.places held one
           c.loop-place.invariant.walked (omega (arith, c.attribute_at-held.ensures.whole)) c.attribute_at-held.ensures.place is_one c.attribute_from-end.ensures.place c.set_head.ensures c.fill_between.ensures c.take-text.ensures.left;
       none = λ over. absurd (omega arith);
     }
@@ -42,13 +42,13 @@ returns-then-end-ge-CELL_COUNT c =
     let held = c.attribute_at-held.result in
     let end = c.attribute_from-end.result in
     let one = change_of c.change_after-one.result in
-    let is_one : one ≡ long_change c.args.erased held (unreturned_at held (drop (at + 1) now ++ now)) (text_came held at c.loop-place.coming) =
+    let is_one : one ≡ long_change c.args.erased held (unreturned_at held (drop (at + 1) now ++ now)) (text_came held at c.loop-place.returned_cursor) =
     c.change_after-one.ensures ∙ ap (long_change c.args.erased held (unreturned_at held (drop (at + 1) now ++ now))) (c.take-text.ensures.text) in
     let last = fill_after (end - at - 1) one.fill in
-    let walked = passed c.args.erased c.args.places.now c.loop-place.invariant.filling at end c.loop-place.coming c.take-text.new.self c.args.returned now c.set_head.new.self c.fill_between.new.places held one
+    let walked = passed c.args.erased c.args.places.now c.loop-place.invariant.update at end c.loop-place.returned_cursor c.take-text.new.self c.args.returned now c.set_head.new.self c.fill_between.new.places held one
     c.loop-place.invariant.walked (omega (arith, c.attribute_at-held.ensures.whole)) c.attribute_at-held.ensures.place is_one c.attribute_from-end.ensures.place c.set_head.ensures c.fill_between.ensures c.take-text.ensures.left in
     let size = c.loop-place.invariant.walked.size in
-    c.fill_front.ensures ∙ ap (λ (g : Fill). front_filled g c.fill_between.new.places) c.filling_after.ensures
+    c.fill_front.ensures ∙ ap (λ (g : Fill). front_filled g c.fill_between.new.places) c.update_after.ensures
     ∙ finished c.args.erased c.args.places.now last end c.take-text.new.self c.args.returned c.fill_between.new.places walked (omega (arith, c.attribute_at-held.ensures.whole))
 
 pub returns : goal.returns

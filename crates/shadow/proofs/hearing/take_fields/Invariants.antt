@@ -7,8 +7,8 @@ use Rattle.shadow.proofs.hearing.take_fields.Given as goal
 abbrev pub invariant-loop-place : goal.invariant-loop-place
 invariant-loop-place l = record {
   within : l.place ≤ cell_count;
-  filling : Fill;
-  walked : Between l.erased l.fn.places filling l.place l.coming l.fn.returned l.places;
+  update : Fill;
+  walked : Between l.erased l.fn.places update l.place l.returned_cursor l.fn.returned l.places;
   -- where no attribute stands the walk ends before it begins
   none : cell_count ≤ l.place → l.places ≡ all_taken l.erased l.fn.places l.fn.returned;
 }

@@ -1,7 +1,7 @@
 use Rattle.std.proofs.Common.{◌∙◌, ap, sym, subst, List, map, replicate, true}
 use Rattle.codes3270.specs.Size.{cell_count}
 use Rattle.datastream.specs.declared.order.Order.{Order}
-use Rattle.shadow.specs.declared.place.Place.{Place}
+use Rattle.shadow.specs.declared.cell_belief.CellBelief.{CellBelief}
 use Rattle.shadow.specs.InPlace.{shadow_held, beliefs_held, IsHeld}
 use Rattle.shadow.specs.Since.{cells_written}
 use Rattle.shadow.specs.Stores.{stores}
@@ -22,7 +22,7 @@ returns-clause-shadow c =
     ∙ erased ss null_screen (beliefs_held olds 0 olds) (cells_written c.store.new.places c.store.new.pasts) (no_beliefs cell_count)
     (c.store.ensures.cells
     ∙ ap (λ (os : List Order). known_stored (stores cell_count 0 os) (cells_written c.fill.new.self (replicate cell_count stored_past))) c.orders.ensures.orders
-    ∙ ap (λ (ps : List Place). known_stored ss (cells_written ps (replicate cell_count stored_past))) c.fill.ensures
+    ∙ ap (λ (ps : List CellBelief). known_stored ss (cells_written ps (replicate cell_count stored_past))) c.fill.ensures
     ∙ ap (known_stored ss) (cells_nulls cell_count ∙ ap (map new_cell) (sym null_screen_is)))
     ∙ sym (erase_seen command c.orders.ensures.spelt c.requires)
 

@@ -3,7 +3,7 @@ use Rattle.std.specs.Prelude.{unwrap_or}
 use Rattle.std.proofs.lemmas.List.{at_drop_all}
 use Rattle.shadow.specs.Since.{cells_written, is_touched}
 use Rattle.shadow.specs.declared.known.Known.{Known}
-use Rattle.shadow.specs.declared.place.Past.{Past}
+use Rattle.shadow.specs.declared.cell_belief.BeforeWrite.{BeforeWrite}
 use Rattle.shadow.proofs.Changes.{touched_on, length_written}
 use Rattle.shadow.proofs.taking.is_field_touched.Goals as goal
 
@@ -35,7 +35,7 @@ loop-at-2-init c =
     let i = c.loop-at.at in
     c.loop-at.invariant
     ∙ at_drop_all (λ (rest : List Known). is_touched (rest ++ ks) (drop i qs ++ qs)) ks i (omega (arith, length_written ps qs (omega arith)))
-    ∙ at_drop_all (λ (rest : List Past). is_touched ks (rest ++ qs)) qs i (omega arith)
+    ∙ at_drop_all (λ (rest : List BeforeWrite). is_touched ks (rest ++ qs)) qs i (omega arith)
 
 pub returns-in-Some-touch : goal.returns-in-Some-touch
 returns-in-Some-touch c =

@@ -1,6 +1,6 @@
 use Rattle.std.proofs.Common.{◌∙◌, ap, sym, arith, map, refl, ◌∷◌, drop, ◌+◌}
 use Rattle.shadow.specs.Since.{place_off}
-use Rattle.shadow.specs.declared.place.Place.{Place}
+use Rattle.shadow.specs.declared.cell_belief.CellBelief.{CellBelief}
 use Rattle.shadow.proofs.Changes.{changed_here, all_changed}
 use Rattle.shadow.proofs.taking.marks_off.Goals as goal
 
@@ -11,7 +11,7 @@ loop-index-preserved c =
     record {
       off = c.loop-index.invariant.off
           ∙ changed_here (map place_off) (map place_off) now i c.get-place.result c.with_mark_off.result (omega arith) c.get-place.ensures.place
-          (ap (λ (p : Place). p ∷ map place_off (drop (i + 1) now)) (sym c.with_mark_off.ensures))
+          (ap (λ (p : CellBelief). p ∷ map place_off (drop (i + 1) now)) (sym c.with_mark_off.ensures))
           ∙ rw c.set.ensures.places refl;
       size = omega arith;
     }

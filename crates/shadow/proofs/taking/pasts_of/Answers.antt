@@ -2,7 +2,7 @@ use Rattle.std.proofs.Common.{◌≡◌, ◌∙◌, ◌-◌, ◌+◌, ℕ, ap, s
 use Rattle.std.proofs.lemmas.List.{length-set, length-replicate}
 use Rattle.codes3270.specs.Size.{cell_count}
 use Rattle.shadow.specs.Since.{Since, cells_written, never}
-use Rattle.shadow.specs.declared.place.Past.{Past}
+use Rattle.shadow.specs.declared.cell_belief.BeforeWrite.{BeforeWrite}
 use Rattle.shadow.proofs.Changes.{past_kept, since_start, cells_start}
 use Rattle.shadow.proofs.Settles.{kept_passed, kept_put, kept_whole}
 use Rattle.shadow.proofs.taking.pasts_of.Goals as goal
@@ -24,7 +24,7 @@ loop-place-preserved c =
     record {
       within = next.ensures.within;
       size = length-set c.loop-place.pasts i c.past_of.result ∙ c.loop-place.invariant.size;
-      kept = ap (λ (qs : List Past). set qs i c.past_of.result) c.loop-place.invariant.kept
+      kept = ap (λ (qs : List BeforeWrite). set qs i c.past_of.result) c.loop-place.invariant.kept
           ∙ kept_put cell_count ps i c.get.result c.past_of.result next.ensures.whole (omega arith) c.get.ensures.place c.past_of.ensures
           ∙ kept_passed cell_count ps (i + 1) next.result next.ensures.place next.ensures.within;
     }
@@ -33,7 +33,7 @@ pub returns-clause-since : goal.returns-clause-since
 returns-clause-since c =
     let ps = c.args.places.now in
     let all : c.loop-place.pasts ≡ map past_kept ps = c.loop-place.invariant.kept ∙ kept_whole cell_count ps c.loop-place.place c.attribute_from-place.ensures.whole (omega arith) in
-    subst (λ (qs : List Past). Since ps ps qs) (sym all) (since_start ps)
+    subst (λ (qs : List BeforeWrite). Since ps ps qs) (sym all) (since_start ps)
 
 pub returns-clause-cells : goal.returns-clause-cells
 returns-clause-cells c =

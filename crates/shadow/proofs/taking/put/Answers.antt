@@ -1,11 +1,11 @@
 use Rattle.std.proofs.Common.{refl, true}
-use Rattle.shadow.specs.declared.place.Past.{Past}
+use Rattle.shadow.specs.declared.cell_belief.BeforeWrite.{BeforeWrite}
 use Rattle.shadow.proofs.Changes.{cells_put, since_put}
 use Rattle.shadow.proofs.taking.put.Goals as goal
 
 pub returns-clause-cells : goal.returns-clause-cells
 returns-clause-cells c =
-    let q : Past = record { telling = c.past_at.result.telling; fresh = true } in
+    let q : BeforeWrite = record { knowledge = c.past_at.result.knowledge; fresh = true } in
     rw (c.set.ensures.places, c.get-place.ensures.value, c.place_of.ensures) (cells_put c.args.places.now c.args.pasts.now c.args.at c.args.cell q refl)
 
 pub returns-clause-since : goal.returns-clause-since

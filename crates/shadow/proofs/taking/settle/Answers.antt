@@ -1,6 +1,6 @@
 use Rattle.std.proofs.Common.{◌∙◌, ap, sym, refl, arith, List, drop, ◌+◌}
 use Rattle.shadow.specs.Since.{cells_written, settled}
-use Rattle.shadow.specs.declared.place.Place.{Place}
+use Rattle.shadow.specs.declared.cell_belief.CellBelief.{CellBelief}
 use Rattle.shadow.proofs.Changes.{all_changed, settled_step}
 use Rattle.shadow.proofs.Settles.{settled_passed}
 use Rattle.shadow.proofs.taking.settle.Goals as goal
@@ -28,7 +28,7 @@ loop-at-preserved c =
     record {
       size = omega arith;
       within = c.attribute_from-at-in-loop-at.ensures.within;
-      cells = ap (λ (ps : List Place). cells_written ps qs) c.set.ensures.places ∙ step.0 ∙ c.loop-at.invariant.cells;
+      cells = ap (λ (ps : List CellBelief). cells_written ps qs) c.set.ensures.places ∙ step.0 ∙ c.loop-at.invariant.cells;
       settled_ = c.loop-at.invariant.settled_ ∙ step.1 ∙ rw c.set.ensures.places refl
           ∙ settled_passed ks qs new qs (i + 1) c.attribute_from-at-in-loop-at.result (omega (arith, c.attribute_from-at-in-loop-at.ensures.whole)) c.attribute_from-at-in-loop-at.ensures.place;
     }
@@ -37,4 +37,4 @@ pub returns : goal.returns
 returns c =
     let qs = c.args.pasts.now in
     let ks = cells_written c.args.places.now qs in
-    sym (c.loop-at.invariant.settled_ ∙ all_changed (λ (ps : List Place). settled ks qs ps (drop c.loop-at.at qs)) c.loop-at.places c.loop-at.at (omega arith) refl)
+    sym (c.loop-at.invariant.settled_ ∙ all_changed (λ (ps : List CellBelief). settled ks qs ps (drop c.loop-at.at qs)) c.loop-at.places c.loop-at.at (omega arith) refl)

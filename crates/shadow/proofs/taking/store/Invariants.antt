@@ -1,6 +1,6 @@
 use Rattle.std.proofs.Common.{◌≡◌, length, List}
 use Rattle.codes3270.specs.Size.{cell_count}
-use Rattle.shadow.specs.declared.place.Place.{Place}
+use Rattle.shadow.specs.declared.cell_belief.CellBelief.{CellBelief}
 use Rattle.shadow.specs.Since.{cells_written, Since}
 use Rattle.shadow.specs.Stores.{stores}
 use Rattle.shadow.specs.Taken.{known_stored}
@@ -9,6 +9,6 @@ use Rattle.shadow.proofs.taking.store.Given as goal
 abbrev pub invariant-loop-order : goal.invariant-loop-order
 invariant-loop-order l = record {
   cells : known_stored (stores cell_count 0 l.fn.orders) (cells_written l.fn.places l.fn.pasts) ≡ known_stored (stores cell_count l.at l.order-iterator) (cells_written l.places l.pasts);
-  since : (old : List Place) → Since old l.fn.places l.fn.pasts → Since old l.places l.pasts;
+  since : (old : List CellBelief) → Since old l.fn.places l.fn.pasts → Since old l.places l.pasts;
   size : length l.pasts ≡ cell_count;
 }

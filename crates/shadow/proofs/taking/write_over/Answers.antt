@@ -2,7 +2,7 @@ use Rattle.std.proofs.Common.{◌≡◌, ◌∙◌, ap, sym, subst, List, true, 
 use Rattle.codes3270.specs.Size.{cell_count}
 use Rattle.codes3270.specs.declared.write_control.Wcc.{Wcc}
 use Rattle.datastream.specs.declared.order.Order.{Order}
-use Rattle.shadow.specs.declared.place.Place.{Place}
+use Rattle.shadow.specs.declared.cell_belief.CellBelief.{CellBelief}
 use Rattle.shadow.specs.InPlace.{shadow_held, beliefs_held, cells_known, IsHeld}
 use Rattle.shadow.specs.Since.{cells_written}
 use Rattle.shadow.specs.Stores.{stores}
@@ -20,7 +20,7 @@ returns-clause-shadow c =
     let r = resets c.wcc.result in
     let since = c.store.ensures.since olds (rw c.reset_marks.ensures (since_reset r olds pasts c.pasts_of-pasts.ensures.since)) in
     let prepared : cells_written c.reset_marks.new.places pasts ≡ marks_off_if (resets command.wcc) (cells_known olds) =
-    ap (λ (ps : List Place). cells_written ps pasts) c.reset_marks.ensures ∙ reset_cells r olds pasts ∙ ap (marks_off_if r) c.pasts_of-pasts.ensures.cells
+    ap (λ (ps : List CellBelief). cells_written ps pasts) c.reset_marks.ensures ∙ reset_cells r olds pasts ∙ ap (marks_off_if r) c.pasts_of-pasts.ensures.cells
     ∙ ap (λ (w : Option Wcc). marks_off_if (resets w) (cells_known olds)) c.wcc.ensures.wcc in
     let before = beliefs_held olds 0 olds in
     ap (shadow_held true) c.settle.ensures ∙ settled_shadow olds news c.store.new.pasts since c.requires

@@ -1,6 +1,6 @@
 use Rattle.std.proofs.Common.{◌≡◌, replicate}
-use Rattle.world3270.specs.ByteWorld.{unused_ways}
+use Rattle.world3270.specs.ByteWorld.{unused_transits}
 use Rattle.world3270.proofs.network.unused_links.Given as goal
 
 abbrev pub invariant-loop : goal.invariant-loop
-invariant-loop l = l.links.items ≡ replicate l.counter unused_ways
+invariant-loop l = l.links.items ≡ replicate l.counter unused_transits

@@ -1,5 +1,5 @@
 use Rattle.std.proofs.Common.{ap, sym, ◌∙◌, arith}
-use Rattle.datastream.specs.Rows.{kept}
+use Rattle.datastream.specs.CellBits.{kept}
 use Rattle.datastream.specs.Wanted.{WantedScreen, want_by}
 use Rattle.datastream.specs.declared.wanted.Want.TheVariants.{Char}
 use Rattle.datastream.proofs.Keeping.{length_kept, attribute_read, character_read, keep_read, proper_read}

@@ -1,6 +1,6 @@
 use Rattle.std.proofs.Common.{ap, arith}
 use Rattle.codes3270.specs.Size.{cell_count}
-use Rattle.datastream.specs.Rows.{kept}
+use Rattle.datastream.specs.CellBits.{kept}
 use Rattle.datastream.specs.Wanted.{WantedScreen, want_by, is_attribute}
 use Rattle.datastream.proofs.Keeping.{marked_bits}
 use Rattle.datastream.proofs.wanted.Wanted.attribute_word.Goals as goal

@@ -1,7 +1,7 @@
 use Rattle.std.proofs.Common.{◌∙◌, ℕ, Bool, List, All, length, set, ap, subst, sym, arith}
 use Rattle.std.proofs.lemmas.List.{length-set}
 use Rattle.std.proofs.lemmas.List.Elements.{All-set}
-use Rattle.datastream.specs.Rows.{kept}
+use Rattle.datastream.specs.CellBits.{kept}
 use Rattle.datastream.specs.Wanted.{IsProper, WantedScreen, want_by}
 use Rattle.datastream.specs.declared.wanted.Want.{Want}
 use Rattle.datastream.proofs.Keeping.{length_kept, put_kept, put_are_kept}

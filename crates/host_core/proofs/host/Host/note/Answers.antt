@@ -1,13 +1,13 @@
 use Rattle.std.proofs.Common.{subst}
 use Rattle.host_core.specs.Does.{Does, noted_by}
-use Rattle.host_core.specs.State.{Host, Line, service_at, line_at}
-use Rattle.host_core.proofs.Hosts.{changed_sound, changed, held_here, line_got, moved, others_stay, shown_here}
+use Rattle.host_core.specs.State.{Host, Connection, service_at, connection_at}
+use Rattle.host_core.proofs.Hosts.{changed_sound, changed, held_here, connection_got, moved, others_stay, shown_here}
 use Rattle.host_core.proofs.host.Host.note.Goals as goal
 
 pub invariant_of-self : goal.invariant_of-self
 invariant_of-self c =
-    let host : Host = record { panels = c.self.inside.panels; pool = c.self.inside.pool; lines = c.self.inside.lines.items } in
-    let got = line_got c.args.conn host c.index_mut.result.now c.requires.number c.self.invariant.0 c.index_mut.ensures.value in (
+    let host : Host = record { panels = c.self.inside.panels; pool = c.self.inside.pool; connections = c.self.inside.connections.items } in
+    let got = connection_got c.args.conn host c.index_mut.result.now c.requires.number c.self.invariant.0 c.index_mut.ensures.value in (
       changed_sound c.args.conn c.self.inside.pool c.note.new.self host c.requires.number c.self.invariant.0
           (held_here c.args.conn c.note.new.self c.index_mut.result.now host c.self.invariant.0 got c.note.ensures.held)
           (others_stay c.args.conn c.self.inside.pool) (c.note.ensures.shown _ (shown_here c.args.conn c.index_mut.result.now host c.self.invariant.0 got)),
@@ -16,8 +16,8 @@ invariant_of-self c =
 
 pub returns-clause-noted : goal.returns-clause-noted
 returns-clause-noted c =
-    let host : Host = record { panels = c.self.inside.panels; pool = c.self.inside.pool; lines = c.self.inside.lines.items } in
-    subst (λ (h : Host). Does (noted_by c.args.text.now (service_at c.args.conn h)) (line_at c.args.conn h) c.note.result
-    (line_at c.args.conn (changed c.args.conn c.self.inside.pool c.note.new.self host))) c.self.view_is
-    (moved (λ (l m : Line). Does (noted_by c.args.text.now l.service) l c.note.result m) c.args.conn c.self.inside.pool c.index_mut.result.now c.note.new.self host c.requires.number c.self.invariant.0
+    let host : Host = record { panels = c.self.inside.panels; pool = c.self.inside.pool; connections = c.self.inside.connections.items } in
+    subst (λ (h : Host). Does (noted_by c.args.text.now (service_at c.args.conn h)) (connection_at c.args.conn h) c.note.result
+    (connection_at c.args.conn (changed c.args.conn c.self.inside.pool c.note.new.self host))) c.self.view_is
+    (moved (λ (l m : Connection). Does (noted_by c.args.text.now l.service) l c.note.result m) c.args.conn c.self.inside.pool c.index_mut.result.now c.note.new.self host c.requires.number c.self.invariant.0
     c.index_mut.ensures.value c.note.ensures.noted)

@@ -9,13 +9,13 @@ use Rattle.host_core.proofs.session.Session.send_note.Goals as goal
 pub send_record-requires : goal.send_record-requires
 send_record-requires c =
     let fits =
-    note_record_fits c.self.inside.number c.args.text.now c.as_slice.result.now
+    note_record_fits c.self.inside.next_seq c.args.text.now c.as_slice.result.now
     (c.as_slice.ensures.value ∙ c.put_note.ensures.appended ∙ ap (λ (bytes : List ℕ). bytes ++ written (note_command model_2 c.args.text.now)) c.begin_record.ensures.begun) in
     omega arith
 
 pub invariant_of-self : goal.invariant_of-self
 invariant_of-self c = (
-  note_is_kept c.self.inside.number c.args.text.now c.put_note.new.bytes.items c.requires.text
+  note_is_kept c.self.inside.next_seq c.args.text.now c.put_note.new.bytes.items c.requires.text
       (c.put_note.ensures.appended ∙ ap (λ (bytes : List ℕ). bytes ++ written (note_command model_2 c.args.text.now)) c.begin_record.ensures.begun),
   omega arith,
   c.self.invariant.2,

@@ -24,7 +24,7 @@ pub invariant_of-self : goal.invariant_of-self
 invariant_of-self c =
     let laws = c.what_is_wanted_is_painted.ensures in
     let begun = rw c.unwrap.ensures at c.paint.ensures.painted in (
-      paint_is_kept cell_count c.self.inside.number c.self.inside.shadow c.put_fitting.new.wanted c.paint.new.out.items
+      paint_is_kept cell_count c.self.inside.next_seq c.self.inside.shadow c.put_fitting.new.wanted c.paint.new.out.items
           (laws.spelt c.self.inside.shadow c.put_fitting.new.wanted c.put_fitting.ensures.screen)
           (laws.plain cell_count c.self.inside.shadow c.put_fitting.new.wanted)
           (begun ∙ ap (λ (bytes : List ℕ). bytes ++ paint_bytes cell_count c.self.inside.shadow c.put_fitting.new.wanted) c.begin_record.ensures.begun),

@@ -28,7 +28,7 @@ returns-clause-wanted c =
     chosen ∙ ap (λ field. option_map_or (λ field. field.extent.first) field c.self.inside.cursor) c.field_of-spoken.ensures
     ∙ ap (option_map_or (λ field. field.extent.first) (field_spoken panel.fields c.args.message)) (ap (λ (p : PanelParts). p.cursor) c.self.view_is)
     ∙ cursor_is panel c.args.message in
-    subst (λ screen. IsWantedOf panel c.args.values.now c.args.message c.args.keep screen) (sym c.aim.ensures)
+    subst (λ screen. IsWantedOf panel c.args.values.now c.args.message c.args.keep screen) (sym c.set_cursor_and_reset.ensures)
     (record {
       cells = λ cell below.
           let fits : cell < length c.put_texts.new.wanted.cells = subst (λ n. cell < n) (sym (all_there c.cells-whole.result c.put_texts.new.wanted.cells c.cells-whole.ensures.cells c.cells-whole.ensures.size)) below in
@@ -45,6 +45,6 @@ returns-clause-wanted c =
 
 pub returns-clause-screen : goal.returns-clause-screen
 returns-clause-screen c =
-    is_screen_of c.args.self.now c.args.values.now c.args.message c.args.keep c.aim.new.self
-    (subst (λ (screen : WantedScreen). length screen.cells ≡ cell_count) (sym c.aim.ensures) (all_there c.cells-whole.result c.put_texts.new.wanted.cells c.cells-whole.ensures.cells c.cells-whole.ensures.size))
+    is_screen_of c.args.self.now c.args.values.now c.args.message c.args.keep c.set_cursor_and_reset.new.self
+    (subst (λ (screen : WantedScreen). length screen.cells ≡ cell_count) (sym c.set_cursor_and_reset.ensures) (all_there c.cells-whole.result c.put_texts.new.wanted.cells c.cells-whole.ensures.cells c.cells-whole.ensures.size))
     (returns-clause-wanted c)

@@ -4,5 +4,5 @@ use Rattle.presentation.proofs.buffer.Buffer.obey_all.Given as goal
 
 abbrev pub invariant-loop-order : goal.invariant-loop-order
 invariant-loop-order l =
-    all_ordered l.order-iterator l.pen.nulls (record { screen = l.self; address = l.pen.address })
+    all_ordered l.order-iterator l.position.nulls (record { screen = l.self; address = l.position.address })
     ≡ all_ordered l.fn.orders false (record { screen = l.fn.self; address = l.fn.self.cursor })

@@ -7,6 +7,6 @@ returns c =
     rw (← c.self.view_is) (record {
       comes = heard_says c.hear.result;
       hears = c.hear.ensures;
-      gives = (rw c.line-line.ensures at c.follow.ensures);
+      gives = (rw c.transition-transition.ensures at c.follow.ensures);
       wanted = refl;
     })

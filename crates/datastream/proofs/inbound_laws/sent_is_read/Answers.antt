@@ -1,5 +1,0 @@
-use Rattle.datastream.proofs.InboundSent.{sent_is_read}
-use Rattle.datastream.proofs.inbound_laws.sent_is_read.Goals as goal
-
-pub returns : goal.returns
-returns c = sent_is_read

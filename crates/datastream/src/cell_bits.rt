@@ -1,0 +1,217 @@
+//! A bit for each cell of a screen, in words of 64.
+ghost use Rattle.std.specs.Prelude.{◌≡◌, ◌<◌, ◌≤◌, ◌+◌, ◌*◌, ◌/◌, ℕ, false, true, nat_eq, nat_lt, if◌then◌else◌, MatchOption};
+ghost use Rattle.codes3270.specs.Size.{cell_count};
+ghost use Rattle.std.specs.Int.{bit_at};
+ghost use Rattle.datastream.specs.CellBits.{bit_of, has_bit, is_within, word_count, AreBits};
+
+use codes3270::CELL_COUNT;
+use std::marker::Model;
+
+/// How many bits a word has.
+const BITS: usize = 64;
+
+/// How many words have a bit for each cell.
+const WORDS: usize = (CELL_COUNT + BITS - 1) / BITS;
+
+/// A bit for each cell of a screen. Contracts see the words: a cell's bit is that of its number modulo 64, in the word of
+/// its number divided by 64.
+#[derive(Clone, Debug, Drop)]
+pub struct CellBits {
+    words: [u64; WORDS],
+}
+
+impl Model for CellBits {
+    ghost use Rattle.std.specs.Prelude.{◌≡◌, List, ℕ, length};
+    ghost use Rattle.datastream.specs.CellBits.{word_count};
+
+    ghost Value = { List ℕ };
+
+    ghost view = { λ bits. bits.words };
+
+    ghost invariant = { λ bits. length bits.words ≡ word_count };
+}
+
+impl CellBits {
+    /// Each bit is set, or none.
+    pub fn all(bit: bool) -> CellBits
+        ensures { (cell : ℕ) → cell < cell_count → has_bit result cell ≡ bit }
+    {
+        CellBits {
+            words: [word_of(bit); WORDS],
+        }
+    }
+
+    /// The same bits.
+    pub fn copy(&self) -> CellBits
+        ensures { result ≡ self.now }
+    {
+        CellBits { words: self.words }
+    }
+
+    /// Whether a cell's bit is set.
+    pub fn has(&self, cell: usize) -> bool
+        requires { cell < cell_count }
+        ensures { result ≡ has_bit self.now cell }
+    {
+        (self.words[cell / BITS] >> (cell % BITS)) & 1 == 1
+    }
+
+    /// Sets a cell's bit, or clears it.
+    pub fn put(&mut self, cell: usize, bit: bool)
+        requires { cell < cell_count }
+        ensures { (other : ℕ) → has_bit self.new other ≡ (if nat_eq other cell then bit else has_bit self.old other) }
+    {
+        let word = with_bit(self.words[cell / BITS], cell % BITS, bit);
+        self.words[cell / BITS] = word;
+    }
+
+    /// The first cell from one on whose bit is set, or the number of cells.
+    pub fn first_from(&self, from: usize) -> usize
+        requires { from ≤ cell_count }
+        ensures from { from ≤ result }
+        ensures within { result ≤ cell_count }
+        ensures clear { (cell : ℕ) → from ≤ cell → cell < result → has_bit self.now cell ≡ false }
+        ensures set { result < cell_count → has_bit self.now result ≡ true }
+    {
+        let mut at = from;
+        for index in from / BITS..WORDS {
+            if let Some(place) = first_in(self.words[index], at % BITS) {
+                return within(index * BITS + place);
+            }
+            at = (index + 1) * BITS;
+        }
+        CELL_COUNT
+    }
+
+    /// Sets the bits of the cells from one to another, or clears them.
+    #[inline(always)]
+    pub fn put_range(&mut self, from: usize, to: usize, bit: bool)
+        requires order { from ≤ to }
+        requires few { to ≤ cell_count }
+        ensures { (other : ℕ) → has_bit self.new other ≡ (if is_within from to other then bit else has_bit self.old other) }
+    {
+        if from < to {
+            if to <= (from / BITS + 1) * BITS {
+                self.put_in_word(from, to, bit);
+            } else {
+                self.put_in_words(from, to, bit);
+            }
+        }
+    }
+
+    /// The same of cells whose bits are all in one word.
+    fn put_in_word(&mut self, from: usize, to: usize, bit: bool)
+        requires order { from < to }
+        requires few { to ≤ cell_count }
+        requires one { to ≤ (from / 64 + 1) * 64 }
+        ensures { (other : ℕ) → has_bit self.new other ≡ (if is_within from to other then bit else has_bit self.old other) }
+    {
+        let index = from / BITS;
+        let start = index * BITS;
+        let word = with_bits(self.words[index], from - start, to - start, bit);
+        self.words[index] = word;
+    }
+
+    /// The same of cells whose bits are in any words.
+    #[inline(never)]
+    fn put_in_words(&mut self, from: usize, to: usize, bit: bool)
+        requires order { from ≤ to }
+        requires few { to ≤ cell_count }
+        ensures { (other : ℕ) → has_bit self.new other ≡ (if is_within from to other then bit else has_bit self.old other) }
+    {
+        for index in from / BITS..(to + BITS - 1) / BITS {
+            let start = index * BITS;
+            let low = from.max(start) - start;
+            let high = to.min(start + BITS) - start;
+            let word = with_bits(self.words[index], low, high, bit);
+            self.words[index] = word;
+        }
+    }
+
+    /// The bits of 64 cells, the lowest that of the first.
+    pub fn word(&self, index: usize) -> u64
+        requires { index < word_count }
+        ensures { AreBits (has_bit self.now) index result }
+    {
+        self.words[index]
+    }
+}
+
+/// A word with the bits from one place to another set or cleared.
+fn with_bits(word: u64, from: usize, to: usize, bit: bool) -> u64
+    requires from { from < 64 }
+    requires some { 0 < to }
+    requires to { to ≤ 64 }
+    ensures { (other : ℕ) → other < 64 → bit_at result other ≡ (if is_within from to other then bit_of bit else bit_at word other) }
+{
+    let ones = ones_between(from, to);
+    if bit { word | ones } else { word & !ones }
+}
+
+/// A word whose bits from one place to another are set.
+fn ones_between(from: usize, to: usize) -> u64
+    requires from { from < 64 }
+    requires some { 0 < to }
+    requires to { to ≤ 64 }
+    ensures { (other : ℕ) → other < 64 → bit_at result other ≡ bit_of (is_within from to other) }
+{
+    some_ones_below(to) & !ones_below(from)
+}
+
+/// A word whose bits below a place are set, at least one.
+fn some_ones_below(place: usize) -> u64
+    requires some { 0 < place }
+    requires few { place ≤ 64 }
+    ensures { (other : ℕ) → other < 64 → bit_at result other ≡ bit_of (nat_lt other place) }
+{
+    u64::MAX >> (BITS - place)
+}
+
+/// A word whose bits below a place are set, but never all.
+fn ones_below(place: usize) -> u64
+    requires { place < 64 }
+    ensures { (other : ℕ) → other < 64 → bit_at result other ≡ bit_of (nat_lt other place) }
+{
+    u64::MAX >> 1 >> (BITS - 1 - place)
+}
+
+/// A cell, or the number of cells where it is more.
+fn within(cell: usize) -> usize
+    ensures least { result ≤ cell_count }
+    ensures same { result < cell_count → result ≡ cell }
+    ensures below { result ≤ cell }
+{
+    if cell < CELL_COUNT { cell } else { CELL_COUNT }
+}
+
+/// The first place from one on at which a word's bit is set.
+fn first_in(word: u64, from: usize) -> Option<usize>
+    requires { from < 64 }
+    ensures { MatchOption result ((place : ℕ) → from ≤ place → place < 64 → bit_at word place ≡ 0) (λ first. (from ≤ first) × (first < 64) × (bit_at word first ≡ 1) × ((place : ℕ) → from ≤ place → place < first → bit_at word place ≡ 0)) }
+{
+    let rest = word >> from;
+    if rest == 0 {
+        None
+    } else {
+        Some(from + rest.trailing_zeros() as usize)
+    }
+}
+
+/// A word whose bits are all set, or all clear.
+fn word_of(bit: bool) -> u64
+    ensures { (place : ℕ) → place < 64 → bit_at result place ≡ bit_of bit }
+{
+    if bit { u64::MAX } else { 0 }
+}
+
+/// A word with a bit set or cleared.
+fn with_bit(word: u64, place: usize, bit: bool) -> u64
+    requires { place < 64 }
+    ensures { (other : ℕ) → other < 64 → bit_at result other ≡ (if nat_eq other place then bit_of bit else bit_at word other) }
+{
+    if bit {
+        word | 1 << place
+    } else {
+        word & !(1 << place)
+    }
+}

@@ -1,0 +1,97 @@
+-- What acts and notes make of a connection is what they make of its line, and they leave the talk.
+use Rattle.std.proofs.Common.{◌≡◌, ◌≤◌, ℕ, Bool, true, false, List, Option, Some, None, Vec, refl, ap, sym, subst, ◌∙◌, if◌then◌else◌, arith}
+use Rattle.std.specs.Prelude.{length}
+use Rattle.std.specs.Vec.{vec_capacity}
+use Rattle.std.specs.declared.alloc.Global.{Global}
+use Rattle.telnet_wire.specs.Reading.{Rest}
+use Rattle.tn3270e_msg.specs.HostTable.{granted}
+use Rattle.host_core.specs.Acts.{Act, Sent, acted, act_on, done, may_act}
+use Rattle.host_core.specs.Application.{Application}
+use Rattle.host_core.specs.Does.{Does, MayWantMemory}
+use Rattle.host_core.specs.Keeps.{DoesOn, WantsMemory}
+use Rattle.host_core.specs.Connections.{IsSoundConnection, service_of}
+use Rattle.host_core.specs.Notes.{noted, noted_as, may_note}
+use Rattle.host_core.specs.Rooms.{out_room, room_for}
+use Rattle.host_core.specs.Session.{Conn, is_agreed}
+use Rattle.host_core.specs.State.{Service, Connection, lu_of}
+use Rattle.host_core.specs.declared.acted.Acted.{Acted}
+use Rattle.host_core.specs.declared.acted.Acted.TheVariants as answer
+use Rattle.host_core.specs.declared.connection.HostEnd.{HostEnd}
+use Rattle.host_core.specs.declared.connection.Service.{Service as Kept}
+use Rattle.host_core.specs.declared.connection.Service.TheVariants as kept
+use Rattle.std.proofs.Common.{Box}
+
+abbrev open_connection : Rest → Conn → List ℕ → Connection
+open_connection rest conn out = record { service = Service.Open rest conn; out = out }
+
+same_connection : (rest : Rest) (one other : Conn) (bytes others : List ℕ) → one ≡ other → bytes ≡ others → open_connection rest one bytes ≡ open_connection rest other others
+same_connection rest one other bytes others conns outs = ap (λ c. open_connection rest c bytes) conns ∙ ap (open_connection rest other) outs
+
+-- more room does as well
+pub still_sound : (service : Kept) (before after : Vec ℕ Global) → vec_capacity before ≤ vec_capacity after → IsSoundConnection service before → IsSoundConnection service after
+still_sound kept.Free before after more sound = tt
+still_sound (kept.Open held) before after more sound =
+    let roomy = sound.1 in
+    (sound.0, omega (arith, more, roomy))
+still_sound (kept.Closed cause) before after more sound = tt
+
+-- the room of a connection that is open
+pub room_of_open : (service : Kept) (box : Box HostEnd Global) (out : Vec ℕ Global) → service ≡ kept.Open box → IsSoundConnection service out → out_room ≤ vec_capacity out
+room_of_open service box out is sound = (subst (λ (s : Kept). IsSoundConnection s out) is sound).1
+
+-- a connection has kept its room, so that this didn't do either
+may_want : (sent : Sent) (rest : Rest) (old : Conn) (before : Vec ℕ Global) → out_room ≤ vec_capacity before → WantsMemory sent old before → MayWantMemory sent (open_connection rest old before.items)
+may_want sent rest old before roomy (WantsMemory.room short) =
+    let len = before.ok.0 in
+    MayWantMemory.room (omega (arith, roomy, short, len))
+may_want sent rest old before roomy (WantsMemory.values changes) = MayWantMemory.values changes
+
+on_connection : (what : Option Sent) (rest : Rest) (old new : Conn) (before after : Vec ℕ Global) (answered : Acted) → out_room ≤ vec_capacity before → DoesOn what old before answered new after
+    → Does what (open_connection rest old before.items) answered (open_connection rest new after.items)
+on_connection None rest old new before after answered roomy does = (does.0, same_connection rest new old after.items before.items does.1 does.2)
+on_connection (Some sent) rest old new before after answer.Sent roomy does = same_connection rest new sent.conn after.items _ does.conn does.bytes
+on_connection (Some sent) rest old new before after answer.Memory roomy does = (same_connection rest new old after.items before.items does.0 does.1, may_want sent rest old before roomy does.2)
+on_connection (Some sent) rest old new before after answer.Nothing roomy does = absurd does
+
+-- the line of an open connection, from its parts
+connection_is : (now : Connection) (service : Kept) (box : Box HostEnd Global) (old : HostEnd) (before : Vec ℕ Global)
+    → now ≡ record { service = service_of service; out = before.items } → service ≡ kept.Open box → old ≡ box.value
+    → now ≡ open_connection old.decoder.rest old.session before.items
+connection_is now service box old before view is value =
+    view ∙ ap (λ (s : Kept). record { service = service_of s; out = before.items }) is
+    ∙ ap (λ (x : HostEnd). open_connection x.decoder.rest x.session before.items) (sym value)
+
+pub does_connection : (what : Service → Option Sent) (now : Connection) (service : Kept) (box : Box HostEnd Global) (old : HostEnd) (new : Conn) (before after : Vec ℕ Global) (answered : Acted)
+    → now ≡ record { service = service_of service; out = before.items } → IsSoundConnection service before → service ≡ kept.Open box → old ≡ box.value
+    → DoesOn (what (Service.Open old.decoder.rest old.session)) old.session before answered new after
+    → Does (what now.service) now answered (open_connection old.decoder.rest new after.items)
+does_connection what now service box old new before after answered view sound is value does =
+    subst (λ (l : Connection). Does (what l.service) l answered (open_connection old.decoder.rest new after.items)) (sym (connection_is now service box old before view is value))
+    (on_connection (what (Service.Open old.decoder.rest old.session)) old.decoder.rest old.session new before after answered (subst (λ (s : Kept). IsSoundConnection s before) is sound).1 does)
+
+-- ---- the talk stays
+
+keeps : (b : Bool) (sent : Sent) (old new : Conn) (before after : Vec ℕ Global) (answered : Acted) → sent.conn.talk ≡ old.talk
+    → DoesOn (if b then Some sent else None) old before answered new after → new.talk ≡ old.talk
+keeps false sent old new before after answered same does = ap (λ (c : Conn). c.talk) does.1
+keeps true sent old new before after answer.Sent same does = ap (λ (c : Conn). c.talk) does.conn ∙ same
+keeps true sent old new before after answer.Memory same does = ap (λ (c : Conn). c.talk) does.0
+keeps true sent old new before after answer.Nothing same does = absurd does
+
+done_keeps : (app : Application) (conn : Conn) (act : Act) → (done app conn act).conn.talk ≡ conn.talk
+done_keeps app conn Act.Read = refl
+done_keeps app conn (Act.Show panel message keep values) = refl
+
+module _ (now : Connection) (service : Kept) (box : Box HostEnd Global) (old : HostEnd) (new : Conn) (before after : Vec ℕ Global) (answered : Acted)
+    (view : now ≡ record { service = service_of service; out = before.items }) (is : service ≡ kept.Open box) (value : old ≡ box.value) where
+  same_claim : new.talk ≡ old.session.talk → granted new.talk.state ≡ lu_of now.service
+  same_claim same = ap (λ t. granted t.state) same ∙ sym (ap (λ (l : Connection). lu_of l.service) (connection_is now service box old before view is value))
+
+  pub act_holds : (app : Application) → DoesOn (acted app old.session) old.session before answered new after → granted new.talk.state ≡ lu_of now.service
+  act_holds app does =
+      same_claim (keeps (may_act old.session.turn old.session.pending (is_agreed old.session.talk.state)) (done app old.session (act_on app old.session old.session.turn_reason)) old.session new before after answered
+      (done_keeps app old.session (act_on app old.session old.session.turn_reason)) does)
+
+  pub note_holds : (text : List ℕ) → DoesOn (noted text old.session) old.session before answered new after → granted new.talk.state ≡ lu_of now.service
+  note_holds text does =
+      same_claim (keeps (may_note old.session.turn old.session.pending (is_agreed old.session.talk.state)) (noted_as text old.session) old.session new before after answered refl does)

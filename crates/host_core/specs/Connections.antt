@@ -1,0 +1,33 @@
+-- How the host keeps a connection number (our profile); only private contracts and proofs need it.
+use Rattle.std.specs.Prelude.{◌≡◌, ◌≤◌, ⊤, ℕ, Option, Some, None, Vec}
+use Rattle.std.specs.Vec.{vec_capacity}
+use Rattle.std.specs.declared.alloc.Global.{Global}
+use Rattle.std.specs.Borrow.{Bor}
+use Rattle.shadow.specs.Belief.{Shadow}
+use Rattle.host_core.specs.Keeps.{IsRunning}
+use Rattle.host_core.specs.Rooms.{out_room}
+use Rattle.host_core.specs.Sound.{IsShown}
+use Rattle.host_core.specs.State.{Service, shadow_of}
+use Rattle.host_core.specs.declared.connection.Service.{Service as Kept}
+use Rattle.host_core.specs.declared.connection.Service.TheVariants as kept
+
+-- what it stands for, from its parts
+abbrev pub service_of : Kept → Service
+service_of kept.Free = Service.Free
+service_of (kept.Open held) = Service.Open held.value.decoder.rest held.value.session
+service_of (kept.Closed cause) = Service.Closed cause
+
+-- while it is open its decoder may go on, and it has the room for output
+abbrev pub IsSoundConnection : Kept → Vec ℕ Global → Type 0
+IsSoundConnection kept.Free out = ⊤
+IsSoundConnection (kept.Open held) out = IsRunning held.value.decoder × (out_room ≤ vec_capacity out)
+IsSoundConnection (kept.Closed cause) out = ⊤
+
+-- what is shown stays a panel that there is
+abbrev pub StaysShown : Service → Service → Type 0
+StaysShown old new = (count : ℕ) → IsShown count old → IsShown count new
+
+-- what is believed of the screen of a number that is open
+abbrev pub ShadowIf : Option (Bor Shadow) → Service → Type 0
+ShadowIf None service = shadow_of service ≡ Shadow.NothingKnown
+ShadowIf (Some shadow) service = shadow.now ≡ shadow_of service

@@ -1,0 +1,254 @@
+//! A connection number, as the host keeps it.
+ghost use Rattle.std.specs.Prelude.{◌≡◌, ◌≤◌, ◌<◌, ℕ, length, drop, None, OnOk, OnErr};
+ghost use Rattle.std.specs.Vec.{vec_capacity};
+ghost use Rattle.host_core.specs.Application.{application_of};
+ghost use Rattle.tn3270e_msg.specs.HostTable.{granted};
+ghost use Rattle.host_core.specs.Does.{Does, acted_by, noted_by};
+ghost use Rattle.host_core.specs.Feeds.{Feeds};
+ghost use Rattle.host_core.specs.Keeps.{IsRunning, IsLeft, OthersHold, counter_of, cause_of, claim};
+ghost use Rattle.host_core.specs.Connections.{StaysShown, ShadowIf};
+ghost use Rattle.host_core.specs.Notes.{IsNoteText};
+ghost use Rattle.host_core.specs.Rooms.{out_room};
+ghost use Rattle.host_core.specs.Sound.{HoldsJust, IsShown};
+ghost use Rattle.host_core.specs.State.Service.{Free};
+ghost use Rattle.host_core.specs.State.{opened, unused, lu_of, phase_of, turn_of, pending_of};
+
+use crate::acted::Acted;
+use crate::feeding::feed_open;
+use crate::phase::Phase;
+use crate::room::OUT_ROOM;
+use crate::session::Session;
+use crate::turn::Turn;
+use lu_pool::Pool;
+use panels::PanelSet;
+use shadow::Shadow;
+use std::alloc::{AllocError, Global};
+use std::marker::Model;
+use telnet_wire::{Decoder, Memory, Verb, put_option};
+use tn3270e_msg::{Cause, Fed, RECORD_LIMIT, Stop};
+
+/// The option that is offered: TN3270E (RFC 1647).
+const TN3270E: u8 = 40;
+
+/// What the host keeps of a connection that is open.
+#[derive(Drop)]
+pub(crate) struct HostEnd {
+    pub(crate) decoder: Decoder,
+    pub(crate) session: Session,
+}
+
+impl HostEnd {
+    /// Takes bytes that came, as the host does.
+    fn feed(&mut self, pool: &mut Pool, number: usize, out: &mut Vec<u8>, bytes: &[u8]) -> Fed
+        requires running { IsRunning self.old.decoder }
+        requires room { out_room ≤ vec_capacity out.old }
+        requires holder { HoldsJust number pool.old (granted self.old.session.talk.state) }
+        ensures fed { Feeds number (counter_of pool.old self.old.decoder self.old.session None out.old) bytes.now result (counter_of pool.new self.new.decoder self.new.session (cause_of result.stop) out.new) }
+        ensures holds { HoldsJust number pool.new (claim (cause_of result.stop) self.new.session) }
+        ensures others { OthersHold number pool.old pool.new }
+        ensures panel { self.new.session.panel ≡ self.old.session.panel }
+        ensures left { IsLeft (cause_of result.stop) self.new.decoder }
+        ensures capacity { vec_capacity out.old ≤ vec_capacity out.new }
+    {
+        feed_open(
+            pool,
+            number,
+            &mut self.decoder,
+            &mut self.session,
+            out,
+            bytes,
+        )
+    }
+}
+
+/// Whether a number is free, open, or closed for a cause.
+#[derive(Drop)]
+pub(crate) enum Service {
+    Free,
+    Open(Box<HostEnd>),
+    Closed(Cause),
+}
+
+/// A connection number, with what is still to be sent there.
+#[derive(Drop)]
+pub(crate) struct Connection {
+    service: Service,
+    out: Vec<u8>,
+}
+
+impl Model for Connection {
+    ghost use Rattle.host_core.specs.Connections.{service_of, IsSoundConnection};
+    ghost use Rattle.host_core.specs.State.{Connection as Stood};
+
+    ghost Value = { Stood };
+
+    ghost view = { λ connection. record { service = service_of connection.service; out = connection.out.items } };
+
+    ghost invariant = { λ connection. IsSoundConnection connection.service connection.out };
+}
+
+impl Connection {
+    /// A number that is free. It takes no memory.
+    pub(crate) fn unused(alloc: Global) -> Connection
+        ensures { result ≡ unused }
+    {
+        Connection {
+            service: Service::Free,
+            out: Vec::new(alloc),
+        }
+    }
+
+    /// Begins a connection, and offers TN3270E there. All the room that a session needs is made here, and that for output.
+    pub(crate) fn open(&mut self) -> Result<(), Memory>
+        requires free { self.old.service ≡ Free }
+        ensures opened { OnOk result (self.new ≡ opened) }
+        ensures unchanged { OnErr result (self.new ≡ self.old) }
+        ensures held { lu_of self.new.service ≡ None }
+        ensures shown { (count : ℕ) → 0 < count → IsShown count self.new.service }
+    {
+        let alloc = *self.out.allocator();
+        let Ok(decoder) = Decoder::new(alloc, RECORD_LIMIT) else {
+            return Err(AllocError);
+        };
+        let session = Session::new(alloc)?;
+        let end = Box::new(alloc, HostEnd { decoder, session })?;
+        self.out.reserve(OUT_ROOM)?;
+        self.out.clear();
+        put_option(&mut self.out, Verb::Do, TN3270E).unwrap();
+        self.service = Service::Open(end);
+        Ok(())
+    }
+
+    /// Takes bytes that came, as the host does.
+    pub(crate) fn feed(&mut self, pool: &mut Pool, number: usize, bytes: &[u8]) -> Fed
+        requires { HoldsJust number pool.old (lu_of self.old.service) }
+        ensures fed { Feeds number (record { pool = pool.old; connection = self.old }) bytes.now result (record { pool = pool.new; connection = self.new }) }
+        ensures held { HoldsJust number pool.new (lu_of self.new.service) }
+        ensures others { OthersHold number pool.old pool.new }
+        ensures shown { StaysShown self.old.service self.new.service }
+    {
+        match &mut self.service {
+            Service::Free => Fed {
+                taken: 0,
+                stop: Stop::Going,
+            },
+            Service::Closed(cause) => Fed {
+                taken: 0,
+                stop: Stop::Closed(*cause),
+            },
+            Service::Open(end) => {
+                let fed = end.feed(pool, number, &mut self.out, bytes);
+                match fed.stop {
+                    Stop::Closed(cause) => {
+                        self.service = Service::Closed(cause);
+                        fed
+                    }
+                    Stop::Going => fed,
+                    Stop::Memory => fed,
+                }
+            }
+        }
+    }
+
+    /// Acts, as the host does.
+    pub(crate) fn act(&mut self, panels: &PanelSet) -> Acted
+        requires { IsShown (length panels.now.panels) self.old.service }
+        ensures acted { Does (acted_by (application_of panels.now) self.old.service) self.old result self.new }
+        ensures held { lu_of self.new.service ≡ lu_of self.old.service }
+        ensures shown { IsShown (length panels.now.panels) self.new.service }
+    {
+        match &mut self.service {
+            Service::Free | Service::Closed(_) => Acted::Nothing,
+            Service::Open(end) => end.session.act(panels, &mut self.out),
+        }
+    }
+
+    /// Sends a note, as the host does.
+    pub(crate) fn note(&mut self, text: &[u8]) -> Acted
+        requires { IsNoteText text.now }
+        ensures noted { Does (noted_by text.now self.old.service) self.old result self.new }
+        ensures held { lu_of self.new.service ≡ lu_of self.old.service }
+        ensures shown { StaysShown self.old.service self.new.service }
+    {
+        match &mut self.service {
+            Service::Free | Service::Closed(_) => Acted::Nothing,
+            Service::Open(end) => end.session.note(text, &mut self.out),
+        }
+    }
+
+    /// What is to be sent.
+    pub(crate) fn out(&self) -> &[u8]
+        ensures { result.now ≡ self.now.out }
+    {
+        self.out.as_slice()
+    }
+
+    /// The first bytes of that were sent, and are dropped.
+    pub(crate) fn sent(&mut self, count: usize)
+        requires { count ≤ length self.old.out }
+        ensures { self.new ≡ record self.old { out = drop count self.old.out } }
+    {
+        let left = self.out.len() - count;
+        self.out.rotate_left(count);
+        self.out.truncate(left);
+    }
+
+    /// Frees the number, and hands back what wasn't sent.
+    pub(crate) fn close(&mut self) -> Vec<u8>
+        ensures unsent { result.items ≡ self.old.out }
+        ensures closed { self.new ≡ unused }
+    {
+        self.service = Service::Free;
+        let empty = Vec::new(*self.out.allocator());
+        std::mem::replace(&mut self.out, empty)
+    }
+
+    /// Frees the number, and drops what wasn't sent.
+    pub(crate) fn clear(&mut self)
+        ensures { self.new ≡ unused }
+    {
+        self.service = Service::Free;
+        self.out.clear();
+    }
+
+    pub(crate) fn phase(&self) -> Phase
+        ensures { result ≡ phase_of self.now.service }
+    {
+        match &self.service {
+            Service::Free => Phase::Free,
+            Service::Closed(cause) => Phase::Closed(*cause),
+            Service::Open(end) => match end.session.lu() {
+                Some(lu) => Phase::Bound(lu),
+                None => Phase::Talking,
+            },
+        }
+    }
+
+    pub(crate) fn turn(&self) -> Turn
+        ensures { result ≡ turn_of self.now.service }
+    {
+        match &self.service {
+            Service::Free | Service::Closed(_) => Turn::Host,
+            Service::Open(end) => end.session.turn,
+        }
+    }
+
+    pub(crate) fn pending(&self) -> Option<u16>
+        ensures { result ≡ pending_of self.now.service }
+    {
+        match &self.service {
+            Service::Free | Service::Closed(_) => None,
+            Service::Open(end) => end.session.pending.number(),
+        }
+    }
+
+    /// What is believed of the screen, where the number is open.
+    pub(crate) fn shadow(&self) -> Option<&Shadow>
+        ensures { ShadowIf result self.now.service }
+    {
+        match &self.service {
+            Service::Free | Service::Closed(_) => None,
+            Service::Open(end) => Some(&end.session.shadow),
+        }
+    }
+}

@@ -1,7 +1,0 @@
-/// What is known of a modified data tag.
-#[derive(Clone, Copy, Debug, PartialEq, Eq)]
-pub enum Mark {
-    On,
-    Off,
-    Unknown,
-}

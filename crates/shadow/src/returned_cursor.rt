@@ -1,0 +1,103 @@
+//! A cursor over returned fields.
+ghost use Rattle.std.specs.Prelude.{◌≡◌, ◌<◌, ◌==◌, length};
+ghost use Rattle.codes3270.specs.Size.{cell_count};
+ghost use Rattle.shadow.specs.Belief.{next_address};
+ghost use Rattle.shadow.specs.Came.{came_of, text_at, came_past};
+ghost use Rattle.shadow.specs.Filled.{text_came, came_behind};
+ghost use Rattle.shadow.specs.Held.{text_of};
+
+use crate::cell_belief::CellBelief;
+use codes3270::CELL_COUNT;
+use datastream::ReturnedFields;
+use std::marker::Model;
+
+/// A cursor over returned fields: the next one, and those after it. Contracts see their list.
+#[derive(Drop)]
+pub(crate) struct ReturnedCursor<'a> {
+    /// The address of the next one's first cell, `CELL_COUNT` where none is left.
+    first: usize,
+    /// Its characters.
+    text: &'a [u8],
+    behind: ReturnedFields<'a>,
+}
+
+impl<'a> Model for ReturnedCursor<'a> {
+    ghost use Rattle.std.specs.Prelude.{List};
+    ghost use Rattle.datastream.specs.InboundFields.{Returned};
+    ghost use Rattle.shadow.specs.Came.{came_of};
+
+    ghost Value = { List Returned };
+
+    ghost view = { λ returned_cursor. came_of returned_cursor.first returned_cursor.text.now returned_cursor.behind };
+}
+
+/// The address behind an attribute's.
+fn first_address(place: usize) -> usize
+    requires { place < cell_count }
+    ensures address { result ≡ next_address cell_count place }
+    ensures in_range { result < cell_count }
+{
+    (place + 1) % CELL_COUNT
+}
+
+/// The first of the fields that are left.
+fn next_of<'a>(rest: &mut ReturnedFields<'a>) -> (usize, &'a [u8])
+    ensures { came_of result.0 result.1.now rest.new ≡ rest.old }
+{
+    match rest.next() {
+        Some(field) => (field.first.get() as usize, field.text),
+        None => (CELL_COUNT, &[]),
+    }
+}
+
+impl<'a> ReturnedCursor<'a> {
+    /// All these fields are left.
+    pub(crate) fn new(fields: ReturnedFields<'a>) -> ReturnedCursor<'a>
+        ensures { result ≡ fields.entry }
+    {
+        let mut behind = fields;
+        let (first, text) = next_of(&mut behind);
+        ReturnedCursor {
+            first,
+            text,
+            behind,
+        }
+    }
+
+    /// Whether none is left.
+    pub(crate) fn is_empty(&self) -> bool
+        ensures { result ≡ (length self.now == 0) }
+    {
+        self.first == CELL_COUNT
+    }
+
+    /// The text that came for the field whose attribute is held at a place. That field is passed then.
+    pub(crate) fn take(&mut self, held: CellBelief, place: usize) -> Option<&'a [u8]>
+        requires { place < cell_count }
+        ensures text { text_of result ≡ text_came held place self.old }
+        ensures left { self.new ≡ came_behind held place self.old }
+    {
+        match held {
+            CellBelief::Attr(_, _, _) => self.take_at(first_address(place)),
+            CellBelief::Known(_) => None,
+            CellBelief::Told(_) => None,
+            CellBelief::Unknown => None,
+        }
+    }
+
+    /// The text of the next field, if that begins at an address.
+    fn take_at(&mut self, first: usize) -> Option<&'a [u8]>
+        requires { first < cell_count }
+        ensures text { text_of result ≡ text_at first self.old }
+        ensures left { self.new ≡ came_past first self.old }
+    {
+        if first != self.first {
+            return None;
+        }
+        let came = self.text;
+        let (next, text) = next_of(&mut self.behind);
+        self.first = next;
+        self.text = text;
+        Some(came)
+    }
+}

@@ -1,0 +1,55 @@
+-- What a decoder's place and buffers stand for (our profile). Only private contracts and the decoder's view speak of it.
+use Rattle.std.specs.Prelude.{◌≡◌, ℕ, ◌≤◌, Bool, true, false, List, [], ◌∷◌, ◌++◌, length, Option, None, Some}
+use Rattle.telnet_wire.specs.declared.decoding.DecoderState.{DecoderState}
+use Rattle.telnet_wire.specs.declared.decoding.DecoderState.TheVariants.{Done, AfterIac, AfterVerb, InSub, AfterIacInSub, Failed}
+use Rattle.telnet_wire.specs.declared.decoding.Completed.{Completed}
+use Rattle.telnet_wire.specs.declared.decoding.Completed.TheVariants.{Record, Opt, Sub, Other}
+use Rattle.telnet_wire.specs.Token.{code_of, opened}
+use Rattle.telnet_wire.specs.Items.{WireItem, Record as RecordItem, Opt as OptItem, Sub as SubItem, Other as OtherItem}
+use Rattle.telnet_wire.specs.Held.{Held}
+use Rattle.telnet_wire.specs.Bounded.{Bounded}
+
+-- The part of a token that has come.
+abbrev pub partial_at : DecoderState → List ℕ → List ℕ
+partial_at AfterIac content = 255 ∷ []
+partial_at (AfterVerb verb) content = 255 ∷ code_of verb ∷ []
+partial_at InSub content = opened content
+partial_at AfterIacInSub content = opened content ++ 255 ∷ []
+partial_at _ content = []
+
+-- The data of the unfinished record. A record that is complete waits in the buffer until the next byte.
+abbrev pub unfinished_at : DecoderState → List ℕ → List ℕ
+unfinished_at (Done Record) gathered = []
+unfinished_at Failed gathered = []
+unfinished_at _ gathered = gathered
+
+-- The item that was completed: its bytes lie in one of the buffers.
+abbrev pub completed_item : Completed → List ℕ → List ℕ → WireItem
+completed_item Record gathered content = RecordItem gathered
+completed_item (Opt verb code) gathered content = OptItem verb code
+completed_item Sub gathered content = SubItem content
+completed_item (Other code) gathered content = OtherItem code
+
+-- The item that the last byte completed.
+abbrev pub ready_at : DecoderState → List ℕ → List ℕ → Option WireItem
+ready_at (Done completed) gathered content = Some (completed_item completed gathered content)
+ready_at _ gathered content = None
+
+abbrev pub has_failed : DecoderState → Bool
+has_failed Failed = true
+has_failed _ = false
+
+-- What a decoder at this place holds, seen from outside.
+abbrev pub held : DecoderState → Bounded → List ℕ → Held
+held state gathered content = record {
+  limit = gathered.limit;
+  rest = record { unfinished = unfinished_at state gathered.bytes; partial = partial_at state content };
+  ready = ready_at state gathered.bytes content;
+  failed = has_failed state;
+}
+
+-- The buffers are within their limits; that of a subnegotiation is 256 (our profile).
+pub record AreWithin (gathered content : Bounded) : Type 0 where
+  pub gathered_fits : length gathered.bytes ≤ gathered.limit
+  pub content_fits : length content.bytes ≤ 256
+  pub content_limit : content.limit ≡ 256

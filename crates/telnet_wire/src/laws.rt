@@ -1,0 +1,27 @@
+//! Laws of reading, for callers that feed a stream in pieces: each is the contract of a function that does nothing. Proofs of
+//! other crates use them; no program calls them, and the root doesn't export them.
+ghost use Rattle.telnet_wire.specs.Laws.{DeliveriesCompose, DeliveryGoesOn, ItemIsRead, ItemsAreRead, ItemsCompose, NothingIsRest, OneDelivery, OneFault, OneReading, OneSpelling, ReadingGoesOn, ReadingNothing, ReadingsCompose, TakenIsRead, WrongIsFinal, WrongPiece};
+
+/// Law: the laws of reading, for proofs about callers that feed a stream in pieces.
+///
+/// Bytes spell one list of tokens at most and are read in one way, whole or in any pieces; what
+/// went wrong stays so, at one byte and by one fault; what a decoder took was read, and what was
+/// written is read as that.
+pub fn one_reading()
+    ensures spelling { OneSpelling }
+    ensures reading { OneReading }
+    ensures delivery { OneDelivery }
+    ensures start { NothingIsRest }
+    ensures no_bytes { ReadingNothing }
+    ensures pieces { ReadingsCompose }
+    ensures items { ItemsCompose }
+    ensures deliveries { DeliveriesCompose }
+    ensures goes_on { ReadingGoesOn }
+    ensures delivery_goes_on { DeliveryGoesOn }
+    ensures wrong_is_final { WrongIsFinal }
+    ensures fault { OneFault }
+    ensures wrong_piece { WrongPiece }
+    ensures taken { TakenIsRead }
+    ensures item { ItemIsRead }
+    ensures written { ItemsAreRead }
+{}

@@ -1,0 +1,37 @@
+//! Laws of headers, messages and talks: each is the contract of a function that does nothing. Proofs of
+//! other crates use them; no program calls them, and the root doesn't export them.
+ghost use Rattle.std.specs.Prelude.{◌≡◌};
+ghost use Rattle.tn3270e_msg.specs.Header.{no_response, error_response, always_response, positive, negative};
+ghost use Rattle.tn3270e_msg.specs.Laws.{OneHeader, FaultIsNoHeader, OneHeadFault, OneMessage, FaultIsNoMessage, OneSubFault, OneHearing, NameIsReadAsItself};
+ghost use Rattle.tn3270e_msg.specs.Pair.{TalksAlwaysAgree};
+
+use crate::{ALWAYS_RESPONSE, ERROR_RESPONSE, NEGATIVE, NO_RESPONSE, POSITIVE};
+
+/// Law: a host's talk and a terminal's with each other never close, whatever the pool answers and
+/// however their items are delivered. After eight events at most they have ended: agreed on the LU
+/// that the pool granted, or refused for its reason.
+pub fn talks_agree()
+    ensures { TalksAlwaysAgree }
+{}
+
+/// Law: bytes begin with one header or have one fault, and are one message or have one fault; an
+/// item says one thing to a talk; a name of an LU is read as itself.
+pub fn one_reading()
+    ensures header { OneHeader }
+    ensures header_or_fault { FaultIsNoHeader }
+    ensures head_fault { OneHeadFault }
+    ensures message { OneMessage }
+    ensures message_or_fault { FaultIsNoMessage }
+    ensures sub_fault { OneSubFault }
+    ensures hearing { OneHearing }
+    ensures name { NameIsReadAsItself }
+{}
+
+/// Law: these constants are the standard's codes.
+pub const fn flag_laws()
+    ensures no_response { NO_RESPONSE ≡ no_response }
+    ensures error_response { ERROR_RESPONSE ≡ error_response }
+    ensures always_response { ALWAYS_RESPONSE ≡ always_response }
+    ensures positive { POSITIVE ≡ positive }
+    ensures negative { NEGATIVE ≡ negative }
+{}

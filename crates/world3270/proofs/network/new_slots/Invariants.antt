@@ -1,0 +1,6 @@
+use Rattle.std.proofs.Common.{◌≡◌, replicate}
+use Rattle.world3270.specs.ByteWorld.{new_slot}
+use Rattle.world3270.proofs.network.new_slots.Given as goal
+
+abbrev pub invariant-loop : goal.invariant-loop
+invariant-loop l = l.slots.items ≡ replicate l.counter new_slot

@@ -1,5 +1,0 @@
-use Rattle.world3270.proofs.Headline.{nobody_refuses}
-use Rattle.world3270.proofs.nobody_refuses.Goals as goal
-
-pub returns : goal.returns
-returns c = nobody_refuses c.what_is_given.ensures

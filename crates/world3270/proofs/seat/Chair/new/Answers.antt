@@ -1,7 +1,0 @@
-use Rattle.std.proofs.Common.{None}
-use Rattle.term_core.specs.State.{new_terminal}
-use Rattle.world3270.proofs.Sittings.{begun}
-use Rattle.world3270.proofs.seat.Chair.new.Goals as goal
-
-pub returns : goal.returns
-returns c = begun c.in_ok-terminal.terminal.terminal new_terminal c.blank.result None c.in_ok-terminal.ensures.terminal c.blank.ensures

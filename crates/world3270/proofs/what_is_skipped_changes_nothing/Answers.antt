@@ -1,5 +1,0 @@
-use Rattle.world3270.proofs.Skipped.{skipped_changes_nothing}
-use Rattle.world3270.proofs.what_is_skipped_changes_nothing.Goals as goal
-
-pub returns : goal.returns
-returns c = skipped_changes_nothing

@@ -1,0 +1,40 @@
+-- How code keeps what is under way (our profile); only private contracts and proofs need it.
+use Rattle.std.specs.Prelude.{◌≡◌, ◌<◌, ◌≤◌, ℕ, List, [], Option, Some, None, slice_index_or}
+use Rattle.host_core.specs.State.{most_connections}
+use Rattle.term_core.specs.Feeds.{IsAttached, LacksReplyRoom}
+use Rattle.term_core.specs.Room.{out_room}
+use Rattle.term_core.specs.State.{Device, Link, Detached, Closed}
+use Rattle.tn3270e_msg.specs.declared.cause.Stop.{Stop}
+use Rattle.tn3270e_msg.specs.declared.cause.Stop.TheVariants as stop
+use Rattle.world3270.specs.ByteWorld.{Transit, TerminalSlot, new_slot}
+use Rattle.world3270.specs.TrackedTerminals.{TrackedTerminal, TrackedTakesByte}
+use Rattle.world3270.specs.declared.link.InFlight.{InFlight}
+use Rattle.world3270.specs.declared.link.InFlight.TheVariants as in_flight
+
+abbrev pub transit_of : InFlight → Transit
+transit_of in_flight.Live = Transit.Live
+transit_of (in_flight.Cut kept) = Transit.Cut kept
+transit_of (in_flight.SenderGone bytes) = Transit.SenderGone bytes.items
+
+-- a terminal that is at no connection isn't attached; one that is at a connection is at one of these numbers, and has its room
+abbrev pub IsSoundSlot : Option ℕ → Device → Type 0
+IsSoundSlot None device = device.terminal.link ≡ Detached
+IsSoundSlot (Some number) device = (number < most_connections) × (out_room ≤ device.room)
+
+-- where bytes stop at once, and why
+abbrev pub StopsAtOnce : Option Stop → Link → Type 0
+StopsAtOnce None link = IsAttached link
+StopsAtOnce (Some stop.Going) link = link ≡ Detached
+StopsAtOnce (Some stop.Memory) link = ⊥
+StopsAtOnce (Some (stop.Closed cause)) link = link ≡ Closed cause
+
+-- what became of a byte
+abbrev pub TookByte : Stop → TrackedTerminal → ℕ → TrackedTerminal → Type 0
+TookByte stop.Going old byte new = TrackedTakesByte old byte new × IsAttached new.terminal.link
+TookByte stop.Memory old byte new = (new ≡ old) × LacksReplyRoom out_room new.terminal.out
+TookByte (stop.Closed cause) old byte new = TrackedTakesByte old byte new × (new.terminal.link ≡ Closed cause)
+
+-- what one of the terminals has to send
+abbrev pub out_among : Option ℕ → List TerminalSlot → List ℕ
+out_among None slots = []
+out_among (Some terminal) slots = (slice_index_or slots terminal new_slot).tracked.terminal.out

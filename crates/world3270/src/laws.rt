@@ -1,0 +1,267 @@
+//! Laws of the worlds over messages and over bytes: each is the contract of a function that does nothing. Proofs of
+//! other crates use them; no program calls them, and the root doesn't export them.
+ghost use Rattle.world3270.specs.Always.{Always, HeadlineHolds, NobodyRefuses};
+ghost use Rattle.world3270.specs.Example.{TheRunsEndSo};
+ghost use Rattle.world3270.specs.Forms.{FormsAreAwaited};
+ghost use Rattle.world3270.specs.Given.{Given};
+ghost use Rattle.world3270.specs.Happens.{RunsCompose};
+ghost use Rattle.world3270.specs.History.{HostsHistoryIsKept, TerminalsHistoryIsKept};
+ghost use Rattle.world3270.specs.Known.{Known};
+ghost use Rattle.world3270.specs.Losses.{LostTakesNothing};
+ghost use Rattle.world3270.specs.Numbers.{NumbersFit};
+ghost use Rattle.world3270.specs.TurnReasons.{ActsOnTheKey, KnowsTheCleared, LeavesNothingOpen};
+ghost use Rattle.world3270.specs.OneOutcome.{EventsAreOne, RunsAreOne, StepsAreOne};
+ghost use Rattle.world3270.specs.Places.{EndsAgree, UpIsHeld, HoldersAreHere, LinksStay, HoldersStay, PoolIsSound};
+ghost use Rattle.world3270.specs.Refines.{BeginIsReached, HeadlineIsSeen, RunsGoOn, SkipsAreThose, StepsGoOn};
+ghost use Rattle.world3270.specs.TrackedTerminals.{HistoryFollows};
+ghost use Rattle.world3270.specs.Sendable.{AlwaysTyped, DataCanBeSpelt, PaintsAreScreens, PaintsAreSpelt, ScreensAreSendable, ScreensKeepTheirShape, ValuesAreTexts};
+ghost use Rattle.world3270.specs.Skipped.{SkippedChangesNothing};
+ghost use Rattle.world3270.specs.Stands.{StandsDown, StandsUp};
+ghost use Rattle.world3270.specs.StandsEnds.{PaintStands, TakesKeepSendable, TermPresses, TermTakes, WritesAreMarked};
+ghost use Rattle.world3270.specs.Unbroken.{DeliveriesCloseNothing, NobodyCloses, NobodyHasRefused, NothingIsRefused, TerminalsRefuseNothing};
+ghost use Rattle.world3270.specs.StandsLinks.{BeginStands, BytesAreMarked, DownIsNotRefused, DownStands, HostLeaves, HostSends, LossStands, NothingStands, PressStands, StandsCompose, StandsGoOn, TermLeaves, UpStands, WhatComesMayCome};
+
+use datastream::laws::{fields_both_ways, kept_since_the_write, sent_is_read, what_a_note_keeps};
+use host_core::laws::{notes_are_written, panels_are_shown, what_is_shown_fits};
+use keyboard::laws::{keys_keep_what_was_left, what_keys_leave_can_be_sent};
+use lu_pool::laws::the_pool_is_a_map;
+use shadow::laws::{
+    what_a_note_leaves, what_is_exact_is_so, what_is_known_is_exact, what_is_protected_is_exact,
+    what_is_read_is_heard, what_is_sent_is_heard, what_is_wanted_is_painted,
+    what_is_written_is_taken, what_leaves_nothing_open,
+};
+use tn3270e_msg::laws::one_reading;
+
+/// Law: what the crates below promise, by their own laws.
+fn what_is_given()
+    ensures { Given }
+{
+    what_is_sent_is_heard();
+    what_is_read_is_heard();
+    what_is_wanted_is_painted();
+    what_is_known_is_exact();
+    what_is_protected_is_exact();
+    what_is_exact_is_so();
+    keys_keep_what_was_left();
+    what_keys_leave_can_be_sent();
+    kept_since_the_write();
+    one_reading();
+    what_is_shown_fits();
+    the_pool_is_a_map();
+    what_is_written_is_taken();
+    what_leaves_nothing_open();
+    what_a_note_keeps();
+    what_a_note_leaves();
+    notes_are_written();
+}
+
+/// Law: the headline. After any list of events on a new world, with any application, any pool of
+/// LUs and up to 16 terminals: no two live sessions have one LU, and where a terminal is bound to
+/// one the host's end agreed on that, and its connection holds it in the pool; and whenever the
+/// host holds the turn with its last command answered, the screen is as it believes, and after
+/// Enter or a PF key it has the text of each field that was returned, and each unprotected field
+/// with MDT off has what the host left there, or nulls since Erase Input. And a run in pieces is
+/// one run.
+pub fn the_headline_holds()
+    ensures headline { Always HeadlineHolds }
+    ensures pieces { RunsCompose }
+{
+    what_is_given();
+}
+
+/// Law: over the same lists no terminal has ever refused a command, and that neither end has ever
+/// closed a connection by a cause.
+pub fn nobody_refuses()
+    ensures { Always NobodyRefuses }
+{
+    what_is_given();
+}
+
+/// Law: over the same lists the host, when it decides, acts on the key that was pressed last; that
+/// after Clear it believes in a screen without fields, of nulls but for the notes that came since;
+/// and that after Enter or a PF key it believes a text, or a text or nulls, of each unprotected
+/// field.
+pub fn what_was_pressed_is_acted_on()
+    ensures key { Always ActsOnTheKey }
+    ensures cleared { Always KnowsTheCleared }
+    ensures unopened { Always LeavesNothingOpen }
+{
+    what_is_given();
+}
+
+/// Law: over the same lists the data that comes up to the host next has the form that it awaits:
+/// the whole screen while a read is pending, else modified fields. (The bytes of inbound data don't
+/// say their form.)
+pub fn what_comes_is_awaited()
+    ensures { Always FormsAreAwaited }
+{
+    what_is_given();
+}
+
+/// Law: over the same lists a terminal is at a connection exactly where it holds that connection's
+/// end, so that the display there is its own; that a connection that isn't lost has somebody at
+/// both ends; and that no LU is held by a connection that the host has left.
+pub fn the_ends_agree()
+    ensures agree { Always EndsAgree }
+    ensures up { Always UpIsHeld }
+    ensures holders { Always HoldersAreHere }
+{
+    what_is_given();
+}
+
+/// Law: over the same lists each number of a command or a response under way, and of the command
+/// that the host awaits an answer to or sends next, has 15 bits.
+pub fn numbers_have_15_bits()
+    ensures { Always NumbersFit }
+{
+    what_is_given();
+}
+
+/// Law: over the same lists each terminal's screen keeps the shape that it began with; and that,
+/// where keys are those of a keyboard and the application asks for screens of the profile, each
+/// terminal's screen can be sent, all data under way can be spelt, what is painted is such a
+/// screen, each paint and each note under way is spelt by its bytes, and the values that the host
+/// has are characters.
+pub fn screens_can_be_sent()
+    ensures shape { ScreensKeepTheirShape }
+    ensures screens { AlwaysTyped ScreensAreSendable }
+    ensures data { AlwaysTyped DataCanBeSpelt }
+    ensures paints { AlwaysTyped PaintsAreScreens }
+    ensures spelt { AlwaysTyped PaintsAreSpelt }
+    ensures values { AlwaysTyped ValuesAreTexts }
+{
+    what_is_given();
+    sent_is_read();
+}
+
+/// Law: an event leaves each connection that it doesn't concern as it is; and that such a
+/// connection holds the same LUs as before, in any world with a sound pool, as each is over the
+/// same lists of events.
+pub fn the_others_stay()
+    ensures links { LinksStay }
+    ensures holders { HoldersStay }
+    ensures sound { Always PoolIsSound }
+{
+    what_is_given();
+}
+
+/// Law: an event that is skipped leaves each part of the world as it was.
+pub fn what_is_skipped_changes_nothing()
+    ensures { SkippedChangesNothing }
+{}
+
+/// Law: each cause by which an end closes, and each verdict that a terminal says, is added to the
+/// history.
+pub fn the_history_is_kept()
+    ensures host { HostsHistoryIsKept }
+    ensures terminal { TerminalsHistoryIsKept }
+{}
+
+/// Law: a lost connection only delivers what was under way: no event adds to either queue.
+pub fn a_lost_connection_takes_nothing()
+    ensures { LostTakesNothing }
+{}
+
+/// Law: an example, runs of a small host that are computed to their ends. A required field is left
+/// out, asked for and filled in; a connection is lost, and the LU refused until the host sees that;
+/// the screen is read after PA1, and where a field is in doubt; Clear, a terminal that begins anew,
+/// and a host that does; notes, two of which cross a key; a PF key and Clear that lead on; what a
+/// loss leaves under way. Where the host decides it knows what was typed.
+pub fn the_runs_end_so()
+    ensures { TheRunsEndSo }
+{}
+
+/// Law: what holds where bytes stand for messages: a terminal makes of the bytes what it makes of
+/// the messages, and a connection over bytes stands for one over messages, step by step.
+pub fn bytes_stand_for_messages()
+    // A paint that fits what is believed stands for what is wanted.
+    ensures paint { PaintStands }
+    // A terminal makes of an item, and of a key, what it makes of them over messages; an item is marked as a write exactly where it
+    // stands for a paint that finds the terminal bound. Whatever bytes come, there is a history of them.
+    ensures takes { TermTakes }
+    ensures marks { WritesAreMarked }
+    ensures history { HistoryFollows }
+    ensures sendable { TakesKeepSendable }
+    ensures presses { TermPresses }
+    // Bytes stand for messages however they are cut, and as they come and go.
+    ensures down_empty { NothingStands StandsDown }
+    ensures up_empty { NothingStands StandsUp }
+    ensures down_more { StandsCompose StandsDown }
+    ensures up_more { StandsCompose StandsUp }
+    ensures down_taken { StandsGoOn StandsDown }
+    ensures up_taken { StandsGoOn StandsUp }
+    // A connection that begins stands for one over messages that begins, and goes on so: with keys, with what comes down and up,
+    // each of whose bytes is marked as such items are, with what the host says, as it is lost, and as an end leaves it.
+    ensures begin { BeginStands }
+    ensures press { PressStands }
+    ensures down { DownStands }
+    ensures down_marked { BytesAreMarked }
+    ensures not_refused { DownIsNotRefused }
+    ensures host_sends { HostSends }
+    ensures up { UpStands }
+    ensures loss { LossStands }
+    ensures host_leaves { HostLeaves }
+    ensures term_leaves { TermLeaves }
+    // What comes down in the world is as these steps want it.
+    ensures coming { Always WhatComesMayCome }
+{
+    what_is_given();
+    what_is_wanted_is_painted();
+    sent_is_read();
+    fields_both_ways();
+    one_reading();
+    telnet_wire::laws::one_reading();
+}
+
+/// Law: what the laws above, and those of the crates below, promise of worlds, of connections over
+/// bytes, and of what is read of bytes.
+fn what_is_known()
+    ensures { Known }
+{
+    what_is_given();
+    the_headline_holds();
+    nobody_refuses();
+    the_ends_agree();
+    what_comes_is_awaited();
+    numbers_have_15_bits();
+    screens_can_be_sent();
+    bytes_stand_for_messages();
+    panels_are_shown();
+    what_is_wanted_is_painted();
+    telnet_wire::laws::one_reading();
+    one_reading();
+    datastream::laws::one_reading();
+}
+
+/// Law: how the world over bytes follows the world over messages. Callers can apply it to a world
+/// in hand, by [`World::represents_messages`]. A world that begins represents one over messages
+/// that begins. After each event it represents the world after more events: one delivery for each
+/// item that the bytes complete at the receiver, or that one event. An event is skipped exactly if
+/// it is skipped over messages. The headline holds of what is seen of each such world. Bytes that
+/// come up or down close no connection; no end ever closes one by a cause; and no response refuses
+/// a command.
+pub fn bytes_follow_messages()
+    ensures begin { BeginIsReached }
+    ensures steps { StepsGoOn }
+    ensures runs { RunsGoOn }
+    ensures skipped { SkipsAreThose }
+    ensures headline { HeadlineIsSeen }
+    ensures close_nothing { DeliveriesCloseNothing }
+    ensures nobody_closes { NobodyCloses }
+    ensures history { NobodyHasRefused }
+    ensures none_refused { NothingIsRefused }
+    ensures say_no_refusal { TerminalsRefuseNothing }
+{
+    what_is_known();
+}
+
+/// Law: a world over bytes is one machine. From one world an event to which memory isn't refused
+/// has one answer, and leads to one world; so do events one after another, and runs of them.
+pub fn one_machine()
+    ensures step { StepsAreOne }
+    ensures events { EventsAreOne }
+    ensures runs { RunsAreOne }
+{
+    host_core::laws::one_machine();
+    term_core::laws::one_machine();
+}

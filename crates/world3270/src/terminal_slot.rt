@@ -1,0 +1,243 @@
+//! A terminal, with its connection and the history of its screen.
+ghost use Rattle.std.specs.Prelude.{◌≡◌, ◌<◌, ◌≤◌, drop, length, IfOk, IfSome, OnOk, OnErr, Some, None};
+ghost use Rattle.host_core.specs.State.{most_connections, opened, phase_of, service_at, with_connection};
+ghost use Rattle.term_core.specs.Feeds.{IsAttached};
+ghost use Rattle.term_core.specs.Presses.{LacksKeyRoom, answer_to_key};
+ghost use Rattle.term_core.specs.Room.{out_room};
+ghost use Rattle.world3270.specs.ByteSteps.{TrackedFeeds};
+ghost use Rattle.world3270.specs.ByteWorld.{alone, new_slot, attached_slot, is_attached_to};
+ghost use Rattle.world3270.specs.InFlight.{StopsAtOnce, TookByte};
+ghost use Rattle.world3270.specs.TrackedTerminals.{tracked_after_key, marked};
+
+use host_core::{Host, Phase};
+use keyboard::{Key, Pressed};
+use presentation::Screen;
+use std::alloc::Global;
+use std::marker::Model;
+use telnet_wire::Memory;
+use term_core::{TermPhase, Terminal};
+use tn3270e_msg::{Fed, Lu, Stop};
+
+/// A terminal, the number of the connection whose end it holds, and its history: the screen just after it last took a write with
+/// restore on its latest connection, and whether Erase Input was done since.
+#[derive(Drop)]
+pub(crate) struct TerminalSlot {
+    terminal: Terminal,
+    at: Option<usize>,
+    last_restored: Screen,
+    erased: bool,
+}
+
+impl Model for TerminalSlot {
+    ghost use Rattle.world3270.specs.ByteWorld.{TerminalSlot as Slot};
+    ghost use Rattle.world3270.specs.InFlight.{IsSoundSlot};
+
+    ghost Value = { Slot };
+
+    ghost view = { λ s. record { tracked = record { terminal = s.terminal.terminal; history = record { last_restored = s.last_restored; erased = s.erased } }; at = s.at } };
+
+    ghost invariant = { λ s. IsSoundSlot s.at s.terminal };
+}
+
+impl TerminalSlot {
+    /// A terminal that begins, alone.
+    pub(crate) fn new(alloc: Global) -> Result<TerminalSlot, Memory>
+        ensures { IfOk result (λ slot. slot ≡ new_slot) }
+    {
+        let terminal = Terminal::new(alloc)?;
+        Ok(TerminalSlot {
+            terminal,
+            at: None,
+            last_restored: Screen::blank(),
+            erased: false,
+        })
+    }
+
+    /// The terminal.
+    pub(crate) fn terminal(&self) -> &Terminal
+        ensures { result.now.terminal ≡ self.now.tracked.terminal }
+    {
+        &self.terminal
+    }
+
+    /// The number of the connection whose end it holds.
+    pub(crate) fn at(&self) -> Option<usize>
+        ensures at { result ≡ self.now.at }
+        ensures number { IfSome result (λ at. at < most_connections) }
+    {
+        self.at
+    }
+
+    /// Whether it holds an end of this connection.
+    pub(crate) fn is_at(&self, conn: usize) -> bool
+        ensures { result ≡ is_attached_to conn self.now.at }
+    {
+        match self.at {
+            Some(at) => at == conn,
+            None => false,
+        }
+    }
+
+    /// What it has to send.
+    pub(crate) fn out(&self) -> &[u8]
+        ensures { result.now ≡ self.now.tracked.terminal.out }
+    {
+        self.terminal.out()
+    }
+
+    /// The first `count` bytes of `out` are sent, and dropped.
+    pub(crate) fn sent(&mut self, count: usize)
+        requires { count ≤ length self.old.tracked.terminal.out }
+        ensures { self.new ≡ record self.old { tracked = record self.old.tracked { terminal = record self.old.tracked.terminal { out = drop count self.old.tracked.terminal.out } } } }
+    {
+        self.terminal.sent(count);
+    }
+
+    /// Presses a key; an Erase Input that is done is remembered. Memory is refused only for a key that sends, if the room that a
+    /// terminal makes isn't enough.
+    pub(crate) fn press(&mut self, key: Key) -> Result<Pressed, Memory>
+        ensures pressed { OnOk result (self.new ≡ record self.old { tracked = tracked_after_key key self.old.tracked }) }
+        ensures answer { IfOk result (λ answer. answer ≡ answer_to_key key self.old.tracked.terminal) }
+        ensures unchanged { OnErr result (self.new ≡ self.old) }
+        ensures full { OnErr result (LacksKeyRoom out_room key self.old.tracked.terminal) }
+    {
+        let erases = matches!(key, Key::EraseInput);
+        let pressed = self.terminal.press(key)?;
+        let done = matches!(pressed, Pressed::Done);
+        self.erased = self.erased || (done && erases);
+        Ok(pressed)
+    }
+
+    /// Begins a connection, here and at the host. The terminal's room is made first: if memory is refused, nothing has changed.
+    pub(crate) fn attach(
+        &mut self,
+        host: &mut Host,
+        number: usize,
+        wanted: Option<Lu>,
+    ) -> Result<(), Memory>
+        requires alone { self.old.at ≡ None }
+        requires number { number < most_connections }
+        requires free { phase_of (service_at number host.old) ≡ Phase.Free }
+        ensures attached_slot { OnOk result (self.new ≡ attached_slot wanted number) }
+        ensures opened { OnOk result (host.new ≡ with_connection number opened host.old) }
+        ensures unchanged { OnErr result (self.new ≡ self.old) }
+        ensures unopened { OnErr result (host.new ≡ host.old) }
+    {
+        self.terminal.make_room()?;
+        host.open(number)?;
+        self.terminal.connected(wanted);
+        self.at = Some(number);
+        self.last_restored = Screen::blank();
+        self.erased = false;
+        Ok(())
+    }
+
+    /// Leaves its connection, and hands back what wasn't sent.
+    pub(crate) fn leave(&mut self) -> Vec<u8>
+        ensures unsent { result.items ≡ self.old.tracked.terminal.out }
+        ensures alone { self.new ≡ alone self.old }
+    {
+        self.at = None;
+        self.terminal.lost()
+    }
+
+    /// Begins anew, alone.
+    pub(crate) fn restart(&mut self)
+        ensures { self.new ≡ new_slot }
+    {
+        self.terminal.restart();
+        self.at = None;
+        self.last_restored = Screen::blank();
+        self.erased = false;
+    }
+
+    /// Leaves its connection, hands back what wasn't sent, and begins anew.
+    pub(crate) fn leave_anew(&mut self) -> Vec<u8>
+        ensures unsent { result.items ≡ self.old.tracked.terminal.out }
+        ensures anew { self.new ≡ new_slot }
+    {
+        let unsent = self.leave();
+        self.restart();
+        unsent
+    }
+
+    /// Whether bytes that come now stop at once.
+    fn stops(&self) -> Option<Stop>
+        ensures { StopsAtOnce result self.now.tracked.terminal.link }
+    {
+        match self.terminal.phase() {
+            TermPhase::Idle => Some(Stop::Going),
+            TermPhase::Talking => None,
+            TermPhase::Bound(_) => None,
+            TermPhase::Refused(_) => None,
+            TermPhase::Closed(cause) => Some(Stop::Closed(cause)),
+        }
+    }
+
+    /// The history after a byte.
+    fn mark(&mut self)
+        ensures { self.new ≡ record self.old { tracked = record self.old.tracked { history = marked self.old.tracked.terminal.station self.old.tracked.history } } }
+    {
+        if self.terminal.took_write() {
+            self.last_restored = copy_of(self.terminal.screen());
+            self.erased = false;
+        }
+    }
+
+    /// Takes a byte, and answers what stopped it, if something did.
+    fn feed_byte(&mut self, byte: u8) -> Stop
+        requires attached { IsAttached self.old.tracked.terminal.link }
+        ensures took { TookByte result self.old.tracked byte self.new.tracked }
+        ensures at { self.new.at ≡ self.old.at }
+    {
+        match self.terminal.feed(&[byte]).stop {
+            Stop::Going => {
+                self.mark();
+                Stop::Going
+            }
+            Stop::Memory => Stop::Memory,
+            Stop::Closed(cause) => {
+                self.mark();
+                Stop::Closed(cause)
+            }
+        }
+    }
+
+    /// Takes bytes, one after another; its history follows.
+    pub(crate) fn feed(&mut self, bytes: &[u8]) -> Fed
+        ensures fed { TrackedFeeds self.old.tracked bytes.now result self.new.tracked }
+        ensures at { self.new.at ≡ self.old.at }
+    {
+        if let Some(stop) = self.stops() {
+            return Fed { taken: 0, stop };
+        }
+        for (taken, byte) in bytes.iter().enumerate() {
+            match self.feed_byte(*byte) {
+                Stop::Going => {}
+                Stop::Memory => {
+                    return Fed {
+                        taken,
+                        stop: Stop::Memory,
+                    };
+                }
+                Stop::Closed(cause) => {
+                    return Fed {
+                        taken: taken + 1,
+                        stop: Stop::Closed(cause),
+                    };
+                }
+            }
+        }
+        Fed {
+            taken: bytes.len(),
+            stop: Stop::Going,
+        }
+    }
+}
+
+/// A copy of a screen.
+fn copy_of(screen: &Screen) -> Screen
+    ensures { result ≡ screen.now }
+{
+    screen.clone().unwrap()
+}
