@@ -57,31 +57,38 @@ module _ {S : Type 0} (old new : Sockets S) (conn : ℕ) (there : conn < length 
   pub read_counts : (place_old : Place S) → place_old ≡ slice_index_or old.places conn place_old → (gave : S → ℕ → List ℕ → Result ℕ Error → S → Type 0) (room : ℕ) (bytes : List ℕ) (answer : LinkRead)
       → Gives gave place_old room bytes answer place
       → ReadCounts conn answer (λ n. ends_at n old) (λ n. ends_at n new) (λ n. failures_at n old) (λ n. failures_at n new)
-  read_counts place_old place_is gave room bytes (read.Got count) gives =
-      (stays_at (λ p. p.ends) (gives.4 ∙ ap (λ (p : Place S). p.ends) (place_read place_old place_is)),
-      stays_at (λ p. p.failures) (gives.5 ∙ ap (λ (p : Place S). p.failures) (place_read place_old place_is)))
-  read_counts place_old place_is gave room bytes read.NotNow gives =
-      (stays_at (λ p. p.ends) (gives.3 ∙ ap (λ (p : Place S). p.ends) (place_read place_old place_is)),
-      stays_at (λ p. p.failures) (gives.4 ∙ ap (λ (p : Place S). p.failures) (place_read place_old place_is)))
-  read_counts place_old place_is gave room bytes read.Ended gives =
-      (rises_at (λ p. p.ends) (gives.3 ∙ ap (λ (p : Place S). p.ends + 1) (place_read place_old place_is)),
-      stays_at (λ p. p.failures) (gives.4 ∙ ap (λ (p : Place S). p.failures) (place_read place_old place_is)))
-  read_counts place_old place_is gave room bytes read.Failed gives =
-      (stays_at (λ p. p.ends) (gives.3 ∙ ap (λ (p : Place S). p.ends) (place_read place_old place_is)),
-      rises_at (λ p. p.failures) (gives.4 ∙ ap (λ (p : Place S). p.failures + 1) (place_read place_old place_is)))
+  read_counts place_old place_is gave room bytes (read.Got count) gives = (
+    stays_at (λ p. p.ends) (gives.4 ∙ ap (λ (p : Place S). p.ends) (place_read place_old place_is)),
+    stays_at (λ p. p.failures) (gives.5 ∙ ap (λ (p : Place S). p.failures) (place_read place_old place_is)),
+  )
+  read_counts place_old place_is gave room bytes read.NotNow gives = (
+    stays_at (λ p. p.ends) (gives.3 ∙ ap (λ (p : Place S). p.ends) (place_read place_old place_is)),
+    stays_at (λ p. p.failures) (gives.4 ∙ ap (λ (p : Place S). p.failures) (place_read place_old place_is)),
+  )
+  read_counts place_old place_is gave room bytes read.Ended gives = (
+    rises_at (λ p. p.ends) (gives.3 ∙ ap (λ (p : Place S). p.ends + 1) (place_read place_old place_is)),
+    stays_at (λ p. p.failures) (gives.4 ∙ ap (λ (p : Place S). p.failures) (place_read place_old place_is)),
+  )
+  read_counts place_old place_is gave room bytes read.Failed gives = (
+    stays_at (λ p. p.ends) (gives.3 ∙ ap (λ (p : Place S). p.ends) (place_read place_old place_is)),
+    rises_at (λ p. p.failures) (gives.4 ∙ ap (λ (p : Place S). p.failures + 1) (place_read place_old place_is)),
+  )
 
   pub write_counts : (place_old : Place S) → place_old ≡ slice_index_or old.places conn place_old → (took : S → List ℕ → Result ℕ Error → S → Type 0) (bytes : List ℕ) (answer : LinkWrite)
       → Takes took place_old bytes answer place
       → WriteCounts conn answer (λ n. ends_at n old) (λ n. ends_at n new) (λ n. failures_at n old) (λ n. failures_at n new)
-  write_counts place_old place_is took bytes (write.Took count) takes =
-      (stays_at (λ p. p.ends) (takes.4 ∙ ap (λ (p : Place S). p.ends) (place_read place_old place_is)),
-      stays_at (λ p. p.failures) (takes.5 ∙ ap (λ (p : Place S). p.failures) (place_read place_old place_is)))
-  write_counts place_old place_is took bytes write.NotNow takes =
-      (stays_at (λ p. p.ends) (takes.2 ∙ ap (λ (p : Place S). p.ends) (place_read place_old place_is)),
-      stays_at (λ p. p.failures) (takes.3 ∙ ap (λ (p : Place S). p.failures) (place_read place_old place_is)))
-  write_counts place_old place_is took bytes write.Failed takes =
-      (stays_at (λ p. p.ends) (takes.2 ∙ ap (λ (p : Place S). p.ends) (place_read place_old place_is)),
-      rises_at (λ p. p.failures) (takes.3 ∙ ap (λ (p : Place S). p.failures + 1) (place_read place_old place_is)))
+  write_counts place_old place_is took bytes (write.Took count) takes = (
+    stays_at (λ p. p.ends) (takes.4 ∙ ap (λ (p : Place S). p.ends) (place_read place_old place_is)),
+    stays_at (λ p. p.failures) (takes.5 ∙ ap (λ (p : Place S). p.failures) (place_read place_old place_is)),
+  )
+  write_counts place_old place_is took bytes write.NotNow takes = (
+    stays_at (λ p. p.ends) (takes.2 ∙ ap (λ (p : Place S). p.ends) (place_read place_old place_is)),
+    stays_at (λ p. p.failures) (takes.3 ∙ ap (λ (p : Place S). p.failures) (place_read place_old place_is)),
+  )
+  write_counts place_old place_is took bytes write.Failed takes = (
+    stays_at (λ p. p.ends) (takes.2 ∙ ap (λ (p : Place S). p.ends) (place_read place_old place_is)),
+    rises_at (λ p. p.failures) (takes.3 ∙ ap (λ (p : Place S). p.failures + 1) (place_read place_old place_is)),
+  )
 
   pub gives_at : (place_old : Place S) → place_old ≡ slice_index_or old.places conn place_old → (gave : S → ℕ → List ℕ → Result ℕ Error → S → Type 0) (room : ℕ) (bytes : List ℕ) (answer : LinkRead) (heard_old heard : Heard) → conn < length old.heard
       → heard_old ≡ slice_index_or old.heard conn heard_old → new.heard ≡ slice_set old.heard conn heard → new.moved ≡ (old.moved || has_got answer)

@@ -96,10 +96,10 @@ returns-then-saturating_add-gt-MOST_BYTES-clause-refused_in_pieces g c =
 pub returns-in-Failed-clause-refused_in_pieces : goal.returns-in-Failed-clause-refused_in_pieces
 returns-in-Failed-clause-refused_in_pieces g c =
     let room : length c.read.new.buffer ≡ 4096 = search rules in (
-  c.loop.bytes.items,
-  in_pieces g.I.Source.gave c.loop.counter c.args.input.now c.loop.input c.read.new.self c.loop.bytes.items [] c.loop.bytes.items Failed c.loop-test.true
-      c.loop.invariant.pieces (subst (λ (n : ℕ). g.I.Source.gave c.loop.input n [] Failed c.read.new.self) room c.in-Failed.ensures.gave) (sym (append-nil c.loop.bytes.items)),
-)
+      c.loop.bytes.items,
+      in_pieces g.I.Source.gave c.loop.counter c.args.input.now c.loop.input c.read.new.self c.loop.bytes.items [] c.loop.bytes.items Failed c.loop-test.true
+          c.loop.invariant.pieces (subst (λ (n : ℕ). g.I.Source.gave c.loop.input n [] Failed c.read.new.self) room c.in-Failed.ensures.gave) (sym (append-nil c.loop.bytes.items)),
+    )
 
 pub returns-in-Ended-clause-whole : goal.returns-in-Ended-clause-whole
 returns-in-Ended-clause-whole g c =
@@ -118,7 +118,8 @@ returns-in-Ended-clause-whole g c =
 pub returns-then-is_err-clause-refused_in_pieces : goal.returns-then-is_err-clause-refused_in_pieces
 returns-then-is_err-clause-refused_in_pieces g c =
     let room : length c.read.new.buffer ≡ 4096 = search rules in
-    let came = take c.in-Gave.count c.read.new.buffer in
-    (c.loop.bytes.items ++ came,
-    in_pieces g.I.Source.gave c.loop.counter c.args.input.now c.loop.input c.read.new.self c.loop.bytes.items came _ (Gave c.in-Gave.count) c.loop-test.true
-    c.loop.invariant.pieces (subst (λ (n : ℕ). g.I.Source.gave c.loop.input n (take c.in-Gave.count c.read.new.buffer) (Gave c.in-Gave.count) c.read.new.self) room c.in-Gave.ensures.gave) refl)
+    let came = take c.in-Gave.count c.read.new.buffer in (
+      c.loop.bytes.items ++ came,
+      in_pieces g.I.Source.gave c.loop.counter c.args.input.now c.loop.input c.read.new.self c.loop.bytes.items came _ (Gave c.in-Gave.count) c.loop-test.true
+          c.loop.invariant.pieces (subst (λ (n : ℕ). g.I.Source.gave c.loop.input n (take c.in-Gave.count c.read.new.buffer) (Gave c.in-Gave.count) c.read.new.self) room c.in-Gave.ensures.gave) refl,
+    )

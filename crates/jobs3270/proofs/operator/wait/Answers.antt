@@ -23,7 +23,7 @@ pub returns-in-Ended : goal.returns-in-Ended
 returns-in-Ended g c =
     let room : length c.read.new.buffer ≡ 4096 = search rules in
     let all = after_all g.D.Source.gave c.loop.counter c.args.terminal.now.terminal c.loop.terminal.terminal c.args.down.now c.loop.down (g.U.Sink.seen c.args.up.now) (g.U.Sink.seen c.loop.up)
-        c.loop.invariant c.send_all.result c.send_all.new.terminal.terminal (g.U.Sink.seen c.send_all.new.up) c.send_all.ensures c.if-not-send_all.false in
+    c.loop.invariant c.send_all.result c.send_all.new.terminal.terminal (g.U.Sink.seen c.send_all.new.up) c.send_all.ensures c.if-not-send_all.false in
     let over = is_over c.read.result c.read.new.buffer c.in-Ended.is in
     ends_lost g.D.Source.gave c.loop.counter c.args.terminal.now.terminal c.send_all.new.terminal.terminal c.args.down.now c.loop.down (g.U.Sink.seen c.args.up.now) (g.U.Sink.seen c.send_all.new.up)
     all.0 c.lost.new.self.terminal c.read.new.self c.read.result all.1
@@ -35,7 +35,7 @@ pub loop-preserved : goal.loop-preserved
 loop-preserved g c =
     let room : length c.read.new.buffer ≡ 4096 = search rules in
     let all = after_all g.D.Source.gave c.loop.counter c.args.terminal.now.terminal c.loop.terminal.terminal c.args.down.now c.loop.down (g.U.Sink.seen c.args.up.now) (g.U.Sink.seen c.loop.up)
-        c.loop.invariant c.send_all.result c.send_all.new.terminal.terminal (g.U.Sink.seen c.send_all.new.up) c.send_all.ensures c.if-not-send_all.false in
+    c.loop.invariant c.send_all.result c.send_all.new.terminal.terminal (g.U.Sink.seen c.send_all.new.up) c.send_all.ensures c.if-not-send_all.false in
     let waits = sym c.is_settled.ensures ∙ c.if-is_settled.false in
     elim c.match-read.branch [
       | in-Gave+in_ok-take-in-Gave w ↦ rw w.terminal-is
