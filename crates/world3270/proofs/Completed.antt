@@ -16,6 +16,7 @@ use Rattle.host_core.specs.Messages.{ToTerminal}
 use Rattle.host_core.specs.State.{Service, service_at}
 use Rattle.term_core.specs.Bytes.{TakesByte, link_after}
 use Rattle.term_core.specs.Feeds.{StopsFor}
+use Rattle.term_core.specs.Room.{out_room}
 use Rattle.term_core.specs.State.{Terminal, Attached, Closed, Detached}
 use Rattle.world3270.specs.ByteSteps.{answer_fed}
 use Rattle.world3270.specs.ByteWorld.{ByteWorld, is_there, terminal_at}
@@ -44,7 +45,7 @@ taken_is stop.Memory (suc taken) bytes refused = refl
 taken_is (stop.Closed cause) taken bytes none = absurd none
 
 pub taken_there : (why : Stop) (old new : Terminal) (bytes : List ℕ) (taken : ℕ) (rest to : Rest) (talk after : Term)
-    → StopsFor why old bytes taken new → old.link ≡ Attached rest talk → new.link ≡ Attached to after → IsTaken why taken bytes
+    → StopsFor out_room why old bytes taken new → old.link ≡ Attached rest talk → new.link ≡ Attached to after → IsTaken why taken bytes
 taken_there stop.Going old new bytes taken rest to talk after (inl all) was now = all.0
 taken_there stop.Going old new bytes taken rest to talk after (inr none) was now =
     let both : Detached ≡ Attached rest talk = sym none.1 ∙ was in absurd (cc)
