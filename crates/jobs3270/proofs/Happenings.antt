@@ -65,7 +65,7 @@ terminal_is_gone stop.Memory terminal number old = refl
 terminal_is_gone (stop.Closed cause) terminal number old = one_sits terminal _ old
 
 pressed : (terminal : ℕ) (key : _) (old : ByteWorld) (answer : Stepped) (new : ByteWorld) → Presses terminal key old answer new → AsMany old new
-pressed terminal key old answer new (Presses.refused is same) = as_many old old new same refl
+pressed terminal key old answer new (Presses.refused lacks is same) = as_many old old new same refl
 pressed terminal key old answer new (Presses.done is made) = as_many _ old new made (one_sits terminal _ old)
 
 connects : (terminal : ℕ) (wanted : Option (List ℕ)) (number : Option ℕ) (old : ByteWorld) (answer : Stepped) (new : ByteWorld)

@@ -71,7 +71,7 @@ fn type_text(
 
 /// Adds a terminal's screen.
 fn show(alloc: Global, world: &World, terminal: usize, text: &mut String) -> Result<(), AllocError>
-    requires { terminal < length world.now.sittings }
+    requires { terminal < length world.now.slots }
     ensures { OnOk result (string_bytes text.new ≡ string_bytes text.old ++ screen_text (terminal_of terminal world.now).station) }
 {
     let screen = world.terminal(terminal).screen_text(alloc)?;
@@ -80,7 +80,7 @@ fn show(alloc: Global, world: &World, terminal: usize, text: &mut String) -> Res
 
 /// Adds a terminal's phase.
 fn tell(world: &World, terminal: usize, text: &mut String) -> Result<(), AllocError>
-    requires { terminal < length world.now.sittings }
+    requires { terminal < length world.now.slots }
     ensures { OnOk result (string_bytes text.new ≡ string_bytes text.old ++ phase_line (phase_of (terminal_of terminal world.now).link)) }
 {
     put_phase(text, &world.terminal(terminal).phase())
@@ -112,7 +112,7 @@ fn play_line(
     line: &str,
     text: &mut String,
 ) -> Result<(), AllocError>
-    requires terminals { length world.old.sittings ≡ terminal_count }
+    requires terminals { length world.old.slots ≡ terminal_count }
     requires in_range { asked terminal_count line.now ≡ Some asks }
     ensures { OnOk result (PrintsLine asks line.now world.old world.new (string_bytes text.old) (string_bytes text.new)) }
 {
@@ -139,7 +139,7 @@ pub(crate) fn play(
     script: &str,
     text: &mut String,
 ) -> Result<Option<usize>, AllocError>
-    requires { length world.old.sittings ≡ terminal_count }
+    requires { length world.old.slots ≡ terminal_count }
     ensures { IfOk result (λ stopped. (printed : List ℕ) × IsPlayed script.now world.old printed stopped world.new
         × (string_bytes text.new ≡ string_bytes text.old ++ printed)) }
 {

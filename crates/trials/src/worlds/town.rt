@@ -15,7 +15,7 @@ pub(crate) const TERMINALS: usize = 4;
 #[derive(Drop)]
 pub(crate) struct Town {
     world: World,
-    ghost four: { length world.sittings ≡ 4 },
+    ghost four: { length world.slots ≡ 4 },
 }
 
 impl Town {
