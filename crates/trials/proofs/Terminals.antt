@@ -67,7 +67,7 @@ gone_below (suc number) world =
 -- ---- an event
 
 presses : (terminal : ℕ) (key : Key) (old : ByteWorld) (answer : Stepped) (new : ByteWorld) → Presses terminal key old answer new → Keeps old new
-presses terminal key old answer new (Presses.refused is same) = ap count same
+presses terminal key old answer new (Presses.refused lacks is same) = ap count same
 presses terminal key old answer new (Presses.done is made) =
     ap count made ∙ one_set old terminal (record (slot_at terminal old) { tracked = tracked_after_key key (slot_at terminal old).tracked })
 
