@@ -10,56 +10,31 @@ struct Outcome {
     faults: Vec<u8>,
 }
 
-/// The streams of a run.
-#[derive(Drop)]
-struct Streams<'a> {
-    input: CountedReader<Pieces<'a>>,
-    out: CountedWriter<Paper>,
-    faults: CountedWriter<Paper>,
-}
-
-impl<'a> Streams<'a> {
-    /// Streams with this input, and room for `room` bytes of output.
-    fn new(alloc: Global, input: Pieces<'a>, room: usize) -> Streams<'a> {
-        Streams {
-            input: CountedReader::new(input),
-            out: paper_with(alloc, room),
-            faults: paper_with(alloc, usize::MAX),
-        }
-    }
-
-    fn outcome(self, status: u8) -> Outcome {
-        let Streams { out, faults, .. } = self;
-        Outcome {
-            status,
-            out: out.into_inner().text,
-            faults: faults.into_inner().text,
-        }
+/// How a run ended, with what its two writers got.
+fn outcome_of(status: u8, out: CountedWriter<Paper>, faults: CountedWriter<Paper>) -> Outcome {
+    Outcome {
+        status,
+        out: out.into_inner().text,
+        faults: faults.into_inner().text,
     }
 }
 
 /// How `run_show` ends with this input, and room for `room` bytes of output.
 fn shown(alloc: Global, input: Pieces<'_>, room: usize) -> Outcome {
-    let mut streams = Streams::new(alloc, input, room);
-    let status = run_show(
-        alloc,
-        &mut streams.input,
-        &mut streams.out,
-        &mut streams.faults,
-    );
-    streams.outcome(status)
+    let mut input = CountedReader::new(input);
+    let mut out = paper_with(alloc, room);
+    let mut faults = paper_with(alloc, usize::MAX);
+    let status = run_show(alloc, &mut input, &mut out, &mut faults);
+    outcome_of(status, out, faults)
 }
 
 /// How `run_script` ends likewise.
 fn played(alloc: Global, input: Pieces<'_>, room: usize) -> Outcome {
-    let mut streams = Streams::new(alloc, input, room);
-    let status = run_script(
-        alloc,
-        &mut streams.input,
-        &mut streams.out,
-        &mut streams.faults,
-    );
-    streams.outcome(status)
+    let mut input = CountedReader::new(input);
+    let mut out = paper_with(alloc, room);
+    let mut faults = paper_with(alloc, usize::MAX);
+    let status = run_script(alloc, &mut input, &mut out, &mut faults);
+    outcome_of(status, out, faults)
 }
 
 /// Whether an input isn't read: nothing is printed, and one fault is told.
