@@ -1,11 +1,11 @@
--- EBCDIC code page 037, the one that our profile has: what the codes 0x40 to 0xFE mean in ISO 8859-1. The table is that of
--- Python's codec cp037.
+-- EBCDIC code page 037, the only one of our profile: the ISO 8859-1 characters of the codes 0x40 to
+-- 0xFE. The table is that of Python's codec cp037.
 use Rattle.std.specs.Prelude.{◌==◌, ℕ, ◌+◌, ◌-◌, List, [], ◌∷◌, Option, None, Some, if◌then◌else◌, slice_index}
 use Rattle.std.specs.Int.{is_in_range}
 use Rattle.std.specs.List.{position}
 use Rattle.std.specs.Option.{option_map}
 
--- the characters of the codes from 0x40 on, sixteen to a row
+-- the characters of the codes 0x40 to 0xFE, sixteen to a row
 abbrev pub characters : List ℕ
 characters =
     0x20 ∷ 0xA0 ∷ 0xE2 ∷ 0xE4 ∷ 0xE0 ∷ 0xE1 ∷ 0xE3 ∷ 0xE5 ∷ 0xE7 ∷ 0xF1 ∷ 0xA2 ∷ 0x2E ∷ 0x3C ∷ 0x28 ∷ 0x2B ∷ 0x7C ∷

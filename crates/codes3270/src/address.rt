@@ -11,8 +11,8 @@ use std::error::Error;
 use std::fmt;
 use std::marker::Model;
 
-/// The place of a cell on the screen (GA23-0059-07 on buffer addressing), below `CELLS`: cells count from 0, row by row.
-/// Contracts see it as a number.
+/// A buffer address: the number of a cell, from 0 up to `CELLS` (exclusive), row by row
+/// (GA23-0059-07 on buffer addressing). Contracts see it as a number.
 #[derive(Clone, Copy, Debug, PartialEq, Eq)]
 pub struct Addr {
     position: u16,
@@ -31,10 +31,10 @@ impl Model for Addr {
     ghost inverse = { λ position. record { position = position } };
 }
 
-/// Why two bytes are no address of our profile's screen.
+/// Why two bytes aren't a buffer address of our profile's screen.
 #[derive(Clone, Copy, Debug, PartialEq, Eq)]
 pub enum AddrFault {
-    /// They are read as `CELLS` or more.
+    /// The address that they encode is `CELLS` or more.
     TooLarge,
 }
 
@@ -53,7 +53,7 @@ impl fmt::Display for AddrFault {
 impl Error for AddrFault {}
 
 impl Addr {
-    /// The address with a number; None from `CELLS` on.
+    /// The address with a number; `None` if the number is `CELLS` or more.
     pub const fn new(position: u16) -> Option<Addr>
         ensures { SomeIff result (position < cell_count) position }
     {
@@ -86,7 +86,8 @@ impl Addr {
         self.position
     }
 
-    /// The address that lies `count` cells further, round the end. Once round is the most.
+    /// The address `count` cells after this one. Address 0 follows the last. `count` is at most
+    /// `CELLS`.
     pub const fn forward(self, count: u16) -> Addr
         requires { count ≤ cell_count }
         ensures value { result ≡ (self + count) % cell_count }
@@ -97,7 +98,8 @@ impl Addr {
         }
     }
 
-    /// The address that lies `count` cells back, round the end. Once round is the most.
+    /// The address `count` cells before this one. The last address precedes 0. `count` is at most
+    /// `CELLS`.
     pub const fn backward(self, count: u16) -> Addr
         requires { count ≤ cell_count }
         ensures value { result ≡ (self + cell_count - count) % cell_count }
@@ -108,7 +110,7 @@ impl Addr {
         }
     }
 
-    /// The next address, round the end.
+    /// The next address; 0 after the last.
     pub const fn next(self) -> Addr
         ensures value { result ≡ (self + 1) % cell_count }
         ensures in_range { self < cell_count }
@@ -123,7 +125,8 @@ impl Addr {
     }
 }
 
-/// The addresses that are left of a walk over the screen, in ascending order: an iterator. Contracts see their list.
+/// An iterator over the addresses of the screen, in ascending order. Contracts see the list of the
+/// addresses that it has yet to yield.
 #[derive(Debug, Drop)]
 pub struct Addrs {
     next: u16,
@@ -159,8 +162,8 @@ impl Iterator for Addrs {
     }
 }
 
-/// The two bytes that an address is written as (GA23-0059-07 on buffer addressing): the graphic codes of its high and of its
-/// low six bits. Twelve bits hold every address of the screen.
+/// Encodes an address in two bytes: the graphic codes of its high six bits and of its low six bits
+/// (GA23-0059-07 on buffer addressing). Twelve bits hold every address of the screen.
 pub fn addr_to_bytes(addr: Addr) -> [u8; 2]
     ensures bytes { result ≡ address_bytes addr }
     ensures read_back { address_of (slice_index result 0) (slice_index result 1) ≡ addr }
@@ -174,8 +177,10 @@ pub fn addr_to_bytes(addr: Addr) -> [u8; 2]
     ]
 }
 
-/// The address that two bytes are read as (GA23-0059-07 on buffer addressing): of fourteen bits where the top two bits of the
-/// first are 0, else of twelve, whose bytes need not be graphic codes. `TooLarge` exactly where it isn't below `CELLS`.
+/// Decodes an address from two bytes (GA23-0059-07 on buffer addressing). It has fourteen bits if
+/// the top two bits of the first byte are 0. If they aren't, it has twelve: the low six bits of
+/// each byte, which needn't be a graphic code. The error is `TooLarge` if the address is `CELLS` or
+/// more.
 pub fn addr_from_bytes(bytes: [u8; 2]) -> Result<Addr, AddrFault>
     ensures { let address = address_of (slice_index bytes 0) (slice_index bytes 1) in
         MatchResult result (λ addr. (address < cell_count) × (addr ≡ address)) (λ _. address < cell_count → ⊥) }

@@ -4,7 +4,8 @@ ghost use Rattle.codes3270.specs.Aid.{IsRealAid, byte_of_aid, aid_of, is_short_a
 
 use std::marker::Model;
 
-/// The number of a program function key, 1 to 24 (GA23-0059-07 on attention identification). Contracts see it as a number.
+/// The number of a program function key, 1 to 24 (GA23-0059-07 on attention identification).
+/// Contracts see it as a number.
 #[derive(Clone, Copy, Debug, PartialEq, Eq)]
 pub struct PfNo {
     number: u8,
@@ -22,7 +23,8 @@ impl Model for PfNo {
     ghost inverse = { λ number. record { number = number } };
 }
 
-/// The number of a program attention key, 1 to 3 (GA23-0059-07 on attention identification). Contracts see it as a number.
+/// The number of a program attention key, 1 to 3 (GA23-0059-07 on attention identification).
+/// Contracts see it as a number.
 #[derive(Clone, Copy, Debug, PartialEq, Eq)]
 pub struct PaNo {
     number: u8,
@@ -40,14 +42,15 @@ impl Model for PaNo {
     ghost inverse = { λ number. record { number = number } };
 }
 
-/// What key sent the data (GA23-0059-07 on attention identification).
+/// An attention identifier (AID): the key that caused the terminal to send (GA23-0059-07 on
+/// attention identification).
 #[derive(Clone, Copy, Debug, PartialEq, Eq)]
 pub enum Aid {
-    /// No key: none was pressed since the keyboard was restored.
+    /// No key was pressed since the keyboard was restored.
     NoAid,
     /// The Enter key.
     Enter,
-    /// The Clear key, which also empties the screen.
+    /// The Clear key, which also clears the screen.
     Clear,
     /// A program function key.
     Pf(PfNo),
@@ -65,7 +68,7 @@ static PF_CODES: [u8; 24] = [
 static PA_CODES: [u8; 3] = [0x6C, 0x6E, 0x6B];
 
 impl PfNo {
-    /// The key with a number; None unless it is 1 to 24.
+    /// The key with a number; `None` unless the number is 1 to 24.
     pub fn new(number: u8) -> Option<PfNo>
         ensures { SomeIff result ((1 ≤ number) × (number ≤ 24)) number }
     {
@@ -86,7 +89,7 @@ impl PfNo {
 }
 
 impl PaNo {
-    /// The key with a number; None unless it is 1 to 3.
+    /// The key with a number; `None` unless the number is 1 to 3.
     pub fn new(number: u8) -> Option<PaNo>
         ensures { SomeIff result ((1 ≤ number) × (number ≤ 3)) number }
     {
@@ -106,7 +109,7 @@ impl PaNo {
     }
 }
 
-/// The byte of an identifier (GA23-0059-07 on attention identification).
+/// Encodes an identifier (GA23-0059-07 on attention identification).
 pub fn aid_byte(aid: Aid) -> u8
     ensures byte { result ≡ byte_of_aid aid }
     ensures read_back { aid_of result ≡ Some aid }
@@ -122,8 +125,8 @@ pub fn aid_byte(aid: Aid) -> u8
 }
 
 impl Aid {
-    /// Whether a read that answers this key has the identifier alone: after Clear and the program attention keys
-    /// (GA23-0059-07 on short reads).
+    /// Whether the terminal sends the identifier alone for this key: true of Clear and the program
+    /// attention keys (GA23-0059-07 on short reads).
     pub fn is_short(self) -> bool
         ensures { result ≡ is_short_aid self }
     {
@@ -131,7 +134,7 @@ impl Aid {
     }
 }
 
-/// Where a code stands in a list.
+/// The index of a code in a list.
 fn place_of(codes: &[u8], byte: u8) -> Option<usize>
     ensures place { result ≡ position (λ code. code == byte) codes.now }
     ensures in_range { IfSome result (λ place. place < length codes.now) }
@@ -140,7 +143,7 @@ fn place_of(codes: &[u8], byte: u8) -> Option<usize>
     codes.iter().position(|code| *code == byte)
 }
 
-/// The number, from 1 on, of the key with a code.
+/// The number of the key with a code: its index in the list, plus 1.
 fn number_of_key(codes: &[u8], byte: u8) -> Option<u8>
     requires { length codes.now ≤ 24 }
     ensures number { result ≡ key_number codes.now byte }
@@ -151,8 +154,8 @@ fn number_of_key(codes: &[u8], byte: u8) -> Option<u8>
     Some(place as u8 + 1)
 }
 
-/// The identifier with a byte; None where no key has it (GA23-0059-07 on attention identification; our profile has no light
-/// pen, card reader or structured field).
+/// Decodes an identifier; `None` if no key has this byte (GA23-0059-07 on attention
+/// identification). Our profile has no light pen, card reader or structured field.
 pub fn aid_from_byte(byte: u8) -> Option<Aid>
     ensures aid { result ≡ aid_of byte }
     ensures real { IfSome result IsRealAid }

@@ -1,4 +1,4 @@
-//! Field attributes (GA23-0059-07 on field attributes), and cells.
+//! Field attributes and cells (GA23-0059-07 on field attributes).
 ghost use Rattle.std.specs.Prelude.{◌≡◌, ◌↔◌, IsTrue, true};
 ghost use Rattle.codes3270.specs.Attribute.{attr_of, attr_byte, display_of, display_bits, attribute_in, is_char, is_open_attribute};
 ghost use Rattle.codes3270.specs.SixBit.{is_six_bit_code};
@@ -6,42 +6,43 @@ ghost use Rattle.codes3270.specs.declared.attribute.Display.TheVariants.{Bright,
 
 use crate::six_bit::code_of_value;
 
-/// How the characters of a field are shown: the display bits of its attribute (GA23-0059-07 on field attributes).
+/// How a field is displayed: the display bits of its attribute (GA23-0059-07 on field attributes).
 #[derive(Clone, Copy, Debug, PartialEq, Eq)]
 pub enum Display {
     /// At normal intensity.
     Normal,
-    /// At normal intensity, and a light pen would find it.
+    /// At normal intensity; a light pen can detect it.
     Detectable,
-    /// At high intensity; a light pen would find it.
+    /// At high intensity; a light pen can detect it.
     Bright,
-    /// Not shown, not printed, and no light pen finds it.
+    /// Not displayed and not printed; a light pen can't detect it.
     Hidden,
 }
 
-/// The attribute of a field (GA23-0059-07 on field attributes). It takes the cell before the field's first.
+/// The attribute of a field (GA23-0059-07 on field attributes). It occupies the cell before the
+/// field's first character.
 #[derive(Clone, Copy, Debug, PartialEq, Eq)]
 pub struct Attr {
     /// The operator can't change the field.
     pub protected: bool,
-    /// The operator can type numbers alone; with `protected`, the cursor skips the field.
+    /// The operator can type only numbers. With `protected`, the cursor skips the field.
     pub numeric: bool,
-    /// How its characters are shown.
+    /// How the field is displayed.
     pub display: Display,
-    /// The modified data tag: the field was changed, and Read Modified sends it.
+    /// The modified data tag (MDT): the field was modified, and Read Modified sends it.
     pub mdt: bool,
 }
 
-/// What one cell of the screen has (GA23-0059-07 on field attributes).
+/// The content of one cell of the screen (GA23-0059-07 on field attributes).
 #[derive(Clone, Copy, Debug, PartialEq, Eq)]
 pub enum Cell {
-    /// A character, as its EBCDIC code: one that `storable` takes.
+    /// A character, as an EBCDIC code for which `storable` is true.
     Char(u8),
     /// The attribute of the field that begins at the next cell.
     Attr(Attr),
 }
 
-/// What the display bits of a byte, 0C, say.
+/// Decodes the display bits of a byte (mask 0C).
 fn display_of_byte(byte: u8) -> Display
     ensures { result ≡ display_of byte }
 {
@@ -53,7 +54,7 @@ fn display_of_byte(byte: u8) -> Display
     }
 }
 
-/// The display bits that say it.
+/// Encodes the display bits.
 fn bits_of_display(display: Display) -> u8
     ensures { result ≡ display_bits display }
 {
@@ -66,7 +67,8 @@ fn bits_of_display(display: Display) -> u8
 }
 
 impl Attr {
-    /// The attribute that a byte is read as. Bits 80, 40 and 02 mean nothing and are dropped, so every byte is read.
+    /// Decodes an attribute. Bits 80, 40 and 02 have no meaning and are ignored, so every byte
+    /// decodes.
     pub fn from_code(code: u8) -> Attr
         ensures { result ≡ attr_of code }
     {
@@ -85,28 +87,28 @@ impl Attr {
         self.protected
     }
 
-    /// Whether the operator can type numbers alone.
+    /// Whether the operator can type only numbers.
     pub fn numeric(self) -> bool
         ensures { result ≡ self.numeric }
     {
         self.numeric
     }
 
-    /// Whether the cursor passes over the field as typing reaches it: protected and numeric together.
+    /// Whether the cursor skips the field when typing reaches it: if it is protected and numeric.
     pub fn autoskip(self) -> bool
         ensures { IsTrue result ↔ (IsTrue self.protected × IsTrue self.numeric) }
     {
         self.protected && self.numeric
     }
 
-    /// Whether the field is shown at high intensity.
+    /// Whether the field is displayed at high intensity.
     pub fn bright(self) -> bool
         ensures { IsTrue result ↔ (self.display ≡ Bright) }
     {
         self.display == Display::Bright
     }
 
-    /// Whether the field isn't shown.
+    /// Whether the field isn't displayed.
     pub fn hidden(self) -> bool
         ensures { IsTrue result ↔ (self.display ≡ Hidden) }
     {
@@ -120,7 +122,7 @@ impl Attr {
         self.mdt
     }
 
-    /// The same attribute, its modified data tag on or off.
+    /// The same attribute with this modified data tag.
     pub fn with_mdt(self, mdt: bool) -> Attr
         ensures { result ≡ record self { mdt = mdt } }
     {
@@ -129,7 +131,7 @@ impl Attr {
 }
 
 impl Cell {
-    /// Its attribute, if it has one.
+    /// The attribute in this cell, if there is one.
     pub fn attribute(self) -> Option<Attr>
         ensures { result ≡ attribute_in self }
     {
@@ -139,7 +141,7 @@ impl Cell {
         }
     }
 
-    /// Whether it has a character.
+    /// Whether the cell holds a character.
     pub fn is_character(self) -> bool
         ensures { result ≡ is_char self }
     {
@@ -149,7 +151,7 @@ impl Cell {
         }
     }
 
-    /// Whether it has the attribute of an unprotected field.
+    /// Whether the cell holds the attribute of an unprotected field.
     pub fn is_unprotected_attribute(self) -> bool
         ensures { result ≡ is_open_attribute self }
     {
@@ -160,7 +162,7 @@ impl Cell {
     }
 }
 
-/// The byte that an attribute is written as: the graphic code of its six bits (GA23-0059-07 on graphic codes).
+/// Encodes an attribute: the graphic code of its six bits (GA23-0059-07 on graphic codes).
 pub fn attr_code(attr: Attr) -> u8
     ensures byte { result ≡ attr_byte attr }
     ensures read_back { attr_of result ≡ attr }

@@ -1,11 +1,12 @@
-//! EBCDIC code page 037, of the codes 40 to FE.
+//! EBCDIC code page 037: the codes 40 to FE.
 ghost use Rattle.std.specs.Prelude.{◌≡◌, ◌==◌, ◌<◌, true, IfSome, position};
 ghost use Rattle.codes3270.specs.Storable.{is_storable};
 ghost use Rattle.codes3270.specs.CodePage.{characters, character_of, code_of};
 
-/// The codes of the first and the last of `CHARACTERS`.
+/// The code of the first of `CHARACTERS`.
 const FIRST_CODE: u8 = 0x40;
 
+/// The code of the last of `CHARACTERS`.
 const LAST_CODE: u8 = 0xFE;
 
 /// The characters, in ISO 8859-1, of the codes from 40 to FE.
@@ -24,8 +25,8 @@ static CHARACTERS: [u8; 191] = [
     0x30, 0x31, 0x32, 0x33, 0x34, 0x35, 0x36, 0x37, 0x38, 0x39, 0xB3, 0xDB, 0xDC, 0xD9, 0xDA,
 ];
 
-/// The ISO 8859-1 character of a code in code page 037, the one that our profile has; None outside 40 to FE, where codes
-/// are controls.
+/// The ISO 8859-1 character of a code in code page 037, the only one of our profile. `None` outside
+/// 40 to FE: those codes are controls.
 pub fn to_latin1(code: u8) -> Option<char>
     ensures character { result ≡ character_of code }
     ensures back { IfSome result (λ character. code_of character ≡ Some code) }
@@ -36,7 +37,7 @@ pub fn to_latin1(code: u8) -> Option<char>
     }
 }
 
-/// Where a character stands in `CHARACTERS`.
+/// The index of a character in `CHARACTERS`.
 fn place_of(character: char) -> Option<usize>
     ensures place { result ≡ position (λ c. c == character) characters }
     ensures in_range { IfSome result (λ place. place < 191) }
@@ -44,7 +45,8 @@ fn place_of(character: char) -> Option<usize>
     CHARACTERS.iter().position(|c| char::from(*c) == character)
 }
 
-/// The code of a character in code page 037; None unless it is one of the 191 that the codes 40 to FE have.
+/// The code of a character in code page 037; `None` unless it is one of the 191 characters with the
+/// codes 40 to FE.
 pub fn from_latin1(character: char) -> Option<u8>
     ensures code { result ≡ code_of character }
     ensures back { IfSome result (λ code. character_of code ≡ Some character) }

@@ -14,8 +14,8 @@ ghost use Rattle.codes3270.specs.declared.attention.Aid.{Aid};
 
 use crate::{CELL_COUNT, CELLS, COLUMNS, ROWS};
 
-/// Law: what is written is read back, the code page's two directions are inverse, and characters
-/// have the codes from 0x40 to 0xFE.
+/// Law: each value decodes from its own encoding, the two directions of the code page are inverse,
+/// and the codes of characters are 0x40 to 0xFE.
 pub const fn code_laws()
     ensures addresses { (address : ℕ) → address < cell_count →
         address_of (six_bit_code (address / 64)) (six_bit_code (address % 64)) ≡ address }
@@ -26,7 +26,7 @@ pub const fn code_laws()
     ensures range { (code character : ℕ) → code_of character ≡ Some code → (0x40 ≤ code) × (code ≤ 0xFE) }
 {}
 
-/// Law: these constants are the numbers that contracts name, those numbers are the model's, and the
+/// Law: these constants are the numbers that contracts name, the model has these numbers, and the
 /// rows fill the screen.
 pub const fn size_laws()
     ensures rows { ROWS ≡ rows }

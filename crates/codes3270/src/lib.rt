@@ -1,9 +1,11 @@
-//! The codes of the 3270 data stream (GA23-0059-07), for a 3278 model 2: buffer addresses, field attributes, write control
-//! characters, attention identifiers, and characters in EBCDIC code page 037.
+//! The codes of the 3270 data stream (GA23-0059-07), for a 3278 model 2: buffer addresses, field
+//! attributes, write control characters, attention identifiers, and characters in EBCDIC code page
+//! 037.
 //!
-//! Each code is written and read: the call that writes ensures that its bytes are read back as the same value. No call
-//! allocates, and one answers None or an error only where a number, byte or character means nothing in our profile. In these
-//! documents codes are hexadecimal.
+//! Each code has a call that encodes and one that decodes. The encoder's contract says that its
+//! bytes decode to the same value. No call allocates. A call returns `None` or an error only if the
+//! number, byte or character has no meaning in our profile. Codes in these documents are
+//! hexadecimal.
 #![tactic(auto)]
 
 mod address;

@@ -1,15 +1,15 @@
-//! The size of the screen: our profile has the 3278 model 2 alone, with 24 rows of 80 cells.
+//! The size of the screen. Our profile has only the 3278 model 2: 24 rows of 80 cells.
 ghost use Rattle.std.specs.Prelude.{◌*◌};
 ghost use Rattle.codes3270.specs.Size.{rows};
 
-/// How many rows the screen has, in our profile.
+/// The number of rows of the screen, in our profile.
 pub const ROWS: u16 = 24;
 
-/// How many cells a row has, in our profile.
+/// The number of cells of a row, in our profile.
 pub const COLUMNS: u16 = 80;
 
-/// How many cells the screen has, in our profile. Addresses are below it.
+/// The number of cells of the screen, in our profile. Addresses are less than this.
 pub const CELLS: u16 = ROWS * COLUMNS;
 
-/// The same, as the length of what has an item for each cell.
+/// `CELLS` as a length, for lists with an item for each cell.
 pub const CELL_COUNT: usize = CELLS as usize;

@@ -5,20 +5,21 @@ ghost use Rattle.codes3270.specs.WriteControl.{wcc_of, wcc_byte};
 
 use crate::six_bit::code_of_value;
 
-/// What a write does beside its orders (GA23-0059-07, "Write Control Character (WCC)").
+/// The write control character (WCC): what a write does besides its orders (GA23-0059-07, "Write
+/// Control Character (WCC)").
 #[derive(Clone, Copy, Debug, PartialEq, Eq)]
 pub struct Wcc {
     /// Sound the alarm, after the orders.
     pub alarm: bool,
-    /// Free the keyboard and forget the last key, after the orders.
+    /// Restore the keyboard and reset the AID, after the orders.
     pub restore: bool,
     /// Reset the modified data tag of every field, before the orders.
     pub reset: bool,
 }
 
 impl Wcc {
-    /// The character that a byte is read as. Its other five bits, which are for printers, for partitions or to make the
-    /// byte a graphic code, are dropped, so every byte is read.
+    /// Decodes a WCC. The other five bits are ignored, so every byte decodes: they are for
+    /// printers, for partitions, or make the byte a graphic code.
     pub fn from_byte(byte: u8) -> Wcc
         ensures { result ≡ wcc_of byte }
     {
@@ -29,7 +30,7 @@ impl Wcc {
         }
     }
 
-    /// The byte that it is written as: a graphic code.
+    /// Encodes the WCC as a graphic code.
     pub fn byte(self) -> u8
         ensures byte { result ≡ wcc_byte self }
         ensures read_back { wcc_of result ≡ self }
@@ -48,7 +49,7 @@ impl Wcc {
         self.alarm
     }
 
-    /// Whether the keyboard is freed.
+    /// Whether the keyboard is restored.
     pub fn restore(self) -> bool
         ensures { result ≡ self.restore }
     {

@@ -11,8 +11,8 @@ pub record Field : Type 0 where
   pub attr : Attribute
   pub text : List ℕ
 
--- the fields whose attributes stand in `rest`, the cells of `whole` from an address on: a field's characters run from the
--- next cell to the next attribute, and after the last cell go on at address 0
+-- the fields whose attributes are in `rest`, the cells of `whole` from an address on: the characters of a field run from
+-- the next cell to the next attribute, and continue at address 0 after the last cell
 abbrev pub fields_from : List Cell → ℕ → List Cell → List Field
 fields_from whole at [] = []
 fields_from whole at (Char byte ∷ rest) = fields_from whole (at + 1) rest

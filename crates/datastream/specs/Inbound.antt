@@ -18,7 +18,7 @@ abbrev pub is_modified : Cell → Bool
 is_modified (Char byte) = false
 is_modified (Attr attribute) = attribute.mdt
 
--- SBA, the field's first address, and its characters without nulls; the attribute stands at the address given
+-- SBA, the field's first address, and its characters without nulls; the address given is the attribute's
 abbrev pub modified_field : List Cell → ℕ → List ℕ
 modified_field cells at = set_buffer_address ∷ address_bytes ((at + 1) % length cells) ++ without_nulls (field_text cells at)
 

@@ -1,4 +1,4 @@
--- Inbound data (GA23-0059-07 on inbound data streams) by fields: what came before any address, each field that came with its
+-- Inbound data (GA23-0059-07 on inbound data streams) by fields: the characters before any address, each returned field with its
 -- first address and its text, and the cells of a buffer.
 use Rattle.std.specs.Prelude.{◌≡◌, ⊤, ◌+◌, ◌%◌, ◌<◌, ℕ, Bool, true, false, List, [], ◌∷◌, ◌++◌, length, map, filter, All, Option, Some, None, if◌then◌else◌}
 use Rattle.std.specs.List.{flat_map, list_all}

@@ -18,16 +18,16 @@ abbrev pub Gives : {X Y : Type 0} → (X → Y) → Result X InboundFault → Re
 Gives view (Ok x) read = read ≡ Ok (view x)
 Gives view (Err e) read = read ≡ Err e
 
--- each reader answers what stands at the front, and the bytes behind it
+-- each reader returns what the first bytes spell, and the bytes after that
 
--- an address, behind its order's code
+-- an address, after its order's code
 abbrev pub address_at : List ℕ → Result (Part × List ℕ) InboundFault
 address_at [] = Err BadForm
 address_at (high ∷ []) = Err BadForm
 address_at (high ∷ low ∷ rest) =
     if nat_lt (address_of high low) cell_count then Ok (At (address_of high low), rest) else Err BadAddress
 
--- an attribute, behind its order's code
+-- an attribute, after its order's code
 abbrev pub attribute_at : List ℕ → Result (Part × List ℕ) InboundFault
 attribute_at [] = Err Short
 attribute_at (code ∷ rest) = Ok (Attr (attr_of code), rest)
@@ -53,12 +53,12 @@ part_at Modified text = text_part_at text
 part_at AllModified text = text_part_at text
 part_at Buffer text = cell_part_at text
 
--- a part, and those in the bytes behind it
+-- a part, and those in the bytes after it
 abbrev pub and_parts : (List ℕ → List Part) → Result (Part × List ℕ) InboundFault → List Part
 and_parts others (Ok found) = found.0 ∷ others found.1
 and_parts others (Err fault) = []
 
--- the parts at the front of the bytes, up to where none stands; at most so many
+-- the parts that the bytes begin with, up to the first bytes that spell none; at most `n`
 unfoldable pub parts_within : Form → ℕ → List ℕ → List Part
 parts_within form zero text = []
 parts_within form (suc n) text = and_parts (parts_within form n) (part_at form text)

@@ -20,7 +20,7 @@ abbrev pub Gives : {X Y : Type 0} → (X → Y) → Result X CommandFault → Re
 Gives view (Ok x) read = read ≡ Ok (view x)
 Gives view (Err e) read = read ≡ Err e
 
--- each reader answers what stands at the front, and the bytes behind it
+-- each reader returns what the first bytes spell, and the bytes after that
 abbrev pub byte_at : List ℕ → Result (ℕ × List ℕ) CommandFault
 byte_at [] = Err Truncated
 byte_at (byte ∷ rest) = Ok (byte, rest)
@@ -35,7 +35,7 @@ abbrev pub character_at : List ℕ → Result (ℕ × List ℕ) CommandFault
 character_at [] = Err Truncated
 character_at (char ∷ rest) = if is_storable char then Ok (char, rest) else Err BadOrder
 
--- the order whose code stands before the bytes
+-- the order with this code, which these bytes follow
 unfoldable pub order_after : ℕ → List ℕ → Result (Order × List ℕ) CommandFault
 order_after code rest =
     if code == start_field then byte_at rest >>= (λ attr. Ok (Sf (attr_of attr.0), attr.1))
@@ -51,12 +51,12 @@ unfoldable pub order_at : List ℕ → Result (Order × List ℕ) CommandFault
 order_at [] = Err Truncated
 order_at (byte ∷ rest) = if is_storable byte then Ok (Char byte, rest) else order_after byte rest
 
--- an order, and those in the bytes behind it
+-- an order, and those in the bytes after it
 abbrev pub and_orders : (List ℕ → List Order) → Result (Order × List ℕ) CommandFault → List Order
 and_orders others (Ok found) = found.0 ∷ others found.1
 and_orders others (Err fault) = []
 
--- the orders at the front of the bytes, up to where none stands; at most so many
+-- the orders that the bytes begin with, up to the first bytes that spell none; at most `n`
 unfoldable pub orders_within : ℕ → List ℕ → List Order
 orders_within zero text = []
 orders_within (suc n) text = and_orders (orders_within n) (order_at text)

@@ -59,7 +59,7 @@ places_from passes at (cell ∷ cells) =
 abbrev pub is_char_at : List Cell → ℕ → Bool
 is_char_at cells at = is_char (slice_index_or cells at (Char 0))
 
--- The attribute that governs the cell at `at` stands at `attr`: `back` places before it, round the end,
+-- The attribute that governs the cell at `at` is at `attr`: `back` places before it, round the end,
 -- with only characters nearer. `back` is 0 where the cell holds the attribute.
 pub record IsGoverned (cells : List Cell) (at attr : ℕ) : Type 0 where
   pub back : ℕ

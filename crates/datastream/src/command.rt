@@ -55,6 +55,7 @@ impl<'a> Command<'a> {
         ensures few { length result < 2 ^ 64 }
         ensures spelt { IsSpelt self.now }
     {
+        // For the contract: the text has less than 2^64 bytes.
         let _bytes = self.text.len();
         Orders { text: self.text }
     }

@@ -82,6 +82,7 @@ impl<'a> Inbound<'a> {
         ensures few { length result < 2 ^ 64 }
         ensures sent { IsSent self.now }
     {
+        // For the contract: the text has less than 2^64 bytes.
         let _bytes = self.text.len();
         Parts {
             form: self.form,
@@ -105,6 +106,7 @@ impl<'a> Inbound<'a> {
         ensures few { length result < 2 ^ 64 }
         ensures sent { IsSent self.now }
     {
+        // For the contract: the text has less than 2^64 bytes.
         let _bytes = self.text.len();
         ReturnedFields {
             text: self.field_bytes(),

@@ -10,10 +10,10 @@ use crate::order_codes::SET_BUFFER_ADDRESS;
 use codes3270::{Addr, addr_from_bytes, storable};
 use std::marker::Model;
 
-/// A field that came (GA23-0059-07 on Read Modified).
+/// A returned field (GA23-0059-07 on Read Modified).
 #[derive(Clone, Copy, Debug, PartialEq, Eq)]
 pub struct ReturnedField<'a> {
-    /// The address of its first cell: the one behind its attribute, round the end.
+    /// The address of its first cell: the one after its attribute, round the end.
     pub first: Addr,
     /// Its characters, of which none is null.
     pub text: &'a [u8],
@@ -38,7 +38,7 @@ impl<'a> Model for ReturnedFields<'a> {
 
     ghost view = { λ fields. returned (parts_in Modified fields.text.now) };
 
-    // No character stands before the first address.
+    // There is no character before the first address.
     ghost invariant = { λ fields. AreParts Modified (parts_in Modified fields.text.now) fields.text.now × (prefix_len is_storable fields.text.now ≡ 0) };
 }
 

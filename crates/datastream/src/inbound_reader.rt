@@ -90,9 +90,9 @@ impl<'a> Iterator for Cells<'a> {
     }
 }
 
-// Each of these reads what stands at the front of the bytes, and answers the bytes behind it too.
+// Each of these reads what the first bytes spell, and also returns the bytes after that.
 
-/// An address, behind its order's code.
+/// An address, after its order's code.
 fn address_part_of(bytes: &[u8]) -> Result<(Part, &[u8]), InboundFault>
     ensures { Gives (λ x. (x.0, x.1.now)) result (address_at bytes.now) }
 {
@@ -105,7 +105,7 @@ fn address_part_of(bytes: &[u8]) -> Result<(Part, &[u8]), InboundFault>
     }
 }
 
-/// An attribute, behind its order's code.
+/// An attribute, after its order's code.
 fn attribute_part_of(bytes: &[u8]) -> Result<(Part, &[u8]), InboundFault>
     ensures { Gives (λ x. (x.0, x.1.now)) result (attribute_at bytes.now) }
 {

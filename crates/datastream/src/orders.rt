@@ -48,7 +48,7 @@ impl<'a> Iterator for Orders<'a> {
     }
 }
 
-// Each of these reads what stands at the front of the bytes, and answers the bytes behind it too.
+// Each of these reads what the first bytes spell, and also returns the bytes after that.
 
 pub(crate) fn byte_of(bytes: &[u8]) -> Result<(u8, &[u8]), CommandFault>
     ensures { Gives (λ x. (x.0, x.1.now)) result (byte_at bytes.now) }
@@ -82,7 +82,7 @@ fn character_of(bytes: &[u8]) -> Result<(u8, &[u8]), CommandFault>
     }
 }
 
-/// The order whose code stands before the bytes.
+/// The order with this code, which these bytes follow.
 #[inline(always)]
 #[tactic(auto, unfolding(crate::specs::Reading::order_after))]
 fn order_behind(code: u8, bytes: &[u8]) -> Result<(Order, &[u8]), CommandFault>

@@ -91,6 +91,7 @@ impl Wanted {
         ensures { result ≡ record { cells = replicate cell_count want; cursor = 0; reset = false } }
     {
         let cursor = Addr::first();
+        // For the contract: the cursor is on the screen.
         let _position = cursor.get();
         Wanted {
             bytes: same_bytes(byte_of(want)),
@@ -118,6 +119,7 @@ impl Wanted {
     pub fn set_cursor_and_reset(&mut self, cursor: Addr, reset: bool)
         ensures { self.new ≡ record self.old { cursor = cursor; reset = reset } }
     {
+        // For the contract: the cursor is on the screen.
         let _position = cursor.get();
         self.cursor = cursor;
         self.reset = reset;
@@ -129,6 +131,7 @@ impl Wanted {
         ensures size { length result ≡ cell_count }
         ensures proper { All IsProper result }
     {
+        // For the contract: there is a want for each cell.
         let _bytes = self.bytes();
         Wants {
             wanted: self,
@@ -142,6 +145,7 @@ impl Wanted {
         ensures cells { result ≡ drop (cell + 1) self.now.cells ++ self.now.cells }
         ensures few { length result ≤ 2 * cell_count }
     {
+        // For the contract: there is a want for each cell.
         let _bytes = self.bytes();
         Wants {
             wanted: self,

@@ -19,7 +19,7 @@ pub type Memory = AllocError;
 /// [`written_is_read`](crate::laws::written_is_read).
 #[derive(Drop)]
 pub struct CommandWriter<'a> {
-    /// The vector that the calls append to. What stands in it already stays. It is public so that a caller's proof can
+    /// The vector that the calls append to. What it already has stays. It is public so that a caller's proof can
     /// say that it is still the caller's own, which a model of the writer wouldn't tell.
     pub out: &'a mut Vec<u8>,
 }
@@ -68,7 +68,7 @@ impl<'a> CommandWriter<'a> {
         self.out.extend_from_slice(chars)
     }
 
-    /// Stores a character, which has to be storable, up to an address (GA23-0059-07 on Repeat to Address (RA)).
+    /// Stores a character, which must be storable, up to an address (GA23-0059-07 on Repeat to Address (RA)).
     pub fn ra(&mut self, stop: Addr, char: u8) -> Result<(), Memory>
         requires { is_storable char ≡ true }
         ensures { Writes self.old.out self.new.out result (order_bytes (Ra stop char)) }

@@ -1,6 +1,5 @@
 -- What acts and notes make of a connection is what they make of its line, and they leave the talk.
 use Rattle.std.proofs.Common.{◌≡◌, ◌≤◌, ℕ, Bool, true, false, List, Option, Some, None, Vec, refl, ap, sym, subst, ◌∙◌, if◌then◌else◌, arith}
-use Rattle.std.specs.Prelude.{length}
 use Rattle.std.specs.Vec.{vec_capacity}
 use Rattle.std.specs.declared.alloc.Global.{Global}
 use Rattle.telnet_wire.specs.Reading.{Rest}
@@ -11,21 +10,24 @@ use Rattle.host_core.specs.Does.{Does, MayWantMemory}
 use Rattle.host_core.specs.Keeps.{DoesOn, WantsMemory}
 use Rattle.host_core.specs.Connections.{IsSoundConnection, service_of}
 use Rattle.host_core.specs.Notes.{noted, noted_as, may_note}
-use Rattle.host_core.specs.Rooms.{out_room, room_for}
+use Rattle.host_core.specs.Rooms.{out_room}
 use Rattle.host_core.specs.Session.{Conn, is_agreed}
 use Rattle.host_core.specs.State.{Service, Connection, lu_of}
 use Rattle.host_core.specs.declared.acted.Acted.{Acted}
 use Rattle.host_core.specs.declared.acted.Acted.TheVariants as answer
 use Rattle.host_core.specs.declared.connection.HostEnd.{HostEnd}
+use Rattle.host_core.specs.declared.rejection.Rejection.{Rejection}
 use Rattle.host_core.specs.declared.connection.Service.{Service as Kept}
 use Rattle.host_core.specs.declared.connection.Service.TheVariants as kept
 use Rattle.std.proofs.Common.{Box}
 
-abbrev open_connection : Rest → Conn → List ℕ → Connection
-open_connection rest conn out = record { service = Service.Open rest conn; out = out }
+abbrev open_connection : Rest → Conn → List ℕ → List Rejection → Connection
+open_connection rest conn out rejections = record { service = Service.Open rest conn; out = out; rejections = rejections }
 
-same_connection : (rest : Rest) (one other : Conn) (bytes others : List ℕ) → one ≡ other → bytes ≡ others → open_connection rest one bytes ≡ open_connection rest other others
-same_connection rest one other bytes others conns outs = ap (λ c. open_connection rest c bytes) conns ∙ ap (open_connection rest other) outs
+same_connection : (rest : Rest) (one other : Conn) (bytes others : List ℕ) (rejections : List Rejection) → one ≡ other → bytes ≡ others
+    → open_connection rest one bytes rejections ≡ open_connection rest other others rejections
+same_connection rest one other bytes others rejections conns outs =
+    ap (λ c. open_connection rest c bytes rejections) conns ∙ ap (λ b. open_connection rest other b rejections) outs
 
 -- more room does as well
 pub still_sound : (service : Kept) (before after : Vec ℕ Global) → vec_capacity before ≤ vec_capacity after → IsSoundConnection service before → IsSoundConnection service after
@@ -40,34 +42,35 @@ pub room_of_open : (service : Kept) (box : Box HostEnd Global) (out : Vec ℕ Gl
 room_of_open service box out is sound = (subst (λ (s : Kept). IsSoundConnection s out) is sound).1
 
 -- a connection has kept its room, so that this didn't do either
-may_want : (sent : Sent) (rest : Rest) (old : Conn) (before : Vec ℕ Global) → out_room ≤ vec_capacity before → WantsMemory sent old before → MayWantMemory sent (open_connection rest old before.items)
-may_want sent rest old before roomy (WantsMemory.room short) =
+may_want : (sent : Sent) (rest : Rest) (old : Conn) (before : Vec ℕ Global) (rejections : List Rejection) → out_room ≤ vec_capacity before → WantsMemory sent old before
+    → MayWantMemory sent (open_connection rest old before.items rejections)
+may_want sent rest old before rejections roomy (WantsMemory.room short) =
     let len = before.ok.0 in
     MayWantMemory.room (omega (arith, roomy, short, len))
-may_want sent rest old before roomy (WantsMemory.values changes) = MayWantMemory.values changes
+may_want sent rest old before rejections roomy (WantsMemory.values changes) = MayWantMemory.values changes
 
-on_connection : (what : Option Sent) (rest : Rest) (old new : Conn) (before after : Vec ℕ Global) (answered : Acted) → out_room ≤ vec_capacity before → DoesOn what old before answered new after
-    → Does what (open_connection rest old before.items) answered (open_connection rest new after.items)
-on_connection None rest old new before after answered roomy does = (does.0, same_connection rest new old after.items before.items does.1 does.2)
-on_connection (Some sent) rest old new before after answer.Sent roomy does = same_connection rest new sent.conn after.items _ does.conn does.bytes
-on_connection (Some sent) rest old new before after answer.Memory roomy does = (same_connection rest new old after.items before.items does.0 does.1, may_want sent rest old before roomy does.2)
-on_connection (Some sent) rest old new before after answer.Nothing roomy does = absurd does
+on_connection : (what : Option Sent) (rest : Rest) (old new : Conn) (before after : Vec ℕ Global) (answered : Acted) (rejections : List Rejection) → out_room ≤ vec_capacity before → DoesOn what old before answered new after
+    → Does what (open_connection rest old before.items rejections) answered (open_connection rest new after.items rejections)
+on_connection None rest old new before after answered rejections roomy does = (does.0, same_connection rest new old after.items before.items rejections does.1 does.2)
+on_connection (Some sent) rest old new before after answer.Sent rejections roomy does = same_connection rest new sent.conn after.items _ rejections does.conn does.bytes
+on_connection (Some sent) rest old new before after answer.Memory rejections roomy does = (same_connection rest new old after.items before.items rejections does.0 does.1, may_want sent rest old before rejections roomy does.2)
+on_connection (Some sent) rest old new before after answer.Nothing rejections roomy does = absurd does
 
 -- the line of an open connection, from its parts
-connection_is : (now : Connection) (service : Kept) (box : Box HostEnd Global) (old : HostEnd) (before : Vec ℕ Global)
-    → now ≡ record { service = service_of service; out = before.items } → service ≡ kept.Open box → old ≡ box.value
-    → now ≡ open_connection old.decoder.rest old.session before.items
-connection_is now service box old before view is value =
-    view ∙ ap (λ (s : Kept). record { service = service_of s; out = before.items }) is
-    ∙ ap (λ (x : HostEnd). open_connection x.decoder.rest x.session before.items) (sym value)
+connection_is : (now : Connection) (service : Kept) (box : Box HostEnd Global) (old : HostEnd) (before : Vec ℕ Global) (rejections : List Rejection)
+    → now ≡ record { service = service_of service; out = before.items; rejections = rejections } → service ≡ kept.Open box → old ≡ box.value
+    → now ≡ open_connection old.decoder.rest old.session before.items rejections
+connection_is now service box old before rejections view is value =
+    view ∙ ap (λ (s : Kept). record { service = service_of s; out = before.items; rejections = rejections }) is
+    ∙ ap (λ (x : HostEnd). open_connection x.decoder.rest x.session before.items rejections) (sym value)
 
-pub does_connection : (what : Service → Option Sent) (now : Connection) (service : Kept) (box : Box HostEnd Global) (old : HostEnd) (new : Conn) (before after : Vec ℕ Global) (answered : Acted)
-    → now ≡ record { service = service_of service; out = before.items } → IsSoundConnection service before → service ≡ kept.Open box → old ≡ box.value
+pub does_connection : (what : Service → Option Sent) (now : Connection) (service : Kept) (box : Box HostEnd Global) (old : HostEnd) (new : Conn) (before after : Vec ℕ Global) (answered : Acted) (rejections : List Rejection)
+    → now ≡ record { service = service_of service; out = before.items; rejections = rejections } → IsSoundConnection service before → service ≡ kept.Open box → old ≡ box.value
     → DoesOn (what (Service.Open old.decoder.rest old.session)) old.session before answered new after
-    → Does (what now.service) now answered (open_connection old.decoder.rest new after.items)
-does_connection what now service box old new before after answered view sound is value does =
-    subst (λ (l : Connection). Does (what l.service) l answered (open_connection old.decoder.rest new after.items)) (sym (connection_is now service box old before view is value))
-    (on_connection (what (Service.Open old.decoder.rest old.session)) old.decoder.rest old.session new before after answered (subst (λ (s : Kept). IsSoundConnection s before) is sound).1 does)
+    → Does (what now.service) now answered (open_connection old.decoder.rest new after.items rejections)
+does_connection what now service box old new before after answered rejections view sound is value does =
+    subst (λ (l : Connection). Does (what l.service) l answered (open_connection old.decoder.rest new after.items rejections)) (sym (connection_is now service box old before rejections view is value))
+    (on_connection (what (Service.Open old.decoder.rest old.session)) old.decoder.rest old.session new before after answered rejections (subst (λ (s : Kept). IsSoundConnection s before) is sound).1 does)
 
 -- ---- the talk stays
 
@@ -82,10 +85,10 @@ done_keeps : (app : Application) (conn : Conn) (act : Act) → (done app conn ac
 done_keeps app conn Act.Read = refl
 done_keeps app conn (Act.Show panel message keep values) = refl
 
-module _ (now : Connection) (service : Kept) (box : Box HostEnd Global) (old : HostEnd) (new : Conn) (before after : Vec ℕ Global) (answered : Acted)
-    (view : now ≡ record { service = service_of service; out = before.items }) (is : service ≡ kept.Open box) (value : old ≡ box.value) where
+module _ (now : Connection) (service : Kept) (box : Box HostEnd Global) (old : HostEnd) (new : Conn) (before after : Vec ℕ Global) (answered : Acted) (rejections : List Rejection)
+    (view : now ≡ record { service = service_of service; out = before.items; rejections = rejections }) (is : service ≡ kept.Open box) (value : old ≡ box.value) where
   same_claim : new.talk ≡ old.session.talk → granted new.talk.state ≡ lu_of now.service
-  same_claim same = ap (λ t. granted t.state) same ∙ sym (ap (λ (l : Connection). lu_of l.service) (connection_is now service box old before view is value))
+  same_claim same = ap (λ t. granted t.state) same ∙ sym (ap (λ (l : Connection). lu_of l.service) (connection_is now service box old before rejections view is value))
 
   pub act_holds : (app : Application) → DoesOn (acted app old.session) old.session before answered new after → granted new.talk.state ≡ lu_of now.service
   act_holds app does =

@@ -12,6 +12,7 @@ use Rattle.host_core.specs.Session.{agreed_lu}
 use Rattle.host_core.specs.Sound.{HoldsJust, IsShown, IsSound, NobodyShares}
 use Rattle.host_core.specs.State.{Service, Connection, Host, most_connections, unused, connection_at, service_at, lu_of, phase_of, phase_agreed}
 use Rattle.host_core.specs.declared.phase.Phase.TheVariants as phase
+use Rattle.host_core.specs.declared.rejection.Rejection.{Rejection}
 
 -- a host with another pool, and another line at a number
 abbrev pub changed : ℕ → List Entry → Connection → Host → Host
@@ -151,7 +152,7 @@ unused_sound panels pool connections are nobody =
 -- ---- a line
 
 -- what is held of a line is held of its parts
-pub held_of_parts : (number : ℕ) (pool : List Entry) (now : Connection) (service : Kept) (out : List ℕ) (held : Option (List ℕ))
-    → now ≡ record { service = service_of service; out = out } → lu_of (service_of service) ≡ held
+pub held_of_parts : (number : ℕ) (pool : List Entry) (now : Connection) (service : Kept) (out : List ℕ) (rejections : List Rejection) (held : Option (List ℕ))
+    → now ≡ record { service = service_of service; out = out; rejections = rejections } → lu_of (service_of service) ≡ held
     → HoldsJust number pool (lu_of now.service) → HoldsJust number pool held
-held_of_parts number pool now service out held is same h = subst (HoldsJust number pool) (ap (λ (l : Connection). lu_of l.service) is ∙ same) h
+held_of_parts number pool now service out rejections held is same h = subst (HoldsJust number pool) (ap (λ (l : Connection). lu_of l.service) is ∙ same) h

@@ -135,8 +135,8 @@ module _ (one_header : OneHeader) (fault_or_header : FaultIsNoHeader) (one_heari
   one_byte number old new other byte (TakesByte.goes_on rest to conn e d n) (TakesByte.goes_on rest' to' conn' e' d' n') =
       let parts = same_open old.connection.service rest rest' conn conn' e e' in
       let same = one_delivery record_limit rest (byte ∷ []) [] [] to to' d (from_same rest rest' to' byte [] parts.0 d') in
-      n ∙ ap (λ (r : Rest). record { pool = old.pool; connection = record { service = Service.Open r conn; out = old.connection.out } }) same.1
-      ∙ ap (λ (c : Conn). record { pool = old.pool; connection = record { service = Service.Open to' c; out = old.connection.out } }) parts.1 ∙ sym n'
+      n ∙ ap (λ (r : Rest). record { pool = old.pool; connection = record old.connection { service = Service.Open r conn } }) same.1
+      ∙ ap (λ (c : Conn). record { pool = old.pool; connection = record old.connection { service = Service.Open to' c } }) parts.1 ∙ sym n'
   one_byte number old new other byte (TakesByte.goes_on rest to conn e d n) (TakesByte.completes rest' to' conn' item' step' e' d' i' n') =
       let parts = same_open old.connection.service rest rest' conn conn' e e' in
       absurd (nothing_or_item item' (one_delivery record_limit rest (byte ∷ []) [] (item' ∷ []) to to' d (from_same rest rest' to' byte (item' ∷ []) parts.0 d')).0)

@@ -15,7 +15,7 @@ use Rattle.tn3270e_msg.specs.Device.{device_of}
 use Rattle.tn3270e_msg.specs.HostTable.{host_transition, named_transition, request_transition, answer_transition, granted, IsAsking, HostTakes, HostAnswered}
 use Rattle.tn3270e_msg.specs.Lu.{lu_of}
 use Rattle.tn3270e_msg.specs.Message.{Name, Connect, Associate}
-use Rattle.tn3270e_msg.specs.Talk.{Talk, Comes, follow, sayings, items_sent, closing}
+use Rattle.tn3270e_msg.specs.Talk.{Talk, Comes, Hears, follow, sayings, items_sent, closing}
 use Rattle.tn3270e_msg.specs.declared.cause.Cause.{Cause}
 use Rattle.tn3270e_msg.specs.declared.cause.Cause.TheVariants.{TooMany}
 use Rattle.tn3270e_msg.specs.declared.reply.After.TheVariants.{Close as CloseAfter, Going}
@@ -34,8 +34,10 @@ use Rattle.host_core.specs.Keeps.{ItemTaken, OthersHold, silent}
 use Rattle.host_core.specs.Sound.{HoldsJust}
 use Rattle.host_core.specs.Parts.{TalkTaken}
 use Rattle.host_core.specs.Messages.{ToTerminal}
+use Rattle.host_core.specs.Rejections.{kept_with, lu_asked, rejection_by}
 use Rattle.host_core.specs.Says.{item_sent}
 use Rattle.host_core.specs.Session.{Conn, is_agreed}
+use Rattle.host_core.specs.declared.rejection.Rejection.{Rejection}
 use Rattle.host_core.specs.Takes.{Answers, HostStep, asked, granted_by, quiet, replied, talked, talked_on, with_talk}
 
 -- ---- the table
@@ -261,64 +263,73 @@ sends_down (reply.Close cause) = refl
 sent_down : (answer : Reply) (before after : List ℕ) → after ≡ before ++ sent_bytes (items_sent answer) → after ≡ before ++ sent_bytes (map item_sent (map ToTerminal.TalksDown (sayings answer)))
 sent_down answer before after sent = sent ∙ ap (λ (items : List WireItem). before ++ sent_bytes items) (sends_down answer)
 
+-- the rejection of what came is kept, if the reply to it is one
+abbrev pub KeepsRejection : WireItem → Reply → List Rejection → List Rejection → Type 0
+KeepsRejection item answer kept keeps = (comes : Comes) → Hears item comes → keeps ≡ kept_with (rejection_by (lu_asked comes) answer) kept
+
 -- the talk replied by itself
-talked_by : (pool : Answers) (conn : Conn) (new : Talk HostState) (answer : Reply) → ((name : Option (List ℕ)) → answer ≡ reply.AskPool name → ⊥)
-    → talked_on pool conn new answer ≡ replied conn None (new, answer)
-talked_by pool conn new reply.Nothing other = refl
-talked_by pool conn new (reply.Opt verb code) other = refl
-talked_by pool conn new (reply.Sub sending after) other = refl
-talked_by pool conn new (reply.AskPool name) other = absurd (other name refl)
-talked_by pool conn new reply.Agreed other = refl
-talked_by pool conn new (reply.Refused reason) other = refl
-talked_by pool conn new (reply.Close cause) other = refl
+talked_by : (pool : Answers) (conn : Conn) (lu : Option (List ℕ)) (new : Talk HostState) (answer : Reply) → ((name : Option (List ℕ)) → answer ≡ reply.AskPool name → ⊥)
+    → talked_on pool conn lu new answer ≡ replied conn lu None (new, answer)
+talked_by pool conn lu new reply.Nothing other = refl
+talked_by pool conn lu new (reply.Opt verb code) other = refl
+talked_by pool conn lu new (reply.Sub sending after) other = refl
+talked_by pool conn lu new (reply.AskPool name) other = absurd (other name refl)
+talked_by pool conn lu new reply.Agreed other = refl
+talked_by pool conn lu new (reply.Refused reason) other = refl
+talked_by pool conn lu new (reply.Close cause) other = refl
 
 -- what it made of what came
 comes_to : (pool : Answers) (conn : Conn) (old new : Talk HostState) (item : WireItem) (answer : Reply) (takes : HostTakes old item answer new) → conn.talk ≡ old
-    → talked_on pool conn new answer ≡ talked pool conn conn.talk takes.comes
+    → talked_on pool conn (lu_asked takes.comes) new answer ≡ talked pool conn conn.talk takes.comes
 comes_to pool conn old new item answer takes is =
-    ap (λ (next : Talk HostState × Reply). talked_on pool conn next.0 next.1) takes.gives ∙ ap (λ (talk : Talk HostState). talked pool conn talk takes.comes) (sym is)
+    ap (λ (next : Talk HostState × Reply). talked_on pool conn (lu_asked takes.comes) next.0 next.1) takes.gives ∙ ap (λ (talk : Talk HostState). talked pool conn talk takes.comes) (sym is)
 
 with_closes : (step : HostStep) (closes : Option Cause) → closes ≡ step.closes → record step { closes = closes } ≡ step
 with_closes step closes is = ap (λ (c : Option Cause). record step { closes = c }) is
 
 pub replies : (number : ℕ) (pool : List Entry) (old new : Talk HostState) (item : WireItem) (answer : Reply) (before after : Vec ℕ Global) (closes : Option Cause)
     → ((name : Option (List ℕ)) → answer ≡ reply.AskPool name → ⊥) → HostTakes old item answer new → closes ≡ closing answer
-    → after.items ≡ before.items ++ sent_bytes (items_sent answer) → TalkTaken number pool old item before after closes pool new
-replies number pool old new item answer before after closes other takes ends sent = record {
+    → after.items ≡ before.items ++ sent_bytes (items_sent answer) → (kept keeps : List Rejection) → KeepsRejection item answer kept keeps
+    → TalkTaken number pool old item before after closes pool new kept keeps
+replies number pool old new item answer before after closes other takes ends sent kept keeps rejection = record {
   sends = map ToTerminal.TalksDown (sayings answer);
   grants = None;
+  rejects = rejection_by (lu_asked takes.comes) answer;
   talks = λ conn is. (
     takes.comes,
     takes.hears,
-    with_closes (replied conn None (new, answer)) closes ends ∙ sym (talked_by (answer_to pool) conn new answer other) ∙ comes_to (answer_to pool) conn old new item answer takes is,
+    with_closes (replied conn (lu_asked takes.comes) None (new, answer)) closes ends ∙ sym (talked_by (answer_to pool) conn (lu_asked takes.comes) new answer other) ∙ comes_to (answer_to pool) conn old new item answer takes is,
   );
   pool_is = refl;
   sent = sent_down answer before.items after.items sent;
+  rejections = rejection takes.comes takes.hears;
 }
 
 -- the pool was asked, and the talk replied by its answer
-answered_by : (pool : Answers) (conn : Conn) (mid new : Talk HostState) (name : Option (List ℕ)) (answer : Result (List ℕ) Reason) (said : Reply) → HostAnswered mid answer said new → answer ≡ pool name
-    → replied conn (granted_by answer) (new, said) ≡ talked_on pool conn mid (reply.AskPool name)
-answered_by pool conn mid new name answer said answered is =
-    ap (λ (next : Talk HostState × Reply). replied conn (granted_by answer) next) answered.gives
-    ∙ ap (λ (state : HostState). asked conn mid answer state) (sym answered.asking)
-    ∙ ap (λ (given : Result (List ℕ) Reason). asked conn mid given mid.state) is
+answered_by : (pool : Answers) (conn : Conn) (lu : Option (List ℕ)) (mid new : Talk HostState) (name : Option (List ℕ)) (answer : Result (List ℕ) Reason) (said : Reply) → HostAnswered mid answer said new → answer ≡ pool name
+    → replied conn lu (granted_by answer) (new, said) ≡ talked_on pool conn lu mid (reply.AskPool name)
+answered_by pool conn lu mid new name answer said answered is =
+    ap (λ (next : Talk HostState × Reply). replied conn lu (granted_by answer) next) answered.gives
+    ∙ ap (λ (state : HostState). asked conn lu mid answer state) (sym answered.asking)
+    ∙ ap (λ (given : Result (List ℕ) Reason). asked conn lu mid given mid.state) is
 
 pub replies_by_pool : (number : ℕ) (pool left : List Entry) (old mid new : Talk HostState) (item : WireItem) (name : Option (List ℕ)) (answer : Result (List ℕ) Reason) (said : Reply)
     (before after : Vec ℕ Global) (closes : Option Cause) → HostTakes old item (reply.AskPool name) mid → answer ≡ answer_to pool name → HostAnswered mid answer said new
     → left ≡ granted_if number (granted_by answer) pool → closes ≡ closing said → after.items ≡ before.items ++ sent_bytes (items_sent said)
-    → TalkTaken number pool old item before after closes left new
-replies_by_pool number pool left old mid new item name answer said before after closes takes is answered granting ends sent = record {
+    → (kept keeps : List Rejection) → KeepsRejection item said kept keeps → TalkTaken number pool old item before after closes left new kept keeps
+replies_by_pool number pool left old mid new item name answer said before after closes takes is answered granting ends sent kept keeps rejection = record {
   sends = map ToTerminal.TalksDown (sayings said);
   grants = granted_by answer;
+  rejects = rejection_by (lu_asked takes.comes) said;
   talks = λ conn same. (
     takes.comes,
     takes.hears,
-    with_closes (replied conn (granted_by answer) (new, said)) closes ends ∙ answered_by (answer_to pool) conn mid new name answer said answered is
+    with_closes (replied conn (lu_asked takes.comes) (granted_by answer) (new, said)) closes ends ∙ answered_by (answer_to pool) conn (lu_asked takes.comes) mid new name answer said answered is
         ∙ comes_to (answer_to pool) conn old mid item (reply.AskPool name) takes same,
   );
   pool_is = granting;
   sent = sent_down said before.items after.items sent;
+  rejections = rejection takes.comes takes.hears;
 }
 
 -- what is granted by the answer
@@ -374,30 +385,25 @@ for_talk pool conn (Other code) step other talks = talks
 
 -- all but a record is for the talk
 pub talk_taken : (number : ℕ) (pool left : List Entry) (before old new : Conn) (talk : Talk HostState) (item : WireItem) (said out : Vec ℕ Global) (closes : Option Cause)
-    → ((bytes : List ℕ) → item ≡ Record bytes → ⊥) → before ≡ old → TalkTaken number pool before.talk item said out closes left talk → new ≡ with_talk before talk
-    → ItemTaken number pool old item said out closes left new
-talk_taken number pool left before old new talk item said out closes other same taken is =
-    subst (λ (from : Conn). ItemTaken number pool from item said out closes left new) same
+    → ((bytes : List ℕ) → item ≡ Record bytes → ⊥) → before ≡ old → (kept keeps : List Rejection) → TalkTaken number pool before.talk item said out closes left talk kept keeps → new ≡ with_talk before talk
+    → ItemTaken number pool old item said out closes left new kept keeps
+talk_taken number pool left before old new talk item said out closes other same kept keeps taken is =
+    subst (λ (from : Conn). ItemTaken number pool from item said out closes left new kept keeps) same
     (record {
-      step = record { conn = with_talk before talk; sends = taken.sends; grants = taken.grants; closes = closes };
+      step = record { conn = with_talk before talk; sends = taken.sends; grants = taken.grants; rejects = taken.rejects; closes = closes };
       takes = for_talk (answer_to pool) before item _ other (taken.talks before refl);
       conn = is;
       ends = refl;
       pool_is = taken.pool_is;
       sent = taken.sent;
+      rejections = taken.rejections;
     })
 
-if_agreed : (state : HostState) (device : Device) (lu bytes : List ℕ) (old : Conn) (step : HostStep) → state ≡ at.Agreed device lu → TakesRecord old bytes step → TakesRecordIf (is_agreed state) old bytes step
-if_agreed state device lu bytes old step agreed takes = rw agreed takes
+if_agreed : (state : HostState) (bytes : List ℕ) (old : Conn) (step : HostStep) → is_agreed state ≡ true → TakesRecord old bytes step → TakesRecordIf (is_agreed state) old bytes step
+if_agreed state bytes old step agreed takes = rw agreed takes
 
-before_agreement : (state : HostState) (bytes : List ℕ) (old : Conn) → ((device : Device) (lu : List ℕ) → state ≡ at.Agreed device lu → ⊥) → TakesRecordIf (is_agreed state) old bytes (quiet old)
-before_agreement at.Offered bytes old other = refl
-before_agreement at.Asked bytes old other = refl
-before_agreement (at.Asking device) bytes old other = refl
-before_agreement (at.Named device lu) bytes old other = refl
-before_agreement (at.Countered device lu) bytes old other = refl
-before_agreement (at.Agreed device lu) bytes old other = absurd (other device lu refl)
-before_agreement (at.Closed cause) bytes old other = refl
+before_agreement : (state : HostState) (bytes : List ℕ) (old : Conn) → is_agreed state ≡ false → TakesRecordIf (is_agreed state) old bytes (quiet old)
+before_agreement state bytes old other = rw other refl
 
 of_record : (pool : Answers) (conn : Conn) (item : WireItem) (bytes : List ℕ) (step : HostStep) → item ≡ Record bytes → TakesRecordIf (is_agreed conn.talk.state) conn bytes step → TakesItem pool conn item step
 of_record pool conn item bytes step is takes = rw is takes
@@ -406,27 +412,29 @@ none_sent : (bytes : List ℕ) → bytes ≡ bytes ++ sent_bytes []
 none_sent bytes = sym (append-nil bytes)
 
 -- a record that is taken
-pub record_taken : (number : ℕ) (pool : List Entry) (old new : Conn) (item : WireItem) (bytes : List ℕ) (out : Vec ℕ Global) (closes : Option Cause) (device : Device) (lu : List ℕ)
-    → item ≡ Record bytes → old.talk.state ≡ at.Agreed device lu → TakesRecord old bytes (silent new closes) → ItemTaken number pool old item out out closes pool new
-record_taken number pool old new item bytes out closes device lu is agreed takes = record {
+pub record_taken : (number : ℕ) (pool : List Entry) (old new : Conn) (item : WireItem) (bytes : List ℕ) (out : Vec ℕ Global) (closes : Option Cause) (kept : List Rejection)
+    → item ≡ Record bytes → is_agreed old.talk.state ≡ true → TakesRecord old bytes (silent new closes) → ItemTaken number pool old item out out closes pool new kept kept
+record_taken number pool old new item bytes out closes kept is agreed takes = record {
   step = silent new closes;
-  takes = of_record (answer_to pool) old item bytes (silent new closes) is (if_agreed old.talk.state device lu bytes old (silent new closes) agreed takes);
+  takes = of_record (answer_to pool) old item bytes (silent new closes) is (if_agreed old.talk.state bytes old (silent new closes) agreed takes);
   conn = refl;
   ends = refl;
   pool_is = refl;
   sent = none_sent out.items;
+  rejections = refl;
 }
 
 -- one that is dropped
-pub record_dropped : (number : ℕ) (pool : List Entry) (old : Conn) (item : WireItem) (bytes : List ℕ) (out : Vec ℕ Global)
-    → item ≡ Record bytes → ((device : Device) (lu : List ℕ) → old.talk.state ≡ at.Agreed device lu → ⊥) → ItemTaken number pool old item out out None pool old
-record_dropped number pool old item bytes out is other = record {
+pub record_dropped : (number : ℕ) (pool : List Entry) (old : Conn) (item : WireItem) (bytes : List ℕ) (out : Vec ℕ Global) (kept : List Rejection)
+    → item ≡ Record bytes → is_agreed old.talk.state ≡ false → ItemTaken number pool old item out out None pool old kept kept
+record_dropped number pool old item bytes out kept is other = record {
   step = quiet old;
   takes = of_record (answer_to pool) old item bytes (quiet old) is (before_agreement old.talk.state bytes old other);
   conn = refl;
   ends = refl;
   pool_is = refl;
   sent = none_sent out.items;
+  rejections = refl;
 }
 
 pub same_talk : (number : ℕ) (pool : List Entry) (old new : Conn) → new.talk ≡ old.talk → HoldsJust number pool (granted old.talk.state) → HoldsJust number pool (granted new.talk.state)

@@ -28,7 +28,7 @@ use Rattle.host_core.specs.declared.turn_reason.TurnReason.TheVariants as turn_r
 use Rattle.host_core.specs.Session.{Conn, Pending, is_agreed}
 
 -- what the host may do: read the whole screen, or show a panel with a message, with these values of fields; with `keep`, fields
--- keep what the operator left in them where that can be
+-- keep what the operator left in them, if the belief allows that
 pub data Act : Type 0 where
   Read : Act
   Show : (panel : ℕ) → Message → (keep : Bool) → Values → Act
@@ -77,7 +77,7 @@ first_missing values (field ∷ fields) = if is_missing values field then Some f
 
 -- ---- the rules
 
--- a target is shown anew; but after Enter, while a required field is missing, the panel is shown again
+-- a target is shown fresh; but after Enter, while a required field is missing, the panel is shown again
 abbrev pub unless_missing : ℕ → ℕ → Values → Option ℕ → Act
 unless_missing panel target values None = Act.Show target Fresh false values
 unless_missing panel target values (Some field) = Act.Show panel (Required field) true values

@@ -32,7 +32,7 @@ number_in (ToTerminal.Paint number wanted over) = Some number
 number_in (ToTerminal.ReadBuffer number) = Some number
 number_in (ToTerminal.Note number command) = Some number
 
--- A command carries its connection's number, by which its response is awaited; the number behind it is for the next one.
+-- A command carries its connection's number, by which its response is awaited; the next command has the next number.
 pub record IsNumbered (old : Conn) (sent : Sent) : Type 0 where
   pub carried : number_in sent.message ≡ Some old.next_seq
   pub awaited : number_of sent.conn.pending ≡ Some old.next_seq

@@ -11,6 +11,7 @@ use Rattle.tn3270e_msg.specs.Header.{record_limit}
 use Rattle.tn3270e_msg.specs.declared.cause.Cause.{Cause}
 use Rattle.tn3270e_msg.specs.declared.cause.Cause.TheVariants.{Wire}
 use Rattle.host_core.specs.Items.{TakesItem}
+use Rattle.host_core.specs.Rejections.{kept_with}
 use Rattle.host_core.specs.Says.{item_sent}
 use Rattle.host_core.specs.Session.{Conn}
 use Rattle.host_core.specs.State.{Service, Connection}
@@ -25,22 +26,26 @@ abbrev pub service_after : Rest → Conn → Option Cause → Service
 service_after rest conn None = Service.Open rest conn
 service_after rest conn (Some cause) = Service.Closed cause
 
--- after an item: what is said stands behind what is still to be sent
+-- after an item: what is said is behind what is still to be sent, and a rejection behind those that weren't reported
 abbrev pub stepped : ℕ → Rest → HostStep → Counter → Counter
 stepped number rest step old = record {
   pool = pool_after number step old.pool;
-  connection = record { service = service_after rest step.conn step.closes; out = old.connection.out ++ sent_bytes (map item_sent step.sends) };
+  connection = record {
+    service = service_after rest step.conn step.closes;
+    out = old.connection.out ++ sent_bytes (map item_sent step.sends);
+    rejections = kept_with step.rejects old.connection.rejections;
+  };
 }
 
 -- a byte comes to the connection with this number: nothing is complete with it; it completes an item; or it breaks the stream
 pub data TakesByte (number : ℕ) (old : Counter) (byte : ℕ) (new : Counter) : Type 0 where
   goes_on : (rest to : Rest) (conn : Conn) → old.connection.service ≡ Service.Open rest conn → Delivers record_limit rest (byte ∷ []) [] to
-      → new ≡ record { pool = old.pool; connection = record { service = Service.Open to conn; out = old.connection.out } } → TakesByte number old byte new
+      → new ≡ record { pool = old.pool; connection = record old.connection { service = Service.Open to conn } } → TakesByte number old byte new
   completes : (rest to : Rest) (conn : Conn) (item : WireItem) (step : HostStep) → old.connection.service ≡ Service.Open rest conn
       → Delivers record_limit rest (byte ∷ []) (item ∷ []) to → TakesItem (answer_to old.pool) conn item step
       → new ≡ stepped number to step old → TakesByte number old byte new
   breaks : (rest : Rest) (conn : Conn) (fault : WireFault) → old.connection.service ≡ Service.Open rest conn → GoesWrong record_limit rest (byte ∷ []) fault
-      → new ≡ record { pool = given_back number old.pool; connection = record { service = Service.Closed Wire; out = old.connection.out } }
+      → new ≡ record { pool = given_back number old.pool; connection = record old.connection { service = Service.Closed Wire } }
       → TakesByte number old byte new
 
 -- bytes come, one after another; a number that is free, or was closed, takes none

@@ -4,7 +4,7 @@ use Rattle.panels.specs.declared.message.Message.TheVariants.{Fresh}
 use Rattle.host_core.specs.declared.acting.Act.{Act}
 use Rattle.host_core.specs.declared.acting.Act.TheVariants.{Read, Show}
 
--- It can be done where there are so many panels: the panel is one of them, and one that is shown anew keeps nothing.
+-- It can be done if there are `count` panels: the panel is one of them, and one that is shown fresh keeps nothing.
 abbrev pub CanBeDone : ℕ → Act → Type 0
 CanBeDone count Read = ⊤
 CanBeDone count (Show panel message keep changed) = (panel < count) × (message ≡ Fresh → keep ≡ false)

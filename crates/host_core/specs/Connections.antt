@@ -11,7 +11,7 @@ use Rattle.host_core.specs.State.{Service, shadow_of}
 use Rattle.host_core.specs.declared.connection.Service.{Service as Kept}
 use Rattle.host_core.specs.declared.connection.Service.TheVariants as kept
 
--- what it stands for, from its parts
+-- its value, from its parts
 abbrev pub service_of : Kept → Service
 service_of kept.Free = Service.Free
 service_of (kept.Open held) = Service.Open held.value.decoder.rest held.value.session

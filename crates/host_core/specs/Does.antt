@@ -29,9 +29,9 @@ with_conn conn Service.Free = Service.Free
 with_conn conn (Service.Open rest old) = Service.Open rest conn
 with_conn conn (Service.Closed cause) = Service.Closed cause
 
--- what is sent stands behind what is still to be sent
+-- what is sent is appended to what is still to be sent
 abbrev pub sent_on : Sent → Connection → Connection
-sent_on sent connection = record { service = with_conn sent.conn connection.service; out = connection.out ++ sent_bytes (item_sent sent.message ∷ []) }
+sent_on sent connection = record connection { service = with_conn sent.conn connection.service; out = connection.out ++ sent_bytes (item_sent sent.message ∷ []) }
 
 abbrev pub values_of : Service → Values
 values_of Service.Free = []

@@ -20,7 +20,7 @@ StopsFor Going old bytes taken new = ((taken ≡ length bytes) × IsOpen new.con
 StopsFor Memory old bytes taken new = (taken < length bytes) × IsOpen new.connection.service × (out_room < length new.connection.out + reply_room)
 StopsFor (ClosedStop cause) old bytes taken new = new.connection.service ≡ Service.Closed cause
 
--- it took so many of the bytes and stands as after these
+-- it took `fed.taken` of the bytes, and its state is the one after these
 pub record Feeds (number : ℕ) (old : Counter) (bytes : List ℕ) (fed : Fed) (new : Counter) : Type 0 where
   pub few : fed.taken ≤ length bytes
   pub takes : TakesBytes number old (take fed.taken bytes) new

@@ -14,7 +14,7 @@ use Rattle.panels.specs.Screen.{Values}
 use Rattle.shadow.specs.Stores.{is_plain}
 use Rattle.telnet_wire.specs.Held.{Held, IsRunning as Running}
 use Rattle.telnet_wire.specs.Items.{WireItem, sent_bytes}
-use Rattle.tn3270e_msg.specs.Header.{record_limit}
+use Rattle.tn3270e_msg.specs.Header.{header_length, record_limit}
 use Rattle.tn3270e_msg.specs.HostTable.{granted}
 use Rattle.tn3270e_msg.specs.declared.cause.Cause.{Cause}
 use Rattle.tn3270e_msg.specs.declared.cause.Stop.{Stop}
@@ -22,6 +22,7 @@ use Rattle.tn3270e_msg.specs.declared.cause.Stop.TheVariants.{Going, Memory, Clo
 use Rattle.host_core.specs.Acts.{Act, Sent}
 use Rattle.host_core.specs.Bytes.{Counter, service_after}
 use Rattle.host_core.specs.Items.{TakesItem}
+use Rattle.host_core.specs.Rejections.{kept_with}
 use Rattle.host_core.specs.Rooms.{command_room, read_buffer_room, room_for}
 use Rattle.host_core.specs.Says.{item_sent}
 use Rattle.host_core.specs.Session.{Conn, Pending}
@@ -31,6 +32,7 @@ use Rattle.host_core.specs.declared.acting.Act.TheVariants as chosen
 use Rattle.host_core.specs.declared.acted.Acted.{Acted}
 use Rattle.host_core.specs.declared.acted.Acted.TheVariants.{Sent as IsSent, Nothing, Memory as NoMemory}
 use Rattle.host_core.specs.declared.pending.Pending.{Pending as Unanswered}
+use Rattle.host_core.specs.declared.rejection.Rejection.{Rejection}
 use Rattle.host_core.specs.declared.pending.Pending.TheVariants as unanswered
 
 -- ---- a connection
@@ -43,12 +45,12 @@ abbrev pub command_in : List ℕ → CommandParts
 command_in (code ∷ wcc ∷ text) = record { code = code_in code; wcc = Some (wcc_of wcc); orders = orders_in text }
 command_in _ = record { code = Write; wcc = None; orders = [] }
 
--- the command that isn't answered yet; its bytes stand behind the header of the record that was sent last
+-- the command that isn't answered yet; its bytes are those after the header of the record that was sent last
 abbrev pub pending_in : Unanswered → List ℕ → Pending
 pending_in unanswered.Nothing sent = Pending.Nothing
-pending_in (unanswered.Writing number) sent = Pending.Writing number (command_in (drop 5 sent))
+pending_in (unanswered.Writing number) sent = Pending.Writing number (command_in (drop header_length sent))
 pending_in (unanswered.Reading number) sent = Pending.Reading number
-pending_in (unanswered.Noting number) sent = Pending.Noting number (command_in (drop 5 sent))
+pending_in (unanswered.Noting number) sent = Pending.Noting number (command_in (drop header_length sent))
 
 abbrev pub number_kept : Unanswered → Option ℕ
 number_kept unanswered.Nothing = None
@@ -62,24 +64,25 @@ IsPlainWrite bytes = IsCommand (command_in bytes) bytes × (is_plain (command_in
 
 abbrev pub IsKept : Unanswered → List ℕ → Type 0
 IsKept unanswered.Nothing sent = ⊤
-IsKept (unanswered.Writing number) sent = IsPlainWrite (drop 5 sent)
+IsKept (unanswered.Writing number) sent = IsPlainWrite (drop header_length sent)
 IsKept (unanswered.Reading number) sent = ⊤
-IsKept (unanswered.Noting number) sent = IsPlainWrite (drop 5 sent)
+IsKept (unanswered.Noting number) sent = IsPlainWrite (drop header_length sent)
 
--- ---- what comes
+-- ---- items
 
 -- a step that says and grants nothing
 abbrev pub silent : Conn → Option Cause → HostStep
-silent conn closes = record { conn = conn; sends = []; grants = None; closes = closes }
+silent conn closes = record { conn = conn; sends = []; grants = None; rejects = None; closes = closes }
 
 -- An item is taken: what it says is put behind what is there. Where the connection closes its LU is still held.
-pub record ItemTaken (number : ℕ) (pool : List Entry) (old : Conn) (item : WireItem) (before after : Vec ℕ Global) (closes : Option Cause) (left : List Entry) (new : Conn) : Type 0 where
+pub record ItemTaken (number : ℕ) (pool : List Entry) (old : Conn) (item : WireItem) (before after : Vec ℕ Global) (closes : Option Cause) (left : List Entry) (new : Conn) (kept keeps : List Rejection) : Type 0 where
   pub step : HostStep
   pub takes : TakesItem (answer_to pool) old item step
   pub conn : new ≡ step.conn
   pub ends : closes ≡ step.closes
   pub pool_is : left ≡ pool_after number (record step { closes = None }) pool
   pub sent : after.items ≡ before.items ++ sent_bytes (map item_sent step.sends)
+  pub rejections : keeps ≡ kept_with step.rejects kept
 
 -- the LU that was granted to a connection, which is free once the connection is closed
 abbrev pub claim : Option Cause → Conn → Option (List ℕ)
@@ -102,8 +105,9 @@ IsLeft None held = IsRunning held
 IsLeft (Some cause) held = ⊤
 
 -- the counter of these parts; the connection is open unless there is a cause
-abbrev pub counter_of : List Entry → Held → Conn → Option Cause → Vec ℕ Global → Counter
-counter_of pool held conn closes out = record { pool = pool; connection = record { service = service_after held.rest conn closes; out = out.items } }
+abbrev pub counter_of : List Entry → Held → Conn → Option Cause → Vec ℕ Global → List Rejection → Counter
+counter_of pool held conn closes out rejections =
+    record { pool = pool; connection = record { service = service_after held.rest conn closes; out = out.items; rejections = rejections } }
 
 abbrev pub cause_of : Stop → Option Cause
 cause_of Going = None
@@ -127,7 +131,7 @@ abbrev pub ChangesValues : Values → Act → Type 0
 ChangesValues values Act.Read = ⊥
 ChangesValues values (Act.Show panel message keep new) = new ≢ values
 
--- something was sent: its bytes stand behind what is there
+-- something was sent: its bytes were appended to what was there
 pub record IsSentOn (sent : Sent) (before after : Vec ℕ Global) (new : Conn) : Type 0 where
   pub conn : new ≡ sent.conn
   pub bytes : after.items ≡ before.items ++ sent_bytes (item_sent sent.message ∷ [])

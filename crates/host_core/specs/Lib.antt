@@ -1,6 +1,7 @@
 pub mod Application
 pub mod Messages
 pub mod Session
+pub mod Rejections
 pub mod Takes
 pub mod Acts
 pub mod Notes

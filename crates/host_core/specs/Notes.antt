@@ -26,7 +26,7 @@ pub record IsNoteText (text : List ℕ) : Type 0 where
   pub short : length text ≤ longest_note
   pub graphic : All (λ byte. IsTrue (is_graphic byte)) text
 
--- the text in so many cells: cut to them, or nulls behind it
+-- the text in `room` cells: cut to them, or filled up with nulls
 abbrev pub in_cells : ℕ → List ℕ → List ℕ
 in_cells room text = take room (text ++ replicate room 0)
 

@@ -12,9 +12,11 @@ use Rattle.tn3270e_msg.specs.declared.host_talk.HostState.{HostState}
 use Rattle.host_core.specs.Items.{Talks}
 use Rattle.host_core.specs.Keeps.{command_in}
 use Rattle.host_core.specs.Messages.{ToTerminal}
+use Rattle.host_core.specs.Rejections.{kept_with}
 use Rattle.host_core.specs.Says.{item_sent}
 use Rattle.host_core.specs.Session.{Conn, Pending}
 use Rattle.host_core.specs.Takes.{with_talk}
+use Rattle.host_core.specs.declared.rejection.Rejection.{Rejection}
 
 -- the write that waits for its answer
 abbrev pub write_of : Pending → CommandParts
@@ -31,9 +33,11 @@ IsWrite (Pending.Reading number) = ⊥
 IsWrite (Pending.Noting number command) = ⊤
 
 -- The talk goes on by an item: what it says is put behind what is there. Where it closes its LU is still held.
-pub record TalkTaken (number : ℕ) (pool : List Entry) (old : Talk HostState) (item : WireItem) (before after : Vec ℕ Global) (closes : Option Cause) (left : List Entry) (new : Talk HostState) : Type 0 where
+pub record TalkTaken (number : ℕ) (pool : List Entry) (old : Talk HostState) (item : WireItem) (before after : Vec ℕ Global) (closes : Option Cause) (left : List Entry) (new : Talk HostState) (kept keeps : List Rejection) : Type 0 where
   pub sends : List ToTerminal
   pub grants : Option (List ℕ)
-  pub talks : (conn : Conn) → conn.talk ≡ old → Talks (answer_to pool) conn item (record { conn = with_talk conn new; sends = sends; grants = grants; closes = closes })
+  pub rejects : Option Rejection
+  pub talks : (conn : Conn) → conn.talk ≡ old → Talks (answer_to pool) conn item (record { conn = with_talk conn new; sends = sends; grants = grants; rejects = rejects; closes = closes })
   pub pool_is : left ≡ granted_if number grants pool
   pub sent : after.items ≡ before.items ++ sent_bytes (map item_sent sends)
+  pub rejections : keeps ≡ kept_with rejects kept

@@ -3,12 +3,13 @@ use Rattle.std.specs.Prelude.{ℕ, ◌+◌, ◌*◌, ◌≤◌, vec_len, Vec}
 use Rattle.std.specs.Vec.{vec_capacity}
 use Rattle.std.specs.declared.alloc.Global.{Global}
 use Rattle.codes3270.specs.Size.{cell_count, model_2}
+use Rattle.tn3270e_msg.specs.Header.{header_length}
 use Rattle.tn3270e_msg.specs.Writing.{reply_room}
 use Rattle.host_core.specs.Messages.{ToTerminal}
 
 -- the most bytes of a record that a host sends: a header, and a paint with five bytes for each cell
 abbrev pub record_room : ℕ
-record_room = 5 + (6 + 5 * cell_count)
+record_room = header_length + (6 + 5 * cell_count)
 
 -- with each byte doubled, and its end
 abbrev pub command_room : ℕ
@@ -16,11 +17,11 @@ command_room = 2 * record_room + 2
 
 -- a Read Buffer: a header and a code, with each byte doubled, and its end
 abbrev pub read_buffer_room : ℕ
-read_buffer_room = 2 * (5 + 1) + 2
+read_buffer_room = 2 * (header_length + 1) + 2
 
 -- a note: a header, the beginning of a Write and the last row behind its attribute, with each byte doubled, and its end
 abbrev pub note_room : ℕ
-note_room = 2 * (5 + (4 + model_2.columns)) + 2
+note_room = 2 * (header_length + (4 + model_2.columns)) + 2
 
 -- the most bytes that each takes on the wire
 abbrev pub room_for : ToTerminal → ℕ
@@ -33,6 +34,6 @@ room_for (ToTerminal.Note number command) = note_room
 abbrev pub out_room : ℕ
 out_room = 1024 + command_room
 
--- so many bytes fit behind what is there
+-- `room` bytes more fit
 abbrev pub HasRoomFor : ℕ → Vec ℕ Global → Type 0
 HasRoomFor room out = vec_len out + room ≤ vec_capacity out

@@ -17,7 +17,7 @@ use Rattle.host_core.specs.Messages.{ToTerminal}
 
 -- ---- commands
 
--- what stands behind a command's code: the write control character of a write, and orders
+-- what follows a command's code: the write control character of a write, and orders
 abbrev pub behind_code : Option Wcc → List Order → List ℕ
 behind_code None orders = orders_bytes orders
 behind_code (Some wcc) orders = wcc_byte wcc ∷ orders_bytes orders

@@ -88,7 +88,7 @@ pub data Responds (conn : ℕ) (old : Host) (bytes : List ℕ) (sound : Bool) (n
   acts : (fed : Fed) (mid : Host) (answer : Acted) → FeedsHost conn old bytes fed mid → fed.stop ≢ FeedMemory → ActsHost conn mid answer new
       → answer ≢ ActMemory → sound ≡ true → Responds conn old bytes sound new
 
--- so many bytes of what there was to send were sent
+-- `count` bytes of what there was to send were sent
 abbrev pub sent_from : ℕ → ℕ → Host → Host
 sent_from conn count host = with_connection conn (record (connection_at conn host) { out = drop count (connection_at conn host).out }) host
 

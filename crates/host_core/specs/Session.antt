@@ -1,5 +1,5 @@
 -- One connection as the host has it (our profile).
-use Rattle.std.specs.Prelude.{ℕ, Bool, true, false, List, [], Option, Some, None}
+use Rattle.std.specs.Prelude.{ℕ, List, []}
 use Rattle.codes3270.specs.Size.{Shape}
 use Rattle.datastream.specs.Grammar.{CommandParts}
 use Rattle.shadow.specs.Belief.{Shadow}
@@ -12,8 +12,8 @@ use Rattle.host_core.specs.declared.turn.Turn.{Turn}
 use Rattle.host_core.specs.declared.turn.Turn.TheVariants.{Host}
 use Rattle.tn3270e_msg.specs.Talk.{Talk}
 use Rattle.tn3270e_msg.specs.HostTable.{host_start}
+pub use Rattle.tn3270e_msg.specs.HostTable.{agreed_lu, is_agreed}
 use Rattle.tn3270e_msg.specs.declared.host_talk.HostState.{HostState}
-use Rattle.tn3270e_msg.specs.declared.host_talk.HostState.TheVariants.{Offered, Asked, Asking, Named, Countered, Agreed, Closed}
 
 -- the command that isn't answered yet, with its number: a paint, a Read Buffer, or a note
 pub data Pending : Type 0 where
@@ -48,23 +48,3 @@ new_conn shape = record {
   values = [];
   turn_reason = Agreement;
 }
-
--- both ends agreed
-abbrev pub is_agreed : HostState → Bool
-is_agreed (Agreed device lu) = true
-is_agreed Offered = false
-is_agreed Asked = false
-is_agreed (Asking device) = false
-is_agreed (Named device lu) = false
-is_agreed (Countered device lu) = false
-is_agreed (Closed cause) = false
-
--- the LU that they agreed on
-abbrev pub agreed_lu : HostState → Option (List ℕ)
-agreed_lu (Agreed device lu) = Some lu
-agreed_lu Offered = None
-agreed_lu Asked = None
-agreed_lu (Asking device) = None
-agreed_lu (Named device lu) = None
-agreed_lu (Countered device lu) = None
-agreed_lu (Closed cause) = None

@@ -12,7 +12,7 @@ HoldsJust number pool held = (lu : List ℕ) → Holds pool number lu ↔ (held 
 abbrev pub LusAreHeld : Host → Type 0
 LusAreHeld host = (number : ℕ) → HoldsJust number host.pool (lu_of (service_at number host))
 
--- the panel that is shown is one of so many
+-- the panel that is shown is one of `count`
 abbrev pub IsShown : ℕ → Service → Type 0
 IsShown count Service.Free = ⊤
 IsShown count (Service.Open rest conn) = conn.panel < count

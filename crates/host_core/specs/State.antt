@@ -13,6 +13,7 @@ use Rattle.tn3270e_msg.specs.declared.cause.Cause.{Cause}
 use Rattle.host_core.specs.Answering.{number_of}
 use Rattle.host_core.specs.Session.{Conn, new_conn, agreed_lu}
 use Rattle.host_core.specs.declared.phase.Phase.{Phase}
+use Rattle.host_core.specs.declared.rejection.Rejection.{Rejection}
 use Rattle.host_core.specs.declared.phase.Phase.TheVariants as phase
 use Rattle.host_core.specs.declared.turn.Turn.{Turn}
 use Rattle.host_core.specs.declared.turn.Turn.TheVariants.{Host as HostTurn}
@@ -23,10 +24,11 @@ pub data Service : Type 0 where
   Open : Rest → Conn → Service
   Closed : Cause → Service
 
--- with what the host has to send on it
+-- with what the host has to send on it, and the requests for an LU that it rejected
 pub record Connection : Type 0 where
   pub service : Service
   pub out : List ℕ
+  pub rejections : List Rejection  -- those that weren't reported yet, the oldest first
 
 pub record Host : Type 0 where
   pub panels : Panels
@@ -40,11 +42,11 @@ most_connections = 64
 -- ---- a number
 
 abbrev pub unused : Connection
-unused = record { service = Service.Free; out = [] }
+unused = record { service = Service.Free; out = []; rejections = [] }
 
 -- TN3270E is offered at once, to a model 2
 abbrev pub opened : Connection
-opened = record { service = Service.Open nothing (new_conn model_2); out = sent_bytes (Opt Do 40 ∷ []) }
+opened = record { service = Service.Open nothing (new_conn model_2); out = sent_bytes (Opt Do 40 ∷ []); rejections = [] }
 
 abbrev pub phase_agreed : Option (List ℕ) → Phase
 phase_agreed None = phase.Talking

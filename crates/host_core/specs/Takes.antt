@@ -1,5 +1,5 @@
--- What a host makes of what a terminal sends: the connection after it, what it says, the LU that it grants, and the cause by which it
--- closes the connection, if it does (RFC 1647, sections 7, 8.1 and 10.4; turns, beliefs and causes are our profile).
+-- What a host makes of what a terminal sends: the connection after it, what it says, the LU that it grants, the request that it
+-- rejects, and the cause by which it closes the connection, if it does (RFC 1647, sections 7, 8.1 and 10.4; turns, beliefs and causes are our profile).
 use Rattle.std.specs.Prelude.{◌==◌, ℕ, Bool, true, false, List, [], map, Option, Some, None, Result, Ok, Err, if◌then◌else◌}
 use Rattle.codes3270.specs.declared.attention.Aid.{Aid}
 use Rattle.codes3270.specs.declared.attention.Aid.TheVariants.{NoAid, Enter, Clear, Pf, Pa}
@@ -25,6 +25,8 @@ use Rattle.tn3270e_msg.specs.declared.reply.Reason.{Reason}
 use Rattle.tn3270e_msg.specs.declared.reply.Reply.{Reply}
 use Rattle.tn3270e_msg.specs.declared.reply.Reply.TheVariants as reply
 use Rattle.host_core.specs.Messages.{ToTerminal, ToHost, Verdict}
+use Rattle.host_core.specs.Rejections.{lu_asked, rejection_by}
+use Rattle.host_core.specs.declared.rejection.Rejection.{Rejection}
 use Rattle.host_core.specs.declared.turn.Turn.{Turn}
 use Rattle.host_core.specs.declared.turn.Turn.TheVariants as whose
 use Rattle.host_core.specs.declared.turn_reason.TurnReason.{TurnReason}
@@ -35,25 +37,28 @@ pub record HostStep : Type 0 where
   pub conn : Conn
   pub sends : List ToTerminal
   pub grants : Option (List ℕ)
+  pub rejects : Option Rejection
   pub closes : Option Cause
 
 -- it sends nothing
 abbrev pub quiet : Conn → HostStep
-quiet conn = record { conn = conn; sends = []; grants = None; closes = None }
+quiet conn = record { conn = conn; sends = []; grants = None; rejects = None; closes = None }
 
 abbrev pub closed_by : Cause → Conn → HostStep
-closed_by cause conn = record { conn = conn; sends = []; grants = None; closes = Some cause }
+closed_by cause conn = record { conn = conn; sends = []; grants = None; rejects = None; closes = Some cause }
 
 -- ---- the talk
 
 abbrev pub with_talk : Conn → Talk HostState → Conn
 with_talk conn talk = record conn { talk = talk }
 
-abbrev pub replied : Conn → Option (List ℕ) → Talk HostState × Reply → HostStep
-replied conn grants talked = record {
+-- the talk replied to what asks for this LU, if it asks for one
+abbrev pub replied : Conn → Option (List ℕ) → Option (List ℕ) → Talk HostState × Reply → HostStep
+replied conn lu grants talked = record {
   conn = with_talk conn talked.0;
   sends = map ToTerminal.TalksDown (sayings talked.1);
   grants = grants;
+  rejects = rejection_by lu talked.1;
   closes = closing talked.1;
 }
 
@@ -66,17 +71,17 @@ granted_by (Ok lu) = Some lu
 granted_by (Err reason) = None
 
 -- the talk asks the pool, and goes on with its answer
-abbrev pub asked : Conn → Talk HostState → Result (List ℕ) Reason → HostState → HostStep
-asked conn talk answer (Asking device) = replied conn (granted_by answer) (follow Closed talk (answer_transition device answer))
-asked conn talk answer _ = quiet conn
+abbrev pub asked : Conn → Option (List ℕ) → Talk HostState → Result (List ℕ) Reason → HostState → HostStep
+asked conn lu talk answer (Asking device) = replied conn lu (granted_by answer) (follow Closed talk (answer_transition device answer))
+asked conn lu talk answer _ = quiet conn
 
-abbrev pub talked_on : Answers → Conn → Talk HostState → Reply → HostStep
-talked_on pool conn talk (reply.AskPool name) = asked conn talk (pool name) talk.state
-talked_on pool conn talk reply = replied conn None (talk, reply)
+abbrev pub talked_on : Answers → Conn → Option (List ℕ) → Talk HostState → Reply → HostStep
+talked_on pool conn lu talk (reply.AskPool name) = asked conn lu talk (pool name) talk.state
+talked_on pool conn lu talk reply = replied conn lu None (talk, reply)
 
 -- something comes to the talk, as its table names it
 abbrev pub talked : Answers → Conn → Talk HostState → Comes → HostStep
-talked pool conn talk comes = let next = follow Closed talk (host_transition talk.state comes) in talked_on pool conn next.0 next.1
+talked pool conn talk comes = let next = follow Closed talk (host_transition talk.state comes) in talked_on pool conn (lu_asked comes) next.0 next.1
 
 -- ---- data
 

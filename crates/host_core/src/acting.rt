@@ -25,7 +25,6 @@ use codes3270::Aid;
 use panels::{Field, Message, Next, PanelSet, Values};
 use shadow::Shadow;
 use telnet_wire::Memory;
-use tn3270e_msg::HostState;
 
 /// What the host may do: read the whole screen, or show a panel with a message.
 #[derive(Drop)]
@@ -65,7 +64,7 @@ fn repeated(message: Message) -> Message
     }
 }
 
-/// A target is shown anew; but while a required field is missing, the panel is shown again.
+/// A target is shown fresh; but while a required field is missing, the panel is shown again.
 fn unless_missing(
     panel: usize,
     target: usize,
@@ -87,9 +86,11 @@ fn aid_is_real(aid: &Aid)
 {
     match aid {
         Aid::Pf(key) => {
+            // For the contract: the number is in range.
             let _number = key.get();
         }
         Aid::Pa(key) => {
+            // For the contract: the number is in range.
             let _number = key.get();
         }
         Aid::NoAid | Aid::Enter | Aid::Clear => {}
@@ -198,15 +199,7 @@ impl Session {
     pub(crate) fn agreed(&self) -> bool
         ensures { result ≡ is_agreed self.now.talk.state }
     {
-        match self.talk.state() {
-            HostState::Agreed(_, _) => true,
-            HostState::Offered
-            | HostState::Asked
-            | HostState::Asking(_)
-            | HostState::Named(_, _)
-            | HostState::Countered(_, _)
-            | HostState::Closed(_) => false,
-        }
+        self.talk.is_agreed()
     }
 
     /// Whether it may act: in its turn, once the session is agreed and its last command answered.

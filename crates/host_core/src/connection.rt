@@ -8,6 +8,7 @@ ghost use Rattle.host_core.specs.Feeds.{Feeds};
 ghost use Rattle.host_core.specs.Keeps.{IsRunning, IsLeft, OthersHold, counter_of, cause_of, claim};
 ghost use Rattle.host_core.specs.Connections.{StaysShown, ShadowIf};
 ghost use Rattle.host_core.specs.Notes.{IsNoteText};
+ghost use Rattle.host_core.specs.Rejections.{oldest, without_oldest};
 ghost use Rattle.host_core.specs.Rooms.{out_room};
 ghost use Rattle.host_core.specs.Sound.{HoldsJust, IsShown};
 ghost use Rattle.host_core.specs.State.Service.{Free};
@@ -16,19 +17,18 @@ ghost use Rattle.host_core.specs.State.{opened, unused, lu_of, phase_of, turn_of
 use crate::acted::Acted;
 use crate::feeding::feed_open;
 use crate::phase::Phase;
+use crate::rejection::{MOST_REJECTIONS, Rejection};
 use crate::room::OUT_ROOM;
 use crate::session::Session;
 use crate::turn::Turn;
+use arrayvec::ArrayVec;
 use lu_pool::Pool;
 use panels::PanelSet;
 use shadow::Shadow;
 use std::alloc::{AllocError, Global};
 use std::marker::Model;
-use telnet_wire::{Decoder, Memory, Verb, put_option};
-use tn3270e_msg::{Cause, Fed, RECORD_LIMIT, Stop};
-
-/// The option that is offered: TN3270E (RFC 1647).
-const TN3270E: u8 = 40;
+use telnet_wire::{Decoder, Memory};
+use tn3270e_msg::{Cause, Fed, HostTalk, RECORD_LIMIT, Stop};
 
 /// What the host keeps of a connection that is open.
 #[derive(Drop)]
@@ -39,11 +39,18 @@ pub(crate) struct HostEnd {
 
 impl HostEnd {
     /// Takes bytes that came, as the host does.
-    fn feed(&mut self, pool: &mut Pool, number: usize, out: &mut Vec<u8>, bytes: &[u8]) -> Fed
+    fn feed(
+        &mut self,
+        pool: &mut Pool,
+        number: usize,
+        out: &mut Vec<u8>,
+        rejections: &mut ArrayVec<Rejection, MOST_REJECTIONS>,
+        bytes: &[u8],
+    ) -> Fed
         requires running { IsRunning self.old.decoder }
         requires room { out_room ≤ vec_capacity out.old }
         requires holder { HoldsJust number pool.old (granted self.old.session.talk.state) }
-        ensures fed { Feeds number (counter_of pool.old self.old.decoder self.old.session None out.old) bytes.now result (counter_of pool.new self.new.decoder self.new.session (cause_of result.stop) out.new) }
+        ensures fed { Feeds number (counter_of pool.old self.old.decoder self.old.session None out.old rejections.old.items) bytes.now result (counter_of pool.new self.new.decoder self.new.session (cause_of result.stop) out.new rejections.new.items) }
         ensures holds { HoldsJust number pool.new (claim (cause_of result.stop) self.new.session) }
         ensures others { OthersHold number pool.old pool.new }
         ensures panel { self.new.session.panel ≡ self.old.session.panel }
@@ -56,6 +63,7 @@ impl HostEnd {
             &mut self.decoder,
             &mut self.session,
             out,
+            rejections,
             bytes,
         )
     }
@@ -69,11 +77,21 @@ pub(crate) enum Service {
     Closed(Cause),
 }
 
-/// A connection number, with what is still to be sent there.
+/// Makes the room for output that a connection keeps.
+fn make_out_room(out: &mut Vec<u8>) -> Result<(), Memory>
+    ensures items { out.new.items ≡ out.old.items }
+    ensures room { OnOk result (out_room ≤ vec_capacity out.new) }
+{
+    out.reserve(OUT_ROOM)
+}
+
+/// A connection number, with what is still to be sent there, and the rejections that weren't reported yet.
 #[derive(Drop)]
 pub(crate) struct Connection {
     service: Service,
     out: Vec<u8>,
+    // Those that weren't reported yet, the oldest first.
+    rejections: ArrayVec<Rejection, MOST_REJECTIONS>,
 }
 
 impl Model for Connection {
@@ -82,7 +100,7 @@ impl Model for Connection {
 
     ghost Value = { Stood };
 
-    ghost view = { λ connection. record { service = service_of connection.service; out = connection.out.items } };
+    ghost view = { λ connection. record { service = service_of connection.service; out = connection.out.items; rejections = connection.rejections.items } };
 
     ghost invariant = { λ connection. IsSoundConnection connection.service connection.out };
 }
@@ -95,6 +113,7 @@ impl Connection {
         Connection {
             service: Service::Free,
             out: Vec::new(alloc),
+            rejections: ArrayVec::new(),
         }
     }
 
@@ -112,9 +131,10 @@ impl Connection {
         };
         let session = Session::new(alloc)?;
         let end = Box::new(alloc, HostEnd { decoder, session })?;
-        self.out.reserve(OUT_ROOM)?;
+        make_out_room(&mut self.out)?;
         self.out.clear();
-        put_option(&mut self.out, Verb::Do, TN3270E).unwrap();
+        HostTalk::put_offer(&mut self.out).unwrap();
+        self.rejections = ArrayVec::new();
         self.service = Service::Open(end);
         Ok(())
     }
@@ -137,7 +157,7 @@ impl Connection {
                 stop: Stop::Closed(*cause),
             },
             Service::Open(end) => {
-                let fed = end.feed(pool, number, &mut self.out, bytes);
+                let fed = end.feed(pool, number, &mut self.out, &mut self.rejections, bytes);
                 match fed.stop {
                     Stop::Closed(cause) => {
                         self.service = Service::Closed(cause);
@@ -193,12 +213,21 @@ impl Connection {
         self.out.truncate(left);
     }
 
+    /// Removes the oldest rejection that wasn't reported yet, and hands it out.
+    pub(crate) fn next_rejection(&mut self) -> Option<Rejection>
+        ensures next { result ≡ oldest self.old.rejections }
+        ensures removed { self.new ≡ record self.old { rejections = without_oldest self.old.rejections } }
+    {
+        self.rejections.pop_at(0)
+    }
+
     /// Frees the number, and hands back what wasn't sent.
     pub(crate) fn close(&mut self) -> Vec<u8>
         ensures unsent { result.items ≡ self.old.out }
         ensures closed { self.new ≡ unused }
     {
         self.service = Service::Free;
+        self.rejections.clear();
         let empty = Vec::new(*self.out.allocator());
         std::mem::replace(&mut self.out, empty)
     }
@@ -209,6 +238,7 @@ impl Connection {
     {
         self.service = Service::Free;
         self.out.clear();
+        self.rejections.clear();
     }
 
     pub(crate) fn phase(&self) -> Phase

@@ -1,16 +1,19 @@
 //! How a connection that is open takes bytes.
-ghost use Rattle.std.specs.Prelude.{◌≡◌, ◌≤◌, None};
+ghost use Rattle.std.specs.Prelude.{◌≡◌, ◌≤◌, None, IfNone, IfSome, length, take};
 ghost use Rattle.std.specs.Vec.{vec_capacity};
 ghost use Rattle.tn3270e_msg.specs.HostTable.{granted};
-ghost use Rattle.host_core.specs.Bytes.{TakesByte};
-ghost use Rattle.host_core.specs.Feeds.{Feeds};
+ghost use Rattle.host_core.specs.Bytes.{TakesByte, TakesBytes};
+ghost use Rattle.host_core.specs.Feeds.{StopsFor};
 ghost use Rattle.host_core.specs.Keeps.{IsLeft, IsRunning, OthersHold, cause_of, claim, counter_of};
 ghost use Rattle.tn3270e_msg.specs.Writing.{HasRoomForReply};
 ghost use Rattle.host_core.specs.Rooms.{out_room};
 ghost use Rattle.host_core.specs.Sound.{HoldsJust};
+ghost use Rattle.host_core.specs.Takes.{freed_if};
 
+use crate::rejection::{MOST_REJECTIONS, Rejection};
 use crate::session::Session;
 use crate::talking::take_item;
+use arrayvec::ArrayVec;
 use lu_pool::Pool;
 use telnet_wire::{Decoder, Step};
 use tn3270e_msg::{Cause, Fed, REPLY_ROOM, Stop};
@@ -23,12 +26,15 @@ pub(crate) fn feed_open(
     decoder: &mut Decoder,
     session: &mut Session,
     out: &mut Vec<u8>,
+    rejections: &mut ArrayVec<Rejection, MOST_REJECTIONS>,
     bytes: &[u8],
 ) -> Fed
     requires running { IsRunning decoder.old }
     requires room { out_room ≤ vec_capacity out.old }
     requires holder { HoldsJust number pool.old (granted session.old.talk.state) }
-    ensures fed { Feeds number (counter_of pool.old decoder.old session.old None out.old) bytes.now result (counter_of pool.new decoder.new session.new (cause_of result.stop) out.new) }
+    ensures few { result.taken ≤ length bytes.now }
+    ensures takes { TakesBytes number (counter_of pool.old decoder.old session.old None out.old rejections.old.items) (take result.taken bytes.now) (counter_of pool.new decoder.new session.new (cause_of result.stop) out.new rejections.new.items) }
+    ensures stops { StopsFor result.stop (counter_of pool.old decoder.old session.old None out.old rejections.old.items) bytes.now result.taken (counter_of pool.new decoder.new session.new (cause_of result.stop) out.new rejections.new.items) }
     ensures holds { HoldsJust number pool.new (claim (cause_of result.stop) session.new) }
     ensures others { OthersHold number pool.old pool.new }
     ensures panel { session.new.panel ≡ session.old.panel }
@@ -42,7 +48,7 @@ pub(crate) fn feed_open(
                 stop: Stop::Memory,
             };
         }
-        if let Some(cause) = take_byte(pool, number, decoder, session, out, *byte) {
+        if let Some(cause) = take_byte(pool, number, decoder, session, out, rejections, *byte) {
             return Fed {
                 taken: taken + 1,
                 stop: Stop::Closed(cause),
@@ -62,12 +68,13 @@ fn take_byte(
     decoder: &mut Decoder,
     session: &mut Session,
     out: &mut Vec<u8>,
+    rejections: &mut ArrayVec<Rejection, MOST_REJECTIONS>,
     byte: u8,
 ) -> Option<Cause>
     requires running { IsRunning decoder.old }
     requires room { HasRoomForReply out.old }
     requires holder { HoldsJust number pool.old (granted session.old.talk.state) }
-    ensures taken { TakesByte number (counter_of pool.old decoder.old session.old None out.old) byte (counter_of pool.new decoder.new session.new result out.new) }
+    ensures taken { TakesByte number (counter_of pool.old decoder.old session.old None out.old rejections.old.items) byte (counter_of pool.new decoder.new session.new result out.new rejections.new.items) }
     ensures holds { HoldsJust number pool.new (claim result session.new) }
     ensures others { OthersHold number pool.old pool.new }
     ensures panel { session.new.panel ≡ session.old.panel }
@@ -81,11 +88,21 @@ fn take_byte(
         }
         Ok(Step::More) => None,
         Ok(Step::Ready) => {
-            let closes = take_item(pool, number, session, out, &decoder.item());
-            if closes.is_some() {
-                pool.give_back(number);
-            }
+            let closes = take_item(pool, number, session, out, rejections, &decoder.item());
+            free_if_closed(pool, number, closes);
             closes
         }
+    }
+}
+
+/// Frees the LU of the connection with this number, if there is a cause by which the connection closes.
+fn free_if_closed(pool: &mut Pool, number: usize, closes: Option<Cause>)
+    ensures becomes { pool.new ≡ freed_if number closes pool.old }
+    ensures freed { IfSome closes (λ cause. HoldsJust number pool.new None) }
+    ensures others { OthersHold number pool.old pool.new }
+{
+    match closes {
+        Some(_) => pool.give_back(number),
+        None => {}
     }
 }

@@ -4,6 +4,7 @@ ghost use Rattle.host_core.specs.Application.{application_of};
 ghost use Rattle.host_core.specs.Does.{Does, acted_by, noted_by};
 ghost use Rattle.host_core.specs.Feeds.{Feeds, counter_at, with_counter};
 ghost use Rattle.host_core.specs.Notes.{IsNoteText};
+ghost use Rattle.host_core.specs.Rejections.{oldest, without_oldest};
 ghost use Rattle.host_core.specs.Sound.{IsSound, NobodyShares};
 ghost use Rattle.host_core.specs.State.{new_host, most_connections, opened, unused, given_up, connection_at, service_at, with_connection, phase_of, turn_of, pending_of, shadow_of};
 ghost use Rattle.host_core.specs.declared.phase.Phase.TheVariants as phase;
@@ -11,6 +12,7 @@ ghost use Rattle.host_core.specs.declared.phase.Phase.TheVariants as phase;
 use crate::acted::Acted;
 use crate::connection::Connection;
 use crate::phase::Phase;
+use crate::rejection::Rejection;
 use crate::turn::Turn;
 use lu_pool::Pool;
 use panels::PanelSet;
@@ -94,6 +96,7 @@ impl Host {
         ensures opened { OnOk result (self.new ≡ with_connection conn opened self.old) }
         ensures unchanged { OnErr result (self.new ≡ self.old) }
     {
+        // For the contract: there is a first panel.
         let _first = self.panels.start();
         self.connections[conn].open()
     }
@@ -155,6 +158,16 @@ impl Host {
         self.connections[conn].sent(count);
     }
 
+    /// Removes the oldest rejection on a connection that wasn't reported yet, and hands it out. A connection keeps those that its
+    /// talk sent, at most 8, until its number is opened again or freed.
+    pub fn next_rejection(&mut self, conn: usize) -> Option<Rejection>
+        requires number { conn < most_connections }
+        ensures next { result ≡ oldest (connection_at conn self.old).rejections }
+        ensures removed { self.new ≡ with_connection conn (record (connection_at conn self.old) { rejections = without_oldest (connection_at conn self.old).rejections }) self.old }
+    {
+        self.connections[conn].next_rejection()
+    }
+
     /// A connection is lost, or its peer left: frees its number and its LU, and hands back what wasn't sent.
     pub fn closed(&mut self, conn: usize) -> Vec<u8>
         requires number { conn < most_connections }
@@ -200,7 +213,7 @@ impl Host {
         }
     }
 
-    /// Begins anew: all numbers and all LUs are free.
+    /// Starts again: all numbers and all LUs are free.
     pub fn restart(&mut self)
         ensures { self.new ≡ new_host self.old.panels self.old.pool }
     {
@@ -215,6 +228,7 @@ impl Host {
         ensures sound { IsSound self.now }
         ensures unshared { NobodyShares self.now }
     {
+        // For the contract: no LU has two holders.
         let _holders = self.pool.lu_held_by(0);
     }
 }

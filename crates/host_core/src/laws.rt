@@ -40,8 +40,8 @@ pub fn panels_are_shown()
 }
 
 /// Law: what a host shows changes its belief no sooner than it is answered; that a command carries
-/// the connection's number, by which its response is awaited, and the next command the number
-/// behind it; and that a response with another number than the pending command's closes the
+/// the connection's number, by which its response is awaited, and the next command the next
+/// number; and that a response with another number than the pending command's closes the
 /// connection.
 pub fn what_is_shown_is_answered()
     ensures no_sooner { BelievesNoSooner }

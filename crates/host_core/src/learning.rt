@@ -151,7 +151,7 @@ fn is_blank(value: &[u8]) -> bool
 /// A blank in the host's code.
 const BLANK: u8 = 0x40;
 
-/// Whether a field has to be filled in, and isn't.
+/// Whether a field is required and isn't filled in.
 fn is_missing(values: &Values, field: &Field) -> bool
     ensures { result ≡ is_missing values.now field.now }
 {

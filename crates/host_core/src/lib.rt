@@ -1,5 +1,5 @@
-//! The host: what it makes of what terminals send, and what it does in its turn. It owns no connection and waits for nothing: who
-//! owns some numbers them, feeds it what comes on each, lets it act, and sends what it has to send.
+//! The host: what it makes of what terminals send, and what it does in its turn. It owns no connection and waits for nothing: its
+//! caller numbers them, feeds it the bytes of each, lets it act, and sends what it has to send.
 //!
 //! ```rust
 //! let panels = PanelSet::read(alloc, text)?;
@@ -29,10 +29,12 @@
 //! host.closed(0);
 //! ```
 //!
-//! [`serve_turn`] does a turn of this on connections of any kind, by the trait [`Links`]: a read, an act, and a write.
-//! `specs/State` says what a host is, `Feeds`, `Bytes`, `Items` and `Takes` what bytes make of it, `Does` and `Acts` what it does in its
-//! turn, `Notes` what a note is, and `Serves` what a turn of serving is. [`laws::one_machine`] and the other laws have what follows from
-//! these as their contracts. Whole dialogues, byte for byte, stand in the `stdin` of the repository's `trials3270`.
+//! [`serve_turn`] does a turn of this on connections of any kind, by the trait [`Links`]: a read, an
+//! act, and a write. `specs/State` says what a host is, and `Rejections` which requests for an LU it
+//! rejected; `Feeds`, `Bytes`, `Items` and `Takes` say what bytes make of it, `Does` and `Acts` what
+//! it does in its turn, `Notes` what a note is, and `Serves` what a turn of serving is. What follows
+//! from these is the contract of [`laws::one_machine`] and of the other laws. The `data` of the
+//! repository's `trials3270` has whole dialogues, byte for byte.
 #![tactic(auto)]
 
 mod acted;
@@ -47,6 +49,7 @@ mod noting;
 mod pending;
 mod phase;
 mod records;
+mod rejection;
 mod room;
 mod sending;
 mod serving;
@@ -62,9 +65,10 @@ pub use links::{LinkRead, LinkWrite, Links};
 pub use lu_pool::{Pool, PoolFault};
 pub use panels::{PanelFault, PanelSet};
 pub use phase::Phase;
+pub use rejection::Rejection;
 pub use room::OUT_ROOM;
 pub use serving::{READ_ROOM, Served, serve_turn};
 pub use shadow::{Fact, Shadow};
-pub use tn3270e_msg::{Cause, Fed, Lu, Stop};
+pub use tn3270e_msg::{Cause, Fed, Lu, Reason, Stop};
 pub use turn::Turn;
 pub use turn_reason::TurnReason;

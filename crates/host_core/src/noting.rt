@@ -69,7 +69,7 @@ fn put_text(writer: &mut CommandWriter<'_>, text: &[u8])
     writer.chars(text).unwrap();
 }
 
-/// Appends a note: a Write that does nothing but put a text into the last row, and nulls behind it.
+/// Appends a note: a Write that only puts a text into the last row, and nulls after the text.
 fn write_note(writer: &mut CommandWriter<'_>, text: &[u8])
     requires text { IsNoteText text.now }
     requires room { vec_len writer.old.out.now + (4 + model_2.columns) ≤ vec_capacity writer.old.out.now }

@@ -3,6 +3,7 @@ ghost use Rattle.std.specs.Prelude.{◌≡◌, true, drop};
 ghost use Rattle.datastream.specs.Grammar.{IsSpelt};
 ghost use Rattle.shadow.specs.Exactness.{is_erase};
 ghost use Rattle.shadow.specs.Stores.{is_plain};
+ghost use Rattle.tn3270e_msg.specs.Header.{header_length};
 ghost use Rattle.host_core.specs.Items.{TakesRecord, verdict_of};
 ghost use Rattle.host_core.specs.Keeps.{IsPlainWrite, command_in, silent};
 ghost use Rattle.host_core.specs.Parts.{IsWrite, write_of};
@@ -16,7 +17,7 @@ use codes3270::Aid;
 use datastream::{Command, CommandCode, Form, Inbound, read_command, read_inbound};
 use shadow::Shadow;
 use shadow::laws::what_is_believed_can_be_stored;
-use tn3270e_msg::{Cause, DataType, Header, POSITIVE, read_header};
+use tn3270e_msg::{Cause, DataType, HEADER_LENGTH, Header, POSITIVE, read_header};
 
 /// The screen of the key that was pressed last was read.
 fn once_read(turn_reason: TurnReason) -> TurnReason
@@ -29,14 +30,14 @@ fn once_read(turn_reason: TurnReason) -> TurnReason
     }
 }
 
-/// The write that stands in a record behind its header.
+/// The write in a record, after its header.
 fn write_in(sent: &[u8]) -> Command<'_>
-    requires { IsPlainWrite (drop 5 sent.now) }
-    ensures command { result ≡ command_in (drop 5 sent.now) }
+    requires { IsPlainWrite (drop header_length sent.now) }
+    ensures command { result ≡ command_in (drop header_length sent.now) }
     ensures plain { is_plain result ≡ true }
     ensures spelt { IsSpelt result }
 {
-    read_command(&sent[5..]).unwrap()
+    read_command(&sent[HEADER_LENGTH..]).unwrap()
 }
 
 /// Whether a write clears the screen first.
@@ -128,7 +129,7 @@ impl Session {
         }
     }
 
-    /// Believes what came, so that the turn is the host's for this reason; what waits for an answer still does.
+    /// Hears inbound data, so that the turn is the host's for this reason; what waits for an answer still does.
     fn believe(&mut self, inbound: &Inbound<'_>, turn_reason: TurnReason) -> Option<Cause>
         ensures came { silent self.new result ≡ believed turn_reason self.old.pending self.old (hears inbound.now self.old) }
         ensures talk { self.new.talk ≡ self.old.talk }
@@ -136,6 +137,7 @@ impl Session {
     {
         // What is sent can be stored, and so what is believed of it.
         what_is_believed_can_be_stored();
+        // For the contract: the data has a form that terminals send.
         let _is_sent = inbound.form();
         if self.shadow.heard(inbound).is_err() {
             return Some(Cause::BadInbound);

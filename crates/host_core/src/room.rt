@@ -1,17 +1,18 @@
 //! How much room commands take, in bytes.
 use codes3270::{CELL_COUNT, COLUMNS};
+use tn3270e_msg::HEADER_LENGTH;
 
 /// The most bytes of a record that a host sends: a header, and a paint with five bytes for each cell.
-pub(crate) const RECORD_ROOM: usize = 5 + (6 + 5 * CELL_COUNT);
+pub(crate) const RECORD_ROOM: usize = HEADER_LENGTH + (6 + 5 * CELL_COUNT);
 
 /// Such a record with each byte doubled, and its end.
 pub(crate) const COMMAND_ROOM: usize = 2 * RECORD_ROOM + 2;
 
 /// A Read Buffer: a header and a code, with each byte doubled, and its end.
-pub(crate) const READ_BUFFER_ROOM: usize = 2 * (5 + 1) + 2;
+pub(crate) const READ_BUFFER_ROOM: usize = 2 * (HEADER_LENGTH + 1) + 2;
 
 /// A note: a header, the beginning of a Write and the last row behind its attribute, with each byte doubled, and its end.
-pub(crate) const NOTE_ROOM: usize = 2 * (5 + (4 + COLUMNS as usize)) + 2;
+pub(crate) const NOTE_ROOM: usize = 2 * (HEADER_LENGTH + (4 + COLUMNS as usize)) + 2;
 
 /// The room for output that [`Host::open`](crate::Host::open) makes and that the connection keeps, in bytes (our profile): the
 /// largest command, and 1,024 bytes beside it.

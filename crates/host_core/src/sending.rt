@@ -150,7 +150,9 @@ impl Session {
         panels_are_shown();
         panels.panels_are_sound();
         self.put_wanted(wanted, panels, panel, message, keep, values);
+        // For the contract: there is a want for each cell.
         let _cells = wanted.cells();
+        // For the contract: the cursor is on the screen.
         let _cursor = wanted.cursor();
     }
 

@@ -56,7 +56,7 @@ fn receive<L: Links>(links: &mut L, conn: usize, buffer: &mut [u8]) -> Option<us
     }
 }
 
-/// Feeds the host what came, and has it act. Answers false where memory was refused.
+/// Feeds the host the bytes, and has it act. Answers false if memory was refused.
 fn respond(host: &mut Host, conn: usize, bytes: &[u8]) -> bool
     requires number { conn < most_connections }
     ensures { Responds conn host.old bytes.now result host.new }
@@ -71,7 +71,7 @@ fn respond(host: &mut Host, conn: usize, bytes: &[u8]) -> bool
     }
 }
 
-/// Reads a connection once, into a buffer of [`READ_ROOM`] bytes, and feeds the host what came; then the host acts, and what
+/// Reads a connection once, into a buffer of [`READ_ROOM`] bytes, and feeds the host what it read; then the host acts, and what
 /// there is to send is handed to one write. If the read ended or failed, nothing else is done.
 ///
 /// Lost where the read or the write ended or failed, or the connection is closed. After Memory what was read and not taken is

@@ -12,7 +12,7 @@ use shadow::Shadow;
 use std::alloc::Global;
 use std::marker::Model;
 use telnet_wire::Memory;
-use tn3270e_msg::{HostState, HostTalk, Lu};
+use tn3270e_msg::{HostTalk, Lu};
 
 /// The talk, whose turn it is, what waits for an answer, what is believed of the screen, and what is shown there.
 ///
@@ -85,14 +85,6 @@ impl Session {
     pub(crate) fn lu(&self) -> Option<Lu>
         ensures { result ≡ agreed_lu self.now.talk.state }
     {
-        match self.talk.state() {
-            HostState::Agreed(_, lu) => Some(lu),
-            HostState::Offered
-            | HostState::Asked
-            | HostState::Asking(_)
-            | HostState::Named(_, _)
-            | HostState::Countered(_, _)
-            | HostState::Closed(_) => None,
-        }
+        self.talk.agreed_lu()
     }
 }

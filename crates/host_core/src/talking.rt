@@ -12,10 +12,12 @@ ghost use Rattle.host_core.specs.Parts.{TalkTaken};
 ghost use Rattle.host_core.specs.Sound.{HoldsJust};
 ghost use Rattle.host_core.specs.Takes.{granted_by};
 
+use crate::rejection::{MOST_REJECTIONS, Rejection, keep_rejection};
 use crate::session::Session;
+use arrayvec::ArrayVec;
 use lu_pool::Pool;
 use telnet_wire::Item;
-use tn3270e_msg::{Cause, HostState, HostTalk, Lu, Reason, Reply, put_reply};
+use tn3270e_msg::{Cause, HostTalk, Lu, Reason, Reply, put_reply};
 
 /// Takes what the stream hands out to the connection with this number, and answers the cause by which it closes, if it does; its
 /// LU is still held then.
@@ -24,36 +26,40 @@ pub(crate) fn take_item(
     number: usize,
     session: &mut Session,
     out: &mut Vec<u8>,
+    rejections: &mut ArrayVec<Rejection, MOST_REJECTIONS>,
     item: &Item<'_>,
 ) -> Option<Cause>
     requires room { HasRoomForReply out.old }
     requires holder { HoldsJust number pool.old (granted session.old.talk.state) }
-    ensures taken { ItemTaken number pool.old session.old (item_of item.now) out.old out.new result pool.new session.new }
+    ensures taken { ItemTaken number pool.old session.old (item_of item.now) out.old out.new result pool.new session.new rejections.old.items rejections.new.items }
     ensures holds { IfNone result (HoldsJust number pool.new (granted session.new.talk.state)) }
     ensures others { OthersHold number pool.old pool.new }
     ensures panel { session.new.panel ≡ session.old.panel }
     ensures capacity { vec_capacity out.old ≤ vec_capacity out.new }
 {
     let Item::Record(bytes) = item else {
-        return talk_on(pool, number, &mut session.talk, out, item);
+        return talk_on(pool, number, &mut session.talk, out, rejections, item);
     };
-    match session.talk.state() {
-        HostState::Agreed(_, _) => session.take_record(bytes),
-        _ => None,
+    if session.talk.is_agreed() {
+        session.take_record(bytes)
+    } else {
+        None
     }
 }
 
-/// Goes on with the talk by what came, and answers the cause by which it closes, if it does.
+/// Goes on with the talk by an item, and answers the cause by which the talk closes, if it does. The rejection of a request is
+/// kept.
 fn talk_on(
     pool: &mut Pool,
     number: usize,
     talk: &mut HostTalk,
     out: &mut Vec<u8>,
+    rejections: &mut ArrayVec<Rejection, MOST_REJECTIONS>,
     item: &Item<'_>,
 ) -> Option<Cause>
     requires room { HasRoomForReply out.old }
     requires holder { HoldsJust number pool.old (granted talk.old.state) }
-    ensures taken { TalkTaken number pool.old talk.old (item_of item.now) out.old out.new result pool.new talk.new }
+    ensures taken { TalkTaken number pool.old talk.old (item_of item.now) out.old out.new result pool.new talk.new rejections.old.items rejections.new.items }
     ensures holds { IfNone result (HoldsJust number pool.new (granted talk.new.state)) }
     ensures others { OthersHold number pool.old pool.new }
     ensures capacity { vec_capacity out.old ≤ vec_capacity out.new }
@@ -61,9 +67,14 @@ fn talk_on(
     match talk.take(item) {
         Reply::AskPool(name) => {
             let answer = ask(pool, number, &name);
-            put_reply(out, &talk.answered(answer))
+            let reply = talk.answered(answer);
+            keep_rejection(rejections, &reply, item);
+            put_reply(out, &reply)
         }
-        reply => put_reply(out, &reply),
+        reply => {
+            keep_rejection(rejections, &reply, item);
+            put_reply(out, &reply)
+        }
     }
 }
 

@@ -2,7 +2,7 @@
 use Rattle.std.proofs.Common.{◌≡◌, ℕ, ◌+◌, ◌-◌, ◌≤◌, List, [], ◌∷◌, ◌++◌, length, take, drop, suc, zero, Option, None, Some, arith, ap, subst, ◌∙◌, sym}
 use Rattle.std.specs.Io.KnownBytes.{Appends, Keeps}
 use Rattle.std.proofs.lemmas.List.{take_all, length-drop}
-use Rattle.std.proofs.KnownBytes.{Appends-nil, Appends-trans}
+use Rattle.std.proofs.KnownBytes.{Appends-trans}
 
 take_on : (xs : List ℕ) (n m : ℕ) → n ≤ length xs → take (n + m) xs ≡ take n xs ++ take m (drop n xs)
 take_on xs zero m within = let none : 0 + m ≡ m = omega arith in ap (λ k. take k xs) none
@@ -10,10 +10,6 @@ take_on [] (suc n) m within = absurd (omega arith)
 take_on (x ∷ xs) (suc n) m within =
     let one_more : suc n + m ≡ suc (n + m) = omega arith in
     ap (λ k. take k (x ∷ xs)) one_more ∙ ap (λ (front : List ℕ). x ∷ front) (take_on xs n m (omega arith))
-
--- nothing is written yet
-pub taken_none : (a : Option (List ℕ)) (bytes : List ℕ) → Appends a a (take 0 bytes)
-taken_none a bytes = Appends-nil a
 
 -- the bytes that are left
 left_whole : (bytes : List ℕ) (taken : ℕ) → take (length bytes - taken) (drop taken bytes) ≡ drop taken bytes

@@ -14,11 +14,11 @@ use Rattle.world3270.specs.declared.event.Event.{Event}
 use Rattle.world3270.specs.declared.event.Stepped.{Stepped}
 use Rattle.jobs3270.specs.Happenings.{AreRounds, AreTyped, Happening, OthersIf, TakePlace, all_skipped, events_of, is_refused, most_rounds, round_below}
 use Rattle.jobs3270.specs.HexLines.{lines_of}
-use Rattle.jobs3270.specs.Plays.{AreAsked, Plays, PlaysLine, PlaysNext, asked, said_of, terminal_count}
+use Rattle.jobs3270.specs.Plays.{AreHappeningsOf, Plays, PlaysLine, PlaysNext, playable_command, said_of, terminal_count}
 use Rattle.jobs3270.specs.ScriptLines.{typed_text}
 use Rattle.jobs3270.specs.Scripts.{IsScriptPage, IsWorldOf, ScriptsHaveOnePage, lus_of, panel_text, script_text}
-use Rattle.jobs3270.specs.declared.script_line.Asks.{Asks}
-use Rattle.jobs3270.specs.declared.script_line.Asks.TheVariants as ask
+use Rattle.jobs3270.specs.declared.script_line.ScriptCommand.{ScriptCommand}
+use Rattle.jobs3270.specs.declared.script_line.ScriptCommand.TheVariants as command
 
 -- ---- what takes place
 
@@ -98,52 +98,52 @@ module _ (steps_are_one : StepsAreOne) where
       (others_alike (is_refused first.answer) others rivals (AreTyped terminal text others) (AreTyped terminal text rivals) takes.0 new other is.1 rightly takes.3 rest
       (λ here there. one_typing terminal text others rivals takes.0 new other here there takes.3 rest))
 
-  one_settling : (left : ℕ) (happenings rival : List Happening) (old new other : ByteWorld) → AreRounds left happenings → AreRounds left rival
+  one_idling : (left : ℕ) (happenings rival : List Happening) (old new other : ByteWorld) → AreRounds left happenings → AreRounds left rival
       → TakePlace happenings old new → TakePlace rival old other → Alike happenings rival new other
   unfolding AreRounds
-  one_settling zero happenings rival old new other is also takes other_takes = one_nothing happenings rival old new other is also takes other_takes
-  one_settling (suc left) happenings rival old new other is also takes other_takes =
+  one_idling zero happenings rival old new other is also takes other_takes = one_nothing happenings rival old new other is also takes other_takes
+  one_idling (suc left) happenings rival old new other is also takes other_takes =
       let parts = in_pieces is.0 is.1 old new (subst (λ (list : List Happening). TakePlace list old new) is.2 takes) in
       let rivals = in_pieces also.0 also.1 old other (subst (λ (list : List Happening). TakePlace list old other) also.2 other_takes) in
       let round = one_run is.0 also.0 old parts.0 rivals.0 (is.3 ∙ sym also.3) parts.1 rivals.1 in
       let rightly = subst (λ (list : List Happening). OthersIf (all_skipped list) also.1 (AreRounds left also.1)) (sym round.0) also.4 in
       let rest = subst (λ (mid : ByteWorld). TakePlace also.1 mid other) (sym round.1) rivals.2 in
       let others = others_alike (all_skipped is.0) is.1 also.1 (AreRounds left is.1) (AreRounds left also.1) parts.0 new other is.4 rightly parts.2 rest
-      (λ here there. one_settling left is.1 also.1 parts.0 new other here there parts.2 rest) in (
+      (λ here there. one_idling left is.1 also.1 parts.0 new other here there parts.2 rest) in (
         is.2 ∙ ap (λ (list : List Happening). list ++ is.1) round.0 ∙ ap (λ (list : List Happening). also.0 ++ list) others.0 ∙ sym also.2,
         others.1,
       )
 
   -- ---- lines
 
-  one_asking : (asks : Asks) (line : List ℕ) (happenings rival : List Happening) (old new other : ByteWorld) → AreAsked asks line happenings → AreAsked asks line rival
+  one_command : (command : ScriptCommand) (line : List ℕ) (happenings rival : List Happening) (old new other : ByteWorld) → AreHappeningsOf command line happenings → AreHappeningsOf command line rival
       → TakePlace happenings old new → TakePlace rival old other → Alike happenings rival new other
-  one_asking ask.Nothing line happenings rival old new other is also takes other_takes = one_nothing happenings rival old new other is also takes other_takes
-  one_asking (ask.Happens event) line happenings rival old new other is also takes other_takes =
+  one_command command.Nothing line happenings rival old new other is also takes other_takes = one_nothing happenings rival old new other is also takes other_takes
+  one_command (command.Happen event) line happenings rival old new other is also takes other_takes =
       one_run happenings rival old new other (is ∙ sym also) takes other_takes
-  one_asking (ask.Types terminal) line happenings rival old new other is also takes other_takes =
+  one_command (command.TypeText terminal) line happenings rival old new other is also takes other_takes =
       one_typing terminal (chars (typed_text line)) happenings rival old new other is also takes other_takes
-  one_asking ask.Settles line happenings rival old new other is also takes other_takes = one_settling most_rounds happenings rival old new other is also takes other_takes
-  one_asking (ask.Shows terminal) line happenings rival old new other is also takes other_takes = one_nothing happenings rival old new other is also takes other_takes
-  one_asking (ask.Tells terminal) line happenings rival old new other is also takes other_takes = one_nothing happenings rival old new other is also takes other_takes
+  one_command command.Settle line happenings rival old new other is also takes other_takes = one_idling most_rounds happenings rival old new other is also takes other_takes
+  one_command (command.Show terminal) line happenings rival old new other is also takes other_takes = one_nothing happenings rival old new other is also takes other_takes
+  one_command (command.Status terminal) line happenings rival old new other is also takes other_takes = one_nothing happenings rival old new other is also takes other_takes
 
-  one_line : (asks : Asks) (line : List ℕ) (old new other : ByteWorld) (happenings rival : List Happening) (said told : List ℕ)
-      → PlaysLine asks line old happenings said new → PlaysLine asks line old rival told other → (said ≡ told) × (new ≡ other)
-  one_line asks line old new other happenings rival said told is also =
-      let alike = one_asking asks line happenings rival old new other is.are_asked also.are_asked is.take_place also.take_place in (
-        is.said_is ∙ ap (λ (list : List Happening). said_of asks list new) alike.0 ∙ ap (λ (world : ByteWorld). said_of asks rival world) alike.1 ∙ sym also.said_is,
+  one_line : (command : ScriptCommand) (line : List ℕ) (old new other : ByteWorld) (happenings rival : List Happening) (said told : List ℕ)
+      → PlaysLine command line old happenings said new → PlaysLine command line old rival told other → (said ≡ told) × (new ≡ other)
+  one_line command line old new other happenings rival said told is also =
+      let alike = one_command command line happenings rival old new other is.are_happenings also.are_happenings is.take_place also.take_place in (
+        is.said_is ∙ ap (λ (list : List Happening). said_of command list new) alike.0 ∙ ap (λ (world : ByteWorld). said_of command rival world) alike.1 ∙ sym also.said_is,
         alike.1,
       )
 
-  one_next : (asks : Option Asks) (number : ℕ) (line : List ℕ) (lines : List (List ℕ)) (old new other : ByteWorld) (happenings rival : List Happening) (printed text : List ℕ)
+  one_next : (command : Option ScriptCommand) (number : ℕ) (line : List ℕ) (lines : List (List ℕ)) (old new other : ByteWorld) (happenings rival : List Happening) (printed text : List ℕ)
       (m n : Option ℕ)
       → ((mid : ByteWorld) (back rest : List Happening) (behind after : List ℕ) → Plays (number + 1) lines mid back behind m new → Plays (number + 1) lines mid rest after n other
       → (behind ≡ after) × (m ≡ n))
-      → PlaysNext asks number line (λ mid back behind. Plays (number + 1) lines mid back behind m new) old happenings printed m new
-      → PlaysNext asks number line (λ mid back behind. Plays (number + 1) lines mid back behind n other) old rival text n other → (printed ≡ text) × (m ≡ n)
+      → PlaysNext command number line (λ mid back behind. Plays (number + 1) lines mid back behind m new) old happenings printed m new
+      → PlaysNext command number line (λ mid back behind. Plays (number + 1) lines mid back behind n other) old rival text n other → (printed ≡ text) × (m ≡ n)
   one_next None number line lines old new other happenings rival printed text m n one_rest is also = (is.1 ∙ sym also.1, is.2 ∙ sym also.2)
-  one_next (Some asks) number line lines old new other happenings rival printed text m n one_rest is also =
-      let same = one_line asks line old is.0 also.0 is.1 also.1 is.3 also.3 is.5 also.5 in
+  one_next (Some command) number line lines old new other happenings rival printed text m n one_rest is also =
+      let same = one_line command line old is.0 also.0 is.1 also.1 is.3 also.3 is.5 also.5 in
       let rest = one_rest is.0 is.2 also.2 is.4 also.4 is.6 (subst (λ (mid : ByteWorld). Plays (number + 1) lines mid also.2 also.4 n other) (sym same.1) also.6) in
       (is.8 ∙ ap (λ (front : List ℕ). front ++ is.4) same.0 ∙ ap (λ (back : List ℕ). also.3 ++ back) rest.0 ∙ sym also.8, rest.1)
 
@@ -151,7 +151,7 @@ module _ (steps_are_one : StepsAreOne) where
       → Plays number lines old happenings printed m new → Plays number lines old rival text n other → (printed ≡ text) × (m ≡ n)
   one_playing [] number old new other happenings rival printed text m n is also = (is.1 ∙ sym also.1, is.2 ∙ sym also.2)
   one_playing (line ∷ lines) number old new other happenings rival printed text m n is also =
-      one_next (asked (length old.slots) line) number line lines old new other happenings rival printed text m n
+      one_next (playable_command (length old.slots) line) number line lines old new other happenings rival printed text m n
       (λ mid back rest behind after here there. one_playing lines (number + 1) mid new other back rest behind after m n here there) is also
 
 -- ---- the world that a script begins with

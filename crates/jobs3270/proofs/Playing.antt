@@ -7,21 +7,21 @@ use Rattle.world3270.specs.declared.event.Event.{Event}
 use Rattle.world3270.specs.declared.event.Stepped.{Stepped}
 use Rattle.jobs3270.specs.HexLines.{lines_of}
 use Rattle.jobs3270.specs.Happenings.{Happening, TakePlace, answer_text}
-use Rattle.jobs3270.specs.Plays.{IsPlayed, Plays, PlaysNext, PrintsLine, asked, terminal_count}
-use Rattle.jobs3270.specs.declared.script_line.Asks.{Asks}
-use Rattle.jobs3270.specs.declared.script_line.Asks.TheVariants as ask
+use Rattle.jobs3270.specs.Plays.{IsPlayed, Plays, PlaysNext, PrintsLine, playable_command, terminal_count}
+use Rattle.jobs3270.specs.declared.script_line.ScriptCommand.{ScriptCommand}
+use Rattle.jobs3270.specs.declared.script_line.ScriptCommand.TheVariants as command
 use Rattle.jobs3270.proofs.Happenings.{are_one_run, slots_stay, takes_place, then_take_place}
 
 -- ---- what is played takes place
 
-next_takes_place : (found : Option Asks) (number : ℕ) (line : List ℕ) (others : List (List ℕ)) (old : ByteWorld) (happenings : List Happening) (printed : List ℕ)
+next_takes_place : (found : Option ScriptCommand) (number : ℕ) (line : List ℕ) (others : List (List ℕ)) (old : ByteWorld) (happenings : List Happening) (printed : List ℕ)
     (stopped : Option ℕ) (new : ByteWorld)
     → ((mid : ByteWorld) (back : List Happening) (behind : List ℕ) → Plays (number + 1) others mid back behind stopped new → TakePlace back mid new)
     → PlaysNext found number line (λ mid back behind. Plays (number + 1) others mid back behind stopped new) old happenings printed stopped new
     → TakePlace happenings old new
 next_takes_place None number line others old happenings printed stopped new go plays =
     subst (λ (some : List Happening). TakePlace some old new) (sym plays.0) plays.3
-next_takes_place (Some asks) number line others old happenings printed stopped new go plays =
+next_takes_place (Some command) number line others old happenings printed stopped new go plays =
     subst (λ (some : List Happening). TakePlace some old new) (sym plays.7)
     (then_take_place plays.1 plays.2 old plays.0 new plays.5.take_place (go plays.0 plays.2 plays.4 plays.6))
 
@@ -29,18 +29,18 @@ plays_take_place : (number : ℕ) (lines : List (List ℕ)) (old : ByteWorld) (h
     → Plays number lines old happenings printed stopped new → TakePlace happenings old new
 plays_take_place number [] old happenings printed stopped new plays = subst (λ (some : List Happening). TakePlace some old new) (sym plays.0) plays.3
 plays_take_place number (line ∷ others) old happenings printed stopped new plays =
-    next_takes_place (asked (length old.slots) line) number line others old happenings printed stopped new
+    next_takes_place (playable_command (length old.slots) line) number line others old happenings printed stopped new
     (λ mid back behind. plays_take_place (number + 1) others mid back behind stopped new) plays
 
 -- ---- a line
 
 -- the event that a line names happens
 pub does_happen : (event : Event) (line : List ℕ) (old new : ByteWorld) (answer : Stepped) (before behind : List ℕ) → Steps event old answer new
-    → refused_at answer ≡ None → behind ≡ before ++ answer_text answer → PrintsLine (ask.Happens event) line old new before behind
+    → refused_at answer ≡ None → behind ≡ before ++ answer_text answer → PrintsLine (command.Happen event) line old new before behind
 does_happen event line old new answer before behind steps whole says = record {
   happenings = record { event = event; answer = answer } ∷ [];
   said = answer_text answer ++ [];
-  plays = record { are_asked = refl; take_place = takes_place event answer old new steps whole; said_is = refl };
+  plays = record { are_happenings = refl; take_place = takes_place event answer old new steps whole; said_is = refl };
   printed = says ∙ ap (λ (text : List ℕ). before ++ text) (sym (append-nil (answer_text answer)));
 }
 
@@ -92,21 +92,21 @@ module _ (script : List ℕ) (number : ℕ) (left : List (List ℕ)) (old now : 
   all_played none = ends_so None (subst (λ (lines : List (List ℕ)). Plays number lines now [] [] None now) (sym none) (refl, refl, refl, refl))
 
   module _ (line : List ℕ) (others : List (List ℕ)) (is : left ≡ line ∷ others) where
-    plays_on : (found : Option Asks) (happenings : List Happening) (printed : List ℕ) (stopped : Option ℕ) (new : ByteWorld) → asked terminal_count line ≡ found
+    plays_on : (found : Option ScriptCommand) (happenings : List Happening) (printed : List ℕ) (stopped : Option ℕ) (new : ByteWorld) → playable_command terminal_count line ≡ found
         → PlaysNext found number line (λ mid back behind. Plays (number + 1) others mid back behind stopped new) now happenings printed stopped new
         → Plays number left now happenings printed stopped new
-    plays_on found happenings printed stopped new asks plays =
-        let here : asked (length now.slots) line ≡ found = ap (λ (terminals : ℕ). asked terminals line) played.terminals ∙ asks in
+    plays_on found happenings printed stopped new command plays =
+        let here : playable_command (length now.slots) line ≡ found = ap (λ (terminals : ℕ). playable_command terminals line) played.terminals ∙ command in
         subst (λ (lines : List (List ℕ)). Plays number lines now happenings printed stopped new) (sym is)
-        (subst (λ (some : Option Asks). PlaysNext some number line (λ mid back behind. Plays (number + 1) others mid back behind stopped new) now happenings printed stopped new)
+        (subst (λ (some : Option ScriptCommand). PlaysNext some number line (λ mid back behind. Plays (number + 1) others mid back behind stopped new) now happenings printed stopped new)
         (sym here) plays)
 
-    pub is_no_command : asked terminal_count line ≡ None → PlayEnds script old (Some number) now before behind
+    pub is_no_command : playable_command terminal_count line ≡ None → PlayEnds script old (Some number) now before behind
     is_no_command none = ends_so (Some number) (plays_on None [] [] (Some number) now none (refl, refl, refl, refl))
 
-    pub played_more : (asks : Asks) (mid : ByteWorld) (more : List ℕ) (next : ℕ) → asked terminal_count line ≡ Some asks → PrintsLine asks line now mid behind more
+    pub played_more : (command : ScriptCommand) (mid : ByteWorld) (more : List ℕ) (next : ℕ) → playable_command terminal_count line ≡ Some command → PrintsLine command line now mid behind more
         → next ≡ number + 1 → Played script next others old mid before more
-    played_more asks mid more next some does counted = record {
+    played_more command mid more next some does counted = record {
       happenings = played.happenings ++ does.happenings;
       printed = played.printed ++ does.said;
       is_printed = does.printed ∙ ap (λ (text : List ℕ). text ++ does.said) played.is_printed ∙ append_assoc before played.printed does.said;
@@ -115,7 +115,7 @@ module _ (script : List ℕ) (number : ℕ) (left : List (List ℕ)) (old now : 
           let behind : Plays (number + 1) others mid back rest stopped new =
           subst (λ (n : ℕ). Plays n others mid back rest stopped new) counted plays in
           let all = played.with_others (does.happenings ++ back) (does.said ++ rest) stopped new
-          (plays_on (Some asks) (does.happenings ++ back) (does.said ++ rest) stopped new some
+          (plays_on (Some command) (does.happenings ++ back) (does.said ++ rest) stopped new some
           (mid, does.happenings, back, does.said, rest, does.plays, behind, refl, refl)) in
           subst (λ (some : List Happening). Plays 1 (lines_of script) old some ((played.printed ++ does.said) ++ rest) stopped new)
           (sym (append_assoc played.happenings does.happenings back))

@@ -1,8 +1,8 @@
 -- One read more.
 use Rattle.std.proofs.Common.{◌≡◌, ◌<◌, ◌≤◌, ◌+◌, ℕ, suc, List, [], ◌++◌, Result, Ok, Err, IfOk, OnErr, refl, sym, subst, arith}
 use Rattle.std.proofs.lemmas.List.{append-nil}
-use Rattle.jobs3270.specs.Counting.{Reads}
-use Rattle.jobs3270.specs.Runs.{InPieces, most_reads, piece_room}
+use Rattle.jobs3270.specs.Counting.{Reads, chunk_size}
+use Rattle.jobs3270.specs.Runs.{InPieces, most_reads}
 use Rattle.jobs3270.specs.declared.streams.Answer.{Answer}
 
 module _ {I : Type 0} (gave : I → ℕ → List ℕ → Answer → I → Type 0) where
@@ -17,12 +17,12 @@ module _ {I : Type 0} (gave : I → ℕ → List ℕ → Answer → I → Type 0
       → gave old room [] answer new → Reads gave room (count + 1) first front new
   reads_nothing room count first old new front answer before now = reads_on room count first old new front [] front answer before now (sym (append-nil front))
 
-  pub in_pieces : (count : ℕ) (first old new : I) (front back all : List ℕ) (answer : Answer) → count < most_reads → Reads gave piece_room count first front old
-      → gave old piece_room back answer new → all ≡ front ++ back → InPieces gave first new all
+  pub in_pieces : (count : ℕ) (first old new : I) (front back all : List ℕ) (answer : Answer) → count < most_reads → Reads gave chunk_size count first front old
+      → gave old chunk_size back answer new → all ≡ front ++ back → InPieces gave first new all
   in_pieces count first old new front back all answer few before now is = record {
     count = count + 1;
     few = omega arith;
-    reads = reads_on piece_room count first old new front back all answer before now is;
+    reads = reads_on chunk_size count first old new front back all answer before now is;
   }
 
   -- the pieces of an input that is a text, or is no text

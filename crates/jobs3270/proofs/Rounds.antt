@@ -9,7 +9,7 @@ use Rattle.world3270.specs.ByteWorld.{ByteWorld}
 use Rattle.world3270.specs.declared.event.Event.{Event}
 use Rattle.world3270.specs.declared.event.Event.TheVariants as event
 use Rattle.world3270.specs.declared.event.Stepped.{Stepped}
-use Rattle.jobs3270.specs.Happenings.{AreRounds, Happening, OthersIf, SettlesSo, TakePlace, all_bytes, all_skipped, events_of, is_skipped, most_rounds, round_below, settling}
+use Rattle.jobs3270.specs.Happenings.{AreRounds, Happening, OthersIf, RunsEvents, TakePlace, all_bytes, all_skipped, events_of, is_skipped, most_rounds, round_below, exchange_events}
 use Rattle.jobs3270.proofs.Happenings.{then_take_place}
 
 -- ---- a round
@@ -20,12 +20,12 @@ all_three true false c = refl
 all_three true true false = refl
 all_three true true true = refl
 
-pub settled : (number : ℕ) (old first second new : ByteWorld) (up act down : Stepped) (first_quiet second_quiet third_quiet : Bool)
+pub exchanged : (number : ℕ) (old first second new : ByteWorld) (up act down : Stepped) (first_quiet second_quiet third_quiet : Bool)
     → Steps (event.Up number all_bytes) old up first → refused_at up ≡ None → Steps (event.Act number) first act second → refused_at act ≡ None
     → Steps (event.Down number all_bytes) second down new → refused_at down ≡ None
     → first_quiet ≡ is_skipped up → second_quiet ≡ is_skipped act → third_quiet ≡ is_skipped down
-    → SettlesSo (settling number) old ((first_quiet && second_quiet) && third_quiet) new
-settled number old first second new up act down first_quiet second_quiet third_quiet comes_up up_whole acts act_whole comes_down down_whole one two three = record {
+    → RunsEvents (exchange_events number) old ((first_quiet && second_quiet) && third_quiet) new
+exchanged number old first second new up act down first_quiet second_quiet third_quiet comes_up up_whole acts act_whole comes_down down_whole one two three = record {
   happenings = record { event = event.Up number all_bytes; answer = up } ∷ record { event = event.Act number; answer = act }
       ∷ record { event = event.Down number all_bytes; answer = down } ∷ [];
   are = refl;
@@ -33,20 +33,20 @@ settled number old first second new up act down first_quiet second_quiet third_q
   quiet_is = rw (one, two, three) (all_three (is_skipped up) (is_skipped act) (is_skipped down));
 }
 
-pub nothing_settled : (old : ByteWorld) → SettlesSo (round_below 0) old true old
+pub no_exchange : (old : ByteWorld) → RunsEvents (round_below 0) old true old
 unfolding round_below
-nothing_settled old = record { happenings = []; are = refl; take_place = refl; quiet_is = refl }
+no_exchange old = record { happenings = []; are = refl; take_place = refl; quiet_is = refl }
 
-round_suc : (number : ℕ) → round_below (suc number) ≡ round_below number ++ settling number
+round_suc : (number : ℕ) → round_below (suc number) ≡ round_below number ++ exchange_events number
 unfolding round_below
 round_suc number = refl
 
-round_more : (number : ℕ) → round_below (number + 1) ≡ round_below number ++ settling number
+round_more : (number : ℕ) → round_below (number + 1) ≡ round_below number ++ exchange_events number
 round_more number = ap round_below (add-one number) ∙ round_suc number
 
-pub settled_more : (number : ℕ) (old mid new : ByteWorld) (quiet still all : Bool) → SettlesSo (round_below number) old quiet mid
-    → SettlesSo (settling number) mid still new → all ≡ (quiet && still) → SettlesSo (round_below (number + 1)) old all new
-settled_more number old mid new quiet still all before now is = record {
+pub exchanged_more : (number : ℕ) (old mid new : ByteWorld) (quiet still all : Bool) → RunsEvents (round_below number) old quiet mid
+    → RunsEvents (exchange_events number) mid still new → all ≡ (quiet && still) → RunsEvents (round_below (number + 1)) old all new
+exchanged_more number old mid new quiet still all before now is = record {
   happenings = before.happenings ++ now.happenings;
   are = map-append (λ (happening : Happening). happening.event) before.happenings now.happenings
       ∙ ap (λ (front : List Event). front ++ events_of now.happenings) before.are ∙ ap (λ (back : List Event). round_below number ++ back) now.are
@@ -84,7 +84,7 @@ no_round : AreRounds 0 []
 unfolding AreRounds
 no_round = refl
 
-module _ (made : ℕ) (old mid new : ByteWorld) (quiet : Bool) (before : RoundsMade made old mid) (now : SettlesSo (round_below most_connections) mid quiet new) where
+module _ (made : ℕ) (old mid new : ByteWorld) (quiet : Bool) (before : RoundsMade made old mid) (now : RunsEvents (round_below most_connections) mid quiet new) where
   all_take_place : TakePlace (before.happenings ++ now.happenings) old new
   all_take_place = then_take_place before.happenings now.happenings old mid new before.take_place now.take_place
 

@@ -1,11 +1,10 @@
--- Lines of scripts: the numbers that a parse gives, places in tables of names, codes one character more at a time, and words.
-use Rattle.std.proofs.Common.{◌≡◌, refl, sym, ap, subst, ◌∙◌, arith, ℕ, suc, ◌+◌, ◌^◌, ◌<◌, ◌≤◌, ◌==◌, ◌&&◌, ◌++◌, Bool, true, false, not, min, ◌⊎◌, inl, inr, cond, nat_lt, if◌then◌else◌, List, [], ◌∷◌, length, map, append_assoc, append-nil, length-append, Option, None, Some, option_and_then, Result, Ok, Err, position, lt-ltb, ltb-true, tests, chars}
+-- Lines of scripts: the numbers that a parse gives, codes one character more at a time, and words.
+use Rattle.std.proofs.Common.{◌≡◌, refl, sym, ap, subst, ◌∙◌, arith, ℕ, suc, ◌+◌, ◌^◌, ◌<◌, ◌≤◌, ◌==◌, ◌&&◌, ◌++◌, Bool, true, false, not, min, ◌⊎◌, inl, inr, cond, if◌then◌else◌, List, [], ◌∷◌, length, append_assoc, append-nil, length-append, Option, None, Some, option_and_then, Result, Ok, Err, lt-ltb, ltb-true, tests, chars}
 use Rattle.std.specs.List.{position_or_len, before_first, onto_first, list_all}
 use Rattle.std.specs.Result.{result_unwrap_or}
 use Rattle.std.specs.Str.{all_ascii_digits}
 use Rattle.std.specs.Str.Parse.{ParsesUnsigned, digits_value}
 use Rattle.std.proofs.lemmas.Bool.{and_parts, cases_lt}
-use Rattle.std.proofs.lemmas.List.{length-map}
 use Rattle.std.proofs.lemmas.List.Splits.{slice_split_first}
 use Rattle.std.proofs.lemmas.Str.Parse.{IsNumeralModel, numerals_by_value, parse_digits, tells_all_ascii_digits}
 use Rattle.codes3270.specs.CodePage.{code_of}
@@ -13,7 +12,7 @@ use Rattle.host_core.specs.Notes.{longest_note, is_graphic}
 use Rattle.presentation.specs.Glyph.{blank}
 use Rattle.world3270.specs.NoteTexts.{note_text}
 use Rattle.jobs3270.specs.HexLines.{words_of}
-use Rattle.jobs3270.specs.ScriptLines.{is_digits, largest_number, number_of, code_before, coded, note_of, behind, typed_text, asks_alone, asks_of_one, asks_with, asks_by, asks}
+use Rattle.jobs3270.specs.ScriptLines.{is_digits, largest_number, number_of, code_before, coded, note_of, behind, typed_text, command_of_verb, command_of_number, command_of_text, command_of_words, script_command}
 
 -- ---- numbers
 
@@ -49,15 +48,6 @@ pub no_number : (word : List ℕ) → is_digits word ≡ false → None ≡ numb
 unfolding number_of
 no_number word fails = rw fails refl
 
--- ---- names
-
-place_mapped : {X Y : Type 0} (test : Y → Bool) (part : X → Y) (items : List X) → position_or_len test (map part items) ≡ position_or_len (λ item. test (part item)) items
-place_mapped test part [] = refl
-place_mapped test part (item ∷ items) = ap (λ (n : ℕ). cond (not (test (part item))) (1 + n) 0) (place_mapped test part items)
-
-pub position_mapped : {X Y : Type 0} (test : Y → Bool) (part : X → Y) (items : List X) → position test (map part items) ≡ position (λ item. test (part item)) items
-position_mapped test part items = λ i. cond (nat_lt (place_mapped test part items i) (length-map items part i)) (Some (place_mapped test part items i)) None
-
 -- ---- notes
 
 -- codes behind others, where there are some
@@ -77,9 +67,6 @@ cut_off : (front : List ℕ) (code : Option ℕ) (back : Option (List ℕ)) → 
 cut_off front None back long = refl
 cut_off front (Some code) None long = refl
 cut_off front (Some code) (Some back) long = too_long (front ++ code ∷ back) (let n = length-append front (code ∷ back) in omega arith)
-
-no_code : (front : List ℕ) (back : Option (List ℕ)) → option_and_then note_text (codes_behind front (code_before None back)) ≡ None
-no_code front back = refl
 
 module _ (text left front : List ℕ) (so_far : coded (chars text) ≡ codes_behind front (coded (chars left))) where
   all_codes : (codes : Option (List ℕ)) → coded (chars left) ≡ codes → note_of text ≡ option_and_then note_text (codes_behind front codes)
@@ -136,20 +123,20 @@ IsCut line front back = (position_or_len (λ char. char == blank) line < length 
 pub word_more : (line front back : List ℕ) → IsCut line front back → words_of line ≡ front ∷ words_of back
 word_more line front back cut = slice_split_first (λ char. char == blank) line 0 cut.0 ∙ (λ i. sym cut.1 i ∷ words_of (sym cut.2 i))
 
-pub asks_by_verb : (line : List ℕ) → IsWhole line → asks line ≡ asks_alone line
-unfolding asks
-asks_by_verb line whole = ap (λ (words : List (List ℕ)). asks_by words (typed_text line)) (one_word line whole)
+pub read_by_verb : (line : List ℕ) → IsWhole line → script_command line ≡ command_of_verb line
+unfolding script_command
+read_by_verb line whole = ap (λ (words : List (List ℕ)). command_of_words words (typed_text line)) (one_word line whole)
 
 module _ (line verb rest : List ℕ) (cut : IsCut line verb rest) where
-  words_behind : (words : List (List ℕ)) → words_of rest ≡ words → asks line ≡ asks_by (verb ∷ words) (behind rest)
-  unfolding asks
-  words_behind words is = λ i. asks_by ((word_more line verb rest cut ∙ ap (λ (others : List (List ℕ)). verb ∷ others) is) i) (behind (sym cut.2 i))
+  words_behind : (words : List (List ℕ)) → words_of rest ≡ words → script_command line ≡ command_of_words (verb ∷ words) (behind rest)
+  unfolding script_command
+  words_behind words is = λ i. command_of_words ((word_more line verb rest cut ∙ ap (λ (others : List (List ℕ)). verb ∷ others) is) i) (behind (sym cut.2 i))
 
-  pub asks_by_number : IsWhole rest → asks line ≡ option_and_then (asks_of_one verb) (number_of rest)
-  asks_by_number whole = words_behind (rest ∷ []) (one_word rest whole)
+  pub read_by_number : IsWhole rest → script_command line ≡ option_and_then (command_of_number verb) (number_of rest)
+  read_by_number whole = words_behind (rest ∷ []) (one_word rest whole)
 
-  pub asks_by_text : (number text : List ℕ) → IsCut rest number text → asks line ≡ option_and_then (λ number. asks_with verb number text) (number_of number)
-  asks_by_text number text more =
+  pub read_by_text : (number text : List ℕ) → IsCut rest number text → script_command line ≡ option_and_then (λ number. command_of_text verb number text) (number_of number)
+  read_by_text number text more =
       let words = some_words text in
       words_behind (number ∷ words.0 ∷ words.1) (word_more rest number text more ∙ ap (λ (others : List (List ℕ)). number ∷ others) words.2)
-      ∙ ap (λ (behind_it : List ℕ). option_and_then (λ number. asks_with verb number behind_it) (number_of number)) (sym more.2)
+      ∙ ap (λ (behind_it : List ℕ). option_and_then (λ number. command_of_text verb number behind_it) (number_of number)) (sym more.2)

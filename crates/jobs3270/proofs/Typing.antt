@@ -21,10 +21,6 @@ abbrev pub TypingEnds : ℕ → List ℕ → ByteWorld → ByteWorld → List �
 TypingEnds terminal all old new before behind =
     (happenings : List Happening) × AreTyped terminal all happenings × TakePlace happenings old new × (behind ≡ before ++ answers_text happenings)
 
-pub nothing_typed : (terminal : ℕ) (all : List ℕ) (old : ByteWorld) (before : List ℕ) → Typed terminal all all old old before before
-nothing_typed terminal all old before =
-    record { happenings = []; take_place = refl; said = sym (append-nil before); with_others = λ others more. more }
-
 pub all_typed : (terminal : ℕ) (all left : List ℕ) (old new : ByteWorld) (before behind : List ℕ) → Typed terminal all left old new before behind → left ≡ []
     → TypingEnds terminal all old new before behind
 all_typed terminal all left old new before behind typed none = (

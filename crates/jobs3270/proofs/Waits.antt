@@ -11,9 +11,11 @@ use Rattle.telnet_wire.specs.Items.{sent_bytes}
 use Rattle.term_core.specs.Bytes.{TakesByte, TakesBytes, goes_on, completes, breaks, link_after}
 use Rattle.term_core.specs.Feeds.{Feeds, IsAttached, StopsFor}
 use Rattle.term_core.specs.State.{Link, Terminal, Detached, Attached, Closed, lost, phase_of}
-use Rattle.jobs3270.specs.Counting.{CutShort, Output, Reads, Written, bytes_given, more}
-use Rattle.jobs3270.specs.Operating.{IsSettled, is_settled}
-use Rattle.jobs3270.specs.Waits.{Exchanges, GaveOn, GoesOn, HasClosed, HasWaited, IsFed, SendsAll, ended, is_memory, most_waits, sound, unsent, wait_room}
+use Rattle.jobs3270.specs.Counting.{CutShort, Output, Reads, Written, bytes_given, chunk_size, more}
+use Rattle.jobs3270.specs.Operating.{IsWaitOver, is_wait_over}
+use Rattle.jobs3270.specs.Waits.{Exchanges, GaveOn, GoesOn, HasClosed, HasExchanged, HasWaited, IsFed, SendsAll, SendsLast, ended, is_memory, most_waits, sound, unsent}
+use Rattle.jobs3270.specs.declared.operator.Exchanged.{Exchanged}
+use Rattle.jobs3270.specs.declared.operator.Exchanged.TheVariants.{Over, ReadsUsedUp}
 use Rattle.jobs3270.specs.declared.streams.Answer.{Answer}
 use Rattle.jobs3270.specs.declared.streams.Answer.TheVariants.{Gave, Ended, Interrupted, Failed}
 use Rattle.jobs3270.proofs.ReadsOn.{reads_nothing, reads_on}
@@ -41,7 +43,7 @@ takes_both old mid new (byte ∷ first) second (next, one, some) others = (next,
 
 -- ---- a terminal that is waited at
 
-waits_attached : (link : Link) (lock : Lock) → is_settled (phase_of link) lock ≡ false → IsAttached link
+waits_attached : (link : Link) (lock : Lock) → is_wait_over (phase_of link) lock ≡ false → IsAttached link
 waits_attached Detached lock waits = absurd (true≢false waits)
 waits_attached (Attached rest talk) lock waits = tt
 waits_attached (Closed cause) lock waits = absurd (true≢false waits)
@@ -62,7 +64,7 @@ drop_all [] count is = ap (λ (n : ℕ). drop n []) is
 drop_all (x ∷ all) count is = ap (λ (n : ℕ). drop n (x ∷ all)) is ∙ drop_all all (length all) refl
 
 -- a terminal that waits is fed what it takes of the bytes
-pub is_fed : (room : ℕ) (old new : Terminal) (bytes : List ℕ) (taken : ℕ) (stop : Stop) → is_settled (phase_of old.link) old.station.keyboard.lock ≡ false
+pub is_fed : (room : ℕ) (old new : Terminal) (bytes : List ℕ) (taken : ℕ) (stop : Stop) → is_wait_over (phase_of old.link) old.station.keyboard.lock ≡ false
     → taken ≤ length bytes → TakesBytes old (take taken bytes) new → StopsFor room stop old bytes taken new → is_memory stop ≡ false → IsFed old bytes new
 is_fed room old new bytes taken Going waits few takes stops going = record {
   front = take taken bytes;
@@ -147,12 +149,12 @@ module _ {D : Type 0} (gave : D → ℕ → List ℕ → Answer → D → Type 0
     }) (is ∙ ap lost waiting.same)
 
     -- all is sent, and there is nothing to wait for, or the reads are used up
-    pub ends_soundly : (new : Terminal) (up_new : Output) → Written up_now up_new now.out → new ≡ record now { out = [] } → IsSettled new ⊎ (count ≡ most_waits)
+    pub ends_soundly : (new : Terminal) (up_new : Output) → Written up_now up_new now.out → new ≡ record now { out = [] } → IsWaitOver new ⊎ (count ≡ most_waits)
         → HasWaited gave old new down_old down_now up_old up_new
     ends_soundly new up_new now_written is why = sound count waiting.fed waiting.exchanges (all_written up_new now_written) (emptied new is) why
 
     -- all is sent, and the connection is over
-    pub ends_lost : (new : Terminal) (down_new : D) (answer : Answer) → now.out ≡ [] → gave down_now wait_room [] answer down_new → (GoesOn answer → ⊥)
+    pub ends_lost : (new : Terminal) (down_new : D) (answer : Answer) → now.out ≡ [] → gave down_now chunk_size [] answer down_new → (GoesOn answer → ⊥)
         → new ≡ lost now → HasWaited gave old new down_old down_new up_old up_now
     ends_lost new down_new answer none now_gave over is =
         ended count waiting.fed down_now answer waiting.exchanges
@@ -166,14 +168,14 @@ module _ {D : Type 0} (gave : D → ℕ → List ℕ → Answer → D → Type 0
     ends_by_reads false new up_new sends last = after_failure new up_new sends.0 sends.1
 
     -- a read gave nothing yet
-    pub after_nothing : (down_new : D) (answer : Answer) → count < most_waits → gave down_now wait_room [] answer down_new → GoesOn answer
+    pub after_nothing : (down_new : D) (answer : Answer) → count < most_waits → gave down_now chunk_size [] answer down_new → GoesOn answer
         → Waiting (count + 1) old now down_old down_new up_old up_now
     after_nothing down_new answer few now_gave on = record {
       fed = waiting.fed;
       exchanges = record {
         bytes = waiting.exchanges.bytes;
         few = omega arith;
-        reads = reads_nothing (GaveOn gave) wait_room count down_old down_now down_new waiting.exchanges.bytes answer waiting.exchanges.reads (now_gave, on);
+        reads = reads_nothing (GaveOn gave) chunk_size count down_old down_now down_new waiting.exchanges.bytes answer waiting.exchanges.reads (now_gave, on);
         is_fed = waiting.exchanges.is_fed;
       };
       sent = waiting.sent;
@@ -184,7 +186,7 @@ module _ {D : Type 0} (gave : D → ℕ → List ℕ → Answer → D → Type 0
 
     -- a read gave bytes, and the terminal was fed them
     pub after_bytes : (new : Terminal) (down_new : D) (bytes : List ℕ) (answer : Answer) → count < most_waits
-        → is_settled (phase_of now.link) now.station.keyboard.lock ≡ false → gave down_now wait_room bytes answer down_new → GoesOn answer → IsFed now bytes new
+        → is_wait_over (phase_of now.link) now.station.keyboard.lock ≡ false → gave down_now chunk_size bytes answer down_new → GoesOn answer → IsFed now bytes new
         → Waiting (count + 1) old new down_old down_new up_old up_now
     after_bytes new down_new bytes answer few waits now_gave on fed_now =
         let before = waiting.exchanges.is_fed in
@@ -198,7 +200,7 @@ module _ {D : Type 0} (gave : D → ℕ → List ℕ → Answer → D → Type 0
           exchanges = record {
             bytes = waiting.exchanges.bytes ++ bytes;
             few = omega arith;
-            reads = reads_on (GaveOn gave) wait_room count down_old down_now down_new waiting.exchanges.bytes bytes _ answer waiting.exchanges.reads (now_gave, on) refl;
+            reads = reads_on (GaveOn gave) chunk_size count down_old down_now down_new waiting.exchanges.bytes bytes _ answer waiting.exchanges.reads (now_gave, on) refl;
             is_fed = record {
               front = before.front ++ fed_now.front;
               rest = fed_now.rest;
@@ -220,12 +222,21 @@ module _ {D : Type 0} (gave : D → ℕ → List ℕ → Answer → D → Type 0
     after_unsent true new up_new sends none = absurd (true≢false none)
     after_unsent false new up_new sends none = after_failure new up_new sends.0 sends.1
 
-    pub after_settled : (all_sent : Bool) (new : Terminal) (up_new : Output) → SendsAll all_sent now new up_now up_new → all_sent ≡ true → IsSettled new
+    pub after_wait_over : (all_sent : Bool) (new : Terminal) (up_new : Output) → SendsAll all_sent now new up_now up_new → all_sent ≡ true → IsWaitOver new
         → HasWaited gave old new down_old down_now up_old up_new
-    after_settled true new up_new sends all is = ends_soundly new up_new sends.0 sends.1 (inl is)
-    after_settled false new up_new sends all is = absurd (true≢false (sym all))
+    after_wait_over true new up_new sends all is = ends_soundly new up_new sends.0 sends.1 (inl is)
+    after_wait_over false new up_new sends all is = absurd (true≢false (sym all))
 
     pub after_all : (all_sent : Bool) (new : Terminal) (up_new : Output) → SendsAll all_sent now new up_now up_new → all_sent ≡ true
         → (Waiting count old new down_old down_now up_old up_new) × (new.out ≡ [])
     after_all true new up_new sends all = (after_send new up_new sends.0 sends.1, ap (λ (t : Terminal). t.out) sends.1)
     after_all false new up_new sends all = absurd (true≢false (sym all))
+
+  -- the last send ends the wait
+  pub has_waited : (exchanged : Exchanged) (old mid new : Terminal) (down_old down_new : D) (up_old up_mid up_new : Output)
+      → HasExchanged gave exchanged old mid down_old down_new up_old up_mid → SendsLast exchanged mid new up_mid up_new
+      → HasWaited gave old new down_old down_new up_old up_new
+  has_waited Over old mid new down_old down_new up_old up_mid up_new has sends =
+      subst (λ (last : Terminal). HasWaited gave old last down_old down_new up_old up_new) (sym sends.0)
+      (subst (HasWaited gave old mid down_old down_new up_old) (sym sends.1) has)
+  has_waited ReadsUsedUp old mid new down_old down_new up_old up_mid up_new has sends = has sends.0 new up_new sends.1

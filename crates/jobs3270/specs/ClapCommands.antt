@@ -1,4 +1,4 @@
--- What clap's values hold of the command line (specs/Words).
+-- The command line (specs/Words) as clap's values.
 use Rattle.std.specs.Prelude.{◌≡◌, ⊤, ℕ, List, [], ◌∷◌, true, false}
 use Rattle.clap.specs.Built.{AddsArg, AddsSubcommand}
 use Rattle.clap.specs.Walk.{Rule, rule_of}
@@ -24,22 +24,22 @@ pub record IsCommand (app : App) (command : Command) : Type 0 where
 abbrev pub IsJob : Shape → Command → Type 0
 IsJob shape command = IsCommand (record { top = shape; subs = [] }) command
 
--- a job gains options by these rules, in turn
+-- options with these rules are added to a job in turn
 abbrev pub AddsOptions : List Rule → Command → Command → Type 0
 AddsOptions [] old new = old ≡ new
 AddsOptions (rule ∷ rules) old new = (option : Arg) × (mid : Command) × IsOption rule option × AddsArg old option mid × AddsOptions rules mid new
 
--- a command gains jobs of these shapes, in turn
+-- jobs of these shapes are added to a command in turn
 abbrev pub AddsJobs : List Shape → Command → Command → Type 0
 AddsJobs [] old new = old ≡ new
 AddsJobs (shape ∷ shapes) old new = (job mid : Command) × IsJob shape job × AddsSubcommand old job mid × AddsJobs shapes mid new
 
--- the command line takes the words, and these are what it makes of them
+-- the command line takes the words, and parses them as these matches
 pub record IsMatch (words : List (List ℕ)) (matches : ArgMatches) : Type 0 where
   pub taken : is_taken words ≡ true
   pub rows : subcommand_rows_of matches ≡ subcommand_of program words
 
--- the command line doesn't take the words; want of memory says nothing of them
+-- the command line doesn't take the words; a refusal of memory says nothing of them
 abbrev pub HasNoMatch : List (List ℕ) → WordFault → Type 0
 HasNoMatch words Refused = is_taken words ≡ false
 HasNoMatch words Memory = ⊤

@@ -1,4 +1,4 @@
--- What the counted streams hold (our profile).
+-- The reader or writer of a counted stream (our profile).
 use Rattle.jobs3270.specs.declared.streams.CountedReader.{CountedReader}
 use Rattle.jobs3270.specs.declared.streams.CountedWriter.{CountedWriter}
 

@@ -1,30 +1,34 @@
--- The streams of a run: their bytes, where a stream knows them, and how often it ended or failed (our profile).
+-- The streams of a run: their bytes, if they are known, and counts of ends and failures (our profile).
 use Rattle.std.specs.Prelude.{◌≡◌, ◌+◌, ◌-◌, ◌^◌, ◌<◌, ◌≤◌, ◌++◌, ◌∷◌, [], ⊤, ℕ, zero, suc, List, take, min, Option, None, Some, Result, Ok, Err}
 use Rattle.std.specs.Io.KnownBytes.{Consumes, IsAtEnd, Appends, Keeps}
 use Rattle.jobs3270.specs.declared.streams.Answer.{Answer}
 use Rattle.jobs3270.specs.declared.streams.Answer.TheVariants.{Gave, Ended, Interrupted, Failed}
 
--- so many more; a count stays at its last value
+-- a count after more; it stays at its last value
 abbrev pub more : ℕ → ℕ → ℕ
 more count by = min (count + by) (2 ^ 64 - 1)
 
 -- ---- a source
 
--- the bytes that it has left, where they are known; how often it was read, and how many of these reads found the end, or failed
+-- the size of the buffer of each read
+abbrev pub chunk_size : ℕ
+chunk_size = 4096
+
+-- the bytes that later reads give, if they are known; how many reads there were, and how many of these found the end, or failed
 pub record Input : Type 0 where
   pub left : Option (List ℕ)
   pub reads : ℕ
   pub ends : ℕ
   pub failures : ℕ
 
--- a read gives some bytes, no more than there is room for
+-- a read gives at least one byte, and no more than there is room for
 abbrev pub GivesWithin : Answer → ℕ → Type 0
 GivesWithin (Gave count) room = (0 < count) × (count ≤ room)
 GivesWithin Ended room = ⊤
 GivesWithin Interrupted room = ⊤
 GivesWithin Failed room = ⊤
 
--- what a read takes of the bytes that are left; `buffer` is what it was lent, after the read
+-- what a read takes of the bytes that are left; `buffer` is the buffer after the read
 abbrev pub Gives : Answer → Option (List ℕ) → Option (List ℕ) → List ℕ → Type 0
 Gives (Gave count) old new buffer = Consumes old new (take count buffer)
 Gives Ended old new buffer = Keeps old new × IsAtEnd new
@@ -39,7 +43,7 @@ abbrev pub failures_after : Answer → ℕ → ℕ
 failures_after Failed failures = more failures 1
 failures_after _ failures = failures
 
--- each read counts
+-- each read is counted
 pub record Counts (answer : Answer) (old new : Input) : Type 0 where
   pub reads : new.reads ≡ more old.reads 1
   pub ends : new.ends ≡ ends_after answer old.ends
@@ -52,7 +56,7 @@ bytes_given Ended buffer = []
 bytes_given Interrupted buffer = []
 bytes_given Failed buffer = []
 
--- So many reads, one after another, each into a buffer with room for `room` bytes, gave these bytes.
+-- `count` reads, one after another, each into a buffer of `room` bytes, give these bytes.
 abbrev pub Reads : {I : Type 0} → (gave : I → ℕ → List ℕ → Answer → I → Type 0) → (room count : ℕ) → I → List ℕ → I → Type 0
 Reads {I} gave room zero old bytes new = (bytes ≡ []) × (new ≡ old)
 Reads {I} gave room (suc count) old bytes new =
@@ -60,7 +64,7 @@ Reads {I} gave room (suc count) old bytes new =
 
 -- ---- a sink
 
--- the bytes that it got, where they are known, and how many writes failed
+-- the bytes that it got, if they are known, and how many writes failed
 pub record Output : Type 0 where
   pub got : Option (List ℕ)
   pub failures : ℕ
@@ -75,7 +79,7 @@ pub record Written (old new : Output) (bytes : List ℕ) : Type 0 where
   pub appended : Appends old.got new.got bytes
   pub sound : new.failures ≡ old.failures
 
--- a front of the bytes was written, since the write failed
+-- the first `count` bytes were written, and the write failed
 pub record CutShort (old new : Output) (bytes : List ℕ) : Type 0 where
   pub count : ℕ
   pub appended : Appends old.got new.got (take count bytes)
@@ -86,7 +90,7 @@ abbrev pub Writes : {E : Type 0} → Result Unit E → Output → Output → Lis
 Writes (Ok done) old new bytes = Written old new bytes
 Writes (Err fault) old new bytes = CutShort old new bytes
 
--- a write of a text and a newline; of one that fails it isn't known what was written
+-- a write of a text and a newline; what a write that fails has written isn't known
 abbrev pub WritesLine : {E : Type 0} → Result Unit E → Output → Output → Option (List ℕ) → Type 0
 WritesLine (Ok done) old new None = new.failures ≡ old.failures
 WritesLine (Ok done) old new (Some text) = Written old new (text ++ 10 ∷ [])

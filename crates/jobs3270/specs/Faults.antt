@@ -1,4 +1,4 @@
--- Why a run ends early: the exit statuses, and what is told (our profile).
+-- Why a run ends early: the exit status and the line of each fault (our profile).
 use Rattle.std.specs.Prelude.{ℕ, List, ◌++◌, codes}
 use Rattle.std.specs.Fmt.{decimal}
 use Rattle.lu_pool.specs.Messages.{fault_text as pool_fault_text}

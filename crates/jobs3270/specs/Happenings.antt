@@ -1,5 +1,5 @@
--- What happens to a world by commands: events one after another, what is said of them, a text that is typed, and a world that settles (our
--- profile). What an event makes of the world is world3270's specs/ByteSteps.
+-- What a script does to a world: events one after another, what is printed of them, typed text, and rounds until the world is idle
+-- (our profile). world3270's specs/ByteSteps says what an event does.
 use Rattle.std.specs.Prelude.{◌≡◌, ◌-◌, ◌^◌, ℕ, zero, suc, Bool, true, false, List, [], ◌∷◌, ◌++◌, None, codes, map}
 use Rattle.std.specs.Fmt.{decimal}
 use Rattle.std.specs.List.{flat_map, list_all}
@@ -17,7 +17,7 @@ use Rattle.world3270.specs.declared.event.Stepped.TheVariants as stepped
 
 -- ---- events, one after another
 
--- an event, and what became of it
+-- an event and its answer
 pub record Happening : Type 0 where
   pub event : Event
   pub answer : Stepped
@@ -31,9 +31,9 @@ TakePlace (first ∷ others) old new =
 abbrev pub events_of : List Happening → List Event
 events_of happenings = map (λ happening. happening.event) happenings
 
--- ---- what is said of them
+-- ---- what is printed of them
 
--- a key that was refused, by the number of the refusal; and an event that had nothing to happen to
+-- a refused key, by the number of the refusal, and a skipped event
 abbrev pub answer_text : Stepped → List ℕ
 answer_text stepped.Done = []
 answer_text (stepped.Refused why) = codes "refused " ++ decimal (refusal_number why) ++ newline ∷ []
@@ -44,7 +44,7 @@ answer_text stepped.Memory = []
 abbrev pub answers_text : List Happening → List ℕ
 answers_text happenings = flat_map (λ happening. answer_text happening.answer) happenings
 
--- ---- a text is typed
+-- ---- typed text
 
 abbrev pub is_refused : Stepped → Bool
 is_refused stepped.Done = false
@@ -53,7 +53,7 @@ is_refused stepped.Skipped = false
 is_refused (stepped.Part taken) = false
 is_refused stepped.Memory = false
 
--- where it ends here nothing else happens, and where it doesn't the others are rightly there
+-- if the run ends here there are no others; if it goes on, the others are right
 abbrev pub OthersIf : Bool → List Happening → Type 0 → Type 0
 OthersIf true others Rightly = others ≡ []
 OthersIf false others Rightly = Rightly
@@ -65,20 +65,20 @@ AreTyped terminal (char ∷ text) [] = ⊥
 AreTyped terminal (char ∷ text) (first ∷ others) =
     (first.event ≡ event.Key terminal (key.Char char)) × OthersIf (is_refused first.answer) others (AreTyped terminal text others)
 
--- ---- a world settles
+-- ---- until the world is idle
 
--- no fewer bytes than are ever under way
+-- at least as many bytes as are ever under way
 abbrev pub all_bytes : ℕ
 all_bytes = 2 ^ 64 - 1
 
--- on a connection all that is under way comes up, the host acts, and all that is then under way comes down
-abbrev pub settling : ℕ → List Event
-settling number = event.Up number all_bytes ∷ event.Act number ∷ event.Down number all_bytes ∷ []
+-- on a connection: everything is delivered to the host, the host acts, and everything is delivered to the terminal
+abbrev pub exchange_events : ℕ → List Event
+exchange_events number = event.Up number all_bytes ∷ event.Act number ∷ event.Down number all_bytes ∷ []
 
--- a round over the connections, from 0 on: so many
+-- an exchange on each connection below this number, from 0 on
 unfoldable pub round_below : ℕ → List Event
 round_below zero = []
-round_below (suc number) = round_below number ++ settling number
+round_below (suc number) = round_below number ++ exchange_events number
 
 abbrev pub is_skipped : Stepped → Bool
 is_skipped stepped.Done = false
@@ -90,19 +90,19 @@ is_skipped stepped.Memory = false
 abbrev pub all_skipped : List Happening → Bool
 all_skipped happenings = list_all (λ happening. is_skipped happening.answer) happenings
 
--- Rounds over all connections, at most so many; one in which all was skipped is the last.
+-- Rounds over all connections, at most this number of them; a round in which every event is skipped is the last.
 unfoldable pub AreRounds : ℕ → List Happening → Type 0
 AreRounds zero happenings = happenings ≡ []
 AreRounds (suc left) happenings =
     (round others : List Happening) × (happenings ≡ round ++ others) × (events_of round ≡ round_below most_connections)
     × OthersIf (all_skipped round) others (AreRounds left others)
 
--- the most rounds in which a world settles
+-- the most rounds of one run
 abbrev pub most_rounds : ℕ
 most_rounds = 64
 
--- These events took place, and all were skipped, or not.
-pub record SettlesSo (events : List Event) (old : ByteWorld) (quiet : Bool) (new : ByteWorld) : Type 0 where
+-- These events took place; `quiet` says whether all were skipped.
+pub record RunsEvents (events : List Event) (old : ByteWorld) (quiet : Bool) (new : ByteWorld) : Type 0 where
   pub happenings : List Happening
   pub are : events_of happenings ≡ events
   pub take_place : TakePlace happenings old new

@@ -1,4 +1,4 @@
--- A text's lines, and the bytes that a line gives in hexadecimal (our profile).
+-- The lines of a text, and the bytes of a line in hexadecimal (our profile).
 use Rattle.std.specs.Prelude.{ℕ, ◌==◌, List, [], ◌∷◌, ◌++◌, Option, Some, None, Result, Ok, Err, if◌then◌else◌}
 use Rattle.std.specs.List.{onto_first, slice_split}
 use Rattle.hex.specs.Hex.{decode_of}
@@ -11,7 +11,7 @@ abbrev pub lines_of : List ℕ → List (List ℕ)
 lines_of [] = []
 lines_of (char ∷ text) = if char == newline then [] ∷ lines_of text else onto_first char (lines_of text)
 
--- the words of a line, of which some have no characters: a blank stands between each two
+-- the words of a line, with one blank between each two; a word may be empty
 abbrev pub words_of : List ℕ → List (List ℕ)
 words_of line = slice_split (λ char. char == blank) line
 
@@ -23,7 +23,7 @@ if_decoded (Err fault) = None
 abbrev pub bytes_of_word : List ℕ → Option (List ℕ)
 bytes_of_word word = if_decoded (decode_of word)
 
--- bytes behind others, where there are both
+-- bytes and the bytes after them, if both are there
 abbrev pub joined : Option (List ℕ) → Option (List ℕ) → Option (List ℕ)
 joined None back = None
 joined (Some front) None = None
@@ -33,6 +33,6 @@ abbrev pub bytes_of_words : List (List ℕ) → Option (List ℕ)
 bytes_of_words [] = Some []
 bytes_of_words (word ∷ words) = joined (bytes_of_word word) (bytes_of_words words)
 
--- the bytes of a line; none where it isn't hexadecimal
+-- the bytes of a line; none if it isn't hexadecimal
 unfoldable pub bytes_of_line : List ℕ → Option (List ℕ)
 bytes_of_line line = bytes_of_words (words_of line)

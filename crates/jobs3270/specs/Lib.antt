@@ -1,8 +1,6 @@
 pub mod ScreenText
 pub mod HexLines
 pub mod Pages
-pub mod PhaseText
-pub mod KeyNames
 pub mod ScriptLines
 pub mod TermLines
 pub mod Operating
@@ -18,7 +16,6 @@ pub mod Counted
 pub mod Runs
 pub mod Words
 pub mod ClapCommands
-pub mod Refusals
 pub mod Sockets
 pub mod Notices
 pub mod Selfruns

@@ -1,4 +1,4 @@
--- What an operator does at a terminal and reads there, and when the host need not be waited for any longer (our profile).
+-- What an operator does at a terminal and reads there, and when a wait for the host is over (our profile).
 use Rattle.std.specs.Prelude.{◌≡◌, ◌⊎◌, ℕ, Bool, true, false, List, [], ◌∷◌, ◌++◌, chars, Option, Some, None, is_some, if◌then◌else◌, codes}
 use Rattle.std.specs.Option.{option_map_or}
 use Rattle.std.specs.Fmt.{decimal}
@@ -9,6 +9,7 @@ use Rattle.keyboard.specs.declared.key.Lock.TheVariants as lock
 use Rattle.keyboard.specs.declared.key.Pressed.{Pressed}
 use Rattle.keyboard.specs.declared.key.Pressed.TheVariants.{Done, Refused, Send}
 use Rattle.keyboard.specs.declared.key.Refusal.{Refusal}
+use Rattle.term_core.specs.PhaseText.{phase_text}
 use Rattle.term_core.specs.Presses.{after_key, answer_to_key}
 use Rattle.term_core.specs.ScreenText.{newline}
 use Rattle.term_core.specs.State.{Terminal, phase_of}
@@ -27,41 +28,47 @@ refusal_in (Send aid) = None
 abbrev pub refusal_text : Refusal → List ℕ
 refusal_text why = codes "refused " ++ decimal (refusal_number why) ++ newline ∷ []
 
--- what is said of a key
+-- what is printed of a key
 abbrev pub said_of_key : Pressed → List ℕ
 said_of_key pressed = option_map_or refusal_text (refusal_in pressed) []
 
--- ---- a text is typed
+-- ---- typed text
 
--- Its characters are pressed in turn, up to the first that is refused: the terminal after that.
+-- the terminal after the text's characters were pressed in turn, up to the first that is refused
 abbrev pub after_text : List ℕ → Terminal → Terminal
 after_text [] old = old
 after_text (char ∷ text) old =
     if is_some (refusal_in (answer_to_key (Char char) old)) then after_key (Char char) old
     else after_text text (after_key (Char char) old)
 
--- what is said of that
+-- what is printed of them
 abbrev pub said_of_text : List ℕ → Terminal → List ℕ
 said_of_text [] old = []
 said_of_text (char ∷ text) old =
     option_map_or refusal_text (refusal_in (answer_to_key (Char char) old)) (said_of_text text (after_key (Char char) old))
 
--- ---- the host is waited for
+-- ---- the terminal's phase
+
+-- the line of `status`
+abbrev pub phase_line : TermPhase → List ℕ
+phase_line phase = phase_text phase ++ newline ∷ []
+
+-- ---- a wait for the host
 
 abbrev pub is_waiting : Lock → Bool
 is_waiting lock.Wait = true
 is_waiting lock.Free = false
 is_waiting lock.Error = false
 
--- Whether there is nothing to wait for: the operator may go on, the host refused the terminal an LU, or the connection is closed or has ended.
-abbrev pub is_settled : TermPhase → Lock → Bool
-is_settled (phase.Bound lu) lock.Wait = false
-is_settled (phase.Bound lu) lock.Free = true
-is_settled (phase.Bound lu) lock.Error = true
-is_settled phase.Talking lock = false
-is_settled (phase.Refused reason) lock = true
-is_settled (phase.Closed cause) lock = true
-is_settled phase.Idle lock = true
+-- A wait is over if the keyboard isn't waiting, if the host refused the terminal an LU, or if the connection is closed or lost.
+abbrev pub is_wait_over : TermPhase → Lock → Bool
+is_wait_over (phase.Bound lu) lock.Wait = false
+is_wait_over (phase.Bound lu) lock.Free = true
+is_wait_over (phase.Bound lu) lock.Error = true
+is_wait_over phase.Talking lock = false
+is_wait_over (phase.Refused reason) lock = true
+is_wait_over (phase.Closed cause) lock = true
+is_wait_over phase.Idle lock = true
 
-abbrev pub IsSettled : Terminal → Type 0
-IsSettled terminal = is_settled (phase_of terminal.link) terminal.station.keyboard.lock ≡ true
+abbrev pub IsWaitOver : Terminal → Type 0
+IsWaitOver terminal = is_wait_over (phase_of terminal.link) terminal.station.keyboard.lock ≡ true

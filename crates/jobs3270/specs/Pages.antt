@@ -1,4 +1,4 @@
--- What is printed of commands that come in lines of hexadecimal (our profile).
+-- The page that `show` prints of commands in lines of hexadecimal (our profile).
 use Rattle.std.specs.Prelude.{◌≡◌, ℕ, ◌+◌, List, [], ◌∷◌, ◌++◌, codes, Option, Some, None}
 use Rattle.codes3270.specs.Size.{cell_count}
 use Rattle.datastream.specs.Screen.{Screen, blank_screen}
@@ -16,7 +16,7 @@ use Rattle.jobs3270.specs.ScreenText.{screen_text}
 unfoldable pub first_screen : Screen
 first_screen = blank_screen cell_count
 
--- what a negative response says (RFC 1647, section 10.4)
+-- the name of a negative response (RFC 1647, section 10.4)
 abbrev pub sense_text : Sense → List ℕ
 sense_text CommandReject = codes "COMMAND-REJECT"
 sense_text OperationCheck = codes "OPERATION-CHECK"
@@ -24,25 +24,25 @@ sense_text OperationCheck = codes "OPERATION-CHECK"
 abbrev pub refusal_line : CommandFault → List ℕ
 refusal_line fault = codes "refused " ++ sense_text (sense_of fault) ++ newline ∷ []
 
--- The bytes of a line are taken, and so much is said: the command that they spell is applied, and one with a fault is
--- refused and changes nothing.
+-- The bytes of a line are taken, and `said` is printed: the command that they spell is applied; one with a fault is refused, and
+-- changes nothing.
 pub data TakesCommand (bytes : List ℕ) (old new : Screen) (said : List ℕ) : Type 0 where
   applied : (command : CommandParts) → IsCommand command bytes → new ≡ after_command command old → said ≡ [] → TakesCommand bytes old new said
   refused : (fault : CommandFault) → IsNoCommand fault bytes → new ≡ old → said ≡ refusal_line fault → TakesCommand bytes old new said
 
--- A line gives bytes, which are taken before the other lines; or it gives none, and the run ends at its number.
+-- The bytes of a line are taken before the other lines. If it has none, the run ends with its number.
 abbrev pub TakesLine : Option (List ℕ) → ℕ → (Screen → List ℕ → Type 0) → Screen → List ℕ → Option ℕ → Type 0
 TakesLine None number others screen printed not_hex = (printed ≡ []) × (not_hex ≡ Some number)
 TakesLine (Some bytes) number others screen printed not_hex =
     (new : Screen) × (said behind : List ℕ) × TakesCommand bytes screen new said × others new behind × (printed ≡ said ++ behind)
 
--- what is printed of lines, of which the first has a number, and the number of the line that ends the run
+-- What lines print, the first of which has this number; `not_hex` is the number of the line that ends the run, if any.
 abbrev pub Prints : ℕ → List (List ℕ) → Screen → List ℕ → Option ℕ → Type 0
 Prints number [] screen printed not_hex = (printed ≡ screen_text screen) × (not_hex ≡ None)
 Prints number (line ∷ lines) screen printed not_hex =
     TakesLine (bytes_of_line line) number (λ new behind. Prints (number + 1) lines new behind not_hex) screen printed not_hex
 
--- What is printed of an input; `not_hex` is the number of the first line that isn't hexadecimal, if there is one. The
--- lines before it have said their refusals, and no screen is printed then.
+-- The page of an input; `not_hex` is the number of the first line that isn't hexadecimal, if any. Then the page has the refusals of
+-- the lines before it, and no screen.
 abbrev pub IsPage : List ℕ → List ℕ → Option ℕ → Type 0
 IsPage input printed not_hex = Prints 1 (lines_of input) first_screen printed not_hex

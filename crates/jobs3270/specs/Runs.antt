@@ -1,9 +1,9 @@
--- How a run ends: what it took from its input, what its output got, and what is told (our profile).
+-- How a run ends: what it read, what it printed, and the fault that it reports (our profile).
 use Rattle.std.specs.Prelude.{◌≡◌, ◌<◌, ◌≤◌, ◌++◌, ◌∷◌, ◌⊎◌, [], ⊤, ℕ, List, length, Option, Some, None, Result, Ok, Err, IsUtf8}
 use Rattle.std.specs.Io.KnownBytes.{Consumes, IsAtEnd}
 use Rattle.jobs3270.specs.Faults.{status_of, fault_text}
 use Rattle.jobs3270.specs.Pages.{IsPage}
-use Rattle.jobs3270.specs.Counting.{Input, Output, Reads, more, Untouched, Written, CutShort}
+use Rattle.jobs3270.specs.Counting.{Input, Output, Reads, chunk_size, more, Untouched, Written, CutShort}
 use Rattle.jobs3270.specs.declared.streams.Answer.{Answer}
 use Rattle.jobs3270.specs.declared.fault.Fault.{Fault}
 use Rattle.jobs3270.specs.declared.fault.Fault.TheVariants.{InputNotRead, Panels, Pool, NotHex, NotUnderstood, NoMemory, SocketFailed, TurnsOver, OutputFailed}
@@ -11,25 +11,21 @@ use Rattle.jobs3270.specs.declared.task.Task.{Task}
 use Rattle.jobs3270.specs.declared.task.Task.TheVariants.{Script, Show}
 use Rattle.jobs3270.specs.Scripts.{panel_text, HasPanelFault, HasPoolFault, IsScriptPage}
 
--- the most bytes that an input may have
+-- the most bytes of an input
 abbrev pub most_bytes : ℕ
 most_bytes = 1048576
 
--- the most reads that an input may take, the one that finds its end among them
+-- the most reads of an input, including the one that finds the end
 abbrev pub most_reads : ℕ
 most_reads = 65536
 
 -- ---- the input
 
--- the room that each read of an input has
-abbrev pub piece_room : ℕ
-piece_room = 4096
-
--- the reads of an input: how many there were, each with that room, and that they gave these bytes
+-- The input was read in `count` reads, each into a buffer of `chunk_size` bytes, and they gave these bytes.
 pub record InPieces {I : Type 0} (gave : I → ℕ → List ℕ → Answer → I → Type 0) (old new : I) (bytes : List ℕ) : Type 0 where
   pub count : ℕ
   pub few : count ≤ most_reads
-  pub reads : Reads gave piece_room count old bytes new
+  pub reads : Reads gave chunk_size count old bytes new
 
 -- these bytes were read, to the end, and no read failed
 pub record ReadWhole (old new : Input) (bytes : List ℕ) : Type 0 where
@@ -38,32 +34,32 @@ pub record ReadWhole (old new : Input) (bytes : List ℕ) : Type 0 where
   pub ended : new.ends ≡ more old.ends 1
   pub sound : new.failures ≡ old.failures
 
--- they are text, and not too much
+-- and they are text, and no more than an input may have
 pub record IsInput (old new : Input) (bytes : List ℕ) : Type 0 where
   pub read_whole : ReadWhole old new bytes
   pub within : length bytes ≤ most_bytes
   pub utf8 : IsUtf8 bytes
 
--- Nothing else keeps an input from being read: a read that failed, too many reads that found no end, too many bytes, bytes that are no text.
+-- The only reasons to refuse an input: a read failed, too many reads found no end, there are too many bytes, or the bytes aren't text.
 pub data NotRead (old new : Input) : Type 0 where
   read_failed : new.failures ≡ more old.failures 1 → NotRead old new
   too_many_reads : new.reads ≡ more old.reads most_reads → new.ends ≡ old.ends → new.failures ≡ old.failures → NotRead old new
   too_many_bytes : (bytes : List ℕ) → Consumes old.left new.left bytes → most_bytes < length bytes → NotRead old new
   no_text : (bytes : List ℕ) → ReadWhole old new bytes → (IsUtf8 bytes → ⊥) → NotRead old new
 
--- by which fault an input is refused
+-- the fault by which an input is refused
 abbrev pub RefusesInput : Fault → Input → Input → Type 0
 RefusesInput InputNotRead old new = NotRead old new
 RefusesInput NoMemory old new = ⊤
 RefusesInput _ old new = ⊥
 
--- The input was read, and is a text with this property. `Came` says of bytes that the reads gave them.
+-- The input was read, and is a text with this property. `Came bytes`: the reads gave these bytes.
 abbrev pub OnInput : (Came : List ℕ → Type 0) → Input → Input → (List ℕ → Type 0) → Type 0
 OnInput Came old new Has = (text : List ℕ) × IsInput old new text × Came text × Has text
 
 -- ---- the output
 
--- the page that a task prints of a text, and the number of the line that ends it, if one does
+-- the page of a task's input, and the number of the line that ends it, if any
 abbrev pub IsPageBy : Task → (text page : List ℕ) → Option ℕ → Type 0
 IsPageBy Script text page stopped = IsScriptPage text page stopped
 IsPageBy Show text page stopped = IsPage text page stopped
@@ -74,14 +70,14 @@ pub record Writes (task : Task) (text : List ℕ) (old new : Output) (stopped : 
   pub is_page : IsPageBy task text page stopped
   pub written : Written old new page
 
--- of that page a front was written, since the write failed
+-- the first bytes of that page were written, and the write failed
 pub record WritesInPart (task : Task) (text : List ℕ) (old new : Output) : Type 0 where
   pub page : List ℕ
   pub stopped : Option ℕ
   pub is_page : IsPageBy task text page stopped
   pub cut_short : CutShort old new page
 
--- What has happened where the printing of a text ends well, or by a fault. Without memory, or a world, nothing is written.
+-- What the printing of a text did if it ends well, or by a fault. Without memory, or a world, nothing is written.
 abbrev pub EndsPrinting : Task → Option Fault → (text : List ℕ) (old new : Output) → Type 0
 EndsPrinting task None text old new = Writes task text old new None
 EndsPrinting task (Some InputNotRead) text old new = ⊥
@@ -100,13 +96,13 @@ EndsPrinting task (Some OutputFailed) text old new = WritesInPart task text old 
 
 -- ---- the end of a run
 
--- what has happened where a run ends well, or by a fault
+-- what a run did if it ends well, or by a fault
 abbrev pub HasCause : Task → (Came : List ℕ → Type 0) → Option Fault → (in_old in_new : Input) (out_old out_new : Output) → Type 0
 HasCause task Came (Some InputNotRead) in_old in_new out_old out_new = NotRead in_old in_new × ((bytes : List ℕ) × Came bytes) × Untouched out_old out_new
 HasCause task Came (Some NoMemory) in_old in_new out_old out_new = ((bytes : List ℕ) × Came bytes) × Untouched out_old out_new
 HasCause task Came ending in_old in_new out_old out_new = OnInput Came in_old in_new (λ text. EndsPrinting task ending text out_old out_new)
 
--- how a call ends that may fail
+-- the fault of a call, if any
 abbrev pub ending_of : Result Unit Fault → Option Fault
 ending_of (Ok done) = None
 ending_of (Err fault) = Some fault
@@ -115,7 +111,7 @@ ending_of (Err fault) = Some fault
 abbrev pub IsToldIn : Output → Output → List ℕ → Type 0
 IsToldIn old new text = Written old new (text ++ 10 ∷ []) ⊎ (new.failures ≡ more old.failures 1)
 
--- a fault is told in one line, and nothing where all went well
+-- a fault is reported in one line; without a fault nothing is written
 abbrev pub IsTold : Option Fault → Output → Output → Type 0
 IsTold None old new = Untouched old new
 IsTold (Some fault) old new = IsToldIn old new (fault_text fault)
@@ -125,7 +121,7 @@ abbrev pub status_after : Option Fault → ℕ
 status_after None = 0
 status_after (Some fault) = status_of fault
 
--- the end of a task's run: by which fault, if by one
+-- the end of a task's run, by a fault or none
 pub record IsEnd (task : Task) (Came : List ℕ → Type 0) (in_old in_new : Input) (out_old out_new faults_old faults_new : Output) (status : ℕ) : Type 0 where
   pub ending : Option Fault
   pub has_cause : HasCause task Came ending in_old in_new out_old out_new

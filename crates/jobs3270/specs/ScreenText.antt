@@ -5,7 +5,7 @@ use Rattle.codes3270.specs.Size.{rows}
 use Rattle.datastream.specs.Screen.{Screen}
 use Rattle.term_core.specs.ScreenText.{newline, lines}
 
--- the line on the cursor
+-- the line with the cursor's address
 abbrev pub cursor_line : Screen → List ℕ
 cursor_line screen = codes "cursor " ++ decimal screen.cursor ++ newline ∷ []
 

@@ -1,4 +1,4 @@
--- A panel text and a script in one input, and what is printed of them (our profile).
+-- An input with a panel text and a script, and the page that is printed of it (our profile).
 use Rattle.std.specs.Prelude.{◌≡◌, ⊤, ℕ, ◌+◌, ◌==◌, ◌&&◌, ◌||◌, Bool, true, List, [], ◌∷◌, codes, bytes_eq, nat_eq, Option, take, drop, map, if◌then◌else◌}
 use Rattle.std.specs.List.{after_first, starts_with}
 use Rattle.tn3270e_msg.specs.Lu.{lu_of}
@@ -20,34 +20,34 @@ use Rattle.jobs3270.specs.Plays.{IsPlayed, terminal_count}
 
 -- ---- the two parts of an input
 
--- whether a line `%%` begins here
+-- the text begins with a line `%%`
 abbrev pub is_at_mark : List ℕ → Bool
 is_at_mark text = bytes_eq text (codes "%%") || starts_with nat_eq text (codes "%%\n")
 
--- The place of the first line `%%`, counted from here; where there is none, that behind the text. `begins`: a line begins here.
+-- The index of the first line `%%`; the text's length if there is no such line. `begins`: a line begins here.
 abbrev pub mark_place : Bool → List ℕ → ℕ
 mark_place begins [] = 0
 mark_place begins (char ∷ text) = if begins && is_at_mark (char ∷ text) then 0 else 1 + mark_place (char == newline) text
 
--- the panel text stands before that line
+-- the panel text, before that line
 abbrev pub panel_text : List ℕ → List ℕ
 panel_text input = take (mark_place true input) input
 
--- what stands behind the first line
+-- the text after the first line
 abbrev pub behind_line : List ℕ → List ℕ
 behind_line text = after_first (λ char. char == newline) text
 
--- the script stands behind it
+-- the script, after that line
 abbrev pub script_text : List ℕ → List ℕ
 script_text input = behind_line (drop (mark_place true input) input)
 
--- ---- the world that a script begins with
+-- ---- the world in which a script begins
 
--- what the names of the panels' LUs are read as
+-- the panels' LUs, each read as a name
 abbrev pub lus_of : PanelsRead → List (Option (List ℕ))
 lus_of panels = map lu_of panels.lus
 
--- The text's panels, a pool of their LUs, and terminals. Text and names have no fault.
+-- the text's panels, a pool of their LUs, and terminals; the text and the names have no fault
 pub record IsWorldOf (text : List ℕ) (world : ByteWorld) : Type 0 where
   pub panels : PanelsRead
   pub panels_read : IsReadFrom text panels
@@ -56,7 +56,7 @@ pub record IsWorldOf (text : List ℕ) (world : ByteWorld) : Type 0 where
   pub lus_right : IsRight (lus_of panels)
   pub world_is : world ≡ new_byte_world panels pool terminal_count
 
--- The text's panels, and a pool of their LUs. Text and names have no fault.
+-- the text's panels, and a pool of their LUs; the text and the names have no fault
 pub record IsApplicationOf (text : List ℕ) (panels : PanelsRead) (pool : List Entry) : Type 0 where
   pub panels_read : IsReadFrom text panels
   pub pool_read : IsPoolReadFrom (lus_of panels) pool
@@ -69,7 +69,7 @@ pub record IsHostOf (text : List ℕ) (host : Host) : Type 0 where
   pub is_application : IsApplicationOf text panels pool
   pub host_is : host ≡ new_host panels pool
 
--- why a text defines no panels; want of memory is no fault of the text
+-- why a text defines no panels; a refusal of memory is no fault of the text
 abbrev pub HasPanelFault : List ℕ → PanelFault → Type 0
 HasPanelFault text panel_fault.Memory = ⊥
 HasPanelFault text panel_fault.NotToml = IsReason text panel_fault.NotToml
@@ -87,7 +87,7 @@ pub record HasPoolFault (text : List ℕ) (fault : PoolFault) : Type 0 where
   pub panels_read : IsReadFrom text panels
   pub is_fault : IsLuFault (lus_of panels) fault
 
--- by which fault a text has no world; want of memory says nothing of the text
+-- the fault by which a text has no world; a refusal of memory says nothing of the text
 abbrev pub HasNoWorld : List ℕ → Fault → Type 0
 HasNoWorld text (Panels fault) = HasPanelFault text fault
 HasNoWorld text (Pool fault) = HasPoolFault text fault
@@ -96,14 +96,14 @@ HasNoWorld text _ = ⊥
 
 -- ---- the page
 
--- What is printed of an input: all that its script prints, up to the first line that isn't understood, if there is one.
+-- The page of an input: the output of its script, up to the first line that isn't understood, if any.
 pub record IsScriptPage (input page : List ℕ) (stopped : Option ℕ) : Type 0 where
   pub old : ByteWorld
   pub begins : IsWorldOf (panel_text input) old
   pub new : ByteWorld
   pub is_played : IsPlayed (script_text input) old page stopped new
 
--- An input has one page, and one number of the line that ends it, if one does.
+-- An input has one page, and one number of the line that isn't understood, if any.
 abbrev pub ScriptsHaveOnePage : Type 0
 ScriptsHaveOnePage = (input page other : List ℕ) (stopped ended : Option ℕ) → IsScriptPage input page stopped → IsScriptPage input other ended
     → (page ≡ other) × (stopped ≡ ended)

@@ -2,8 +2,8 @@
 use Rattle.std.specs.Prelude.{Bool, true, false}
 use Rattle.world3270.specs.declared.event.Event.{Event}
 use Rattle.world3270.specs.declared.event.Event.TheVariants as event
-use Rattle.jobs3270.specs.declared.script_line.Asks.{Asks}
-use Rattle.jobs3270.specs.declared.script_line.Asks.TheVariants as asks
+use Rattle.jobs3270.specs.declared.script_line.ScriptCommand.{ScriptCommand}
+use Rattle.jobs3270.specs.declared.script_line.ScriptCommand.TheVariants as command
 
 -- a terminal connects, a key is pressed, or a connection is lost
 abbrev pub happens_on_sockets : Event → Bool
@@ -12,7 +12,7 @@ happens_on_sockets (event.Key terminal key) = true
 happens_on_sockets (event.Lose conn) = true
 happens_on_sockets _ = false
 
--- what a script over sockets may ask for
-abbrev pub is_taken : Asks → Bool
-is_taken (asks.Happens event) = happens_on_sockets event
-is_taken _ = true
+-- the commands of a script over sockets
+abbrev pub is_socket_command : ScriptCommand → Bool
+is_socket_command (command.Happen event) = happens_on_sockets event
+is_socket_command _ = true

@@ -1,35 +1,35 @@
--- What a line of a terminal's script asks for (our profile): what a line of a script does (specs/ScriptLines), of the one terminal that there is, so
--- that no number stands behind the verb; and to wait for the host.
+-- The commands of a terminal's script as text (our profile): those of a script (specs/ScriptLines) without the number, since there
+-- is one terminal; and one to wait for the host.
 use Rattle.std.specs.Prelude.{ℕ, List, [], ◌∷◌, Option, Some, None, if◌then◌else◌, bytes_eq, codes}
 use Rattle.std.specs.Option.{option_map}
+use Rattle.keyboard.specs.KeyNames.{key_named}
 use Rattle.jobs3270.specs.HexLines.{words_of}
-use Rattle.jobs3270.specs.KeyNames.{key_named}
 use Rattle.jobs3270.specs.ScriptLines.{behind}
-use Rattle.jobs3270.specs.declared.term_line.TermAsks.{TermAsks}
-use Rattle.jobs3270.specs.declared.term_line.TermAsks.TheVariants.{Nothing, Types, Presses, Waits, Shows, Tells}
+use Rattle.jobs3270.specs.declared.term_line.TerminalCommand.{TerminalCommand}
+use Rattle.jobs3270.specs.declared.term_line.TerminalCommand.TheVariants.{Nothing, TypeText, Press, Wait, Show, Status}
 
--- a verb alone; `type` has no text then
-abbrev pub asks_alone : List ℕ → Option TermAsks
-asks_alone verb =
+-- a verb alone; the text of `type` is empty then
+abbrev pub command_of_verb : List ℕ → Option TerminalCommand
+command_of_verb verb =
     if bytes_eq verb (codes "") then Some Nothing else
-    if bytes_eq verb (codes "type") then Some Types else
-    if bytes_eq verb (codes "wait") then Some Waits else
-    if bytes_eq verb (codes "show") then Some Shows else
-    if bytes_eq verb (codes "status") then Some Tells else
+    if bytes_eq verb (codes "type") then Some TypeText else
+    if bytes_eq verb (codes "wait") then Some Wait else
+    if bytes_eq verb (codes "show") then Some Show else
+    if bytes_eq verb (codes "status") then Some Status else
     None
 
--- a verb, and the text behind the blank after it
-abbrev pub asks_with : List ℕ → List ℕ → Option TermAsks
-asks_with verb text =
-    if bytes_eq verb (codes "type") then Some Types else
-    if bytes_eq verb (codes "key") then option_map Presses (key_named text) else
+-- a verb and the text after the first blank
+abbrev pub command_of_text : List ℕ → List ℕ → Option TerminalCommand
+command_of_text verb text =
+    if bytes_eq verb (codes "type") then Some TypeText else
+    if bytes_eq verb (codes "key") then option_map Press (key_named text) else
     None
 
--- What words ask for; none where they aren't understood. The text is what stands behind the first blank.
-abbrev pub asks_by : List (List ℕ) → List ℕ → Option TermAsks
-asks_by [] text = None
-asks_by (verb ∷ []) text = asks_alone verb
-asks_by (verb ∷ next ∷ more) text = asks_with verb text
+-- The command of a line with these words; none if there is no such command. `text` is the text after the first blank.
+abbrev pub command_of_words : List (List ℕ) → (text : List ℕ) → Option TerminalCommand
+command_of_words [] text = None
+command_of_words (verb ∷ []) text = command_of_verb verb
+command_of_words (verb ∷ next ∷ more) text = command_of_text verb text
 
-unfoldable pub term_asks : List ℕ → Option TermAsks
-term_asks line = asks_by (words_of line) (behind line)
+unfoldable pub terminal_command : List ℕ → Option TerminalCommand
+terminal_command line = command_of_words (words_of line) (behind line)

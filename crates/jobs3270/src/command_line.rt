@@ -1,4 +1,4 @@
-//! The words behind the program's name.
+//! Reads the program's arguments.
 ghost use Rattle.std.specs.Prelude.{◌≡◌, IfOk, IfErr, Some, map, option_map, string_bytes};
 ghost use Rattle.clap.specs.Walk.{first_of, rows_of};
 ghost use Rattle.clap.specs.Simple.{subcommand_rows_of};
@@ -15,17 +15,17 @@ use tn3270e_msg::Lu;
 
 // ---- the command line
 
-/// An option with a name; whether it has to be given.
+/// An option with this name; `required`: it must be given.
 fn option<'a>(alloc: Global, name: &'a str, required: bool) -> Arg<'a>
     ensures { IsOption (option_rule name.now required) result }
 {
     Arg::new(alloc, name).long(name).required(required)
 }
 
-/// A job by its words: its name, and the names of its options, of which each may have to be given.
+/// A job's name, and the name of each option with whether it is required.
 type JobWords<'a> = (&'a str, &'a [(&'a str, bool)]);
 
-/// The jobs, in the order in which help names them.
+/// The jobs, in the order of the help text.
 static JOBS: [JobWords<'static>; 6] = [
     ("script", &[]),
     ("show", &[]),
@@ -75,21 +75,21 @@ fn program<'a>(alloc: Global) -> Result<Command<'a>, AllocError>
 
 // ---- what was given
 
-/// The value that an option was given.
+/// The value of an option, if it is given.
 fn given<'a>(options: &ArgMatches<'a>, name: &str) -> Option<&'a str>
     ensures { option_map (λ word. word.now) result ≡ first_of name.now (rows_of (found_of options.now)) }
 {
     options.get_str(name)
 }
 
-/// The port that has to be given.
+/// The value of `--port`.
 fn port_in(options: &ArgMatches<'_>) -> Option<Port>
     ensures { result ≡ given_port (rows_of (found_of options.now)) }
 {
     Port::read(given(options, "port")?)
 }
 
-/// How many turns are to be taken.
+/// The value of `--turns`; the usual number if it isn't given.
 fn turns_in(options: &ArgMatches<'_>) -> Option<Turns>
     ensures { result ≡ given_turns (rows_of (found_of options.now)) }
 {
@@ -99,7 +99,7 @@ fn turns_in(options: &ArgMatches<'_>) -> Option<Turns>
     }
 }
 
-/// The LU to ask for, if one is named. None where the name is no LU's.
+/// The value of `--lu`, if it is given. None if it isn't an LU's name.
 fn lu_in(options: &ArgMatches<'_>) -> Option<Option<Lu>>
     ensures { result ≡ given_lu (rows_of (found_of options.now)) }
 {
@@ -109,7 +109,7 @@ fn lu_in(options: &ArgMatches<'_>) -> Option<Option<Lu>>
     }
 }
 
-/// The job with a name, by its options.
+/// The job with this name and these options.
 fn job_named(name: &str, options: &ArgMatches<'_>) -> Option<Job>
     ensures { result ≡ job_named name.now (rows_of (found_of options.now)) }
 {
@@ -135,7 +135,7 @@ fn job_named(name: &str, options: &ArgMatches<'_>) -> Option<Job>
     Some(job)
 }
 
-/// The job that was asked for: `script` where there is no word.
+/// The job of a parsed command line: `script` if there is no argument.
 fn job_in(matches: &ArgMatches<'_>) -> Option<Job>
     ensures { result ≡ job_by (subcommand_rows_of matches.now) }
 {
@@ -147,7 +147,7 @@ fn job_in(matches: &ArgMatches<'_>) -> Option<Job>
 
 // ---- words
 
-/// Why words weren't taken.
+/// Why the arguments are refused.
 fn fault_of(error: Error) -> WordFault
     ensures { result ≡ fault_by (kind_of error) }
 {
@@ -157,7 +157,7 @@ fn fault_of(error: Error) -> WordFault
     }
 }
 
-/// What the command line makes of words.
+/// The arguments, parsed by the command line.
 fn matches_of<'a>(alloc: Global, words: &'a [String]) -> Result<ArgMatches<'a>, WordFault>
     ensures matches { IfOk result (IsMatch (map string_bytes words.now)) }
     ensures fault { IfErr result (HasNoMatch (map string_bytes words.now)) }
@@ -171,10 +171,10 @@ fn matches_of<'a>(alloc: Global, words: &'a [String]) -> Result<ArgMatches<'a>, 
     }
 }
 
-/// The job that the words behind the program's name ask for: `script` where there is none.
+/// The job of the program's arguments: `script` if there are none.
 ///
-/// Answers Refused where the command line doesn't take them, or a port, a number of turns or an LU's name isn't one; Memory where
-/// a growth was refused.
+/// Refused if the command line doesn't take them, or if a port, a number of turns or an LU's name isn't valid; Memory if memory is
+/// refused.
 pub fn words(alloc: Global, words: &[String]) -> Result<Job, WordFault>
     ensures job { IfOk result (λ job. job_of (map string_bytes words.now) ≡ Some job) }
     ensures fault { IfErr result (HasNoJob (map string_bytes words.now)) }

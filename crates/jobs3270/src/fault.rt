@@ -1,4 +1,4 @@
-//! Why a run ended early, as it is told and as an exit status.
+//! Why a run ends early: the line that it prints, and its exit status.
 ghost use Rattle.std.specs.Prelude.{◌≡◌};
 ghost use Rattle.jobs3270.specs.Faults.{status_of};
 
@@ -8,7 +8,7 @@ use std::alloc::AllocError;
 use std::fmt;
 use thiserror::Error;
 
-/// Why a run ended before its end. It prints as the line that standard error gets.
+/// Why a run ends early. Prints as the line on standard error.
 #[derive(Debug, Drop, PartialEq, Eq, Error)]
 pub enum Fault {
     /// The input could not be read, is too long, or isn't UTF-8.
@@ -21,7 +21,7 @@ pub enum Fault {
     NotHex(usize),
     /// The script's line with this number, from 1 on, isn't understood.
     NotUnderstood(usize),
-    /// A growth was refused.
+    /// Memory was refused.
     NoMemory,
     /// The system refused a socket.
     SocketFailed,

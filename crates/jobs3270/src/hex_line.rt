@@ -4,7 +4,7 @@ ghost use Rattle.jobs3270.specs.HexLines.{bytes_of_word, bytes_of_line};
 
 use std::alloc::{AllocError, Global};
 
-/// The bytes of a word of pairs of digits, if it is one.
+/// The bytes of a word of pairs of hexadecimal digits; None if it isn't such a word.
 fn bytes_of_word(alloc: Global, word: &str) -> Result<Option<Vec<u8>>, AllocError>
     ensures { IfOk result (λ found. MatchOption found (bytes_of_word word.now ≡ None) (λ bytes. bytes_of_word word.now ≡ Some bytes.items)) }
 {
@@ -15,7 +15,8 @@ fn bytes_of_word(alloc: Global, word: &str) -> Result<Option<Vec<u8>>, AllocErro
     }
 }
 
-/// The bytes of a line, if it is hexadecimal: pairs of digits in either case, with blanks before, between and behind them.
+/// The bytes of a line of pairs of hexadecimal digits in either case, with blanks before, between and after them; None if it isn't
+/// such a line.
 pub(crate) fn bytes_of_line(alloc: Global, line: &str) -> Result<Option<Vec<u8>>, AllocError>
     ensures { IfOk result (λ found. MatchOption found (bytes_of_line line.now ≡ None) (λ bytes. bytes_of_line line.now ≡ Some bytes.items)) }
 {

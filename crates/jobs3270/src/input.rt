@@ -1,22 +1,19 @@
-//! The input, read whole before anything is done with it.
+//! Reads the whole input as text.
 ghost use Rattle.std.specs.Prelude.{◌≡◌, ℕ, List, IfOk, IfErr, IsUtf8, OnErr, OnOk, string_bytes};
 ghost use Rattle.jobs3270.specs.Runs.{InPieces, IsInput, RefusesInput};
 ghost use Rattle.jobs3270.specs.declared.fault.Fault.TheVariants.{InputNotRead};
 
 use crate::fault::Fault;
-use crate::streams::{Answer, Source};
+use crate::streams::{Answer, CHUNK, Source, read_chunk};
 use std::alloc::Global;
 
-/// The most bytes that an input may have.
+/// The most bytes of an input.
 pub const MOST_BYTES: usize = 1_048_576;
 
-/// The most reads that an input may take, the one that finds its end among them.
+/// The most reads of an input, including the one that finds the end.
 pub const MOST_READS: u32 = 65_536;
 
-/// The room that each read has.
-const CHUNK: usize = 4096;
-
-/// The text that bytes are in UTF-8.
+/// Bytes as UTF-8 text.
 fn text_of(bytes: Vec<u8>) -> Result<String, Fault>
     ensures text { IfOk result (λ text. string_bytes text ≡ bytes.items) }
     ensures utf8 { OnOk result (IsUtf8 bytes.items) }
@@ -30,7 +27,7 @@ fn text_of(bytes: Vec<u8>) -> Result<String, Fault>
 }
 
 /// The whole input as text. It is refused if a read fails, if it has more than `MOST_BYTES` bytes or takes more than
-/// `MOST_READS` reads, and if it isn't UTF-8. Each read has room for 4,096 bytes.
+/// `MOST_READS` reads, or if it isn't UTF-8. Each read asks for 4,096 bytes.
 pub(crate) fn read_whole<I: Source>(alloc: Global, input: &mut I) -> Result<String, Fault>
     ensures whole { IfOk result (λ text. IsInput (I.seen input.old) (I.seen input.new) (string_bytes text)) }
     ensures fault { IfErr result (λ fault. RefusesInput fault (I.seen input.old) (I.seen input.new)) }
@@ -40,7 +37,7 @@ pub(crate) fn read_whole<I: Source>(alloc: Global, input: &mut I) -> Result<Stri
     let mut bytes = Vec::new(alloc);
     let mut chunk = [0u8; CHUNK];
     for _ in 0..MOST_READS {
-        match input.read(&mut chunk) {
+        match read_chunk(input, &mut chunk) {
             Answer::Ended => return text_of(bytes),
             Answer::Gave(count) => {
                 if bytes.len().saturating_add(count) > MOST_BYTES {

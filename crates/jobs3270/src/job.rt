@@ -1,4 +1,4 @@
-//! What the program is asked to do.
+//! The jobs of the program, with the values of their options.
 ghost use Rattle.std.specs.Prelude.{◌≡◌, ◌≤◌, IfSome};
 ghost use Rattle.jobs3270.specs.Words.{port_numbered, turns_numbered, port_of, turns_of, usual_turns};
 
@@ -6,7 +6,7 @@ use crate::script_line::number_of;
 use std::marker::Model;
 use tn3270e_msg::Lu;
 
-/// The number of a port, 1024 to 65535: one that needs no privilege. Contracts see it as a number.
+/// A port number, 1024 to 65535: those that need no privilege. Contracts see it as a number.
 #[derive(Clone, Copy)]
 pub struct Port {
     number: u16,
@@ -35,7 +35,7 @@ impl Port {
         }
     }
 
-    /// The port that a word gives in decimal digits.
+    /// The port with a number in decimal digits; None if the word isn't such a number.
     pub(crate) fn read(word: &str) -> Option<Port>
         ensures { result ≡ port_of word.now }
     {
@@ -53,7 +53,7 @@ impl Port {
     }
 }
 
-/// How many turns are taken, 1 to 1,000,000. Contracts see it as a number.
+/// A number of turns, 1 to 1,000,000. Contracts see it as a number.
 #[derive(Clone, Copy)]
 pub struct Turns {
     number: u32,
@@ -72,7 +72,7 @@ impl Model for Turns {
 }
 
 impl Turns {
-    /// So many turns; None unless they are 1 to 1,000,000.
+    /// This number of turns; None unless it is 1 to 1,000,000.
     pub fn new(number: u32) -> Option<Turns>
         ensures { result ≡ turns_numbered number }
     {
@@ -82,14 +82,14 @@ impl Turns {
         }
     }
 
-    /// As many as are taken where nobody says.
+    /// The number of turns if the option isn't given.
     pub fn usual() -> Turns
         ensures { result ≡ usual_turns }
     {
         Turns { number: 10_000 }
     }
 
-    /// The turns that a word gives in decimal digits.
+    /// A number of turns in decimal digits; None if the word isn't such a number.
     pub(crate) fn read(word: &str) -> Option<Turns>
         ensures { result ≡ turns_of word.now }
     {
@@ -97,7 +97,7 @@ impl Turns {
         Turns::new(number)
     }
 
-    /// Their number, 1 to 1,000,000.
+    /// The number, 1 to 1,000,000.
     pub fn get(self) -> u32
         ensures value { result ≡ self }
         ensures in_range { (1 ≤ result) × (result ≤ 1000000) }
@@ -107,7 +107,7 @@ impl Turns {
     }
 }
 
-/// What the program does.
+/// A job of the program.
 #[derive(Clone, Copy)]
 pub enum Job {
     /// Serves panels to the terminals of a script.
@@ -116,19 +116,19 @@ pub enum Job {
     Show,
     /// Serves panels to the terminals of a script over sockets.
     Selfrun { turns: Turns },
-    /// Serves panels to terminals that connect, for so many turns.
+    /// Serves panels to terminals that connect, for a number of turns.
     Host { port: Port, turns: Turns },
     /// Serves panels to terminals that connect, without end.
     Serve { port: Port },
-    /// Is a terminal of a host, and does the commands of a script.
+    /// Runs a terminal of a host, and does the commands of a script.
     Term { port: Port, lu: Option<Lu> },
 }
 
-/// Why words give no job.
+/// Why the words give no job.
 #[derive(Clone, Copy)]
 pub enum WordFault {
     /// The command line doesn't take them.
     Refused,
-    /// A growth was refused.
+    /// Memory was refused.
     Memory,
 }

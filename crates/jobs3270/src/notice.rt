@@ -1,129 +1,66 @@
-//! What is told of the connections of a host.
-ghost use Rattle.std.specs.Prelude.{◌≡◌, ◌++◌, MatchOption, OnOk, string_bytes};
-ghost use Rattle.std.specs.Fmt.{decimal};
-ghost use Rattle.jobs3270.specs.Notices.{cause_name, lu_part, notice_line, notice_of, notice_text, reason_text};
+//! The lines of a host's log: what became of its connections.
+ghost use Rattle.std.specs.Prelude.{◌≡◌, ◌++◌, OnOk, string_bytes};
+ghost use Rattle.jobs3270.specs.Notices.{lu_part, notice_line, notice_of, notice_text};
 
-use crate::phase_text::{cause_number, put_letters};
-use crate::refusals::Refusal;
-use host_core::{Phase, Served};
+use host_core::{Phase, Rejection, Served};
 use std::alloc::AllocError;
-use tn3270e_msg::{Cause, Lu, Reason};
+use tn3270e_msg::{Cause, Lu};
 
 /// What became of a connection, by its number, 0 to 63.
 #[derive(Drop)]
 pub enum Notice {
-    /// One came, and no number was free.
+    /// A client connected, and no number was free.
     TurnedAway,
-    /// It came.
+    /// A client connected.
     Connected(usize),
-    /// Its terminal was refused an LU.
-    Refused(usize, Refusal),
-    /// Its terminal was bound to an LU.
+    /// The host rejected a request for an LU.
+    Refused(usize, Rejection),
+    /// The terminal was bound to an LU.
     Bound(usize, Lu),
-    /// The host closed it for a cause.
+    /// The host closed the connection for this cause.
     Closed(usize, Cause),
-    /// It ended or failed.
+    /// The connection ended or failed.
     Lost(usize),
 }
 
-/// The name of a cause.
-fn cause_name(cause: Cause) -> &'static str
-    ensures { result.now ≡ cause_name cause }
-{
-    match cause {
-        Cause::NoTn3270e => "NoTn3270e",
-        Cause::NoResponses => "NoResponses",
-        Cause::BadTalk => "BadTalk",
-        Cause::TooMany => "TooMany",
-        Cause::Wire => "Wire",
-        Cause::BadRecord => "BadRecord",
-        Cause::BadInbound => "BadInbound",
-        Cause::BadResponse => "BadResponse",
-        Cause::Negative => "Negative",
-    }
-}
-
-/// The name of a reason in RFC 1647, section 3, if it is one that a host here gives.
-fn reason_name(reason: Reason) -> Option<&'static str>
-    ensures { MatchOption result (reason_text reason ≡ decimal reason.0) (λ name. name.now ≡ reason_text reason) }
-{
-    if reason == Reason::DEVICE_IN_USE {
-        return Some("DEVICE-IN-USE");
-    }
-    if reason == Reason::INV_NAME {
-        return Some("INV-NAME");
-    }
-    if reason == Reason::INV_DEVICE_TYPE {
-        return Some("INV-DEVICE-TYPE");
-    }
-    if reason == Reason::UNSUPPORTED_REQ {
-        return Some("UNSUPPORTED-REQ");
-    }
-    None
-}
-
-/// Adds why a terminal was refused: the name of a reason, or its code where it has none here.
-fn put_reason(text: &mut String, reason: Reason) -> Result<(), AllocError>
-    ensures { OnOk result (string_bytes text.new ≡ string_bytes text.old ++ reason_text reason) }
-{
-    match reason_name(reason) {
-        Some(name) => text.push_str(name),
-        None => {
-            let code = reason.0;
-            write!(text, "{code}")
-        }
-    }
-}
-
-/// Adds the LU that was asked for, if one was.
+/// Adds the LU that was requested, if one was.
 fn put_lu(text: &mut String, lu: &Option<Lu>) -> Result<(), AllocError>
     ensures { OnOk result (string_bytes text.new ≡ string_bytes text.old ++ lu_part lu.now) }
 {
     match lu {
-        Some(lu) => {
-            put_letters(text, lu.as_bytes())?;
-            text.push(' ')
-        }
+        Some(lu) => write!(text, "{lu} "),
         None => Ok(()),
     }
 }
 
-/// Adds what is told of a connection that was refused an LU.
-fn put_refused(text: &mut String, conn: usize, refusal: &Refusal) -> Result<(), AllocError>
-    ensures { OnOk result (string_bytes text.new ≡ string_bytes text.old ++ notice_text (Notice.Refused conn refusal.now)) }
+/// Adds the text of a rejection.
+fn put_rejection(text: &mut String, conn: usize, rejection: &Rejection) -> Result<(), AllocError>
+    ensures { OnOk result (string_bytes text.new ≡ string_bytes text.old ++ notice_text (Notice.Refused conn rejection.now)) }
 {
     write!(text, "{conn}: refused ")?;
-    put_lu(text, &refusal.lu)?;
-    put_reason(text, refusal.reason)
+    put_lu(text, &rejection.lu)?;
+    let reason = rejection.reason;
+    write!(text, "{reason}")
 }
 
-/// Adds what is told of a connection that was bound.
-fn put_bound(text: &mut String, conn: usize, letters: &[u8]) -> Result<(), AllocError>
-    ensures { OnOk result (string_bytes text.new ≡ string_bytes text.old ++ notice_text (Notice.Bound conn letters.now)) }
-{
-    write!(text, "{conn}: bound ")?;
-    put_letters(text, letters)
-}
-
-/// Adds what a notice tells.
+/// Adds the text of a notice.
 fn put_text(text: &mut String, notice: &Notice) -> Result<(), AllocError>
     ensures { OnOk result (string_bytes text.new ≡ string_bytes text.old ++ notice_text notice.now) }
 {
     match notice {
         Notice::TurnedAway => text.push_str("turned away: no number is free"),
         Notice::Connected(conn) => write!(text, "{conn}: connected"),
-        Notice::Refused(conn, refusal) => put_refused(text, *conn, refusal),
-        Notice::Bound(conn, lu) => put_bound(text, *conn, lu.as_bytes()),
+        Notice::Refused(conn, rejection) => put_rejection(text, *conn, rejection),
+        Notice::Bound(conn, lu) => write!(text, "{conn}: bound {lu}"),
         Notice::Closed(conn, cause) => {
-            let number = cause_number(*cause);
-            let name = cause_name(*cause);
-            write!(text, "{conn}: closed {number} {name}")
+            let number = cause.number();
+            write!(text, "{conn}: closed {number} {cause}")
         }
         Notice::Lost(conn) => write!(text, "{conn}: lost"),
     }
 }
 
-/// Adds a notice's line.
+/// Adds the line of a notice.
 pub(crate) fn put_notice(text: &mut String, notice: &Notice) -> Result<(), AllocError>
     ensures { OnOk result (string_bytes text.new ≡ string_bytes text.old ++ notice_line notice.now) }
 {
@@ -131,7 +68,7 @@ pub(crate) fn put_notice(text: &mut String, notice: &Notice) -> Result<(), Alloc
     text.push('\n')
 }
 
-/// The notice of a connection that was served, from how far it was with its terminal before and is after.
+/// The notice of a connection after one turn of serving, by the phases before and after the turn.
 pub(crate) fn notice_of(
     conn: usize,
     before: &Phase,

@@ -1,11 +1,11 @@
-//! An operator at a terminal: what keys do there, and when the host need not be waited for any longer.
+//! An operator at a terminal: presses keys, types text, and waits for the host.
 ghost use Rattle.std.specs.Prelude.{◌≡◌, ◌++◌, IfOk, OnOk, chars, false, string_bytes};
 ghost use Rattle.term_core.specs.Presses.{after_key, answer_to_key};
 ghost use Rattle.term_core.specs.State.{phase_of};
-ghost use Rattle.jobs3270.specs.Operating.{after_text, is_settled, refusal_in, refusal_text, said_of_key, said_of_text};
-ghost use Rattle.jobs3270.specs.Waits.{HasWaited, IsFed, SendsAll, is_memory};
+ghost use Rattle.jobs3270.specs.Operating.{after_text, is_wait_over, refusal_in, refusal_text, said_of_key, said_of_text};
+ghost use Rattle.jobs3270.specs.Waits.{FeedsAll, HasExchanged, HasWaited, IsFed, SendsAll, SendsLast, is_memory};
 
-use crate::streams::{Answer, Sink, Source};
+use crate::streams::{Answer, CHUNK, Sink, Source, read_chunk};
 use keyboard::{Key, Lock, Pressed, Refusal};
 use std::alloc::AllocError;
 use term_core::{TermPhase, Terminal};
@@ -13,9 +13,6 @@ use tn3270e_msg::Stop;
 
 /// The most reads of one wait.
 const MOST_READS: usize = 1000;
-
-/// The room that each read has.
-const CHUNK: usize = 4096;
 
 // ---- keys
 
@@ -29,7 +26,7 @@ fn refusal_in(pressed: &Pressed) -> Option<Refusal>
     }
 }
 
-/// A key is pressed. Answers why it was refused, if it was.
+/// Presses a key. Answers why it was refused, if it was.
 fn press_once(terminal: &mut Terminal, key: Key) -> Result<Option<Refusal>, AllocError>
     ensures pressed { OnOk result (terminal.new.terminal ≡ after_key key terminal.old.terminal) }
     ensures refusal { IfOk result (λ refusal. refusal ≡ refusal_in (answer_to_key key terminal.old.terminal)) }
@@ -40,7 +37,7 @@ fn press_once(terminal: &mut Terminal, key: Key) -> Result<Option<Refusal>, Allo
     }
 }
 
-/// Adds what is said of a key that was refused.
+/// Adds the line of a refused key: `refused N`, with the number of the refusal.
 fn put_refusal(text: &mut String, why: Refusal) -> Result<(), AllocError>
     ensures { OnOk result (string_bytes text.new ≡ string_bytes text.old ++ refusal_text why) }
 {
@@ -48,7 +45,7 @@ fn put_refusal(text: &mut String, why: Refusal) -> Result<(), AllocError>
     write!(text, "refused {number}\n")
 }
 
-/// A key is pressed, and `refused N` is added where it was.
+/// Presses a key, and adds `refused N` if it is refused.
 pub(crate) fn press(terminal: &mut Terminal, key: Key, text: &mut String) -> Result<(), AllocError>
     ensures pressed { OnOk result (terminal.new.terminal ≡ after_key key terminal.old.terminal) }
     ensures said { OnOk result (string_bytes text.new ≡ string_bytes text.old ++ said_of_key (answer_to_key key terminal.old.terminal)) }
@@ -59,7 +56,7 @@ pub(crate) fn press(terminal: &mut Terminal, key: Key, text: &mut String) -> Res
     }
 }
 
-/// The characters of a text are pressed in turn, up to the first that is refused, of which `refused N` is added.
+/// Presses the characters of a text in turn, up to the first that is refused, and adds `refused N` for that one.
 pub(crate) fn type_text(
     terminal: &mut Terminal,
     typed: &str,
@@ -76,11 +73,11 @@ pub(crate) fn type_text(
     Ok(())
 }
 
-// ---- the host is waited for
+// ---- waits for the host
 
-/// Whether there is nothing to wait for.
-fn is_settled(terminal: &Terminal) -> bool
-    ensures { result ≡ is_settled (phase_of terminal.now.terminal.link) terminal.now.terminal.station.keyboard.lock }
+/// Whether a wait is over: the keyboard isn't waiting, the host refused the terminal an LU, or the connection is closed or lost.
+fn is_wait_over(terminal: &Terminal) -> bool
+    ensures { result ≡ is_wait_over (phase_of terminal.now.terminal.link) terminal.now.terminal.station.keyboard.lock }
 {
     match terminal.phase() {
         TermPhase::Bound(_) => terminal.lock() != Lock::Wait,
@@ -89,7 +86,7 @@ fn is_settled(terminal: &Terminal) -> bool
     }
 }
 
-/// Sends all that a terminal has to send, and returns true; or detaches the terminal if the write fails.
+/// Sends all output of a terminal, and returns true. If the write fails, detaches the terminal, and returns false.
 fn send_all<U: Sink>(terminal: &mut Terminal, up: &mut U) -> bool
     ensures { SendsAll result terminal.old.terminal terminal.new.terminal (U.seen up.old) (U.seen up.new) }
 {
@@ -116,20 +113,76 @@ fn is_memory(stop: Stop) -> bool
     }
 }
 
-/// Feeds a terminal that waits all that a read gave.
+/// Feeds a terminal bytes, and answers what stopped it.
+fn feed_all(terminal: &mut Terminal, bytes: &[u8]) -> Stop
+    ensures { FeedsAll terminal.new.room result terminal.old.terminal bytes.now terminal.new.terminal }
+{
+    terminal.feed(bytes).stop
+}
+
+/// Feeds a terminal, during a wait, the bytes that a read gave. An error if memory is refused.
 fn take(terminal: &mut Terminal, bytes: &[u8]) -> Result<(), AllocError>
-    requires { is_settled (phase_of terminal.old.terminal.link) terminal.old.terminal.station.keyboard.lock ≡ false }
+    requires { is_wait_over (phase_of terminal.old.terminal.link) terminal.old.terminal.station.keyboard.lock ≡ false }
     ensures { OnOk result (IsFed terminal.old.terminal bytes.now terminal.new.terminal) }
 {
-    let fed = terminal.feed(bytes);
-    if is_memory(fed.stop) {
+    if is_memory(feed_all(terminal, bytes)) {
         return Err(AllocError);
     }
     Ok(())
 }
 
-/// Sends all that a terminal has to send and feeds it all that is read, until there is nothing to wait for, or for `MOST_READS` reads.
-/// Nothing is left unsent then. A terminal whose connection ends or fails is detached from it.
+/// How the reads of a wait ended.
+#[derive(Clone, Copy)]
+pub(crate) enum Exchanged {
+    /// The wait is over, or the connection is.
+    Over,
+    /// All reads are used up. The output since the last one isn't sent yet.
+    ReadsUsedUp,
+}
+
+/// Sends all output of a terminal, reads once and feeds the terminal the bytes, and so on, until the wait is over or
+/// `MOST_READS` reads are used up.
+fn exchange<D: Source, U: Sink>(
+    terminal: &mut Terminal,
+    down: &mut D,
+    up: &mut U,
+) -> Result<Exchanged, AllocError>
+    ensures { IfOk result (λ exchanged. HasExchanged D.gave exchanged terminal.old.terminal terminal.new.terminal down.old down.new (U.seen up.old) (U.seen up.new)) }
+{
+    let mut chunk = [0; CHUNK];
+    for _ in 0..MOST_READS {
+        if !send_all(terminal, up) {
+            return Ok(Exchanged::Over);
+        }
+        if is_wait_over(terminal) {
+            return Ok(Exchanged::Over);
+        }
+        match read_chunk(down, &mut chunk) {
+            Answer::Gave(count) => take(terminal, &chunk[..count])?,
+            Answer::Interrupted => {}
+            Answer::Ended | Answer::Failed => {
+                terminal.lost();
+                return Ok(Exchanged::Over);
+            }
+        }
+    }
+    Ok(Exchanged::ReadsUsedUp)
+}
+
+/// Sends all output of a terminal if the reads of a wait are used up.
+fn send_last<U: Sink>(exchanged: Exchanged, terminal: &mut Terminal, up: &mut U)
+    ensures { SendsLast exchanged terminal.old.terminal terminal.new.terminal (U.seen up.old) (U.seen up.new) }
+{
+    match exchanged {
+        Exchanged::Over => {}
+        Exchanged::ReadsUsedUp => {
+            let _ = send_all(terminal, up);
+        }
+    }
+}
+
+/// Waits for the host: until the operator may go on, the host refuses an LU or closes the connection, the connection is lost,
+/// or 1,000 reads are used up. All output is sent then. A terminal whose connection ends or fails is detached from it.
 pub(crate) fn wait<D: Source, U: Sink>(
     terminal: &mut Terminal,
     down: &mut D,
@@ -137,23 +190,7 @@ pub(crate) fn wait<D: Source, U: Sink>(
 ) -> Result<(), AllocError>
     ensures { OnOk result (HasWaited D.gave terminal.old.terminal terminal.new.terminal down.old down.new (U.seen up.old) (U.seen up.new)) }
 {
-    let mut chunk = [0; CHUNK];
-    for _ in 0..MOST_READS {
-        if !send_all(terminal, up) {
-            return Ok(());
-        }
-        if is_settled(terminal) {
-            return Ok(());
-        }
-        match down.read(&mut chunk) {
-            Answer::Gave(count) => take(terminal, &chunk[..count])?,
-            Answer::Interrupted => {}
-            Answer::Ended | Answer::Failed => {
-                terminal.lost();
-                return Ok(());
-            }
-        }
-    }
-    let _ = send_all(terminal, up);
+    let exchanged = exchange(terminal, down, up)?;
+    send_last(exchanged, terminal, up);
     Ok(())
 }

@@ -1,4 +1,4 @@
-//! What is printed of commands that come in lines of hexadecimal.
+//! The page that `show` prints.
 ghost use Rattle.std.specs.Prelude.{◌≡◌, ◌++◌, ℕ, List, Option, IfOk, OnOk, string_bytes};
 ghost use Rattle.jobs3270.specs.Pages.{first_screen, sense_text, TakesCommand, IsPage};
 
@@ -8,23 +8,23 @@ use datastream::{Sense, read_command};
 use presentation::Screen;
 use std::alloc::{AllocError, Global};
 
-/// What is printed of an input.
+/// The page of an input.
 #[derive(Drop)]
 pub struct Page {
-    /// A line for each command that was refused; then, where all lines were hexadecimal, the screen and its cursor.
+    /// A line for each refused command; then the screen and its cursor, if all lines are hexadecimal.
     pub text: String,
     /// The number, from 1 on, of the first line that isn't hexadecimal. It ends the run.
     pub not_hex: Option<usize>,
 }
 
-/// A screen that nothing was written on.
+/// A blank screen.
 fn first_screen() -> Screen
     ensures { result ≡ first_screen }
 {
     Screen::blank()
 }
 
-/// What a negative response says (RFC 1647, section 10.4).
+/// The name of a negative response (RFC 1647, section 10.4).
 fn sense_text(sense: Sense) -> &'static str
     ensures { result.now ≡ sense_text sense }
 {
@@ -34,7 +34,7 @@ fn sense_text(sense: Sense) -> &'static str
     }
 }
 
-/// Applies the command that the bytes spell; one with a fault changes nothing, and its refusal is added to the text.
+/// Applies the command that the bytes spell. If it has a fault, changes nothing, and adds the refusal to the text.
 fn take_command(screen: &mut Screen, bytes: &[u8], text: &mut String) -> Result<(), AllocError>
     ensures { OnOk result ((said : List ℕ) × TakesCommand bytes.now screen.old screen.new said
         × (string_bytes text.new ≡ string_bytes text.old ++ said)) }
@@ -52,10 +52,10 @@ fn take_command(screen: &mut Screen, bytes: &[u8], text: &mut String) -> Result<
 }
 
 /// Applies the commands of an input, one a line in hexadecimal, in order to one blank screen, and prints the refusals, the
-/// screen and its cursor. At a line that isn't hexadecimal it ends, and no screen is printed.
+/// screen and its cursor. Ends at a line that isn't hexadecimal, without a screen.
 ///
-/// A line ends with a newline, which the last may lack. It is pairs of hexadecimal digits in either case, with blanks
-/// before, between and behind them; a line with none is a command of no bytes.
+/// A line ends with a newline, which the last line may lack. It is pairs of hexadecimal digits in either case, with blanks
+/// before, between and after them; a line without digits is a command of no bytes.
 pub fn page_of(alloc: Global, input: &str) -> Result<Page, AllocError>
     ensures found { IfOk result (λ page. IsPage input.now (string_bytes page.text) page.not_hex) }
     // There is no other page.

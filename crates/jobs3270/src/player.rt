@@ -1,24 +1,23 @@
-//! What the lines of a script do to a world, and what they print.
+//! Plays the lines of a script in a world, and adds what they print to a text.
 ghost use Rattle.std.specs.Prelude.{◌≡◌, ◌<◌, ◌++◌, ℕ, List, None, Some, IfOk, OnOk, chars, length, string_bytes};
 ghost use Rattle.term_core.specs.ScreenText.{screen_text};
 ghost use Rattle.term_core.specs.State.{phase_of};
 ghost use Rattle.world3270.specs.ByteRuns.{refused_at};
 ghost use Rattle.world3270.specs.ByteSteps.{Steps};
-ghost use Rattle.jobs3270.specs.PhaseText.{phase_line};
 ghost use Rattle.jobs3270.specs.Happenings.{AreTyped, Happening, TakePlace, answer_text, answers_text, is_refused};
-ghost use Rattle.jobs3270.specs.Plays.{IsPlayed, PrintsLine, asked, is_in_range, terminal_count, terminal_of};
+ghost use Rattle.jobs3270.specs.Operating.{phase_line};
+ghost use Rattle.jobs3270.specs.Plays.{IsPlayed, PrintsLine, is_in_range, playable_command, terminal_count, terminal_of};
 
-use crate::phase_text::put_phase;
-use crate::script_line::{Asks, asks_of, typed_text};
-use crate::settling::{settle, step_whole};
+use crate::idle::{run_until_idle, step_whole};
+use crate::script_line::{ScriptCommand, typed_text};
 use keyboard::Key;
 use std::alloc::{AllocError, Global};
 use world3270::{Event, Stepped, World};
 
-/// How many terminals the world of a script has.
+/// The number of terminals in the world of a script.
 pub(crate) const TERMINALS: usize = 4;
 
-/// Adds what is said of an event: `refused N` of a key, by the number of the refusal, or `skipped`.
+/// Adds the line of an event's answer: `refused N` for a refused key, with the number of the refusal, `skipped`, or none.
 pub(crate) fn put_answer(text: &mut String, answer: Stepped) -> Result<(), AllocError>
     ensures { OnOk result (string_bytes text.new ≡ string_bytes text.old ++ answer_text answer) }
 {
@@ -32,7 +31,7 @@ pub(crate) fn put_answer(text: &mut String, answer: Stepped) -> Result<(), Alloc
     }
 }
 
-/// An event happens, or is skipped, and what is said of that is added.
+/// Makes an event happen, unless it is skipped, and adds the line of its answer.
 fn happen(world: &mut World, event: Event, text: &mut String) -> Result<Stepped, AllocError>
     ensures steps { IfOk result (λ answer. Steps event world.old answer world.new) }
     ensures whole { IfOk result (λ answer. refused_at answer ≡ None) }
@@ -50,7 +49,7 @@ fn is_refused(answer: Stepped) -> bool
     matches!(answer, Stepped::Refused(_))
 }
 
-/// A terminal is typed the characters of a text, up to the first that is refused.
+/// Types the characters of a text at a terminal, up to the first that is refused.
 fn type_text(
     world: &mut World,
     terminal: usize,
@@ -78,61 +77,69 @@ fn show(alloc: Global, world: &World, terminal: usize, text: &mut String) -> Res
     text.push_str(screen.as_str())
 }
 
-/// Adds a terminal's phase.
-fn tell(world: &World, terminal: usize, text: &mut String) -> Result<(), AllocError>
+/// Adds the line of a terminal's phase: `idle`, `talking`, `bound LU`, `refused N` or `closed N`.
+fn status(world: &World, terminal: usize, text: &mut String) -> Result<(), AllocError>
     requires { terminal < length world.now.slots }
     ensures { OnOk result (string_bytes text.new ≡ string_bytes text.old ++ phase_line (phase_of (terminal_of terminal world.now).link)) }
 {
-    put_phase(text, &world.terminal(terminal).phase())
+    let phase = world.terminal(terminal).phase();
+    write!(text, "{phase}\n")
 }
 
-/// Whether there is the terminal that is to be shown or told of.
-fn is_in_range(asks: &Asks) -> bool
-    ensures { result ≡ is_in_range terminal_count asks.now }
+/// Whether the world has the terminal of a `show` or `status`.
+fn is_in_range(command: &ScriptCommand) -> bool
+    ensures { result ≡ is_in_range terminal_count command.now }
 {
-    match asks {
-        Asks::Nothing | Asks::Happens(_) | Asks::Types(_) | Asks::Settles => true,
-        Asks::Shows(terminal) | Asks::Tells(terminal) => *terminal < TERMINALS,
+    match command {
+        ScriptCommand::Nothing
+        | ScriptCommand::Happen(_)
+        | ScriptCommand::TypeText(_)
+        | ScriptCommand::Settle => true,
+        ScriptCommand::Show(terminal) | ScriptCommand::Status(terminal) => *terminal < TERMINALS,
     }
 }
 
-/// What a line asks for: None where it isn't understood.
-pub(crate) fn asked(line: &str) -> Option<Asks>
-    ensures { result ≡ asked terminal_count line.now }
+/// The command of a line; None if the line isn't understood.
+pub(crate) fn playable_command(line: &str) -> Option<ScriptCommand>
+    ensures { result ≡ playable_command terminal_count line.now }
 {
-    let asks = asks_of(line)?;
-    if is_in_range(&asks) { Some(asks) } else { None }
+    let command = ScriptCommand::read(line)?;
+    if is_in_range(&command) {
+        Some(command)
+    } else {
+        None
+    }
 }
 
-/// Does what a line asks for, and adds what that prints to the page.
+/// Does a command, and adds its output.
 fn play_line(
     alloc: Global,
     world: &mut World,
-    asks: Asks,
+    command: ScriptCommand,
     line: &str,
     text: &mut String,
 ) -> Result<(), AllocError>
     requires terminals { length world.old.slots ≡ terminal_count }
-    requires in_range { asked terminal_count line.now ≡ Some asks }
-    ensures { OnOk result (PrintsLine asks line.now world.old world.new (string_bytes text.old) (string_bytes text.new)) }
+    requires in_range { playable_command terminal_count line.now ≡ Some command }
+    ensures { OnOk result (PrintsLine command line.now world.old world.new (string_bytes text.old) (string_bytes text.new)) }
 {
-    match asks {
-        Asks::Nothing => Ok(()),
-        Asks::Happens(event) => {
+    match command {
+        ScriptCommand::Nothing => Ok(()),
+        ScriptCommand::Happen(event) => {
             happen(world, event, text)?;
             Ok(())
         }
-        Asks::Types(terminal) => type_text(world, terminal, typed_text(line), text),
-        Asks::Settles => settle(world),
-        Asks::Shows(terminal) => show(alloc, world, terminal, text),
-        Asks::Tells(terminal) => tell(world, terminal, text),
+        ScriptCommand::TypeText(terminal) => type_text(world, terminal, typed_text(line), text),
+        ScriptCommand::Settle => run_until_idle(world),
+        ScriptCommand::Show(terminal) => show(alloc, world, terminal, text),
+        ScriptCommand::Status(terminal) => status(world, terminal, text),
     }
 }
 
-/// Plays a script, one command a line, in order, and adds what it prints. Answers the number, from 1 on, of the first line that
-/// isn't understood, at which it ends; what the lines before it did and printed stands.
+/// Plays a script, one command a line, and adds its output. Ends at the first line that isn't understood, and answers its
+/// number, from 1 on; the lines before it are done.
 ///
-/// A line ends with a newline, which the last may lack.
+/// A line ends with a newline, which the last line may lack.
 pub(crate) fn play(
     alloc: Global,
     world: &mut World,
@@ -144,10 +151,10 @@ pub(crate) fn play(
         × (string_bytes text.new ≡ string_bytes text.old ++ printed)) }
 {
     for (index, line) in script.split_terminator('\n').enumerate() {
-        let Some(asks) = asked(line) else {
+        let Some(command) = playable_command(line) else {
             return Ok(Some(index + 1));
         };
-        play_line(alloc, world, asks, line, text)?;
+        play_line(alloc, world, command, line, text)?;
     }
     Ok(None)
 }

@@ -1,4 +1,4 @@
-//! Single calls of readers and writers, and what they answered.
+//! Single calls of readers and writers.
 ghost use Rattle.std.specs.Prelude.{ℕ, List, length};
 ghost use Rattle.std.specs.Io.{ReadsAtMost, WritesAtMost};
 ghost use Rattle.std.specs.Io.KnownBytes.{ReadConsumes, WriteAppends};
@@ -6,16 +6,16 @@ ghost use Rattle.jobs3270.specs.RawCalls.{bytes_read};
 
 use std::io::{self, Read, Write};
 
-/// What is read by single calls that a contract can name.
+/// A reader whose calls a contract can name.
 ///
-/// `read_gave` relates the reader before a call, the room in the buffer, the bytes that the call put there, its answer, and the
-/// reader after the call. Code that is generic over readers has a `read_gave` only from a call, so its contract can say that it made
-/// that call, and how it took the answer.
+/// `read_gave` relates the reader before a call, the buffer's size, the bytes that the call put there, its answer, and the reader
+/// after the call. Code that is generic over readers has a `read_gave` only from a call. So its contract can say that it made that
+/// call, and what it did with the answer.
 pub trait RawRead {
     ghost use Rattle.std.specs.Prelude.{Option, Result};
     ghost use Rattle.std.specs.declared.io.Error.{Error};
 
-    /// The bytes that calls give from here on, if they are known.
+    /// The bytes that later calls give, if they are known.
     ghost remaining: { Self → Option (List ℕ) };
 
     ghost read_gave: { Self → ℕ → List ℕ → Result ℕ Error → Self → Type 0 };
@@ -27,14 +27,14 @@ pub trait RawRead {
         ensures gave { read_gave self.old (length buffer.new) (bytes_read result buffer.new) result self.new };
 }
 
-/// What is written to by single calls that a contract can name.
+/// A writer whose calls a contract can name.
 ///
 /// `write_took` relates the writer before a call, the bytes that the call was given, its answer, and the writer after the call.
 pub trait RawWrite {
     ghost use Rattle.std.specs.Prelude.{Option, Result};
     ghost use Rattle.std.specs.declared.io.Error.{Error};
 
-    /// The bytes that the writer holds, if they are known.
+    /// The bytes that the writer got, if they are known.
     ghost contents: { Self → Option (List ℕ) };
 
     ghost write_took: { Self → List ℕ → Result ℕ Error → Self → Type 0 };
@@ -46,7 +46,7 @@ pub trait RawWrite {
         ensures took { write_took self.old bytes.now result self.new };
 }
 
-// std's contracts of `read` and `write` say nothing of what was answered but its bounds, so neither do these relations.
+// std's contracts of `read` and `write` bound the answer and say nothing else of it. So these relations say nothing.
 
 impl<R: Read> RawRead for R {
     ghost use Rattle.std.specs.Prelude.{⊤};

@@ -1,4 +1,4 @@
-//! `script`: panels and a script come in, and the operators' screens come out.
+//! `script`: plays a script in a world of panels and terminals, and prints what the operators see.
 ghost use Rattle.std.specs.Prelude.{◌≡◌, ℕ, List, true, string_bytes, IfOk, IfErr};
 ghost use Rattle.std.specs.Str.{IsCharBoundary};
 ghost use Rattle.lu_pool.specs.Reading.{IsFirstFault};
@@ -6,7 +6,7 @@ ghost use Rattle.panels.specs.Defines.{IsReadFrom};
 ghost use Rattle.panels.specs.Panel.{Panels};
 ghost use Rattle.panels.specs.Passes.{IsReason};
 ghost use Rattle.jobs3270.specs.Runs.{EndsPrinting, InPieces, IsEnd, ending_of};
-ghost use Rattle.jobs3270.specs.Scripts.{HasNoWorld, IsApplicationOf, IsHostOf, IsScriptPage, IsWorldOf, ScriptsHaveOnePage, behind_line, is_at_mark, lus_of, mark_place, panel_text, script_text};
+ghost use Rattle.jobs3270.specs.Scripts.{HasNoWorld, IsApplicationOf, IsHostOf, IsScriptPage, IsWorldOf, behind_line, is_at_mark, lus_of, mark_place, panel_text, script_text};
 ghost use Rattle.jobs3270.specs.declared.task.Task.TheVariants.{Script};
 
 use crate::fault::Fault;
@@ -19,13 +19,12 @@ use panels::{PanelFault, PanelSet};
 use std::alloc::Global;
 use world3270::World;
 
-/// Serves the panels of an input to four terminals and does the commands of its script, one a line. The input is the panel text, a
-/// line `%%` and the script; the page is printed when the script has ended. A fault that ends the run is written to `faults` as one
-/// line.
+/// Serves the panels of the input to four terminals, and does the commands of its script, one a line. The input is the panel text, a
+/// line `%%` and the script. Prints the page when the script has ended. Writes a fault that ends the run to `faults` as one line.
 ///
 /// Returns the exit status: 0 if the whole page was printed; 1 if the input can't be read (as for
 /// [`run_show`](crate::run_show)), if the panel text defines no panels, if their LUs are no pool, or if a line of the script isn't
-/// understood, after the output of the lines before it; 3 if a growth was refused; 6 if the output failed.
+/// understood, after the output of the lines before it; 3 if memory is refused; 6 if the output fails.
 pub fn run_script<I: Source, O: Sink, E: Sink>(
     alloc: Global,
     input: &mut I,
@@ -54,7 +53,7 @@ pub(crate) fn print_script<O: Sink>(alloc: Global, text: &str, out: &mut O) -> R
     }
 }
 
-/// What is printed of an input.
+/// The page of an input.
 #[derive(Drop)]
 struct ScriptPage {
     text: String,
@@ -79,24 +78,16 @@ fn page_of_script(alloc: Global, input: &str) -> Result<ScriptPage, Fault>
     }
 }
 
-/// Does nothing: its contract says that an input has one page, and one number of the line that ends it, if one does.
-pub fn a_script_has_one_page()
-    ensures { ScriptsHaveOnePage }
-{
-    panels::laws::a_text_defines_its_panels_once();
-    world3270::laws::one_machine();
-}
-
 // ---- the two parts of an input
 
-/// Whether a line `%%` begins here.
+/// Whether the text begins with a line `%%`.
 fn is_at_mark(text: &[u8]) -> bool
     ensures { result ≡ is_at_mark text.now }
 {
     text == b"%%".as_slice() || text.starts_with(b"%%\n")
 }
 
-/// The place of the first line `%%`; where there is none, that behind the text.
+/// The index of the first line `%%`; the text's length if there is no such line.
 fn mark_place(text: &[u8]) -> usize
     ensures place { result ≡ mark_place true text.now }
     ensures boundary { IsCharBoundary text.now result }
@@ -111,7 +102,7 @@ fn mark_place(text: &[u8]) -> usize
     text.len()
 }
 
-/// What stands behind the first line.
+/// The text after the first line.
 fn behind_line(text: &str) -> &str
     ensures { result.now ≡ behind_line text.now }
 {
@@ -132,7 +123,7 @@ pub(crate) fn parted(input: &str) -> (&str, &str)
 
 // ---- what a panel text defines
 
-/// The fault of a panel text.
+/// The run's fault for this fault of a panel text.
 fn of_panels(fault: PanelFault) -> Fault
     ensures { (text : List ℕ) → IsReason text fault → HasNoWorld text result }
 {
@@ -142,7 +133,7 @@ fn of_panels(fault: PanelFault) -> Fault
     }
 }
 
-/// The fault of the names of LUs.
+/// The run's fault for this fault of the LUs' names.
 fn of_pool(fault: PoolFault) -> Fault
     ensures { (text : List ℕ) (panels : Panels) → IsReadFrom text panels → IsFirstFault (lus_of panels) fault → HasNoWorld text result }
 {
@@ -185,7 +176,7 @@ fn world_of(alloc: Global, text: &str) -> Result<World, Fault>
 
 /// The host of a panel text: its panels, and a pool of their LUs.
 ///
-/// Answers Panels where the text defines no panels, Pool where their LUs are no pool, and NoMemory where a growth was refused.
+/// Panels if the text defines no panels, Pool if their LUs are no pool, and NoMemory if memory is refused.
 pub fn host_of(alloc: Global, text: &str) -> Result<Host, Fault>
     ensures host { IfOk result (IsHostOf text.now) }
     ensures fault { IfErr result (HasNoWorld text.now) }

@@ -1,17 +1,16 @@
-//! `selfrun`: both ends in one process. Panels are served to the terminals of a script over sockets of this machine, by turns.
+//! `selfrun`: serves panels to the terminals of a script over loopback sockets, in one process, by turns.
 ghost use Rattle.std.specs.Prelude.{◌≡◌};
-ghost use Rattle.jobs3270.specs.Selfruns.{is_taken};
+ghost use Rattle.jobs3270.specs.Selfruns.{is_socket_command};
 
 use crate::fault::Fault;
 use crate::input::read_whole;
 use crate::job::Turns;
-use crate::phase_text::put_phase;
-use crate::player::{TERMINALS, asked, put_answer};
+use crate::player::{TERMINALS, playable_command, put_answer};
 use crate::script::parted;
-use crate::script_line::{Asks, typed_text};
-use crate::seat::Seat;
+use crate::script_line::{ScriptCommand, typed_text};
 use crate::server::{Server, Unwatched, patience};
 use crate::serving::server_of;
+use crate::socket_terminal::SocketTerminal;
 use crate::streams::{Sink, Source};
 use crate::task::end_by;
 use crate::term;
@@ -24,15 +23,14 @@ use term_core::Terminal;
 use tn3270e_msg::Lu;
 use world3270::{Event, Stepped};
 
-/// Whether a script that runs over sockets may ask for this. There a terminal connects, types and is lost; how bytes come, and when an
-/// end sees a loss, is the sockets' own affair.
-fn is_taken(asks: &Asks) -> bool
-    ensures { result ≡ is_taken asks.now }
+/// Whether a script over sockets may have this command. The sockets themselves deliver bytes and losses.
+fn is_socket_command(command: &ScriptCommand) -> bool
+    ensures { result ≡ is_socket_command command.now }
 {
-    match asks {
-        Asks::Nothing | Asks::Types(_) | Asks::Settles => true,
-        Asks::Shows(_) | Asks::Tells(_) => true,
-        Asks::Happens(event) => match event {
+    match command {
+        ScriptCommand::Nothing | ScriptCommand::TypeText(_) | ScriptCommand::Settle => true,
+        ScriptCommand::Show(_) | ScriptCommand::Status(_) => true,
+        ScriptCommand::Happen(event) => match event {
             Event::Connect(_, _) | Event::Key(_, _) | Event::Lose(_) => true,
             Event::Up(_, _) | Event::Down(_, _) | Event::Act(_) | Event::Note(_, _) => false,
             Event::HostSees(_) | Event::TermSees(_) => false,
@@ -41,53 +39,57 @@ fn is_taken(asks: &Asks) -> bool
     }
 }
 
-/// What a line asks for: None where it isn't understood, or may not be asked for over sockets.
-fn taken(line: &str) -> Option<Asks> {
-    let asks = asked(line)?;
-    if is_taken(&asks) { Some(asks) } else { None }
+/// The command of a line; None if the line isn't understood, or isn't for a script over sockets.
+fn socket_command(line: &str) -> Option<ScriptCommand> {
+    let command = playable_command(line)?;
+    if is_socket_command(&command) {
+        Some(command)
+    } else {
+        None
+    }
 }
 
-/// A host, the terminals of a script, and how many turns they may still take.
+/// A server, the terminals of a script, and the number of turns that they may still take.
 #[derive(Drop)]
-struct Household {
+struct LoopbackRun {
     server: Server,
-    seats: Vec<Seat>,
+    terminals: Vec<SocketTerminal>,
     turns: u32,
 }
 
 /// Terminals without connections.
-fn seats_of(alloc: Global) -> Result<Vec<Seat>, AllocError> {
-    let mut seats = Vec::with_capacity(alloc, TERMINALS)?;
+fn idle_terminals(alloc: Global) -> Result<Vec<SocketTerminal>, AllocError> {
+    let mut terminals = Vec::with_capacity(alloc, TERMINALS)?;
     for _ in 0..TERMINALS {
-        seats.push(Seat {
+        terminals.push(SocketTerminal {
             terminal: Terminal::new(alloc)?,
             socket: None,
         })?;
     }
-    Ok(seats)
+    Ok(terminals)
 }
 
-impl Household {
-    /// The host of a panel text, at any port that is free, and terminals.
-    fn new(net: &impl Net, alloc: Global, panels: &str, turns: u32) -> Result<Household, Fault> {
-        Ok(Household {
-            seats: seats_of(alloc)?,
+impl LoopbackRun {
+    /// A server of a panel text's host on any free port, and terminals.
+    fn new(net: &impl Net, alloc: Global, panels: &str, turns: u32) -> Result<LoopbackRun, Fault> {
+        Ok(LoopbackRun {
+            terminals: idle_terminals(alloc)?,
             server: server_of(net, alloc, panels, 0)?,
             turns,
         })
     }
 
-    /// A turn of the host, in which each terminal is read and written once too. Says whether a byte crossed or the host acted.
+    /// One turn of the server, and one of each terminal. Answers whether a byte was read or written, or the host acted.
     fn turn(&mut self) -> Result<bool, Fault> {
         let mut moved = self.server.turn(patience(false), &mut Unwatched)?;
-        for number in 0..self.seats.len() {
-            moved |= self.seats[number].turn()?;
+        for number in 0..self.terminals.len() {
+            moved |= self.terminals[number].turn()?;
         }
         Ok(moved)
     }
 
-    /// Takes turns, until one in which nothing was done.
-    fn settle(&mut self) -> Result<(), Fault> {
+    /// Takes turns up to the first in which nothing is done.
+    fn run_until_idle(&mut self) -> Result<(), Fault> {
         for _ in 0..self.turns {
             self.turns = self.turns.saturating_sub(1);
             if !self.turn()? {
@@ -97,14 +99,14 @@ impl Household {
         Err(Fault::TurnsOver)
     }
 
-    /// A terminal that is idle connects, and wants an LU, if one.
+    /// Connects an idle terminal, which requests this LU, if there is one.
     fn connect(
         &mut self,
         net: &impl Net,
         terminal: usize,
         wanted: Option<Lu>,
     ) -> Result<Stepped, Fault> {
-        if terminal >= self.seats.len() || !self.seats[terminal].is_idle() {
+        if terminal >= self.terminals.len() || !self.terminals[terminal].is_idle() {
             return Ok(Stepped::Skipped);
         }
         let Ok(address) = self.server.address() else {
@@ -113,39 +115,39 @@ impl Household {
         let Ok(mut socket) = TcpStream::connect(net, address) else {
             return Err(Fault::SocketFailed);
         };
-        // As at the host's end: a socket that goes without these is used all the same.
+        // As in `Server::admit`: if one of these calls fails, the socket is used anyway.
         let _ = socket.set_nodelay(true);
         let _ = self
             .server
             .register(&mut socket, MOST_CONNECTIONS.saturating_add(terminal));
-        self.seats[terminal].connect(socket, wanted);
+        self.terminals[terminal].connect(socket, wanted);
         Ok(Stepped::Done)
     }
 
     /// Presses a key at a terminal.
     fn press(&mut self, terminal: usize, key: Key) -> Result<Stepped, Fault> {
-        if terminal >= self.seats.len() {
+        if terminal >= self.terminals.len() {
             return Ok(Stepped::Skipped);
         }
-        self.seats[terminal].press(key)
+        self.terminals[terminal].press(key)
     }
 
-    /// The terminal at a connection closes its socket. The host takes what connections wait before, so that each has its number.
+    /// Closes the socket of the terminal on a connection. The server accepts waiting connections first, so that each has its number.
     fn lose(&mut self, conn: usize) -> Result<Stepped, Fault> {
         self.server.accept_all(&mut Unwatched)?;
         let Some(address) = self.server.peer(conn) else {
             return Ok(Stepped::Skipped);
         };
-        for number in 0..self.seats.len() {
-            if self.seats[number].is_at(address) {
-                self.seats[number].leave();
+        for number in 0..self.terminals.len() {
+            if self.terminals[number].is_at(address) {
+                self.terminals[number].disconnect();
                 return Ok(Stepped::Done);
             }
         }
         Ok(Stepped::Skipped)
     }
 
-    /// An event happens, if it has something to happen to.
+    /// Makes an event happen, unless it is skipped.
     fn happen(&mut self, net: &impl Net, event: Event) -> Result<Stepped, Fault> {
         match event {
             Event::Connect(terminal, wanted) => self.connect(net, terminal, wanted),
@@ -159,7 +161,7 @@ impl Household {
         }
     }
 
-    /// A terminal is typed the characters of a text, up to the first that is refused.
+    /// Types the characters of a text at a terminal, up to the first that is refused.
     fn type_text(&mut self, terminal: usize, typed: &str, text: &mut String) -> Result<(), Fault> {
         for letter in typed.chars() {
             let answer = self.press(terminal, Key::Char(letter))?;
@@ -173,44 +175,44 @@ impl Household {
 
     /// Adds a terminal's screen.
     fn show(&self, alloc: Global, terminal: usize, text: &mut String) -> Result<(), Fault> {
-        if let Some(seat) = self.seats.get(terminal) {
-            term::show(alloc, &seat.terminal, text)?;
+        if let Some(at) = self.terminals.get(terminal) {
+            term::show(alloc, &at.terminal, text)?;
         }
         Ok(())
     }
 
-    /// Adds a terminal's phase.
-    fn tell(&self, terminal: usize, text: &mut String) -> Result<(), Fault> {
-        if let Some(seat) = self.seats.get(terminal) {
-            put_phase(text, &seat.terminal.phase())?;
+    /// Adds the line of a terminal's phase.
+    fn status(&self, terminal: usize, text: &mut String) -> Result<(), Fault> {
+        if let Some(at) = self.terminals.get(terminal) {
+            term::status(&at.terminal, text)?;
         }
         Ok(())
     }
 
-    /// Does what a line asks for, and adds what that prints.
+    /// Does a command, and adds its output.
     fn play_line(
         &mut self,
         net: &impl Net,
         alloc: Global,
-        asks: Asks,
+        command: ScriptCommand,
         line: &str,
         text: &mut String,
     ) -> Result<(), Fault> {
-        match asks {
-            Asks::Nothing => Ok(()),
-            Asks::Happens(event) => {
+        match command {
+            ScriptCommand::Nothing => Ok(()),
+            ScriptCommand::Happen(event) => {
                 let answer = self.happen(net, event)?;
                 put_answer(text, answer)?;
                 Ok(())
             }
-            Asks::Types(terminal) => self.type_text(terminal, typed_text(line), text),
-            Asks::Settles => self.settle(),
-            Asks::Shows(terminal) => self.show(alloc, terminal, text),
-            Asks::Tells(terminal) => self.tell(terminal, text),
+            ScriptCommand::TypeText(terminal) => self.type_text(terminal, typed_text(line), text),
+            ScriptCommand::Settle => self.run_until_idle(),
+            ScriptCommand::Show(terminal) => self.show(alloc, terminal, text),
+            ScriptCommand::Status(terminal) => self.status(terminal, text),
         }
     }
 
-    /// Does the commands of a script, one a line, and adds what they print.
+    /// Does the commands of a script, one a line, and adds their output.
     fn play(
         &mut self,
         net: &impl Net,
@@ -219,25 +221,25 @@ impl Household {
         text: &mut String,
     ) -> Result<(), Fault> {
         for (index, line) in script.split_terminator('\n').enumerate() {
-            let Some(asks) = taken(line) else {
+            let Some(command) = socket_command(line) else {
                 return Err(Fault::NotUnderstood(index + 1));
             };
-            self.play_line(net, alloc, asks, line, text)?;
+            self.play_line(net, alloc, command, line, text)?;
         }
         Ok(())
     }
 }
 
-/// Plays a script, and writes what it prints, also where it ends early, but for want of memory.
+/// Plays a script, and writes its output, even if it ends early, unless memory is refused.
 fn play_and_write<O: Sink>(
     net: &impl Net,
     alloc: Global,
-    household: &mut Household,
+    run: &mut LoopbackRun,
     script: &str,
     out: &mut O,
 ) -> Result<(), Fault> {
     let mut text = String::new(alloc);
-    let ending = household.play(net, alloc, script, &mut text);
+    let ending = run.play(net, alloc, script, &mut text);
     if let Err(Fault::NoMemory) = ending {
         return ending;
     }
@@ -247,7 +249,7 @@ fn play_and_write<O: Sink>(
     ending
 }
 
-/// Runs the script of an input.
+/// Plays the script of the input.
 fn selfrun<N: Net, I: Source, O: Sink>(
     net: &N,
     alloc: Global,
@@ -257,18 +259,17 @@ fn selfrun<N: Net, I: Source, O: Sink>(
 ) -> Result<(), Fault> {
     let input = read_whole(alloc, input)?;
     let (panels, script) = parted(input.as_str());
-    let mut household = Household::new(net, alloc, panels, turns.get())?;
-    play_and_write(net, alloc, &mut household, script, out)
+    let mut run = LoopbackRun::new(net, alloc, panels, turns.get())?;
+    play_and_write(net, alloc, &mut run, script, out)
 }
 
-/// Does the commands of a script as [`run_script`](crate::run_script) does, but at terminals that are joined to the host by sockets of this
-/// machine. The script may have the commands `connect`, `type`, `key`, `lose`, `settle`, `show` and `status`. `lose` closes the
-/// terminal's socket, which the host sees in a later turn. `settle` takes turns, each a turn of the host in which each terminal is read
-/// and written once too, until one in which no byte crossed and the host didn't act. What ends the run early is told in one line of
-/// `faults`.
+/// Plays a script like [`run_script`](crate::run_script), but with loopback sockets between the host and the terminals. The script may
+/// have the commands `connect`, `type`, `key`, `lose`, `settle`, `show` and `status`. `lose` closes the terminal's socket, which the
+/// host sees in a later turn. `settle` takes turns, each with one turn of the host and one read and one write of each terminal, until
+/// one in which no byte is read or written and the host doesn't act. Writes a fault that ends the run to `faults` as one line.
 ///
-/// Answers the exit status: 0 where all went well; 1, 3 and 6 as `run_script` does; 4 where the system refused a socket; 5 where so
-/// many turns were used up, behind what was printed before.
+/// Returns the exit status: 0 if the whole page was printed; 1, 3 and 6 as `run_script` does; 4 if the system refuses a socket; 5 if
+/// the turns are used up, after the output up to there.
 pub fn run_selfrun<N: Net, I: Source, O: Sink, E: Sink>(
     net: &N,
     alloc: Global,

@@ -1,11 +1,10 @@
-//! A host that is served over sockets, a turn at a time.
+//! Serves a host over sockets, one turn at a time.
 ghost use Rattle.std.specs.Prelude.{◌≡◌, ◌<◌, IfSome};
 ghost use Rattle.host_core.specs.State.{most_connections, phase_of, service_at};
 ghost use Rattle.host_core.specs.declared.phase.Phase.TheVariants as phase;
 
 use crate::fault::Fault;
 use crate::notice::{Notice, notice_of};
-use crate::refusals::MOST_KEPT;
 use crate::sockets::Sockets;
 use host_core::{Host, MOST_CONNECTIONS, Phase, Served, serve_turn};
 use mio::net::{TcpListener, TcpStream};
@@ -15,25 +14,28 @@ use std::io;
 use std::net::{Ipv4Addr, Net, SocketAddr};
 use std::time::Duration;
 
-/// The longest time that a turn waits, in milliseconds.
+/// The longest wait of a turn, in milliseconds.
 const LONGEST_WAIT: u64 = 10;
 
-/// How many sockets one wait tells of. What isn't told of is served all the same.
+/// The most events of one poll. Sockets without an event are served too.
 const MOST_EVENTS: usize = 128;
 
-/// How many connections one turn takes: more than the system lets wait.
+/// The most connections that one turn accepts: more than the system queues.
 const MOST_ACCEPTED: usize = 65_536;
 
-/// Under what the listener is told of: no connection has this number.
+/// The most rejections that a host keeps of a connection.
+const MOST_REJECTIONS: usize = 8;
+
+/// The poll token of the listener: no connection has this number.
 const LISTENER: Token = Token(MOST_CONNECTIONS);
 
-/// Who is told what becomes of connections.
+/// Gets the notices of a server.
 pub trait Watcher {
-    /// Is told of one. A fault ends the turn.
+    /// Handles one notice. A fault ends the turn.
     fn notice(&mut self, notice: Notice) -> Result<(), Fault>;
 }
 
-/// Nobody is told.
+/// Ignores all notices.
 #[derive(Drop)]
 pub(crate) struct Unwatched;
 
@@ -43,7 +45,7 @@ impl Watcher for Unwatched {
     }
 }
 
-/// A host, the connections that it serves, and the socket at which more come.
+/// A host, the sockets of its connections, and the listener.
 #[derive(Drop)]
 pub struct Server {
     host: Host,
@@ -53,14 +55,13 @@ pub struct Server {
     events: Events,
 }
 
-/// How long a turn may wait, at most 10 milliseconds: not at all where something was done in the turn before, since there may be more to do
-/// at once.
+/// The longest wait of a turn: none if a byte was read or written in the turn before, or 10 milliseconds.
 pub fn patience(moved: bool) -> Duration {
     let millis = if moved { 0 } else { LONGEST_WAIT };
     Duration::from_millis(millis)
 }
 
-/// A listener at a port of this machine, and what waits for it.
+/// A listener on a port of 127.0.0.1, and a poll that waits for it.
 fn listen(net: &impl Net, port: u16) -> io::Result<(TcpListener, Poll)> {
     let poll = Poll::new(net)?;
     let address = SocketAddr::from((Ipv4Addr::LOCALHOST, port));
@@ -70,7 +71,7 @@ fn listen(net: &impl Net, port: u16) -> io::Result<(TcpListener, Poll)> {
     Ok((listener, poll))
 }
 
-/// The least number that is free, if one is.
+/// The least free connection number, if there is one.
 fn free_number(host: &Host) -> Option<usize>
     ensures in_range { IfSome result (λ conn. conn < most_connections) }
     ensures free { IfSome result (λ conn. phase_of (service_at conn host.now) ≡ phase.Free) }
@@ -84,8 +85,8 @@ fn free_number(host: &Host) -> Option<usize>
 }
 
 impl Server {
-    /// Serves a host at a port of this machine (127.0.0.1), at any that is free where the port is 0. NoMemory where memory was
-    /// refused, and SocketFailed where the system refused a socket, as where the port is taken.
+    /// A server of this host on a port of 127.0.0.1; any free port if `port` is 0. NoMemory if memory is refused; SocketFailed
+    /// if the system refuses a socket, such as for a port in use.
     pub fn new(net: &impl Net, alloc: Global, host: Host, port: u16) -> Result<Server, Fault> {
         let Ok(sockets) = Sockets::new(alloc) else {
             return Err(Fault::NoMemory);
@@ -105,17 +106,17 @@ impl Server {
         })
     }
 
-    /// Where it listens; an error where the system doesn't say.
+    /// The listener's address. An error if the system doesn't know it.
     pub fn address(&self) -> io::Result<SocketAddr> {
         self.listener.local_addr()
     }
 
-    /// Where the peer of a number is, if it has a connection and that is known.
+    /// The address of a connection's peer, if there is a connection and the system knows the address.
     pub(crate) fn peer(&self, conn: usize) -> Option<SocketAddr> {
         self.sockets.peer(conn)
     }
 
-    /// Has a wait end when more can be read of a socket, or written to it.
+    /// Adds a socket to those for which a poll waits.
     pub(crate) fn register(&self, socket: &mut TcpStream, token: usize) -> io::Result<()> {
         let interest = Interest::READABLE | Interest::WRITABLE;
         self.poll
@@ -123,9 +124,9 @@ impl Server {
             .register(socket, Token(token), interest)
     }
 
-    /// A turn: waits until there is something to do, at most so long; takes all connections that wait; and serves each connection
-    /// once. Says whether a byte crossed or the host acted. NoMemory where a growth was refused, SocketFailed where the system refused to wait,
-    /// and a fault of the watcher's.
+    /// One turn: polls for at most `patience`, accepts all waiting connections, and serves each connection once. Answers whether a
+    /// byte was read or written, or the host acted. NoMemory if memory is refused; SocketFailed if the poll fails; and any fault
+    /// of the watcher.
     pub fn turn<W: Watcher>(&mut self, patience: Duration, watcher: &mut W) -> Result<bool, Fault> {
         if self.poll.poll(&mut self.events, Some(patience)).is_err() {
             return Err(Fault::SocketFailed);
@@ -140,7 +141,7 @@ impl Server {
         Ok(self.sockets.take_moved() | acted)
     }
 
-    /// Takes all connections that wait. One that the system refuses to hand over waits on.
+    /// Accepts all waiting connections. A connection that the system can't accept now waits on.
     pub(crate) fn accept_all<W: Watcher>(&mut self, watcher: &mut W) -> Result<(), Fault> {
         for _ in 0..MOST_ACCEPTED {
             match self.listener.accept() {
@@ -151,46 +152,35 @@ impl Server {
         Ok(())
     }
 
-    /// Begins a connection on the least number that is free. Where none is, it is dropped.
+    /// Begins a connection on the least free number. If no number is free, drops the socket.
     fn admit<W: Watcher>(&mut self, mut socket: TcpStream, watcher: &mut W) -> Result<(), Fault> {
         let Some(conn) = free_number(&self.host) else {
             return watcher.notice(Notice::TurnedAway);
         };
-        // Records are short, and wait for answers. A socket that goes without either of these is served all the same.
+        // Records are short, and their senders wait for answers. If one of these calls fails, the socket is served anyway.
         let _ = socket.set_nodelay(true);
         let _ = self.register(&mut socket, conn);
         if self.host.open(conn).is_err() {
             return Err(Fault::NoMemory);
         }
-        self.sockets.begin(conn, socket);
+        self.sockets.open(conn, socket);
         watcher.notice(Notice::Connected(conn))
     }
 
-    /// Tells of each refusal on a connection that wasn't told yet.
-    fn tell_refusals<W: Watcher>(&mut self, conn: usize, watcher: &mut W) -> Result<(), Fault>
+    /// Hands the watcher each rejection of the connection that wasn't reported yet.
+    fn report_rejections<W: Watcher>(&mut self, conn: usize, watcher: &mut W) -> Result<(), Fault>
         requires { conn < most_connections }
     {
-        for _ in 0..MOST_KEPT {
-            match self.sockets.next_refusal(conn) {
-                Some(refusal) => watcher.notice(Notice::Refused(conn, refusal))?,
+        for _ in 0..MOST_REJECTIONS {
+            match self.host.next_rejection(conn) {
+                Some(rejection) => watcher.notice(Notice::Refused(conn, rejection))?,
                 None => return Ok(()),
             }
         }
         Ok(())
     }
 
-    /// Listens no more to a connection that is bound, once all that was said before is sent.
-    fn settle_if_bound(&mut self, conn: usize)
-        requires { conn < most_connections }
-    {
-        if let Phase::Bound(_) = self.host.phase(conn) {
-            if self.host.out(conn).is_empty() {
-                self.sockets.settle(conn);
-            }
-        }
-    }
-
-    /// Serves a connection once, and gives it up where it is lost. Says whether the host acted on it and could not send all.
+    /// Serves a connection once, and ends it if it is lost. Answers whether the number of unsent bytes changed.
     fn serve<W: Watcher>(&mut self, conn: usize, watcher: &mut W) -> Result<bool, Fault>
         requires { conn < most_connections }
     {
@@ -199,14 +189,13 @@ impl Server {
         self.sockets.set_waiting(conn, waiting);
         let served = serve_turn(&mut self.host, &mut self.sockets, conn);
         let acted = self.host.out(conn).len() != waiting;
-        self.settle_if_bound(conn);
-        self.tell_refusals(conn, watcher)?;
+        self.report_rejections(conn, watcher)?;
         let notice = notice_of(conn, &before, &self.host.phase(conn), served);
         match served {
             Served::Going => {}
             Served::Lost => {
                 self.host.closed(conn);
-                self.sockets.leave(conn);
+                self.sockets.close(conn);
             }
             Served::Memory => return Err(Fault::NoMemory),
         }

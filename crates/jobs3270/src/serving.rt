@@ -1,4 +1,4 @@
-//! `host` and `serve`: panels come in, and are served to the terminals that connect.
+//! `host` and `serve`: serve the panels of the input to the terminals that connect.
 ghost use Rattle.std.specs.Prelude.{◌≡◌};
 
 use crate::fault::Fault;
@@ -13,7 +13,7 @@ use std::alloc::Global;
 use std::net::Net;
 use std::sync::Wait;
 
-/// Begins to serve the host of a panel text at a port, at any that is free where that is 0.
+/// A server of a panel text's host on a port; any free port if `port` is 0.
 pub(crate) fn server_of(
     net: &impl Net,
     alloc: Global,
@@ -23,7 +23,7 @@ pub(crate) fn server_of(
     Server::new(net, alloc, host_of(alloc, panels)?, port)
 }
 
-/// Reads panels, and begins to serve them at a port.
+/// Reads panels, and begins to serve them on a port.
 fn begin<N: Net, I: Source>(
     net: &N,
     alloc: Global,
@@ -34,7 +34,7 @@ fn begin<N: Net, I: Source>(
     server_of(net, alloc, text.as_str(), port.get())
 }
 
-/// Serves so many turns, and answers what ended them.
+/// Serves this number of turns, and answers what ended them.
 fn serve_turns(server: &mut Server, turns: Turns) -> Fault {
     let mut moved = false;
     for _ in 0..turns.get() {
@@ -46,7 +46,7 @@ fn serve_turns(server: &mut Server, turns: Turns) -> Fault {
     Fault::TurnsOver
 }
 
-/// Begins to serve, and answers what ended that.
+/// Serves the panels of the input for this number of turns, and answers what ended that.
 fn host<N: Net, I: Source>(
     net: &N,
     alloc: Global,
@@ -60,12 +60,12 @@ fn host<N: Net, I: Source>(
     }
 }
 
-/// Serves the panels of an input at a port of this machine (127.0.0.1), 1024 to 65535, to the terminals that connect there, for so many
-/// turns, of at most 10 milliseconds each where nothing is to be done. What ends the run is told in one line of `faults`.
+/// Serves the panels of the input on a port of 127.0.0.1, 1024 to 65535, to the terminals that connect, for this number of turns.
+/// A turn with nothing to do takes at most 10 milliseconds. Writes what ends the run to `faults` as one line.
 ///
-/// Answers the exit status: 5 where the turns are over; 1 where the input can't be read (as with [`run_show`](crate::run_show)), where
-/// it defines no panels, or where their LUs are no pool; 3 where a growth was refused; 4 where the system refused a socket, as where the
-/// port is taken.
+/// Returns the exit status: 5 if the turns are used up; 1 if the input can't be read (as for [`run_show`](crate::run_show)), if it
+/// defines no panels, or if their LUs are no pool; 3 if memory is refused; 4 if the system refuses a socket, such as for a port in
+/// use.
 pub fn run_host<N: Net, I: Source, E: Sink>(
     net: &N,
     alloc: Global,
@@ -77,12 +77,12 @@ pub fn run_host<N: Net, I: Source, E: Sink>(
     end_by(host(net, alloc, port, turns, input), faults)
 }
 
-/// Tells each notice in a line. NoMemory where a growth was refused; lines that can't be written are left out.
+/// Writes each notice as a line. NoMemory if memory is refused; a line that can't be written is left out.
 #[derive(Drop)]
 pub struct Log<'a, E> {
-    /// What makes room for a line.
+    /// Makes room for a line.
     pub alloc: Global,
-    /// Where the lines go.
+    /// Gets the lines.
     pub lines: &'a mut E,
 }
 
@@ -92,13 +92,13 @@ impl<E: Sink> Watcher for Log<'_, E> {
         if put_notice(&mut text, &notice).is_err() {
             return Err(Fault::NoMemory);
         }
-        // Terminals are served whether or not somebody reads of it.
+        // Terminals are served even if the log can't be written.
         let _ = self.lines.write_all(text.as_bytes());
         Ok(())
     }
 }
 
-/// Serves turn after turn.
+/// Serves without end.
 fn serve_on<R: Wait, W: Watcher>(
     rt: &R,
     server: &mut Server,
@@ -111,7 +111,7 @@ fn serve_on<R: Wait, W: Watcher>(
     unreachable!()
 }
 
-/// Serves without end, and tells of each connection in lines of `faults`.
+/// Serves the panels of the input without end, with a log on `faults`.
 fn serve<R: Net + Wait, I: Source, E: Sink>(
     rt: &R,
     alloc: Global,
@@ -127,10 +127,10 @@ fn serve<R: Net + Wait, I: Source, E: Sink>(
     serve_on(rt, &mut server, &mut log)
 }
 
-/// Serves as [`run_host`] does, but without end, and tells in a line of `faults` of each connection that comes, is refused an LU, is bound
-/// to one, is closed, or is lost.
+/// Serves like [`run_host`], but without end, and logs on `faults` each connection that begins, is refused an LU, is bound to one, is
+/// closed, or is lost.
 ///
-/// Answers the exit status where it can't begin, or can't go on: those of `run_host` but for 5.
+/// Returns the exit status if it can't begin or go on: one of `run_host`'s but for 5.
 pub fn run_serve<R: Net + Wait, I: Source, E: Sink>(
     rt: &R,
     alloc: Global,

@@ -1,4 +1,4 @@
-//! `show`: commands in hexadecimal come in, the printed screen comes out.
+//! `show`: applies commands in hexadecimal to a screen, and prints it.
 ghost use Rattle.jobs3270.specs.Runs.{EndsPrinting, InPieces, IsEnd, ending_of};
 ghost use Rattle.jobs3270.specs.declared.task.Task.TheVariants.{Show};
 
@@ -8,13 +8,12 @@ use crate::streams::{Sink, Source};
 use crate::task::{Task, run};
 use std::alloc::Global;
 
-/// Applies the commands of an input, one a line in hexadecimal, in order to one blank screen, and prints that screen and
-/// the cursor. A command that is refused is reported in the output and changes nothing. A fault that ends the run is written to `faults`
-/// as one line.
+/// Applies the commands of the input, one a line in hexadecimal, in order to one blank screen, and prints that screen and the
+/// cursor. A refused command is reported in the output and changes nothing. Writes a fault that ends the run to `faults` as one
+/// line.
 ///
 /// Returns the exit status: 0 if the whole page was printed; 1 if the input can't be read, has more than `MOST_BYTES` bytes, takes
-/// more than `MOST_READS` reads, isn't UTF-8, or has a line that isn't hexadecimal; 3 if a growth was refused; 6 if the output
-/// failed.
+/// more than `MOST_READS` reads, isn't UTF-8, or has a line that isn't hexadecimal; 3 if memory is refused; 6 if the output fails.
 pub fn run_show<I: Source, O: Sink, E: Sink>(
     alloc: Global,
     input: &mut I,

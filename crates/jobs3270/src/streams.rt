@@ -1,22 +1,25 @@
-//! The streams of a run. They count how often they failed, so that a contract can tell whether a run that gave up had to.
+//! The streams of a run. They count their failures, so that a contract can say that a run ended early only if a stream failed.
 ghost use Rattle.std.specs.Prelude.{◌≡◌, ◌<◌, ℕ, List, length};
 ghost use Rattle.jobs3270.specs.Counted.{reader_in, writer_in};
-ghost use Rattle.jobs3270.specs.Counting.{Input, Output, GivesWithin, Gives, Counts, Writes, WritesLine, bytes_given};
+ghost use Rattle.jobs3270.specs.Counting.{Input, Output, GivesWithin, Gives, Counts, Writes, WritesLine, bytes_given, chunk_size};
 
 use crate::raw::RawRead;
 use std::fmt::Display;
 use std::io::{ErrorKind, Write};
 
-/// What a read gave.
+/// The size of the buffer of each read.
+pub(crate) const CHUNK: usize = 4096;
+
+/// The answer to a read.
 #[derive(Clone, Copy)]
 pub enum Answer {
-    /// So many bytes, at least one, at the front of the buffer.
+    /// This number of bytes, at least one, at the front of the buffer.
     Gave(usize),
-    /// The end of the input: there are no more bytes.
+    /// The end of the input.
     Ended,
-    /// Nothing this time. The next read may give more.
+    /// Nothing this time: the call was interrupted.
     Interrupted,
-    /// The input can't be read.
+    /// The read failed.
     Failed,
 }
 
@@ -24,20 +27,19 @@ pub enum Answer {
 #[derive(Clone, Copy)]
 pub struct WriteFailed;
 
-/// What a run reads from.
+/// The input of a run.
 ///
-/// `gave` relates the source before a read, the room in the buffer, the bytes that the read gave, its answer, and the source after
-/// it.
+/// `gave` relates the source before a read, the buffer's size, the bytes that the read gave, its answer, and the source after it.
 pub trait Source {
     ghost use Rattle.jobs3270.specs.declared.streams.Answer.{Answer};
 
-    /// The bytes that reads will give from here on, where they are known; and how often it was read, found its end and
-    /// failed. Reads alone raise these counts.
+    /// The bytes that later reads give, if they are known; and how many reads there were, found the end and failed. Only reads
+    /// raise these counts.
     ghost seen: { Self → Input };
 
     ghost gave: { Self → ℕ → List ℕ → Answer → Self → Type 0 };
 
-    /// Reads once, into a buffer that has room.
+    /// Reads once, into a buffer that isn't empty.
     fn read(&mut self, buffer: &mut [u8]) -> Answer
         requires { 0 < length buffer.old }
         ensures within { GivesWithin result (length buffer.new) }
@@ -46,18 +48,30 @@ pub trait Source {
         ensures gave { gave self.old (length buffer.new) (bytes_given result buffer.new) result self.new };
 }
 
-/// What a run writes to.
+/// The output of a run.
 pub trait Sink {
-    /// The bytes that it got, where they are known; and how many writes failed. Failed writes alone raise this count.
+    /// The bytes that it got, if they are known; and how many writes failed. Only failed writes raise this count.
     ghost seen: { Self → Output };
 
-    /// Writes all of the bytes. A write that fails took a front of them.
+    /// Writes all bytes. A write that fails may have taken some of the first bytes.
     fn write_all(&mut self, bytes: &[u8]) -> Result<(), WriteFailed>
         ensures { Writes result (seen self.old) (seen self.new) bytes.now };
 
     /// Writes a text and a newline.
     fn write_line<D: Display + Drop>(&mut self, text: D) -> Result<(), WriteFailed>
         ensures { WritesLine result (seen self.old) (seen self.new) (D.output text) };
+}
+
+/// Reads once, into a buffer of `CHUNK` bytes.
+pub(crate) fn read_chunk<I: Source>(source: &mut I, chunk: &mut [u8]) -> Answer
+    requires { length chunk.old ≡ chunk_size }
+    ensures within { GivesWithin result (length chunk.new) }
+    ensures bytes { Gives result (I.seen source.old).left (I.seen source.new).left chunk.new }
+    ensures counts { Counts result (I.seen source.old) (I.seen source.new) }
+    ensures gave { I.gave source.old chunk_size (bytes_given result chunk.new) result source.new }
+    ensures length { length chunk.new ≡ chunk_size }
+{
+    source.read(chunk)
 }
 
 /// A reader of std's as a source, with counts.
@@ -70,7 +84,7 @@ pub struct CountedReader<R> {
 }
 
 impl<R: RawRead> CountedReader<R> {
-    /// A reader that wasn't read yet.
+    /// A source over a reader; all counts are 0.
     pub fn new(reader: R) -> CountedReader<R>
         ensures reader { reader_in result ≡ reader }
         ensures unread { ⟦<CountedReader<R> as Source>⟧.seen result ≡ record { left = R.remaining reader; reads = 0; ends = 0; failures = 0 } }
@@ -83,7 +97,7 @@ impl<R: RawRead> CountedReader<R> {
         }
     }
 
-    /// The reader, as it is now.
+    /// The reader.
     pub fn into_inner(self) -> R
         ensures { result ≡ reader_in self }
     {
@@ -126,7 +140,7 @@ pub struct CountedWriter<W> {
 }
 
 impl<W: Write> CountedWriter<W> {
-    /// A writer on which no write has failed yet.
+    /// A sink over a writer; the count is 0.
     pub fn new(writer: W) -> CountedWriter<W>
         ensures writer { writer_in result ≡ writer }
         ensures unwritten { ⟦<CountedWriter<W> as Sink>⟧.seen result ≡ record { got = W.contents writer; failures = 0 } }
@@ -137,7 +151,7 @@ impl<W: Write> CountedWriter<W> {
         }
     }
 
-    /// The writer, as it is now.
+    /// The writer.
     pub fn into_inner(self) -> W
         ensures { result ≡ writer_in self }
     {

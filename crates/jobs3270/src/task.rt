@@ -1,4 +1,4 @@
-//! What the program does that reads its whole input, and opens no socket.
+//! `script` and `show`: read the whole input, print a page, and open no socket.
 ghost use Rattle.std.specs.Prelude.{◌≡◌};
 ghost use Rattle.jobs3270.specs.Faults.{status_of, fault_text};
 ghost use Rattle.jobs3270.specs.Runs.{EndsPrinting, HasCause, InPieces, IsEnd, IsToldIn, ending_of};
@@ -10,7 +10,7 @@ use crate::show::print_page;
 use crate::streams::{Sink, Source};
 use std::alloc::Global;
 
-/// A task of a run that opens no socket.
+/// A job that opens no socket.
 #[derive(Clone, Copy)]
 pub(crate) enum Task {
     /// `run_script`'s.
@@ -35,7 +35,7 @@ pub(crate) fn run<I: Source, O: Sink, E: Sink>(
     }
 }
 
-/// Tells a fault in one line and answers its exit status. What can't be told is told by the status alone.
+/// Writes a fault as one line, and returns its exit status. A line that can't be written is left out.
 pub fn end_by<E: Sink>(fault: Fault, faults: &mut E) -> u8
     ensures status { result ≡ status_of fault }
     ensures told { IsToldIn (E.seen faults.old) (E.seen faults.new) (fault_text fault) }

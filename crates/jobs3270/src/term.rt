@@ -1,30 +1,29 @@
-//! `term`: a terminal of a host, whose operator does the commands of a script.
+//! `term`: runs a terminal of a host, and does the commands of a script there.
 ghost use Rattle.std.specs.Prelude.{◌≡◌, ◌++◌, ℕ, List, OnOk, string_bytes};
 ghost use Rattle.term_core.specs.ScreenText.{screen_text};
 ghost use Rattle.term_core.specs.State.{phase_of};
 ghost use Rattle.jobs3270.specs.DoneLines.{DoesLine};
-ghost use Rattle.jobs3270.specs.PhaseText.{phase_line};
+ghost use Rattle.jobs3270.specs.Operating.{phase_line};
 
 use crate::fault::Fault;
 use crate::input::read_whole;
 use crate::job::Port;
 use crate::operator::{press, type_text, wait};
-use crate::phase_text::put_phase;
 use crate::script_line::behind;
 use crate::streams::{CountedReader, CountedWriter, Sink, Source};
 use crate::task::end_by;
-use crate::term_line::{TermAsks, term_asks_of};
+use crate::term_line::TerminalCommand;
 use std::alloc::{AllocError, Global};
 use std::net::{Ipv4Addr, TcpStream};
 use term_core::Terminal;
 use tn3270e_msg::Lu;
 
-/// The two ways of a connection to a host.
+/// The two streams of a connection to a host.
 #[derive(Drop)]
 pub struct Wire<D, U> {
-    /// What comes from the host.
+    /// The stream from the host.
     pub down: D,
-    /// What goes to it.
+    /// The stream to the host.
     pub up: U,
 }
 
@@ -36,37 +35,38 @@ pub(crate) fn show(alloc: Global, terminal: &Terminal, text: &mut String) -> Res
     text.push_str(screen.as_str())
 }
 
-/// Adds the terminal's phase.
-fn tell(terminal: &Terminal, text: &mut String) -> Result<(), AllocError>
+/// Adds the line of the terminal's phase: `idle`, `talking`, `bound LU`, `refused N` or `closed N`.
+pub(crate) fn status(terminal: &Terminal, text: &mut String) -> Result<(), AllocError>
     ensures { OnOk result (string_bytes text.new ≡ string_bytes text.old ++ phase_line (phase_of terminal.now.terminal.link)) }
 {
-    put_phase(text, &terminal.phase())
+    let phase = terminal.phase();
+    write!(text, "{phase}\n")
 }
 
-/// Does what a line asks for, and adds what that prints.
+/// Does a command, and adds its output.
 fn do_line<D: Source, U: Sink>(
     alloc: Global,
     terminal: &mut Terminal,
     wire: &mut Wire<D, U>,
-    asks: TermAsks,
+    command: TerminalCommand,
     line: &str,
     text: &mut String,
 ) -> Result<(), AllocError>
     ensures { OnOk result ((said : List ℕ)
-        × DoesLine D.gave asks line.now terminal.old.terminal terminal.new.terminal wire.old.down wire.new.down (U.seen wire.old.up) (U.seen wire.new.up) said
+        × DoesLine D.gave command line.now terminal.old.terminal terminal.new.terminal wire.old.down wire.new.down (U.seen wire.old.up) (U.seen wire.new.up) said
         × (string_bytes text.new ≡ string_bytes text.old ++ said)) }
 {
-    match asks {
-        TermAsks::Nothing => Ok(()),
-        TermAsks::Types => type_text(terminal, behind(line), text),
-        TermAsks::Presses(key) => press(terminal, key, text),
-        TermAsks::Waits => wait(terminal, &mut wire.down, &mut wire.up),
-        TermAsks::Shows => show(alloc, terminal, text),
-        TermAsks::Tells => tell(terminal, text),
+    match command {
+        TerminalCommand::Nothing => Ok(()),
+        TerminalCommand::TypeText => type_text(terminal, behind(line), text),
+        TerminalCommand::Press(key) => press(terminal, key, text),
+        TerminalCommand::Wait => wait(terminal, &mut wire.down, &mut wire.up),
+        TerminalCommand::Show => show(alloc, terminal, text),
+        TerminalCommand::Status => status(terminal, text),
     }
 }
 
-/// Does the commands of a script, one a line, and prints what each says as soon as it is done. `text` is room for that.
+/// Does the commands of a script, one a line, and prints the output of each as soon as it is done. `text` is a buffer for the output.
 fn do_lines<D: Source, U: Sink, O: Sink>(
     alloc: Global,
     terminal: &mut Terminal,
@@ -76,10 +76,10 @@ fn do_lines<D: Source, U: Sink, O: Sink>(
     out: &mut O,
 ) -> Result<(), Fault> {
     for (index, line) in script.split_terminator('\n').enumerate() {
-        let Some(asks) = term_asks_of(line) else {
+        let Some(command) = TerminalCommand::read(line) else {
             return Err(Fault::NotUnderstood(index + 1));
         };
-        do_line(alloc, terminal, wire, asks, line, text)?;
+        do_line(alloc, terminal, wire, command, line, text)?;
         if out.write_all(text.as_bytes()).is_err() {
             return Err(Fault::OutputFailed);
         }
@@ -88,11 +88,11 @@ fn do_lines<D: Source, U: Sink, O: Sink>(
     Ok(())
 }
 
-/// Does the commands of a script, one a line, at a terminal on a wire, which asks the host for an LU, if one is named. What each says is
-/// printed as soon as it is done.
+/// Does the commands of a script, one a line, at a terminal on a wire. The terminal requests this LU, if there is one. The output of
+/// each line is printed as soon as it is done.
 ///
-/// Answers NotUnderstood with the number, from 1 on, of the first line that isn't understood; NoMemory where a growth was refused; and
-/// OutputFailed where the output failed. What the lines before it printed stands.
+/// NotUnderstood, with the number, from 1 on, of the first line that isn't understood, after the output of the lines before it;
+/// NoMemory if memory is refused; OutputFailed if the output fails.
 pub fn operate<D: Source, U: Sink, O: Sink>(
     alloc: Global,
     lu: Option<Lu>,
@@ -125,13 +125,13 @@ fn term<I: Source, O: Sink>(
     operate(rt.alloc(), lu, script.as_str(), &mut wire, out)
 }
 
-/// Is a terminal of the host that listens on a port of this machine, and does the commands of a script there, one a line: keys
-/// are pressed, the host is waited for, and what the operator then sees is printed. It asks the host for an LU, if one is named.
-/// What ends the run early is told in one line of `faults`.
+/// Connects a terminal to the host on a port of 127.0.0.1, and does the commands of the input there, one a line: presses keys, waits for
+/// the host, and prints what the operator sees. The terminal requests this LU, if there is one. Writes a fault that ends the run to
+/// `faults` as one line.
 ///
-/// Answers the exit status: 0 where all went well, whatever the host did; 1 where the input can't be read (as with
-/// [`run_show`](crate::run_show)), or where a line isn't understood, behind what the lines before it print; 3 where a growth was
-/// refused; 4 where nothing listens on the port; 6 where the output failed.
+/// Returns the exit status: 0 if all lines were done, whatever the host did; 1 if the input can't be read (as for
+/// [`run_show`](crate::run_show)), or if a line isn't understood, after the output of the lines before it; 3 if memory is refused; 4
+/// if nothing listens on the port; 6 if the output fails.
 pub fn run_term<I: Source, O: Sink, E: Sink>(
     rt: &HostRuntime,
     port: Port,

@@ -1,59 +1,60 @@
-//! Lines of a terminal's script: what a line asks for.
+//! The commands of a terminal's script, one a line, as text.
 ghost use Rattle.std.specs.Prelude.{◌≡◌};
-ghost use Rattle.jobs3270.specs.TermLines.{asks_alone, asks_with, term_asks};
+ghost use Rattle.jobs3270.specs.TermLines.{command_of_verb, command_of_text, terminal_command};
 
-use crate::script_line::key_named;
 use keyboard::Key;
 
-/// What a line asks of a terminal.
+/// A command to a terminal's operator.
 #[derive(Clone, Copy)]
-pub enum TermAsks {
-    /// Nothing: it is empty.
+pub enum TerminalCommand {
+    /// An empty line: nothing happens.
     Nothing,
-    /// That the line's text is typed.
-    Types,
-    /// That a key is pressed.
-    Presses(Key),
-    /// That the host is waited for.
-    Waits,
-    /// The screen.
-    Shows,
-    /// How far the terminal is with its host.
-    Tells,
+    /// The operator types the line's text.
+    TypeText,
+    /// The operator presses this key.
+    Press(Key),
+    /// The operator waits for the host.
+    Wait,
+    /// The screen is printed.
+    Show,
+    /// The phase is printed.
+    Status,
 }
 
-/// What a verb alone asks for.
-fn asks_alone(verb: &str) -> Option<TermAsks>
-    ensures { result ≡ asks_alone verb.now }
+/// The command of a verb alone.
+fn command_of_verb(verb: &str) -> Option<TerminalCommand>
+    ensures { result ≡ command_of_verb verb.now }
 {
     match verb {
-        "" => Some(TermAsks::Nothing),
-        "type" => Some(TermAsks::Types),
-        "wait" => Some(TermAsks::Waits),
-        "show" => Some(TermAsks::Shows),
-        "status" => Some(TermAsks::Tells),
+        "" => Some(TerminalCommand::Nothing),
+        "type" => Some(TerminalCommand::TypeText),
+        "wait" => Some(TerminalCommand::Wait),
+        "show" => Some(TerminalCommand::Show),
+        "status" => Some(TerminalCommand::Status),
         _ => None,
     }
 }
 
-/// What a verb and the text behind the blank after it ask for.
-fn asks_with(verb: &str, text: &str) -> Option<TermAsks>
-    ensures { result ≡ asks_with verb.now text.now }
+/// The command of a verb and the text after the first blank.
+fn command_of_text(verb: &str, text: &str) -> Option<TerminalCommand>
+    ensures { result ≡ command_of_text verb.now text.now }
 {
     match verb {
-        "type" => Some(TermAsks::Types),
-        "key" => key_named(text).map(TermAsks::Presses),
+        "type" => Some(TerminalCommand::TypeText),
+        "key" => Key::named(text).map(TerminalCommand::Press),
         _ => None,
     }
 }
 
-/// What a line of a terminal's script asks for; None where it isn't understood: its verb is none, it has words too many or too few, or a
-/// key's name isn't one.
-pub fn term_asks_of(line: &str) -> Option<TermAsks>
-    ensures { result ≡ term_asks line.now }
-{
-    match line.split_once(' ') {
-        Some((verb, text)) => asks_with(verb, text),
-        None => asks_alone(line),
+impl TerminalCommand {
+    /// The command of a line. None if there is no such verb, if the line has too few words or too many, or if a key's name isn't
+    /// one.
+    pub fn read(line: &str) -> Option<TerminalCommand>
+        ensures { result ≡ terminal_command line.now }
+    {
+        match line.split_once(' ') {
+            Some((verb, text)) => command_of_text(verb, text),
+            None => command_of_verb(line),
+        }
     }
 }

@@ -12,3 +12,4 @@ pub mod Homes
 pub mod Sendable
 pub mod SentKeys
 pub mod Free
+pub mod KeyNames

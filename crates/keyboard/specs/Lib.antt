@@ -1,5 +1,6 @@
 pub mod State
 pub mod Names
+pub mod KeyNames
 pub mod Places
 pub mod Edits
 pub mod Keys

@@ -1,4 +1,4 @@
--- What `{}` prints of a lock, and the numbers of the refusals (our profile).
+-- What `{}` prints of a lock and of a refusal, and the numbers of the refusals (our profile).
 use Rattle.std.specs.Prelude.{ℕ, List, codes}
 use Rattle.keyboard.specs.declared.key.Lock.{Lock}
 use Rattle.keyboard.specs.declared.key.Lock.TheVariants.{Free, Wait, Error}
@@ -16,3 +16,10 @@ refusal_number Protected = 2
 refusal_number NotNumeric = 3
 refusal_number NoRoom = 4
 refusal_number NoCode = 5
+
+abbrev pub refusal_name : Refusal → List ℕ
+refusal_name Locked = codes "locked"
+refusal_name Protected = codes "protected"
+refusal_name NotNumeric = codes "not-numeric"
+refusal_name NoRoom = codes "no-room"
+refusal_name NoCode = codes "no-code"

@@ -106,7 +106,25 @@ impl Refusal {
     }
 }
 
-/// What came of pressing a key.
+/// Prints the refusal as `locked`, `protected`, `not-numeric`, `no-room` or `no-code`.
+impl fmt::Display for Refusal {
+    ghost use Rattle.std.specs.Prelude.{Some};
+    ghost use Rattle.keyboard.specs.Names.{refusal_name};
+
+    ghost output = { λ refusal. Some (refusal_name refusal) };
+
+    fn fmt<W: fmt::Write>(&self, f: &mut fmt::Formatter<W>) -> fmt::Result {
+        match self {
+            Refusal::Locked => f.write_str("locked"),
+            Refusal::Protected => f.write_str("protected"),
+            Refusal::NotNumeric => f.write_str("not-numeric"),
+            Refusal::NoRoom => f.write_str("no-room"),
+            Refusal::NoCode => f.write_str("no-code"),
+        }
+    }
+}
+
+/// The result of pressing a key.
 #[derive(Clone, Copy, Debug, PartialEq, Eq)]
 pub enum Pressed {
     /// The key did what it does, and sends nothing.

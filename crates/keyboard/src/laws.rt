@@ -34,9 +34,11 @@ pub fn keys_are_real(key: &Key)
 {
     match key {
         Key::Pf(number) => {
+            // For the contract: the number is in range.
             let _in_range = number.get();
         }
         Key::Pa(number) => {
+            // For the contract: the number is in range.
             let _in_range = number.get();
         }
         _ => {}

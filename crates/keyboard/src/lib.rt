@@ -13,6 +13,7 @@
 
 mod edits;
 mod key;
+mod key_names;
 mod keyboard;
 pub mod laws;
 mod places;

@@ -11,7 +11,7 @@ mod script;
 mod subjects;
 mod wanting;
 
-pub use figures::print_figures;
+pub use figures::compare_speed;
 use likeness::Difference;
 use script::{put_bytes, step_of};
 use std::alloc::Global;
@@ -43,12 +43,12 @@ fn hold(alloc: Global, subjects: &mut Subjects, lines: &str) -> io::Result<Optio
     Ok(None)
 }
 
-fn tell(rt: &impl Print, name: &str, found: Option<Found>) -> io::Result<()> {
+fn tell(rt: &impl Print, file: &str, name: &str, found: Option<Found>) -> io::Result<()> {
     match found {
         None => println!(rt; "{name}: same"),
         Some(Found { line, difference }) => {
             let Difference { what, place } = difference;
-            println!(rt; "{name}: line {line}: {what} at {place} is otherwise")
+            println!(rt; "{file}: {name}, line {line} of the case: {what} at {place} differs")
         }
     }
 }
@@ -69,6 +69,7 @@ fn tell_tally(rt: &impl Print, cases: u32, tally: Tally) -> io::Result<()> {
 /// Holds the cases one after another. Answers whether all are the same.
 fn hold_all(
     rt: &(impl Print + AllocGlobal),
+    file: &str,
     text: &str,
     subjects: &mut Subjects,
 ) -> io::Result<bool> {
@@ -79,7 +80,7 @@ fn hold_all(
         if !name.starts_with('#') {
             subjects.begin();
             let found = hold(rt.alloc(), subjects, lines)?;
-            tell(rt, name, found)?;
+            tell(rt, file, name, found)?;
             same = same && found.is_none();
             cases = cases.saturating_add(1);
         }
@@ -88,8 +89,8 @@ fn hold_all(
     Ok(same)
 }
 
-/// Holds the cases of a script. Answers whether former and present are the same in all.
-pub fn compare(rt: &(impl Print + AllocGlobal), text: &str) -> io::Result<bool> {
+/// Holds the cases of a file. Answers whether former and present are the same in all.
+pub fn compare(rt: &(impl Print + AllocGlobal), file: &str, text: &str) -> io::Result<bool> {
     let mut subjects = Subjects::new(rt.alloc());
-    hold_all(rt, text, &mut subjects)
+    hold_all(rt, file, text, &mut subjects)
 }

@@ -1,5 +1,5 @@
 //! Trials of the libraries up to terminal, belief and panels, over their public calls: tables, worked commands and screens as bytes, printed texts, and
-//! growths refused. A line is printed for each, that it is so or otherwise. `former` compares a belief and a screen with what they were.
+//! growths refused. A line is printed for each: ok, or that it fails. `former` compares a belief and a screen with what they were.
 //!
 //! They are a library that a program runs, and no tests: a crate with tests is proved as a program, which loads all that it stands on.
 #![tactic(auto)]
@@ -21,7 +21,7 @@ mod terminals;
 mod wire;
 
 use codes3270::Addr;
-pub use former::{compare, print_figures};
+pub use former::{compare, compare_speed};
 use std::alloc::Global;
 use std::fmt::Display;
 use std::io;
@@ -60,7 +60,7 @@ fn all_so<T: Tried>(alloc: Global, rows: &[T]) -> bool {
 
 /// Prints whether a check is so.
 fn tell(rt: &impl Print, library: &str, what: &str, is_so: bool) -> io::Result<()> {
-    let word = if is_so { "so" } else { "otherwise" };
+    let word = if is_so { "ok" } else { "fails" };
     println!(rt; "{library}: {what}: {word}")
 }
 

@@ -2,4 +2,4 @@ pub mod Finding
 pub mod Changes
 pub mod Listing
 pub mod Holding
-pub mod Below
+pub mod Freeing

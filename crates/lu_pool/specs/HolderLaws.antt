@@ -1,10 +1,10 @@
 -- What holds of a pool, whatever is granted and given back (our profile): it is a map from LUs to the connections that hold them.
-use Rattle.std.specs.Prelude.{◌≡◌, ◌≢◌, ◌<◌, ℕ, List, Option, Some, None, Ok, IsTrue, if◌then◌else◌}
+use Rattle.std.specs.Prelude.{◌≡◌, ◌≢◌, ℕ, List, Option, Some, None, Ok, IsTrue, if◌then◌else◌}
 use Rattle.tn3270e_msg.specs.Lu.{is_lu}
 use Rattle.lu_pool.specs.declared.entry.Entry.{Entry}
 use Rattle.lu_pool.specs.Asking.{answer_to, Grants, Frees}
 use Rattle.lu_pool.specs.Pool.{AreLus, ListedOnce, HeldOnce, IsPool, is_held_by}
-use Rattle.lu_pool.specs.Holders.{holder, granted_to, given_back, given_back_below, all_free, HoldersBelow}
+use Rattle.lu_pool.specs.Holders.{holder, granted_to, given_back, all_free}
 
 -- what it lists are names of LUs, each once
 pub record IsSound (pool : List Entry) : Type 0 where
@@ -74,18 +74,3 @@ GrantMakesPool = (old new : List Entry) (conn : ℕ) (lu : List ℕ) → ListedO
 
 abbrev pub FreeMakesPool : Type 0
 FreeMakesPool = (old new : List Entry) (conn : ℕ) → HeldOnce old → Frees old conn new → new ≡ given_back conn old
-
--- ---- holders are among the first connections, as many as there may be
-
-abbrev pub BelowWhenFree : Type 0
-BelowWhenFree = (count : ℕ) (pool : List Entry) → HoldersBelow count (all_free pool)
-
-abbrev pub BelowWhenGranted : Type 0
-BelowWhenGranted = (count : ℕ) (pool : List Entry) (conn : ℕ) (lu : List ℕ) → conn < count → HoldersBelow count pool → HoldersBelow count (granted_to conn lu pool)
-
-abbrev pub BelowWhenBack : Type 0
-BelowWhenBack = (count : ℕ) (pool : List Entry) (conn : ℕ) → HoldersBelow count pool → HoldersBelow count (given_back conn pool)
-
--- once each of them gave back, all are free
-abbrev pub AllBackIsAllFree : Type 0
-AllBackIsAllFree = (count : ℕ) (pool : List Entry) → HoldersBelow count pool → given_back_below count pool ≡ all_free pool

@@ -1,8 +1,8 @@
 -- Who holds what of a pool, as connections take from it and give back (our profile).
-use Rattle.std.specs.Prelude.{ℕ, zero, suc, ◌<◌, List, map, find, Option, Some, None, option_and_then, if◌then◌else◌}
+use Rattle.std.specs.Prelude.{ℕ, List, map, find, Option, Some, None, option_and_then, if◌then◌else◌}
 use Rattle.std.specs.Str.{bytes_eq}
 use Rattle.lu_pool.specs.declared.entry.Entry.{Entry}
-use Rattle.lu_pool.specs.Pool.{entry, is_held_by, Holds}
+use Rattle.lu_pool.specs.Pool.{entry, is_held_by}
 
 -- the connection that holds an LU
 abbrev pub holder : List Entry → List ℕ → Option ℕ
@@ -20,15 +20,6 @@ granted_if conn (Some lu) pool = granted_to conn lu pool
 abbrev pub given_back : ℕ → List Entry → List Entry
 given_back conn pool = map (λ at. if is_held_by conn at.holder then entry at.lu None else at) pool
 
--- connections 0, 1 and on, as many as this, give back what they hold, one after another
-abbrev pub given_back_below : ℕ → List Entry → List Entry
-given_back_below zero pool = pool
-given_back_below (suc conn) pool = given_back conn (given_back_below conn pool)
-
 -- all are free
 abbrev pub all_free : List Entry → List Entry
 all_free pool = map (λ at. entry at.lu None) pool
-
--- those who hold an LU are among the first connections, as many as this
-abbrev pub HoldersBelow : ℕ → List Entry → Type 0
-HoldersBelow count pool = (conn : ℕ) (lu : List ℕ) → Holds pool conn lu → conn < count

@@ -1,6 +1,6 @@
 //! Laws of pools: each is the contract of a function that does nothing. Proofs of
 //! other crates use them; no program calls them, and the root doesn't export them.
-ghost use Rattle.lu_pool.specs.HolderLaws.{PoolsAreSound, StaysSoundFree, StaysSoundGranted, StaysSoundBack, NobodyHolds, AnswersWhatIsFree, AnswersNames, AnswersTheName, GrantIsHeld, OthersStay, OthersKeep, BackIsFree, GrantsOneEntry, FreesOneEntry, GrantMakesPool, FreeMakesPool, BelowWhenFree, BelowWhenGranted, BelowWhenBack, AllBackIsAllFree};
+ghost use Rattle.lu_pool.specs.HolderLaws.{PoolsAreSound, StaysSoundFree, StaysSoundGranted, StaysSoundBack, NobodyHolds, AnswersWhatIsFree, AnswersNames, AnswersTheName, GrantIsHeld, OthersStay, OthersKeep, BackIsFree, GrantsOneEntry, FreesOneEntry, GrantMakesPool, FreeMakesPool};
 
 /// Law: a pool is a map from LUs to the connections that hold them. What it answers is free, is the
 /// LU that was asked for, and is held once it is granted; granting and giving back change one
@@ -22,13 +22,4 @@ pub fn the_pool_is_a_map()
     ensures frees { FreesOneEntry }
     ensures grant_makes { GrantMakesPool }
     ensures free_makes { FreeMakesPool }
-{}
-
-/// Law: those who hold an LU stay among the first connections, as many as there may be; once each
-/// of these gave back, all are free.
-pub fn holders_stay_below()
-    ensures free { BelowWhenFree }
-    ensures granted { BelowWhenGranted }
-    ensures back { BelowWhenBack }
-    ensures all_back { AllBackIsAllFree }
 {}

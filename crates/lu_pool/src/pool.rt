@@ -112,6 +112,7 @@ impl Pool {
     pub fn lus_are_listed_once(&self)
         ensures { IsPool self.now }
     {
+        // For the contract: the invariant of the pool.
         let _entries = &self.entries;
     }
 

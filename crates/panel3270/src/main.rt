@@ -1,6 +1,5 @@
-//! Panels and screens of the 3270 on the command line. `panel3270 script` serves panels to terminals, which do the commands of
-//! a script; `panel3270 show` applies commands of the data stream in hexadecimal to a blank screen and prints what it then shows.
-//! The jobs are jobs3270's: here are the words that ask for them, and the streams.
+//! The program panel3270: TN3270E hosts, terminals and 3270 screens on the command line. jobs3270 has its jobs; this crate passes the
+//! arguments and the standard streams, and prints the usage.
 #![tactic(auto)]
 
 ghost use Rattle.std.specs.Prelude.{◌≡◌};
@@ -15,7 +14,7 @@ use std::env;
 use std::io::{self, ErrorKind};
 use std::process::ExitCode;
 
-/// The exit status of words that the program doesn't take.
+/// The exit status if the arguments are refused.
 const WORDS_REFUSED: u8 = 2;
 
 const USAGE: &str = "usage: panel3270 [JOB] < INPUT
@@ -33,12 +32,12 @@ INPUT is UTF-8 of at most 1048576 bytes, in lines that end with LF, which the la
   show                        commands, one a line: pairs of hexadecimal digits, and blanks; no tab, CR or comment
 status: 0 done, 1 input refused, 2 words refused, 3 no memory, 4 socket failed, 5 turns over, 6 output failed";
 
-/// The words behind the program's name.
+/// The arguments after the program's name.
 fn given_words(rt: &HostRuntime) -> io::Result<Vec<String>> {
     Ok(env::args(rt)?.skip(1).collect(rt.alloc())?)
 }
 
-/// The job that the program is asked to do.
+/// The job of the arguments.
 fn given_job(rt: &HostRuntime) -> Result<Job, WordFault> {
     match given_words(rt) {
         Ok(given) => words(rt.alloc(), given.as_slice()),
@@ -49,7 +48,7 @@ fn given_job(rt: &HostRuntime) -> Result<Job, WordFault> {
     }
 }
 
-/// Tells which words the program takes, and answers its exit status. What can't be told is told by the status alone.
+/// Prints the usage, and returns the exit status. A usage that can't be printed is left out.
 fn refuse_words<E: Sink>(faults: &mut E) -> u8
     ensures status { result ≡ words_refused }
     ensures told { IsToldIn (E.seen faults.old) (E.seen faults.new) usage }

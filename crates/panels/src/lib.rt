@@ -23,7 +23,7 @@
 //! }
 //! ```
 //!
-//! `specs/Panel` says what panels are, `Defines` which text defines them, `Faults`, `Passes` and `Turns` which fault is told, and
+//! `specs/Panel` says what panels are, `Defines` which text defines them, `Faults`, `Passes` and `Turns` which fault is reported, and
 //! `Screen` what a panel asks for.
 #![tactic(auto)]
 

@@ -66,6 +66,7 @@ impl PanelSet {
     pub fn panels_are_sound(&self)
         ensures { AreSound self.now }
     {
+        // For the contract: the invariant of the set.
         let _panels = &self.panels;
     }
 }

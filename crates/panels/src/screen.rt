@@ -185,7 +185,7 @@ impl Panel {
         put_message(wanted, message, name.as_bytes());
         put_fields(wanted, values, message, keep, fields);
         put_texts(wanted, values, self.texts.as_slice());
-        // For its contract: all cells are there.
+        // For the contract: there is a want for each cell.
         let _whole = wanted.cells();
         let cursor = spoken.map_or(self.cursor, |field| field.extent.first_cell());
         wanted.set_cursor_and_reset(cursor, message == Message::Fresh);

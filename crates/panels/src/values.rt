@@ -50,7 +50,7 @@ impl Values {
         ensures characters { IfSome result (λ value. AreCharacters value.now) }
         ensures same { IfSome result (λ value. insert_entry nat_cmp self.now field value.now ≡ self.now) }
     {
-        // It says that the map is in order.
+        // For the contract: the map is in order.
         let _count = self.values.len();
         Some(self.values.get(&field)?.as_slice())
     }

@@ -41,10 +41,12 @@ pub(crate) fn with_real_key(aid: Aid) -> Aid
         Aid::Enter => Aid::Enter,
         Aid::Clear => Aid::Clear,
         Aid::Pf(key) => {
+            // For the contract: the number is in range.
             let _number = key.get();
             Aid::Pf(key)
         }
         Aid::Pa(key) => {
+            // For the contract: the number is in range.
             let _number = key.get();
             Aid::Pa(key)
         }

@@ -68,6 +68,7 @@ impl Screen {
         ensures size { length self.now.cells ≡ cell_count }
     {
         let buffer = &self.buffer;
+        // For the contract: the list of attributes agrees with the cells.
         let _cells = &buffer.cells;
         self.attributes.as_slice()
     }

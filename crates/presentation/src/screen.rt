@@ -124,6 +124,7 @@ impl Screen {
     pub fn set_cursor(&mut self, at: Addr)
         ensures { self.new ≡ record self.old { cursor = at } }
     {
+        // For the contract: the address is on the screen.
         let _in_range = at.get();
         let buffer = &mut self.buffer;
         buffer.cursor = at;

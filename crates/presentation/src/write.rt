@@ -198,6 +198,7 @@ impl Buffer {
     fn place_cursor(&mut self, address: Addr)
         ensures { record { screen = self.new; address = address } ≡ ordered Ic false (record { screen = self.old; address = address }) }
     {
+        // For the contract: the address is on the screen.
         let _in_range = address.get();
         self.cursor = address;
     }

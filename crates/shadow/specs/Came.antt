@@ -3,7 +3,7 @@ use Rattle.std.specs.Prelude.{◌==◌, ℕ, List, [], ◌∷◌, Option, Some, 
 use Rattle.codes3270.specs.Size.{cell_count}
 use Rattle.datastream.specs.InboundFields.{Returned}
 
--- the one that is looked at, by the address of its first cell and its text, and those behind it; none is left where the address is no cell's
+-- the returned field at hand, by the address of its first cell and its text, and those after it; none is left if the address is no cell's
 abbrev pub came_of : ℕ → List ℕ → List Returned → List Returned
 came_of first text rest = if first == cell_count then [] else record { first = first; text = text } ∷ rest
 

@@ -108,7 +108,7 @@ ProtectedIsSeen = (shadow : Shadow) (screen : Screen) → Meets shadow screen �
 abbrev pub ReturnedTold : Belief → Field → Type 0
 ReturnedTold belief field = field.attr.mdt ≡ true → told belief.fact ≡ Some (without_nulls field.text)
 
--- Where protected fields are exact, and the texts of unprotected fields with MDT on are told, so are those of protected ones.
+-- If protected fields are exact and the host knows the texts of unprotected fields with MDT on, it knows those of protected fields with MDT on.
 abbrev pub ReturnedIsTold : Type 0
 ReturnedIsTold = (shadow : Shadow) (screen : Screen) → Meets shadow screen → ListsFields shadow screen → ProtectedIsExact shadow → IsTold shadow screen
     → EachField ReturnedTold shadow screen

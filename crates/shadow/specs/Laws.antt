@@ -38,7 +38,7 @@ IsSentFrom erased left now Enter = Held erased left now
 IsSentFrom erased left now (Pf key) = Held erased left now
 IsSentFrom erased left now NoAid = Held erased left now
 
--- what was heard of a screen: the screen meets it, its fields are listed, and where fields were sent their texts are told
+-- what was heard of a screen: the screen meets it, its fields are listed, and if fields were sent the host knows their texts
 abbrev pub Believed : Bool → Screen → Shadow → Type 0
 Believed sent screen shadow = Meets shadow screen × ListsFields shadow screen × (sent ≡ false → IsTold shadow screen)
 

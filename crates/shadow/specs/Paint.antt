@@ -79,8 +79,8 @@ is_at (Some at) address = at == address
 abbrev pub sba_unless : Bool → ℕ → List Order → List Order
 sba_unless there address orders = if there then orders else Sba address ∷ orders
 
--- The orders that store these cells, an SBA before each run; then SBA to the cursor and IC. `at`: the address that the
--- write is at, where that is known
+-- The orders that store these cells, an SBA before each run; then SBA to the cursor and IC. `at`: the current address of
+-- the write, if it is known
 abbrev pub painting : ℕ → ℕ → Option ℕ → List Store → List Order
 painting size cursor at [] = Sba cursor ∷ Ic ∷ []
 painting size cursor at (store ∷ more) =

@@ -79,7 +79,7 @@ place_settled (KnownPlace char) past touched = KnownPlace char
 place_settled (Told char) past touched = Told char
 place_settled Unknown past touched = Unknown
 
--- the places of `rest` and what is kept of them, of `whole` and `before`, once each attribute is told as it is after the write
+-- the places of `rest` and what is kept of them, of `whole` and `before`, with each attribute as it is known after the write
 abbrev pub settled : List Known → List BeforeWrite → List CellBelief → List BeforeWrite → List CellBelief
 settled whole before [] pasts = []
 settled whole before (place ∷ rest) [] = []

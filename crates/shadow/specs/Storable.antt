@@ -1,5 +1,5 @@
--- What a host believes can be stored (our profile): the characters that it knows are such as a cell can hold, and in the texts
--- that it is told there are no nulls.
+-- What a host believes can be stored (our profile): the characters that it knows are such as a cell can hold, and the texts
+-- that it knows have no nulls.
 use Rattle.std.specs.Prelude.{◌≡◌, ⊤, ℕ, true, List, Option, Some, Ok, IfSome, All}
 use Rattle.codes3270.specs.Storable.{is_storable}
 use Rattle.datastream.specs.Grammar.{CommandParts, IsSpelt}
@@ -48,7 +48,7 @@ HeardCanBeStored = (size : ℕ) (shadow new : Shadow) (inbound : InboundParts) �
 abbrev pub TakenCanBeStored : Type 0
 TakenCanBeStored = (size : ℕ) (command : CommandParts) (shadow : Shadow) → CanBeStored shadow → IsSpelt command → CanBeStored (taken size command shadow)
 
--- The text that the host is told of a field is of characters that cells can hold, without nulls.
+-- The text that the host knows of a field has characters that cells can hold, and no nulls.
 abbrev pub ToldCanBeStored : Type 0
 ToldCanBeStored = (shadow : Shadow) (at : ℕ) (belief : Belief) (text : List ℕ) → CanBeStored shadow → field_at at shadow ≡ Some belief → told belief.fact ≡ Some text
     → All IsTextChar text

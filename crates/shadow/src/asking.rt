@@ -14,7 +14,7 @@ use crate::fact::Fact;
 use crate::mdt_state::MdtState;
 use codes3270::Cell;
 
-/// How many characters stand before the first attribute.
+/// The number of characters before the first attribute.
 pub(crate) fn count_chars(ahead: Ahead<'_>) -> usize
     requires few { length ahead ≤ 2 * cell_count }
     ensures { result ≡ length (chars_known ahead.entry) }

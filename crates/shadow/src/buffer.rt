@@ -120,6 +120,7 @@ pub(crate) fn put_read(places: &mut CellBeliefs, cells: Cells<'_>)
     requires { length cells ≡ cell_count }
     ensures { places.new ≡ places_stored cells.entry }
 {
+    // For the contract: there is a belief for each cell.
     let _count = places.len();
     let mut at = 0;
     for cell in cells {

@@ -232,8 +232,8 @@ impl CellBeliefs {
         CellBelief::Attr(Attr::from_code(self.bytes[at]), head.mark, head.knowledge)
     }
 
-    /// How many characters stand behind an address, round the end, before the first attribute; `next`: where that stands, or
-    /// the number of places.
+    /// The number of characters after an address, round the end, before the first attribute. `next` is that attribute's
+    /// address, or the number of places.
     pub(crate) fn count_behind(&self, place: usize, next: usize) -> usize
         requires placed { place < cell_count }
         requires within { next ≤ cell_count }
@@ -242,6 +242,7 @@ impl CellBeliefs {
         ensures few { result ≤ 2 * cell_count }
         ensures whole { length self.now ≡ cell_count }
     {
+        // For the contract: there is a belief for each cell.
         let _count = self.len();
         if next < CELL_COUNT {
             next - place - 1
@@ -294,12 +295,13 @@ impl CellBeliefs {
         unknown | differing(bytes, &self.bytes, word)
     }
 
-    /// The places behind an address, and then all places.
+    /// The places after an address, and then all places.
     pub(crate) fn ahead(&self, place: usize) -> Ahead<'_>
         requires { place < cell_count }
         ensures places { result ≡ drop (place + 1) self.now ++ self.now }
         ensures few { length result ≤ 2 * cell_count }
     {
+        // For the contract: there is a belief for each cell.
         let _places = self.len();
         Ahead {
             places: self,

@@ -88,6 +88,7 @@ fn fits_at(held: Option<&CellBeliefs>, wanted: &Wanted, place: usize) -> bool
 fn all_fit(held: Option<&CellBeliefs>, wanted: &Wanted) -> bool
     ensures { result ≡ fits_from (beliefs_of held.entry) wanted.now.cells 0 wanted.now.cells }
 {
+    // For the contract: there is a want for each cell.
     let _bytes = wanted.bytes();
     for place in 0..CELL_COUNT {
         if !fits_at(held, wanted, place) {

@@ -28,7 +28,7 @@ use datastream::{Inbound, ReturnedFields};
 pub(crate) enum Unreturned {
     /// It is held as it was, but that it may be null now.
     Stays,
-    /// It was known, and is told now.
+    /// It was known, and counts as returned now.
     IsTold,
     IsForgotten,
 }
@@ -145,7 +145,7 @@ fn fault_of(places: &CellBeliefs, returned: ReturnedFields<'_>) -> HeardFault
     }
 }
 
-/// Whether some field's input was erased, if what came can be of a screen that is so believed, with fields.
+/// Whether some field's input was erased, if the data can be of a screen with fields that this belief allows.
 pub(crate) fn check_fields(places: &CellBeliefs, inbound: &Inbound<'_>) -> Result<bool, HeardFault>
     ensures { let beliefs = beliefs_held places.now 0 places.now in
         let came = returned inbound.now.parts in

@@ -64,16 +64,16 @@ pub fn what_is_protected_is_exact()
     ensures written { WrittenStaysProtected }
 {}
 
-/// Law: where the facts of protected fields are exact, the host knows their texts, and is told the
-/// text of each returned field.
+/// Law: if the facts of protected fields are exact, the host knows their texts and the text of each
+/// returned field.
 pub fn what_is_exact_is_so()
     ensures protected { ProtectedIsSeen }
     ensures returned { ReturnedIsTold }
 {}
 
-/// Law: a note, which is a write over characters of protected fields or of none, leaves what is
-/// known known, each field listed, what is told of input told, exact facts exact, and nothing open;
-/// an unformatted screen that was wholly known stays so. That the new screen meets what is then
+/// Law: a note, which is a write over characters of protected fields or of none, preserves known
+/// cells, the list of fields, the returned texts and exact facts, and leaves nothing open; an
+/// unformatted screen that was wholly known stays so. That the new screen meets what is then
 /// believed is `what_is_written_is_taken`.
 pub fn what_a_note_leaves()
     ensures noted { NoteOverwritesProtected }
@@ -97,9 +97,9 @@ pub fn what_leaves_nothing_open()
     ensures painted { PaintOpensNothing }
 {}
 
-/// Law: what is believed can be stored: where a cell can hold each character that is known, and
-/// those of texts are no nulls, this stays so, whatever is heard or written; and the texts that the
-/// host is told are of such characters, without nulls.
+/// Law: what is believed can be stored: if a cell can hold each known character, and texts have no
+/// nulls, this stays so, whatever is heard or written; and the texts that the host knows have such
+/// characters, and no nulls.
 pub fn what_is_believed_can_be_stored()
     ensures heard { HeardCanBeStored }
     ensures taken { TakenCanBeStored }

@@ -74,6 +74,7 @@ impl<'a> Base<'a> {
         requires whole { length bytes.now ≡ cell_count }
         ensures { SetUnless (λ cell. slice_index_or (known_base self.now) cell (KnownChar None false) ≡ KnownChar (Some (slice_index_or bytes.now cell 0)) false) word result }
     {
+        // For the contract: there is a belief for each cell.
         let _count = self.places.len();
         if self.formatted {
             self.places.unlike(bytes, word)

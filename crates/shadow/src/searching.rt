@@ -216,7 +216,9 @@ impl Search {
         ensures placed { IfSome result (λ store. store.place < cell_count) }
         ensures storable { IfSome result (λ store. IsStorableCell store.cell) }
     {
+        // For the contract: there is a want for each cell.
         let _bytes = wanted.bytes();
+        // For the contract: there is a belief for each cell.
         let _count = base.len();
         while self.from < CELL_COUNT {
             let place = self.next_look();

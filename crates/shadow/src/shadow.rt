@@ -291,6 +291,7 @@ impl Shadow {
     {
         let formatted = self.is_formatted();
         let reset = wanted.reset();
+        // For the contract: there is a belief for each cell.
         let _count = self.places.len();
         let wcc = Wcc {
             alarm: false,

@@ -195,7 +195,7 @@ fn is_field_touched(places: &CellBeliefs, pasts: &[BeforeWrite], place: usize) -
     false
 }
 
-/// How the field of an attribute is told after the write.
+/// What is known of the text of an attribute's field after the write.
 fn knowledge_after(past: BeforeWrite, touched: bool) -> TextKnowledge
     ensures { result ≡ telling_then past touched }
 {

@@ -1,4 +1,5 @@
--- A buffer of bytes that never holds more than its limit (our profile). Only private contracts speak of it.
+-- A buffer of bytes that never holds more than its limit (our profile). Only private contracts cite
+-- it.
 use Rattle.std.specs.Prelude.{ℕ, List, [], ◌∷◌, ◌++◌}
 
 -- Its limit, and the bytes that it holds.

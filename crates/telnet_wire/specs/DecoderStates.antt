@@ -1,4 +1,5 @@
--- What a decoder's place and buffers stand for (our profile). Only private contracts and the decoder's view speak of it.
+-- What a decoder's state and buffers mean (our profile). Only private contracts and the decoder's
+-- view cite it.
 use Rattle.std.specs.Prelude.{◌≡◌, ℕ, ◌≤◌, Bool, true, false, List, [], ◌∷◌, ◌++◌, length, Option, None, Some}
 use Rattle.telnet_wire.specs.declared.decoding.DecoderState.{DecoderState}
 use Rattle.telnet_wire.specs.declared.decoding.DecoderState.TheVariants.{Done, AfterIac, AfterVerb, InSub, AfterIacInSub, Failed}
@@ -9,7 +10,7 @@ use Rattle.telnet_wire.specs.Items.{WireItem, Record as RecordItem, Opt as OptIt
 use Rattle.telnet_wire.specs.Held.{Held}
 use Rattle.telnet_wire.specs.Bounded.{Bounded}
 
--- The part of a token that has come.
+-- The part of a token that was read.
 abbrev pub partial_at : DecoderState → List ℕ → List ℕ
 partial_at AfterIac content = 255 ∷ []
 partial_at (AfterVerb verb) content = 255 ∷ code_of verb ∷ []
@@ -17,13 +18,13 @@ partial_at InSub content = opened content
 partial_at AfterIacInSub content = opened content ++ 255 ∷ []
 partial_at _ content = []
 
--- The data of the unfinished record. A record that is complete waits in the buffer until the next byte.
+-- The data of the unfinished record. A complete record stays in the buffer until the next byte.
 abbrev pub unfinished_at : DecoderState → List ℕ → List ℕ
 unfinished_at (Done Record) gathered = []
 unfinished_at Failed gathered = []
 unfinished_at _ gathered = gathered
 
--- The item that was completed: its bytes lie in one of the buffers.
+-- The item that was completed: its bytes are in one of the buffers.
 abbrev pub completed_item : Completed → List ℕ → List ℕ → WireItem
 completed_item Record gathered content = RecordItem gathered
 completed_item (Opt verb code) gathered content = OptItem verb code
@@ -39,7 +40,7 @@ abbrev pub has_failed : DecoderState → Bool
 has_failed Failed = true
 has_failed _ = false
 
--- What a decoder at this place holds, seen from outside.
+-- What a decoder in this state holds, as contracts see it.
 abbrev pub held : DecoderState → Bounded → List ℕ → Held
 held state gathered content = record {
   limit = gathered.limit;
@@ -48,7 +49,7 @@ held state gathered content = record {
   failed = has_failed state;
 }
 
--- The buffers are within their limits; that of a subnegotiation is 256 (our profile).
+-- The buffers are within their limits; the limit of a subnegotiation is 256 bytes (our profile).
 pub record AreWithin (gathered content : Bounded) : Type 0 where
   pub gathered_fits : length gathered.bytes ≤ gathered.limit
   pub content_fits : length content.bytes ≤ 256

@@ -1,4 +1,4 @@
--- What a decoder holds between two bytes, and what a byte makes of it (our profile).
+-- What a decoder holds between two bytes, and what a byte does to it (our profile).
 use Rattle.std.specs.Prelude.{◌≡◌, ℕ, Bool, true, false, List, [], ◌∷◌, ◌++◌, Option, None, Some}
 use Rattle.std.specs.Option.{option_to_list}
 use Rattle.telnet_wire.specs.declared.wire.Step.{Step}
@@ -8,8 +8,8 @@ use Rattle.telnet_wire.specs.declared.wire.WireFault.TheVariants.{Failed}
 use Rattle.telnet_wire.specs.Items.{WireItem}
 use Rattle.telnet_wire.specs.Reading.{Rest, nothing, IsRest, Delivers, GoesWrong}
 
--- A decoder, seen from outside: the data bytes that a record may have, the rest of the stream since `new` or `reset`,
--- the item that the last byte completed, and whether a byte was refused.
+-- A decoder, as contracts see it: the data bytes that a record may have, the rest of the stream
+-- since `new` or `reset`, the item that the last byte completed, and whether a byte was refused.
 pub record Held : Type 0 where
   pub limit : ℕ
   pub rest : Rest
@@ -24,31 +24,32 @@ fresh limit = record { limit = limit; rest = nothing; ready = None; failed = fal
 abbrev pub broken : ℕ → Held
 broken limit = record { limit = limit; rest = nothing; ready = None; failed = true }
 
--- One with this limit that may go on: no byte was refused, and what it holds is within the limits.
+-- A decoder with this limit that may go on: no byte was refused, and what it holds is within the
+-- limits.
 pub record IsRunning (limit : ℕ) (held : Held) : Type 0 where
   pub limit_is : held.limit ≡ limit
   pub runs : held.failed ≡ false
   pub rest : IsRest limit held.rest
 
--- What `push` answers of a byte that it took.
+-- What `push` answers for a byte that it took.
 abbrev pub step_of : Option WireItem → Step
 step_of None = More
 step_of (Some item) = Ready
 
--- The byte is taken: it is read behind the rest, and the item that is ready is the item of the token that it completes,
--- none where it completes none, or a byte of data.
+-- The byte is taken: it is read after the rest. The item that is ready is that of the token that
+-- the byte completes; there is none if it completes no token, or a byte of data.
 pub record Takes (old : Held) (byte : ℕ) (new : Held) : Type 0 where
   pub delivers : Delivers old.limit old.rest (byte ∷ []) (option_to_list new.ready) new.rest
   pub ran : old.failed ≡ false
   pub runs : new.failed ≡ false
   pub limit : new.limit ≡ old.limit
 
--- The byte is refused, for this fault: the stream goes wrong at it, or a byte was refused before.
+-- The byte is refused for this fault: the stream goes wrong at it, or a byte was refused before.
 abbrev pub Refuses : Held → ℕ → WireFault → Type 0
 Refuses old byte Failed = old.failed ≡ true
 Refuses old byte fault = (old.failed ≡ false) × GoesWrong old.limit old.rest (byte ∷ []) fault
 
--- These bytes are taken one after another, and these are the items that were ready on the way, in order.
+-- These bytes are taken one after another, and complete these items, in order.
 abbrev pub TakesAll : Held → List ℕ → List WireItem → Held → Type 0
 TakesAll old [] items new = (items ≡ []) × (new ≡ old)
 TakesAll old (byte ∷ bytes) items new =

@@ -1,5 +1,5 @@
--- What a list of tokens says: its items, and the data of the record that isn't finished. Records are those of RFC 885; that
--- a subnegotiation is one item, and commands don't end a record, is our profile.
+-- What a list of tokens says: its items, and the data of the record that isn't finished. Records
+-- are those of RFC 885. Our profile: a subnegotiation is one item, and commands don't end a record.
 use Rattle.std.specs.Prelude.{ℕ, ◌≤◌, List, [], ◌∷◌, ◌++◌, length, map}
 use Rattle.telnet_wire.specs.declared.wire.Verb.{Verb}
 use Rattle.telnet_wire.specs.declared.wire.Item.{Item}
@@ -7,24 +7,24 @@ use Rattle.telnet_wire.specs.declared.wire.Item.TheVariants as lent
 use Rattle.std.specs.List.{flat_map}
 use Rattle.telnet_wire.specs.Token.{Token, Data, End, Opt as OptToken, Sub as SubToken, Other as OtherToken, IsOtherCode, text}
 
--- What a stream hands out: a whole record (RFC 885), an option's negotiation or a subnegotiation (RFC 855), or another
--- command (RFC 854, "TELNET Command Structure").
+-- An item of a stream: a whole record (RFC 885), an option's negotiation or a subnegotiation
+-- (RFC 855), or another command (RFC 854, "TELNET Command Structure").
 pub data WireItem : Type 0 where
   Record : List ℕ → WireItem
   Opt : Verb → ℕ → WireItem
   Sub : List ℕ → WireItem
   Other : ℕ → WireItem
 
--- An item without where it lies in memory.
+-- An item's value, without its place in memory.
 abbrev pub item_of : Item → WireItem
 item_of (lent.Record bytes) = Record bytes.now
 item_of (lent.Opt verb code) = Opt verb code
 item_of (lent.Sub bytes) = Sub bytes.now
 item_of (lent.Other code) = Other code
 
--- The items of these tokens, in order: each End is the record of the data since the End before (RFC 885), and a
--- command between two bytes of data is an item of its own, which doesn't end the record. `unfinished` is the data
--- that came before these tokens, since the last End.
+-- The items of these tokens, in order: each End completes the record of the data since the previous
+-- End (RFC 885). A command between two bytes of data is an item of its own, and doesn't end the
+-- record. `unfinished` is the data before these tokens, since the last End.
 abbrev pub items_after : List ℕ → List Token → List WireItem
 items_after unfinished [] = []
 items_after unfinished (Data byte ∷ tokens) = items_after (unfinished ++ byte ∷ []) tokens
@@ -33,7 +33,7 @@ items_after unfinished (OptToken verb code ∷ tokens) = Opt verb code ∷ items
 items_after unfinished (SubToken bytes ∷ tokens) = Sub bytes ∷ items_after unfinished tokens
 items_after unfinished (OtherToken code ∷ tokens) = Other code ∷ items_after unfinished tokens
 
--- The data since the last End, where `unfinished` came before these tokens.
+-- The data since the last End, if `unfinished` precedes these tokens.
 abbrev pub unfinished_after : List ℕ → List Token → List ℕ
 unfinished_after unfinished [] = unfinished
 unfinished_after unfinished (Data byte ∷ tokens) = unfinished_after (unfinished ++ byte ∷ []) tokens
@@ -49,14 +49,15 @@ IsWithin limit _ = Unit {0}
 abbrev pub record_tokens : List ℕ → List Token
 record_tokens bytes = map Data bytes ++ End ∷ []
 
--- The tokens that say this item, where no record is unfinished.
+-- The tokens that say this item, if no record is unfinished.
 abbrev pub item_tokens : WireItem → List Token
 item_tokens (Record bytes) = record_tokens bytes
 item_tokens (Opt verb code) = OptToken verb code ∷ []
 item_tokens (Sub bytes) = SubToken bytes ∷ []
 item_tokens (Other code) = OtherToken code ∷ []
 
--- An item that a stream can hand out: within its limit, and no other command's code where it is a command.
+-- An item that a stream can have: a record or a subnegotiation within its limit, an option, or
+-- another command by a code that is one.
 abbrev pub CanCome : ℕ → WireItem → Type 0
 CanCome limit (Record bytes) = length bytes ≤ limit
 CanCome limit (Opt verb code) = Unit {0}

@@ -1,5 +1,5 @@
--- A stream is read in one way, however it is cut into pieces, and goes wrong in one: laws about the definitions of Token,
--- Items, Reading and Held (our profile).
+-- A stream is read in one way, however it is cut into pieces, and goes wrong in one way: laws about
+-- the definitions of Token, Items, Reading and Held (our profile).
 use Rattle.std.specs.Prelude.{◌≡◌, ℕ, List, [], ◌∷◌, ◌++◌}
 use Rattle.std.specs.List.{AllByRecursion, flat_map}
 use Rattle.telnet_wire.specs.declared.wire.WireFault.{WireFault}
@@ -8,27 +8,27 @@ use Rattle.telnet_wire.specs.Items.{WireItem, items_after, unfinished_after, ite
 use Rattle.telnet_wire.specs.Reading.{Rest, nothing, Reads, IsRest, Delivers, GoesWrong}
 use Rattle.telnet_wire.specs.Held.{Held, TakesAll}
 
--- Bytes spell one list of tokens at most.
+-- Bytes spell at most one list of tokens.
 abbrev pub OneSpelling : Type 0
 OneSpelling = (tokens others : List Token) → AllByRecursion IsToken tokens → AllByRecursion IsToken others
     → text tokens ≡ text others → tokens ≡ others
 
--- Bytes are one list of tokens and one rest at most.
+-- Bytes are at most one list of tokens and one rest.
 abbrev pub OneReading : Type 0
 OneReading = (limit : ℕ) (from : Rest) (bytes : List ℕ) (tokens others : List Token) (to other : Rest)
     → Reads limit from bytes tokens to → IsRest limit to → Reads limit from bytes others other → IsRest limit other
     → (tokens ≡ others) × (to ≡ other)
 
--- So bytes say one list of items at most, and leave one rest.
+-- So bytes say at most one list of items, and leave one rest.
 abbrev pub OneDelivery : Type 0
 OneDelivery = (limit : ℕ) (from : Rest) (bytes : List ℕ) (items others : List WireItem) (to other : Rest)
     → Delivers limit from bytes items to → Delivers limit from bytes others other → (items ≡ others) × (to ≡ other)
 
--- Nothing is an allowed rest.
+-- A stream may go on from the empty rest.
 abbrev pub NothingIsRest : Type 0
 NothingIsRest = (limit : ℕ) → IsRest limit nothing
 
--- No bytes are no tokens, and the rest stays.
+-- No bytes spell no tokens, and leave the rest unchanged.
 abbrev pub ReadingNothing : Type 0
 ReadingNothing = (limit : ℕ) (rest : Rest) → Reads limit rest [] [] rest
 
@@ -38,30 +38,32 @@ ReadingsCompose = (limit : ℕ) (from mid to : Rest) (first second : List ℕ) (
     → Reads limit from first tokens mid → Reads limit mid second others to
     → Reads limit from (first ++ second) (tokens ++ others) to
 
--- The items of two lists of tokens, one after the other: the second goes on with the record that the first left.
+-- The items of two lists of tokens, one after the other: the second list goes on with the record
+-- that the first left unfinished.
 abbrev pub ItemsCompose : Type 0
 ItemsCompose = (unfinished : List ℕ) (tokens others : List Token)
     → items_after unfinished (tokens ++ others) ≡ items_after unfinished tokens ++ items_after (unfinished_after unfinished tokens) others
 
--- So however a text is cut into pieces, it says the items of the pieces and leaves the last one's rest.
+-- So a text says the items of its pieces, and leaves the rest of the last piece, however it is cut.
 abbrev pub DeliveriesCompose : Type 0
 DeliveriesCompose = (limit : ℕ) (from mid to : Rest) (first second : List ℕ) (items others : List WireItem)
     → Delivers limit from first items mid → Delivers limit mid second others to
     → Delivers limit from (first ++ second) (items ++ others) to
 
--- What was read of a stream is the beginning of its one reading, and the rest of it is read from there.
+-- If the front of a stream was read, the whole stream is read as that and then as the other bytes
+-- from the rest.
 abbrev pub ReadingGoesOn : Type 0
 ReadingGoesOn = (limit : ℕ) (from : Rest) (first more : List ℕ) (begun tokens : List Token) (mid to : Rest)
     → Reads limit from first begun mid → Reads limit from (first ++ more) tokens to → IsRest limit to
     → (others : List Token) × (tokens ≡ begun ++ others) × Reads limit mid more others to
 
--- So what came of a stream said the first of its items, and the rest of it says the others from there.
+-- So the front of a stream says the first of its items, and the other bytes say the others.
 abbrev pub DeliveryGoesOn : Type 0
 DeliveryGoesOn = (limit : ℕ) (from mid to : Rest) (first more : List ℕ) (begun items : List WireItem)
     → Delivers limit from first begun mid → Delivers limit from (first ++ more) items to
     → (others : List WireItem) × (items ≡ begun ++ others) × Delivers limit mid more others to
 
--- Bytes that went wrong aren't read, however they go on.
+-- Bytes that went wrong aren't read, whatever follows them.
 abbrev pub WrongIsFinal : Type 0
 WrongIsFinal = (limit : ℕ) (from : Rest) (bytes more : List ℕ) (fault : WireFault) (tokens : List Token) (to : Rest)
     → GoesWrong limit from bytes fault → Reads limit from (bytes ++ more) tokens to → IsRest limit to → ⊥
@@ -76,18 +78,18 @@ abbrev pub WrongPiece : Type 0
 WrongPiece = (limit : ℕ) (from mid : Rest) (first second : List ℕ) (tokens : List Token) (fault : WireFault)
     → Reads limit from first tokens mid → GoesWrong limit mid second fault → GoesWrong limit from (first ++ second) fault
 
--- Bytes that a decoder took one by one were read, and what it handed out are their items.
+-- Bytes that a decoder took one by one are read without fault, and what it lent are their items.
 abbrev pub TakenIsRead : Type 0
 TakenIsRead = (old new : Held) (bytes : List ℕ) (items : List WireItem)
     → IsRest old.limit old.rest → TakesAll old bytes items new
     → Delivers old.limit old.rest bytes items new.rest
 
--- What is written of an item is read as that item, and leaves nothing.
+-- The bytes that are written for an item are read as that item, and leave no rest.
 abbrev pub ItemIsRead : Type 0
 ItemIsRead = (limit : ℕ) (item : WireItem) → CanCome limit item
     → Delivers limit nothing (text (item_tokens item)) (item ∷ []) nothing
 
--- So what is written of items, one after another, is read as those items.
+-- So the bytes that are written for items, one after another, are read as those items.
 abbrev pub ItemsAreRead : Type 0
 ItemsAreRead = (limit : ℕ) (items : List WireItem) → AllByRecursion (CanCome limit) items
     → Delivers limit nothing (text (flat_map item_tokens items)) items nothing

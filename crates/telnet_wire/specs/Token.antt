@@ -1,11 +1,12 @@
--- Telnet tokens, the bytes that spell them, and what may have come of one that isn't complete.
+-- Telnet tokens, the bytes that spell them, and the bytes of a token that isn't complete.
 use Rattle.std.specs.Prelude.{◌≡◌, ◌≢◌, ℕ, ◌<◌, ◌≤◌, ◌==◌, if◌then◌else◌, List, [], ◌∷◌, ◌++◌, length}
 use Rattle.std.specs.List.{flat_map}
 use Rattle.telnet_wire.specs.declared.wire.Verb.{Verb}
 use Rattle.telnet_wire.specs.declared.wire.Verb.TheVariants.{Will, Wont, Do, Dont}
 
--- What a stream is made of (RFC 854, "TELNET Command Structure"): a byte of data, the end of a record (RFC 885), the
--- negotiation of an option, a subnegotiation with its bytes (both RFC 855), or any other command by its code.
+-- What a stream is made of (RFC 854, "TELNET Command Structure"): a byte of data, the end of a
+-- record (RFC 885), the negotiation of an option, a subnegotiation with its bytes (both RFC 855),
+-- or any other command by its code.
 pub data Token : Type 0 where
   Data : ℕ → Token
   End : Token
@@ -13,8 +14,8 @@ pub data Token : Type 0 where
   Sub : List ℕ → Token
   Other : ℕ → Token
 
--- A byte of data stands for itself, but IAC (255) is doubled (RFC 854, "TELNET Command Structure"; inside a
--- subnegotiation RFC 855).
+-- A byte of data is sent as itself, but IAC (255) is doubled (RFC 854, "TELNET Command Structure";
+-- inside a subnegotiation RFC 855).
 abbrev pub escaped : ℕ → List ℕ
 escaped byte = if byte == 255 then 255 ∷ 255 ∷ [] else byte ∷ []
 
@@ -25,12 +26,13 @@ code_of Wont = 252
 code_of Do = 253
 code_of Dont = 254
 
--- A subnegotiation without its end: IAC SB and the escaped bytes, the option's code first (RFC 855 on subnegotiation).
+-- A subnegotiation without its end: IAC SB and the escaped bytes, the option's code first (RFC 855
+-- on subnegotiation).
 abbrev pub opened : List ℕ → List ℕ
 opened bytes = 255 ∷ 250 ∷ flat_map escaped bytes
 
--- IAC EOR ends a record (RFC 885), IAC SE a subnegotiation (RFC 855). An option's negotiation is IAC, its verb and its
--- code; any other command is IAC and its code (RFC 854).
+-- IAC EOR ends a record (RFC 885), IAC SE a subnegotiation (RFC 855). An option's negotiation is
+-- IAC, its verb and its code; any other command is IAC and its code (RFC 854).
 abbrev pub spelling : Token → List ℕ
 spelling (Data byte) = escaped byte
 spelling End = 255 ∷ 239 ∷ []
@@ -42,12 +44,13 @@ spelling (Other code) = 255 ∷ code ∷ []
 abbrev pub text : List Token → List ℕ
 text tokens = flat_map spelling tokens
 
--- A byte that is a command by itself: any but EOR (239), SB (250), the four verbs and IAC (RFC 854, "TELNET Command
--- Structure"). Our profile takes the codes that RFC 854 doesn't list too, and SE (240) where no subnegotiation is open.
+-- A byte that is a command by itself: any but EOR (239), SB (250), the four verbs and IAC (RFC 854,
+-- "TELNET Command Structure"). Our profile also takes the codes that RFC 854 doesn't list, and SE
+-- (240) if no subnegotiation is open.
 abbrev pub IsOtherCode : ℕ → Type 0
 IsOtherCode code = (code ≢ 239) × (code < 250)
 
--- Of `Other` only these codes are tokens, so that no bytes spell two.
+-- `Other` is a token only with these codes, so that no bytes spell two tokens.
 abbrev pub IsToken : Token → Type 0
 IsToken (Other code) = IsOtherCode code
 IsToken _ = Unit {0}
@@ -57,7 +60,8 @@ abbrev pub IsShort : Token → Type 0
 IsShort (Sub bytes) = length bytes ≤ 256
 IsShort _ = Unit {0}
 
--- What may have come of a token that isn't complete: a proper prefix of one within its limit, or nothing.
+-- The bytes of a token that isn't complete: a proper prefix of a token within its limit, or
+-- nothing.
 pub record IsPartial (bytes : List ℕ) : Type 0 where
   pub token : Token
   pub missing : List ℕ

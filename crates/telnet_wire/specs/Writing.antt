@@ -10,15 +10,15 @@ abbrev pub joined : List (Bor (List ℕ)) → List ℕ
 joined parts = flat_map (λ part. part.now) parts
 
 module _ {E : Type 0} (old : Vec ℕ Global) (bytes : List ℕ) (result : Result (Unit {0}) E) (new : Vec ℕ Global) where
-  -- The bytes are added behind what stood there. The call is refused only where there was no room for them, and the
-  -- vector then holds what it held. Its capacity never shrinks.
+  -- The bytes are added at the vector's end. The call is refused only if there was no room for
+  -- them; the vector then holds what it held. Its capacity never shrinks.
   pub record Appends : Type 0 where
     pub appended : OnOk result (new.items ≡ old.items ++ bytes)
     pub unchanged : OnErr result (new.items ≡ old.items)
     pub room : vec_len old + length bytes ≤ vec_capacity old → IsOk result
     pub capacity : vec_capacity old ≤ vec_capacity new
 
-  -- The same, but where the call is refused some of the bytes may stay behind what stood there.
+  -- The same, but if the call is refused some of the bytes may stay at the vector's end.
   pub record Tries : Type 0 where
     pub appended : OnOk result (new.items ≡ old.items ++ bytes)
     pub kept : take (vec_len old) new.items ≡ old.items

@@ -1,6 +1,7 @@
-//! The bytes with a meaning of their own behind IAC (RFC 854, "TELNET Command Structure"; EOR: RFC 885).
+//! The bytes that have a meaning of their own after IAC (RFC 854, "TELNET Command Structure"; EOR:
+//! RFC 885).
 
-/// Interpret as command.
+/// Begins a command ("interpret as command").
 pub const IAC: u8 = 255;
 
 pub const DONT: u8 = 254;

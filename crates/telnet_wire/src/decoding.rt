@@ -16,12 +16,12 @@ use std::marker::Model;
 /// The bytes that a subnegotiation may have (our profile).
 const SUB_LIMIT: usize = 256;
 
-/// Where in a token the stream stands.
+/// Where in a token the stream is.
 #[derive(Clone, Copy, Debug)]
 enum DecoderState {
-    /// Behind a whole token that is no item, or before the first byte.
+    /// After a whole token that is no item, or before the first byte.
     Between,
-    /// Behind a whole token that is an item. A record stays in its buffer until the next byte.
+    /// After a whole token that is an item. A record stays in its buffer until the next byte.
     Done(Completed),
     AfterIac,
     AfterVerb(Verb),
@@ -39,7 +39,7 @@ enum Completed {
     Other(u8),
 }
 
-// A byte where a token begins.
+// A byte at which a token may begin.
 fn between(
     byte: u8,
     record_buffer: &mut Buffer,
@@ -127,7 +127,7 @@ fn after_iac_in_sub(
     }
 }
 
-// The place after the byte.
+// The state after the byte.
 fn next(
     state: DecoderState,
     byte: u8,
@@ -167,8 +167,9 @@ impl DecoderState {
 
 /// Takes a stream byte by byte, and lends the items that it completes.
 ///
-/// A byte costs the same however long the record is, and takes no memory: the room for a record of `limit` bytes and a
-/// subnegotiation of 256 is made by `new`. Where the stream is cut into pieces makes no difference.
+/// A byte costs the same however long the record is, and takes no memory: `new` makes the room for
+/// a record of `limit` bytes and a subnegotiation of 256. It makes no difference how the stream is
+/// cut into pieces.
 #[derive(Drop, Debug)]
 pub struct Decoder {
     state: DecoderState,
@@ -185,9 +186,11 @@ impl Model for Decoder {
 }
 
 impl Decoder {
-    /// A decoder before the first byte, for records of at most `limit` bytes of data, each 255 counted once.
+    /// A decoder before the first byte, for records of at most `limit` bytes of data, each 255
+    /// counted once.
     ///
-    /// It makes all the room that the decoder will need, and answers [`WireFault::Memory`] where that can't be had.
+    /// It makes all the room that the decoder will need, and answers [`WireFault::Memory`] if the
+    /// allocator refuses that room.
     pub fn new(alloc: Global, limit: usize) -> Result<Decoder, WireFault>
         ensures made { IfOk result (λ d. d ≡ fresh limit) }
         ensures memory { IfErr result (λ fault. fault ≡ Memory) }
@@ -201,16 +204,18 @@ impl Decoder {
         })
     }
 
-    /// Takes the next byte, and says whether it completed an item, which [`Decoder::item`] then lends.
+    /// Takes the next byte, and says whether it completed an item, which [`Decoder::item`] then
+    /// lends.
     ///
-    /// It is refused exactly where the stream goes wrong: by [`WireFault::TooLong`] at the byte that completes a data
-    /// byte over the limit, or byte 257 of a subnegotiation, and by [`WireFault::BadSub`] at a byte behind IAC inside a
-    /// subnegotiation that is neither IAC nor SE. From then on the decoder holds nothing, and every push is refused by
-    /// [`WireFault::Failed`] until [`Decoder::reset`]. It takes no memory.
+    /// It refuses a byte only if the stream goes wrong there: by [`WireFault::TooLong`] the byte
+    /// that completes a data byte over the limit, or byte 257 of a subnegotiation; by
+    /// [`WireFault::BadSub`] a byte after IAC inside a subnegotiation that is neither IAC nor SE.
+    /// From then on the decoder holds nothing, and refuses every byte by [`WireFault::Failed`]
+    /// until [`Decoder::reset`]. It takes no memory.
     pub fn push(&mut self, byte: u8) -> Result<Step, WireFault>
         ensures taken { IfOk result (λ step. Takes self.old byte self.new × (step ≡ step_of self.new.ready)) }
         ensures refused { IfErr result (λ fault. Refuses self.old byte fault × (self.new ≡ broken self.old.limit)) }
-        // A fault comes wherever the stream goes wrong.
+        // If the stream goes wrong, the byte is refused.
         ensures exact { (fault : WireFault) → Refuses self.old byte fault → result ≡ Err fault }
     {
         match next(

@@ -1,12 +1,13 @@
-//! Laws of reading, for callers that feed a stream in pieces: each is the contract of a function that does nothing. Proofs of
-//! other crates use them; no program calls them, and the root doesn't export them.
+//! Laws of reading, for callers that feed a stream in pieces: each is the contract of a function
+//! that does nothing. Proofs of other crates use them; no program calls them, and the root doesn't
+//! export them.
 ghost use Rattle.telnet_wire.specs.Laws.{DeliveriesCompose, DeliveryGoesOn, ItemIsRead, ItemsAreRead, ItemsCompose, NothingIsRest, OneDelivery, OneFault, OneReading, OneSpelling, ReadingGoesOn, ReadingNothing, ReadingsCompose, TakenIsRead, WrongIsFinal, WrongPiece};
 
 /// Law: the laws of reading, for proofs about callers that feed a stream in pieces.
 ///
-/// Bytes spell one list of tokens at most and are read in one way, whole or in any pieces; what
-/// went wrong stays so, at one byte and by one fault; what a decoder took was read, and what was
-/// written is read as that.
+/// Bytes spell at most one list of tokens, and are read in one way, whole or in any pieces. A
+/// stream that went wrong stays wrong, at one byte and by one fault. The bytes that a decoder took
+/// are read without fault, and an item that was written is read as itself.
 pub fn one_reading()
     ensures spelling { OneSpelling }
     ensures reading { OneReading }

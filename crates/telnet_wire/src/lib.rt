@@ -1,8 +1,9 @@
-//! Telnet's wire (RFC 854, 855 and 885): bytes as records, option negotiations and subnegotiations, and back.
+//! Telnet's wire (RFC 854, 855 and 885): bytes as records, option negotiations and subnegotiations,
+//! and back.
 //!
-//! A [`Decoder`] takes a stream byte by byte, cut anywhere, and lends each item that a byte completes. Its room is made
-//! once, by `new`: from then on none of its calls takes memory. The `put_` calls add an item's bytes to a vector, which may
-//! have to grow.
+//! A [`Decoder`] takes a stream byte by byte, cut anywhere, and lends each item that a byte
+//! completes. `new` makes its room: none of its other calls takes memory. The `put_` calls add an
+//! item's bytes to a vector, which may have to grow.
 //!
 //! ```text
 //! let mut decoder = Decoder::new(alloc, 16_384)?;
@@ -18,9 +19,10 @@
 //! }
 //! ```
 //!
-//! What a stream says is defined in `specs/`: `Token` (the tokens and their spellings), `Items` (what a list of tokens
-//! says), `Reading` (how bytes are read, and where they go wrong), `Held` (what a byte makes of a decoder). [`laws::one_reading`]
-//! has the laws that a caller needs who feeds a stream in pieces.
+//! `specs/` defines what a stream says: `Token` (the tokens and their spellings), `Items` (what a
+//! list of tokens says), `Reading` (how bytes are read, and where they go wrong), `Held` (what a
+//! byte does to a decoder). [`laws::one_reading`] has the laws for a caller that feeds a stream in
+//! pieces.
 #![tactic(auto)]
 
 mod buffer;

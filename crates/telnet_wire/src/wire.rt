@@ -8,10 +8,12 @@ use std::alloc::AllocError;
 use std::error::Error;
 use std::fmt;
 
-/// Want of memory: a growth that the allocator refused. A `put_` call that answers it has left the bytes as they were.
+/// Want of memory: a growth that the allocator refused. A `put_` call that answers it leaves the
+/// bytes unchanged.
 pub type Memory = AllocError;
 
-/// What the negotiation of an option says (RFC 854, "TELNET Command Structure"; RFC 855 on options).
+/// What the negotiation of an option says (RFC 854, "TELNET Command Structure"; RFC 855 on
+/// options).
 #[derive(Clone, Copy, Debug, PartialEq, Eq, Hash)]
 pub enum Verb {
     /// The sender offers to use the option, or agrees to: byte 251.
@@ -25,7 +27,7 @@ pub enum Verb {
 }
 
 impl Verb {
-    /// The byte that stands for it behind IAC, from 251 to 254.
+    /// The byte after IAC that means it, 251 to 254.
     pub fn code(self) -> u8
         ensures { result ≡ code_of self }
     {
@@ -41,22 +43,23 @@ impl Verb {
 /// An item that the stream delivers, lent from the decoder's buffers until the next push.
 #[derive(Clone, Copy, Debug, PartialEq, Eq)]
 pub enum Item<'a> {
-    /// A record: all data since the end of the record before, each 255 once (RFC 885).
+    /// A record: all data since the end of the previous record, each 255 once (RFC 885).
     Record(&'a [u8]),
     /// The negotiation of the option `code` (RFC 855).
     Opt {
-        /// What is said of the option.
+        /// What the sender says of the option.
         verb: Verb,
         /// The option's number.
         code: u8,
     },
-    /// A subnegotiation: the bytes between IAC SB and IAC SE, the option's number first, each 255 once (RFC 855).
+    /// A subnegotiation: the bytes between IAC SB and IAC SE, the option's number first, each 255
+    /// once (RFC 855).
     Sub(&'a [u8]),
-    /// Any other command, by the byte behind IAC: 0 to 249 but 239. Our profile gives it no meaning.
+    /// Any other command, by the byte after IAC: 0 to 249 but 239. Our profile gives it no meaning.
     Other(u8),
 }
 
-/// What a byte made of the stream.
+/// What a byte did to the stream.
 #[derive(Clone, Copy, Debug, PartialEq, Eq, Hash)]
 pub enum Step {
     /// No item is complete.
@@ -65,15 +68,17 @@ pub enum Step {
     Ready,
 }
 
-/// Why a byte was refused, or a decoder not made.
+/// Why a byte was refused, or why a decoder wasn't made.
 #[derive(Clone, Copy, Debug, PartialEq, Eq, Hash)]
 pub enum WireFault {
-    /// A record has a byte of data more than the decoder's limit, or a subnegotiation more than 256 bytes. It comes at
-    /// the byte that completes the one too many: for a data byte 255 that is the second 255.
+    /// A record has more bytes of data than the decoder's limit, or a subnegotiation more than 256
+    /// bytes. The byte that completes the first of these over the limit is refused: for a data byte
+    /// 255 that is the second 255.
     TooLong,
-    /// Inside a subnegotiation, IAC is followed by a byte other than IAC and SE. It comes at that byte.
+    /// Inside a subnegotiation, a byte other than IAC and SE follows IAC. That byte is refused.
     BadSub,
-    /// Memory could not be had. `Decoder::new` alone answers it; the [`Memory`] of a `put_` call becomes it by `?`.
+    /// The allocator refused memory. Only `Decoder::new` answers it; `?` makes it from the
+    /// [`Memory`] of a `put_` call.
     Memory,
     /// An earlier byte was refused, and there was no `reset` since.
     Failed,

@@ -1,7 +1,8 @@
 //! Items as bytes, added at the end of a vector.
 //!
-//! Each call adds exactly the item's spelling behind what stands there. It succeeds wherever the vector has room for it.
-//! Where it answers want of memory, the vector holds what it held before. Its capacity never shrinks.
+//! Each call adds exactly the item's spelling at the vector's end. It succeeds if the vector has
+//! room for it. If it answers want of memory, the vector holds what it held before. Its capacity
+//! never shrinks.
 ghost use Rattle.std.specs.Prelude.{◌≡◌, ◌≤◌, ◌∷◌, ◌++◌, [], take, vec_len, OnOk, OnErr};
 ghost use Rattle.std.specs.List.{flat_map};
 ghost use Rattle.std.specs.Vec.{vec_capacity};
@@ -14,7 +15,8 @@ use crate::wire::{Memory, Verb};
 
 /// Adds a record: its data, in which each 255 is doubled, and IAC EOR (RFC 885).
 ///
-/// Takes at most two bytes of room for each byte of data, and two more. A vector that can't grow keeps the bytes that it had.
+/// It takes at most two bytes of room for each byte of data, and two more. A vector that can't grow
+/// keeps the bytes that it had.
 pub fn put_record(out: &mut Vec<u8>, bytes: &[u8]) -> Result<(), Memory>
     ensures { Appends out.old (text (record_tokens bytes.now)) result out.new }
 {
@@ -35,17 +37,18 @@ pub fn put_option(out: &mut Vec<u8>, verb: Verb, code: u8) -> Result<(), Memory>
 
 /// Adds a subnegotiation: IAC SB, the bytes, in which each 255 is doubled, and IAC SE (RFC 855).
 ///
-/// The bytes begin with the option's code. A decoder of this crate refuses more than 256 of them; here any number is
-/// spelt. A vector that can't grow keeps the bytes that it had.
+/// The bytes begin with the option's code. A decoder of this crate refuses more than 256 of them;
+/// this call writes any number. A vector that can't grow keeps the bytes that it had.
 pub fn put_sub(out: &mut Vec<u8>, bytes: &[u8]) -> Result<(), Memory>
     ensures { Appends out.old (spelling (Sub bytes.now)) result out.new }
 {
     put_sub_parts(out, &[bytes])
 }
 
-/// Adds a subnegotiation whose bytes lie in several parts, as [`put_sub`] of all of them, one behind another.
+/// Adds a subnegotiation whose bytes are in several parts, as [`put_sub`] does of the parts' bytes
+/// in order.
 ///
-/// A vector that can't grow keeps the bytes that it had, and no others, also of the parts that had room.
+/// A vector that can't grow keeps the bytes that it had, and none of the parts.
 pub fn put_sub_parts(out: &mut Vec<u8>, parts: &[&[u8]]) -> Result<(), Memory>
     ensures { Appends out.old (spelling (Sub (joined parts.now))) result out.new }
 {
@@ -54,7 +57,7 @@ pub fn put_sub_parts(out: &mut Vec<u8>, parts: &[&[u8]]) -> Result<(), Memory>
     undo(out, start, written)
 }
 
-// Takes back what was written since `start`, if the writing failed.
+// Removes what was written since `start`, if the writing failed.
 fn undo(out: &mut Vec<u8>, start: usize, written: Result<(), Memory>) -> Result<(), Memory>
     requires { start ≤ vec_len out.old }
     ensures same { result ≡ written }

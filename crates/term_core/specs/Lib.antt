@@ -9,4 +9,5 @@ pub mod Presses
 pub mod Feeds
 pub mod Over
 pub mod ScreenText
+pub mod PhaseText
 pub mod Laws

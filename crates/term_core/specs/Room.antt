@@ -4,6 +4,7 @@ use Rattle.std.specs.Prelude.{ℕ, ◌+◌, ◌*◌, ◌≤◌, vec_len, Vec}
 use Rattle.std.specs.Vec.{vec_capacity}
 use Rattle.std.specs.declared.alloc.Global.{Global}
 use Rattle.codes3270.specs.Size.{cell_count}
+use Rattle.tn3270e_msg.specs.Header.{header_length}
 
 -- the most bytes that a read gets: an AID, a cursor, and at most three bytes a cell
 abbrev pub longest_reading : ℕ
@@ -11,7 +12,7 @@ longest_reading = 3 + 3 * cell_count
 
 -- the most bytes of a record that a terminal sends: a header and those
 abbrev pub record_room : ℕ
-record_room = 5 + longest_reading
+record_room = header_length + longest_reading
 
 -- a response: six bytes, each doubled, and the record's end
 abbrev pub response_room : ℕ

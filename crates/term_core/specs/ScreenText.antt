@@ -70,6 +70,6 @@ screen_text station = lines station.screen.cells rows ++ status_line station.scr
 abbrev pub let_out : ℕ → ℕ → List ℕ
 let_out waiting glyph = if glyph == blank then [] else replicate waiting blank ++ glyph ∷ []
 
--- how many blanks wait behind it
+-- the number of blanks that wait after it
 abbrev pub waiting_behind : ℕ → ℕ → ℕ
 waiting_behind waiting glyph = if glyph == blank then waiting + 1 else 0

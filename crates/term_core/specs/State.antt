@@ -40,7 +40,7 @@ pub record Device : Type 0 where
 abbrev pub waiting : Screen → Station
 waiting screen = record { screen = screen; keyboard = fresh; number = 0; took_write = false }
 
--- as it begins, and as it begins anew
+-- as it begins, also after a restart
 abbrev pub new_terminal : Terminal
 new_terminal = record { link = Detached; station = waiting (blank_screen cell_count); out = [] }
 

@@ -1,11 +1,12 @@
 //! How a terminal that is attached takes bytes.
-ghost use Rattle.std.specs.Prelude.{◌≡◌, ◌≤◌, ◌++◌, None};
+ghost use Rattle.std.specs.Prelude.{◌≡◌, ◌≤◌, ◌++◌, false, length, take, None};
 ghost use Rattle.std.specs.Vec.{vec_capacity};
 ghost use Rattle.telnet_wire.specs.Items.{item_of, sent_bytes};
 ghost use Rattle.tn3270e_msg.specs.Talk.{items_sent, IsOwnedMessage, closing};
 ghost use Rattle.term_core.specs.Room.{HasRoom};
-ghost use Rattle.term_core.specs.Bytes.{TakesByte};
-ghost use Rattle.term_core.specs.Feeds.{Feeds};
+ghost use Rattle.tn3270e_msg.specs.TermTable.{is_agreed};
+ghost use Rattle.term_core.specs.Bytes.{TakesByte, TakesBytes};
+ghost use Rattle.term_core.specs.Feeds.{StopsFor};
 ghost use Rattle.term_core.specs.Over.{ItemTaken, IsRunning, IsLeft, terminal_of, cause_of};
 
 use crate::room::REPLY_ROOM;
@@ -22,7 +23,9 @@ pub(crate) fn feed_attached(
     bytes: &[u8],
 ) -> Fed
     requires { IsRunning decoder.old }
-    ensures fed { Feeds (vec_capacity out.new) (terminal_of decoder.old talk.old None station.old out.old) bytes.now result (terminal_of decoder.new talk.new (cause_of result.stop) station.new out.new) }
+    ensures few { result.taken ≤ length bytes.now }
+    ensures takes { TakesBytes (terminal_of decoder.old talk.old None station.old out.old) (take result.taken bytes.now) (terminal_of decoder.new talk.new (cause_of result.stop) station.new out.new) }
+    ensures stops { StopsFor (vec_capacity out.new) result.stop (terminal_of decoder.old talk.old None station.old out.old) bytes.now result.taken (terminal_of decoder.new talk.new (cause_of result.stop) station.new out.new) }
     ensures left { IsLeft (cause_of result.stop) decoder.new }
     ensures capacity { vec_capacity out.old ≤ vec_capacity out.new }
 {
@@ -77,6 +80,7 @@ fn take_item(
 ) -> Option<Cause>
     requires { HasRoom out.old }
     ensures taken { ItemTaken talk.old station.old (item_of item.now) out.old out.new result talk.new station.new }
+    ensures before { is_agreed talk.old.talk.state ≡ false → station.new ≡ station.old }
     ensures capacity { vec_capacity out.old ≤ vec_capacity out.new }
 {
     match item {

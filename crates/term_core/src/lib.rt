@@ -1,5 +1,5 @@
 //! The terminal whole: Telnet bytes and keystrokes come in, Telnet bytes and a printed screen go out. It owns no connection
-//! and waits for nothing: who owns one feeds it what comes, and sends what it has to send.
+//! and waits for nothing: its caller feeds it bytes, and sends what it has to send.
 //!
 //! ```rust
 //! let mut terminal = Terminal::new(alloc)?;
@@ -22,7 +22,7 @@
 //! println!(rt; "{}", terminal.screen_text(alloc)?)?;
 //! ```
 //!
-//! The repository's `trials3270` holds whole dialogues with a terminal, byte for byte, which stand in its `stdin`.
+//! The repository's `trials3270` has whole dialogues with a terminal, byte for byte, in its `data`.
 //! `specs/Feeds` says what feeding is, `Bytes`, `Items` and `Records` what bytes make of a terminal, `Presses` what keys do,
 //! `Says` what is sent, and `ScreenText` what is printed. [`laws::one_machine`] has the laws of these as its contract, and
 //! [`laws::room_suffices`] those of its output's room (`Room`).

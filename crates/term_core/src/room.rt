@@ -1,11 +1,12 @@
 //! How much room a terminal's output takes.
 use codes3270::CELL_COUNT;
+use tn3270e_msg::HEADER_LENGTH;
 
 /// The most bytes that a read gets: an AID, a cursor, and at most three bytes a cell.
 const LONGEST_READING: usize = 3 + 3 * CELL_COUNT;
 
 /// The most bytes of a record that a terminal sends: a header and those.
-pub(crate) const RECORD_ROOM: usize = 5 + LONGEST_READING;
+pub(crate) const RECORD_ROOM: usize = HEADER_LENGTH + LONGEST_READING;
 
 /// The most bytes that such a record takes on the wire: each byte doubled, and its end.
 pub(crate) const DATA_ROOM: usize = 2 * RECORD_ROOM + 2;

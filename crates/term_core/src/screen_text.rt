@@ -38,7 +38,7 @@ fn put_glyph(text: &mut String, waiting: u16, glyph: char) -> Result<(), Memory>
     text.push(glyph)
 }
 
-/// How many blanks wait behind a character of a row, if so many wait before it.
+/// The number of blanks that wait after a character of a row, if `waiting` wait before it.
 fn waiting_behind(waiting: u16, glyph: char) -> u16
     requires { waiting < columns }
     ensures count { result ≡ waiting_behind waiting glyph }
@@ -66,6 +66,7 @@ fn put_line(text: &mut String, glyphs: &mut Glyphs<'_>) -> Result<(), Memory>
 fn put_lines(text: &mut String, screen: &Screen) -> Result<(), Memory>
     ensures { OnOk result (string_bytes text.new ≡ string_bytes text.old ++ lines screen.now.cells rows) }
 {
+    // For the contract: the cursor is on the screen.
     let _cursor = screen.cursor();
     let mut glyphs = screen.glyphs();
     for _ in 0..ROWS {

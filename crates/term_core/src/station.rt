@@ -273,6 +273,7 @@ fn readings_fit(screen: &Screen)
     ensures buffer { length (read_buffer screen.now) ≤ longest_reading }
 {
     fields_both_ways();
+    // For the contract: the cursor is on the screen.
     let _on_the_screen = screen.cursor();
 }
 

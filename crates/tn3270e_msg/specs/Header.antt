@@ -40,37 +40,42 @@ positive = 0
 abbrev pub negative : ℕ
 negative = 1
 
--- data and responses have these flags alone, other types any
+-- data and responses may have only these flags, other types any
 abbrev pub IsFlag : DataType → ℕ → Type 0
 IsFlag Data3270 flag = flag ≤ always_response
 IsFlag Response flag = flag ≤ negative
 IsFlag _ flag = Unit {0}
 
--- the headers there are
+-- a header that can be sent
 pub record IsHeader (header : Header) : Type 0 where
   pub kind : IsDataType header.kind
   pub flag : IsFlag header.kind header.flag
 
--- the five bytes of a header: DATA-TYPE, REQUEST-FLAG, RESPONSE-FLAG, and SEQ-NUMBER with its high byte first
+-- the five bytes of a header: DATA-TYPE, REQUEST-FLAG, RESPONSE-FLAG, and SEQ-NUMBER with its high
+-- byte first
 abbrev pub spelling : Header → List ℕ
 spelling header = type_code header.kind ∷ header.request ∷ header.flag ∷ to_be_bytes w16 header.seq
 
--- these bytes begin with this header, and this comes behind it
+-- a header has five bytes
+abbrev pub header_length : ℕ
+header_length = 5
+
+-- these bytes are this header and then this body
 pub record Begins (bytes : List ℕ) (header : Header) (body : List ℕ) : Type 0 where
   pub is_header : IsHeader header
   pub number : header.seq < 2 ^ 16
   pub spelt : bytes ≡ spelling header ++ body
 
--- they begin with none: they are too few, or the flag is none of their type
+-- they begin with no header: there are too few, or their type has no such flag
 abbrev pub HasFault : List ℕ → HeadFault → Type 0
-HasFault bytes Short = length bytes < 5
+HasFault bytes Short = length bytes < header_length
 HasFault bytes BadFlag =
     (header : Header) × (body : List ℕ) × (bytes ≡ spelling header ++ body) × IsDataType header.kind × ¬ IsFlag header.kind header.flag
 
--- the number of the record after the one with this number (our profile: 0 to 32767, round)
+-- the number of the record after the one with this number (our profile: 0 to 32767, then 0 again)
 abbrev pub next_number : ℕ → ℕ
 next_number seq = if nat_lt seq 32767 then seq + 1 else 0
 
--- the data bytes that a record may have, its header among them (our profile)
+-- the data bytes that a record may have, its header included (our profile)
 abbrev pub record_limit : ℕ
 record_limit = 16384

@@ -1,4 +1,5 @@
--- What the code heard, as the tables name it (RFC 1647, section 7); only private contracts and proofs need it.
+-- What an item said to the code, by the tables' names (RFC 1647, section 7). Only private contracts
+-- and proofs cite it.
 use Rattle.tn3270e_msg.specs.declared.hearing.Heard.{Heard}
 use Rattle.tn3270e_msg.specs.declared.hearing.Heard.TheVariants as heard
 use Rattle.tn3270e_msg.specs.Lent.{message_of}

@@ -1,7 +1,9 @@
--- The host's talk (RFC 1647, section 7; the choices among its replies are our profile): one equation a line of its table.
-use Rattle.std.specs.Prelude.{◌≡◌, ℕ, List, Option, None, Some, Result, Ok, Err}
-use Rattle.telnet_wire.specs.declared.wire.Verb.TheVariants.{Wont as WontVerb, Dont as DontVerb}
+-- The host's talk (RFC 1647, section 7; the choices among its replies are our profile): one
+-- equation a line of its table.
+use Rattle.std.specs.Prelude.{◌≡◌, ℕ, Bool, true, false, List, Option, None, Some, Result, Ok, Err}
+use Rattle.telnet_wire.specs.declared.wire.Verb.TheVariants.{Wont as WontVerb, Do as DoVerb, Dont as DontVerb}
 use Rattle.telnet_wire.specs.Items.{WireItem}
+use Rattle.telnet_wire.specs.Token.{Token, Opt as OptToken}
 use Rattle.tn3270e_msg.specs.declared.device.Device.{Device}
 use Rattle.tn3270e_msg.specs.declared.functions.FunctionsOffer.TheVariants.{ResponsesAlone, ResponsesAndMore, NoResponses}
 use Rattle.tn3270e_msg.specs.declared.host_talk.HostState.{HostState}
@@ -19,8 +21,8 @@ use Rattle.tn3270e_msg.specs.Lu.{lu_of}
 use Rattle.tn3270e_msg.specs.Message.{Name, Connect, Associate}
 use Rattle.tn3270e_msg.specs.Talk.{Comes, Will, Wont, Do, Dont, OtherWill, OtherDo, RequestsType, RequestsFunctions, IsFunctions, NoTalk, Hears, Talk, start_at, follow}
 
--- a device request: of a type that isn't served, with ASSOCIATE, or to be asked of the pool
--- with CONNECT; the pool has no LU whose name isn't one
+-- A device request: the host rejects a type that it doesn't serve, and ASSOCIATE. With CONNECT or
+-- no name it asks the pool; no pool has an LU with a name that can't be one.
 abbrev pub named_transition : Device → Option (List ℕ) → Transition HostState
 named_transition device None = Refuses Asked (TypeReject (record { 0 = 3 }))
 named_transition device (Some lu) = Goes (Asking device) (AskPool (Some lu))
@@ -85,7 +87,31 @@ device_granted (Countered device lu) = Some device
 device_granted (Agreed device lu) = Some device
 device_granted _ = None
 
--- the pool is to answer
+-- both ends agreed
+abbrev pub is_agreed : HostState → Bool
+is_agreed (Agreed device lu) = true
+is_agreed Offered = false
+is_agreed Asked = false
+is_agreed (Asking device) = false
+is_agreed (Named device lu) = false
+is_agreed (Countered device lu) = false
+is_agreed (Closed cause) = false
+
+-- the LU on which they agreed
+abbrev pub agreed_lu : HostState → Option (List ℕ)
+agreed_lu (Agreed device lu) = Some lu
+agreed_lu Offered = None
+agreed_lu Asked = None
+agreed_lu (Asking device) = None
+agreed_lu (Named device lu) = None
+agreed_lu (Countered device lu) = None
+agreed_lu (Closed cause) = None
+
+-- the host's first item: DO TN3270E
+abbrev pub offer_token : Token
+offer_token = OptToken DoVerb 40
+
+-- the talk awaits the pool's answer
 abbrev pub IsAsking : HostState → Type 0
 IsAsking (Asking device) = Unit {0}
 IsAsking _ = ⊥

@@ -1,4 +1,5 @@
--- Bytes are read in one way: what follows of RFC 1647, sections 3, 7 and 8.1, as the other modules have them.
+-- Bytes are read in one way: laws about headers, messages and talks (RFC 1647, sections 3, 7 and
+-- 8.1), as the other modules define them.
 use Rattle.std.specs.Prelude.{◌≡◌, ℕ, List, Some, IsTrue}
 use Rattle.telnet_wire.specs.Items.{WireItem}
 use Rattle.tn3270e_msg.specs.declared.header.HeadFault.{HeadFault}
@@ -9,7 +10,7 @@ use Rattle.tn3270e_msg.specs.Lu.{is_lu, lu_of}
 use Rattle.tn3270e_msg.specs.Message.{Message, Says, HasFault as SubHasFault}
 use Rattle.tn3270e_msg.specs.Talk.{Comes, Hears}
 
--- bytes begin with one header at most
+-- bytes begin with at most one header
 abbrev pub OneHeader : Type 0
 OneHeader = (bytes : List ℕ) (header other : Header) (body rest : List ℕ) → Begins bytes header body → Begins bytes other rest → (header ≡ other) × (body ≡ rest)
 
@@ -17,11 +18,11 @@ OneHeader = (bytes : List ℕ) (header other : Header) (body rest : List ℕ) �
 abbrev pub FaultIsNoHeader : Type 0
 FaultIsNoHeader = (bytes : List ℕ) (fault : HeadFault) (header : Header) (body : List ℕ) → HeadHasFault bytes fault → Begins bytes header body → ⊥
 
--- they have one fault at most
+-- they have at most one fault
 abbrev pub OneHeadFault : Type 0
 OneHeadFault = (bytes : List ℕ) (fault other : HeadFault) → HeadHasFault bytes fault → HeadHasFault bytes other → fault ≡ other
 
--- bytes are one message at most
+-- bytes are at most one message
 abbrev pub OneMessage : Type 0
 OneMessage = (bytes : List ℕ) (message other : Message) → Says bytes message → Says bytes other → message ≡ other
 
@@ -29,7 +30,7 @@ OneMessage = (bytes : List ℕ) (message other : Message) → Says bytes message
 abbrev pub FaultIsNoMessage : Type 0
 FaultIsNoMessage = (bytes : List ℕ) (fault : SubFault) (message : Message) → SubHasFault bytes fault → Says bytes message → ⊥
 
--- they have one fault at most
+-- they have at most one fault
 abbrev pub OneSubFault : Type 0
 OneSubFault = (bytes : List ℕ) (fault other : SubFault) → SubHasFault bytes fault → SubHasFault bytes other → fault ≡ other
 

@@ -1,4 +1,5 @@
--- Messages as the code lends them: what they mean, and the payload that they lie in or are written as (RFC 1647, sections 3 and 7).
+-- Messages as the code lends them: what they mean, and the payload from which they are read or as
+-- which they are written (RFC 1647, sections 3 and 7).
 use Rattle.std.specs.Prelude.{◌≡◌, ℕ, List, [], ◌∷◌, ◌++◌, Option, None, Some}
 use Rattle.tn3270e_msg.specs.Functions.{functions_of}
 use Rattle.tn3270e_msg.specs.Message.{Message, Name, Connect, Associate, SendType, TypeRequest, TypeIs, TypeReject, FunRequest, FunIs, IsMessage, name_part}
@@ -21,7 +22,7 @@ message_of (lent.TypeReject reason) = TypeReject reason
 message_of (lent.FunRequest list) = FunRequest (functions_of list.now)
 message_of (lent.FunIs list) = FunIs (functions_of list.now)
 
--- its bytes: those of its words, and the very texts and list that are lent
+-- its payload: the codes, and the texts and lists that are lent
 abbrev pub payload : SubMessage → List ℕ
 payload lent.SendType = 0x28 ∷ 8 ∷ 2 ∷ []
 payload (lent.TypeRequest device name) = 0x28 ∷ 2 ∷ 7 ∷ (device.now ++ name_part (name_of name))
@@ -30,7 +31,7 @@ payload (lent.TypeReject reason) = 0x28 ∷ 2 ∷ 6 ∷ 5 ∷ reason.0 ∷ []
 payload (lent.FunRequest list) = 0x28 ∷ 3 ∷ 7 ∷ list.now
 payload (lent.FunIs list) = 0x28 ∷ 3 ∷ 4 ∷ list.now
 
--- this message lies in these bytes
+-- these bytes are a payload of this message
 pub record LiesIn (bytes : List ℕ) (message : SubMessage) : Type 0 where
   pub is_message : IsMessage (message_of message)
   pub spelt : bytes ≡ payload message

@@ -13,3 +13,4 @@ pub mod Writing
 pub mod Pair
 pub mod Laws
 pub mod Printed
+pub mod Words

@@ -1,4 +1,5 @@
--- Messages of TN3270E (RFC 1647, sections 3 and 7), and the payloads of a subnegotiation that spell them.
+-- Messages of TN3270E (RFC 1647, sections 3 and 7), and the payloads of a subnegotiation that spell
+-- them.
 use Rattle.std.specs.Prelude.{◌≡◌, ◌≢◌, ℕ, List, [], ◌∷◌, ◌++◌, Option, None, Some, IsTrue}
 use Rattle.tn3270e_msg.specs.Text.{is_text}
 use Rattle.tn3270e_msg.specs.Functions.{Functions, functions_of}
@@ -6,7 +7,7 @@ use Rattle.tn3270e_msg.specs.declared.reply.Reason.{Reason}
 use Rattle.tn3270e_msg.specs.declared.message.SubFault.{SubFault}
 use Rattle.tn3270e_msg.specs.declared.message.SubFault.TheVariants.{NotOurs, Malformed}
 
--- the LU that is asked for, or the one that a printer goes with
+-- the LU that is asked for, or the one with which a printer is associated
 pub data Name : Type 0 where
   Connect : List ℕ → Name
   Associate : List ℕ → Name
@@ -49,7 +50,7 @@ pub record Says (bytes : List ℕ) (message : Message) : Type 0 where
   pub is_message : IsMessage message
   pub spelt : Spells message bytes
 
--- these bytes are of no message: they belong to another option, or break the form
+-- these bytes are no message: they belong to another option, or they are malformed
 abbrev pub HasFault : List ℕ → SubFault → Type 0
 HasFault bytes NotOurs = (rest : List ℕ) → bytes ≢ 0x28 ∷ rest
 HasFault bytes Malformed = ((rest : List ℕ) × (bytes ≡ 0x28 ∷ rest)) × ((message : Message) → ¬ Says bytes message)

@@ -1,4 +1,5 @@
--- A host's talk and a terminal's with each other (RFC 1647, section 7), and with the host's pool of LUs (our profile).
+-- A host's talk and a terminal's talk with each other (RFC 1647, section 7), and with the host's
+-- pool of LUs (our profile).
 use Rattle.std.specs.Prelude.{◌≡◌, ℕ, ◌≤◌, List, [], ◌∷◌, ◌++◌, length, Option, None, Some, Result, Ok, Err, IsTrue}
 use Rattle.telnet_wire.specs.declared.wire.Verb.TheVariants.{Do as DoVerb}
 use Rattle.telnet_wire.specs.Items.{WireItem, Opt as OptItem}
@@ -32,7 +33,7 @@ pub record Pair : Type 0 where
 abbrev pub start : Option (List ℕ) → Pair
 start wanted = record { host = host_start; term = term_start wanted; up = []; down = OptItem DoVerb 40 ∷ []; asked = []; answers = [] }
 
--- the next item comes to the host
+-- the next item reaches the host
 pub record ComesUp (old new : Pair) : Type 0 where
   pub item : WireItem
   pub rest : List WireItem
@@ -42,7 +43,7 @@ pub record ComesUp (old new : Pair) : Type 0 where
   pub takes : HostTakes old.host item reply host
   pub becomes : new ≡ record { host = host; term = old.term; up = rest; down = old.down ++ items_sent reply; asked = old.asked ++ names_asked reply; answers = old.answers }
 
--- the next item comes to the terminal
+-- the next item reaches the terminal
 pub record ComesDown (old new : Pair) : Type 0 where
   pub item : WireItem
   pub rest : List WireItem
@@ -52,7 +53,7 @@ pub record ComesDown (old new : Pair) : Type 0 where
   pub takes : TermTakes old.term item reply term
   pub becomes : new ≡ record { host = old.host; term = term; up = old.up ++ items_sent reply; down = rest; asked = old.asked; answers = old.answers }
 
--- a pool grants names of LUs, and no other than the one that it is asked for
+-- a pool grants only LUs, and only the one that it was asked for, if one was named
 abbrev pub IsAnswerTo : Option (List ℕ) → Answer → Type 0
 IsAnswerTo name (Err reason) = Unit {0}
 IsAnswerTo None (Ok lu) = IsTrue (is_lu lu)
@@ -98,15 +99,15 @@ pub record IsSettled (pair : Pair) : Type 0 where
   pub down : pair.down ≡ []
   pub asked : pair.asked ≡ []
 
--- what the ends come to: both agreed on the LU that the pool granted, the host for the device that
--- a terminal is, or the terminal refused for the pool's reason
+-- the ends' last states: both agreed on the LU that the pool granted, the host for the terminal's
+-- type of device; or the terminal was refused for the pool's reason
 abbrev pub EndsBy : List Answer → HostState → TermState → Type 0
 EndsBy (Ok lu ∷ []) host term = (host ≡ HostAgreed Model2 lu) × (term ≡ TermAgreed lu)
 EndsBy (Err reason ∷ []) host term = term ≡ TermRefused reason
 EndsBy _ host term = ⊥
 
 -- however items are delivered, and whatever the pool answers, neither end closes; the talk ends
--- after eight events at most, agreed or refused
+-- after at most eight events, agreed or refused
 pub record TalksAgree (events : List Event) (pair : Pair) : Type 0 where
   pub host_is_open : HostIsOpen pair.host.state
   pub term_is_open : TermIsOpen pair.term.talk.state

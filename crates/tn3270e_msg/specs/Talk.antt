@@ -1,5 +1,6 @@
--- What both ends' talks have in common: what an item says to them, and what they say (RFC 1647, section 7). Other options are
--- refused as RFC 854 and 855 have it; that a talk closes with the eighth refusal is our profile.
+-- What both ends' talks have in common: what an item says to them, and what they say (RFC 1647,
+-- section 7). Other options are refused as RFC 854 and 855 say. Our profile: a talk closes with the
+-- eighth rejection or counter-request.
 use Rattle.std.specs.Prelude.{◌≡◌, ℕ, ◌-◌, ◌==◌, if◌then◌else◌, List, [], ◌∷◌, ◌++◌, map, Option, None, Some, option_map, IsTrue}
 use Rattle.telnet_wire.specs.declared.wire.Verb.{Verb}
 use Rattle.telnet_wire.specs.declared.wire.Verb.TheVariants.{Will as WillVerb, Wont as WontVerb, Do as DoVerb, Dont as DontVerb}
@@ -22,7 +23,7 @@ use Rattle.tn3270e_msg.specs.Device.{device_text}
 use Rattle.tn3270e_msg.specs.Lu.{is_lu}
 use Rattle.tn3270e_msg.specs.Message.{Message, Name, Connect, SendType, TypeRequest, TypeIs, TypeReject, FunRequest, FunIs, Says, HasFault, name_part}
 
--- what comes, as the tables name it
+-- what an item says, by the tables' names
 pub data Comes : Type 0 where
   Will : Comes  -- WILL TN3270E, and so on
   Wont : Comes
@@ -53,13 +54,13 @@ message_says (TypeReject reason) = RejectsType reason
 message_says (FunRequest functions) = RequestsFunctions (offer functions)
 message_says (FunIs functions) = IsFunctions (offer functions)
 
--- what the payload of a subnegotiation says
+-- the payload of a subnegotiation says this
 pub data PayloadSays (bytes : List ℕ) (comes : Comes) : Type 0 where
   message_comes : (message : Message) → Says bytes message → comes ≡ message_says message → PayloadSays bytes comes
   others_message_comes : HasFault bytes NotOurs → comes ≡ NoTalk → PayloadSays bytes comes
   malformed_comes : HasFault bytes Malformed → comes ≡ BreaksForm → PayloadSays bytes comes
 
--- what an item says
+-- an item says this
 abbrev pub Hears : WireItem → Comes → Type 0
 Hears (Record bytes) comes = comes ≡ NoTalk
 Hears (OptItem verb code) comes = comes ≡ option_says verb code
@@ -75,7 +76,7 @@ message_sent (sent.TypeReject reason) = TypeReject reason
 message_sent sent.FunRequest = FunRequest responses
 message_sent sent.FunIs = FunIs responses
 
--- the payload that it is sent in
+-- the payload as which it is sent
 abbrev pub payload_sent : OwnedMessage → List ℕ
 payload_sent sent.SendType = 0x28 ∷ 8 ∷ 2 ∷ []
 payload_sent (sent.TypeRequest lu) = 0x28 ∷ 2 ∷ 7 ∷ (device_text Model2 ++ name_part (option_map Connect lu))
@@ -89,7 +90,7 @@ abbrev pub IsLuIfSome : Option (List ℕ) → Type 0
 IsLuIfSome None = Unit {0}
 IsLuIfSome (Some lu) = IsTrue (is_lu lu)
 
--- what an end sends of LUs is their names
+-- the LUs in a message that an end sends are names of LUs
 abbrev pub IsOwnedMessage : OwnedMessage → Type 0
 IsOwnedMessage (sent.TypeRequest lu) = IsLuIfSome lu
 IsOwnedMessage (sent.TypeIs device lu) = IsTrue (is_lu lu)
@@ -105,7 +106,7 @@ abbrev pub says : Saying → Comes
 says (Saying.Opt verb code) = option_says verb code
 says (Saying.Sub sending) = message_says (message_sent sending)
 
--- the item that it is on the wire
+-- the item as which it is sent
 abbrev pub item_of : Saying → WireItem
 item_of (Saying.Opt verb code) = OptItem verb code
 item_of (Saying.Sub sending) = SubItem (payload_sent sending)
@@ -116,7 +117,7 @@ sayings (reply.Opt verb code) = Saying.Opt verb code ∷ []
 sayings (reply.Sub sending after) = Saying.Sub sending ∷ []
 sayings _ = []
 
--- what a reply puts on the wire
+-- the items that a reply sends
 abbrev pub items_sent : Reply → List WireItem
 items_sent answer = map item_of (sayings answer)
 
@@ -131,12 +132,12 @@ abbrev pub names_asked : Reply → List (Option (List ℕ))
 names_asked (reply.AskPool name) = name ∷ []
 names_asked _ = []
 
--- where a talk stands, and how many rejections and counter-requests it may still send
+-- a talk: its state, and how many rejections and counter-requests it may still send
 pub record Talk (S : Type 0) : Type 0 where
   pub state : S
   pub refusals_left : ℕ
 
--- there are eight
+-- a talk's begin: it may send eight
 abbrev pub start_at : {S : Type 0} → S → Talk S
 start_at state = record { state = state; refusals_left = 8 }
 

@@ -1,5 +1,6 @@
--- The terminal's talk (RFC 1647, section 7; the choices among its replies are our profile): one equation a line of its table.
-use Rattle.std.specs.Prelude.{◌≡◌, ℕ, List, Option, None, Some, if◌then◌else◌}
+-- The terminal's talk (RFC 1647, section 7; the choices among its replies are our profile): one
+-- equation a line of its table.
+use Rattle.std.specs.Prelude.{◌≡◌, ℕ, Bool, true, false, List, Option, None, Some, if◌then◌else◌}
 use Rattle.std.specs.Str.{bytes_eq}
 use Rattle.telnet_wire.specs.declared.wire.Verb.TheVariants.{Will as WillVerb, Wont as WontVerb, Dont as DontVerb}
 use Rattle.telnet_wire.specs.Items.{WireItem}
@@ -10,6 +11,7 @@ use Rattle.tn3270e_msg.specs.declared.term_talk.TermState.{TermState}
 use Rattle.tn3270e_msg.specs.declared.term_talk.TermState.TheVariants.{Waiting, Willing, TypeAsked, FunctionsAsked, Agreed, Refused, Closed}
 use Rattle.tn3270e_msg.specs.declared.reply.After.TheVariants.{Going, Agreed as AgreedAfter}
 use Rattle.tn3270e_msg.specs.declared.cause.Cause.TheVariants.{NoTn3270e, NoResponses as NoResponsesCause, BadTalk}
+use Rattle.tn3270e_msg.specs.declared.reply.Reason.{Reason}
 use Rattle.tn3270e_msg.specs.declared.reply.OwnedMessage.TheVariants.{TypeRequest, FunRequest, FunIs}
 use Rattle.tn3270e_msg.specs.declared.reply.Reply.{Reply}
 use Rattle.tn3270e_msg.specs.declared.reply.Reply.TheVariants.{Nothing, Opt, Sub, Agreed as AgreedReply, Refused as RefusedReply}
@@ -19,7 +21,7 @@ use Rattle.tn3270e_msg.specs.Device.{device_of}
 use Rattle.tn3270e_msg.specs.Lu.{lu_of}
 use Rattle.tn3270e_msg.specs.Talk.{Comes, Will, Wont, Do, Dont, OtherWill, OtherDo, SendsType, IsType, RejectsType, RequestsFunctions, IsFunctions, NoTalk, Hears, Talk, start_at, follow}
 
--- a grant: of a model 2, and of the LU that was wanted, if one was
+-- a grant is accepted if it is for a model 2, and of the LU that was wanted, if one was
 abbrev pub grant_transition : Option (List ℕ) → Option Device → Option (List ℕ) → Transition TermState
 grant_transition None (Some Model2) (Some lu) = Goes (FunctionsAsked lu) (Sub FunRequest Going)
 grant_transition (Some wanted) (Some Model2) (Some lu) =
@@ -61,6 +63,36 @@ pub record TermTakes (old : Term) (item : WireItem) (reply : Reply) (new : Term)
   pub hears : Hears item comes
   pub gives : (new.talk, reply) ≡ follow Closed old.talk (term_transition old.wanted old.talk.state comes)
   pub wanted : new.wanted ≡ old.wanted
+
+-- both ends agreed
+abbrev pub is_agreed : TermState → Bool
+is_agreed (Agreed lu) = true
+is_agreed Waiting = false
+is_agreed Willing = false
+is_agreed TypeAsked = false
+is_agreed (FunctionsAsked lu) = false
+is_agreed (Refused reason) = false
+is_agreed (Closed cause) = false
+
+-- the LU on which they agreed
+abbrev pub agreed_lu : TermState → Option (List ℕ)
+agreed_lu (Agreed lu) = Some lu
+agreed_lu Waiting = None
+agreed_lu Willing = None
+agreed_lu TypeAsked = None
+agreed_lu (FunctionsAsked lu) = None
+agreed_lu (Refused reason) = None
+agreed_lu (Closed cause) = None
+
+-- why the host granted no LU
+abbrev pub reason_refused : TermState → Option Reason
+reason_refused (Refused reason) = Some reason
+reason_refused Waiting = None
+reason_refused Willing = None
+reason_refused TypeAsked = None
+reason_refused (FunctionsAsked lu) = None
+reason_refused (Agreed lu) = None
+reason_refused (Closed cause) = None
 
 -- the LU that was granted
 abbrev pub bound : TermState → Option (List ℕ)

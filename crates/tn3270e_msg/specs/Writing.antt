@@ -11,10 +11,11 @@ use Rattle.tn3270e_msg.specs.Lent.{payload}
 abbrev pub PutsMessage : {E : Type 0} → Vec ℕ Global → SubMessage → Result (Unit {0}) E → Vec ℕ Global → Type 0
 PutsMessage old message result new = Appends old (spelling (Sub (payload message))) result new
 
--- the most bytes that a talk's reply takes: a subnegotiation of 256 bytes, each doubled, with its begin and end
+-- the most bytes of a talk's reply: a subnegotiation of 256 bytes, each doubled, with its begin and
+-- end
 abbrev pub reply_room : ℕ
 reply_room = 2 * 256 + 4
 
--- a reply fits behind what is there
+-- the vector has room for a reply
 abbrev pub HasRoomForReply : Vec ℕ Global → Type 0
 HasRoomForReply out = vec_len out + reply_room ≤ vec_capacity out

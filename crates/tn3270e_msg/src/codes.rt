@@ -1,6 +1,6 @@
 //! The bytes of TN3270E's messages (RFC 1647, section 3).
 
-/// The telnet option.
+/// The Telnet option's code, 40.
 pub const TN3270E: u8 = 0x28;
 
 pub const ASSOCIATE: u8 = 0x00;
@@ -21,5 +21,5 @@ pub const REQUEST: u8 = 0x07;
 
 pub const SEND: u8 = 0x08;
 
-/// The function RESPONSES (section 7.2).
+/// The function RESPONSES (RFC 1647, section 7.2).
 pub const RESPONSES: u8 = 0x02;

@@ -3,7 +3,7 @@ ghost use Rattle.std.specs.Prelude.{◌≡◌, ◌↔◌, IsTrue};
 ghost use Rattle.tn3270e_msg.specs.Device.{device_of, device_text, devices};
 ghost use Rattle.tn3270e_msg.specs.Text.{lowered};
 
-/// A 3278 display, by its model, 2 to 5; an E says that it has extended attributes.
+/// A 3278 display, by its model, 2 to 5; `E` means that it has extended attributes.
 #[derive(Clone, Copy, Debug, PartialEq, Eq)]
 pub enum Device {
     /// IBM-3278-2.
@@ -36,7 +36,7 @@ impl Device {
         Device::Model5E,
     ];
 
-    /// The device with this text, compared in ASCII without case; None where none has it.
+    /// The device with this text, compared in ASCII without case; None if no device has it.
     #[tactic(auto, unfolding(crate::specs::Device::device_of))]
     pub fn read(text: &[u8]) -> Option<Device>
         ensures { result ≡ device_of text.now }

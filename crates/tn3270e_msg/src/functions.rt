@@ -4,7 +4,7 @@ ghost use Rattle.tn3270e_msg.specs.Functions.{functions_of, offer};
 
 use crate::codes::RESPONSES;
 
-/// How a set of functions stands to the one that both ends want, which is RESPONSES alone.
+/// How a set of functions compares with the one that both ends want: RESPONSES alone (our profile).
 #[derive(Clone, Copy, Debug, PartialEq, Eq)]
 pub enum FunctionsOffer {
     ResponsesAlone,
@@ -13,7 +13,7 @@ pub enum FunctionsOffer {
 }
 
 impl FunctionsOffer {
-    /// What the set offers that this list names.
+    /// How the set of the functions in this list compares.
     pub fn of(list: &[u8]) -> FunctionsOffer
         ensures { result ≡ offer (functions_of list.now) }
     {

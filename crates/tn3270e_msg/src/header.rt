@@ -75,25 +75,29 @@ impl DataType {
     }
 }
 
-/// The data bytes that a record may have, its header among them (our profile).
+/// The data bytes that a record may have, its header included (our profile).
 pub const RECORD_LIMIT: usize = 16_384;
+
+/// The number of bytes of a header (RFC 1647, section 8.1).
+pub const HEADER_LENGTH: usize = 5;
 
 /// RESPONSE-FLAG of 3270-DATA that wants no response (RFC 1647, section 8.1.3).
 pub const NO_RESPONSE: u8 = 0;
 
-/// RESPONSE-FLAG of 3270-DATA that wants a response only where it is refused (RFC 1647, section 8.1.3).
+/// RESPONSE-FLAG of 3270-DATA that wants a response only if it is refused (RFC 1647, section
+/// 8.1.3).
 pub const ERROR_RESPONSE: u8 = 1;
 
 /// RESPONSE-FLAG of 3270-DATA that wants a response in any case (RFC 1647, section 8.1.3).
 pub const ALWAYS_RESPONSE: u8 = 2;
 
-/// RESPONSE-FLAG of a response to what was done (RFC 1647, section 8.1.3).
+/// RESPONSE-FLAG of the response to data that was processed (RFC 1647, section 8.1.3).
 pub const POSITIVE: u8 = 0;
 
-/// RESPONSE-FLAG of a response to what was refused (RFC 1647, section 8.1.3).
+/// RESPONSE-FLAG of the response to data that was refused (RFC 1647, section 8.1.3).
 pub const NEGATIVE: u8 = 1;
 
-/// The first five bytes of a record (RFC 1647, section 8.1).
+/// The first [`HEADER_LENGTH`] bytes of a record (RFC 1647, section 8.1).
 #[derive(Clone, Copy, Debug, PartialEq, Eq)]
 pub struct Header {
     /// DATA-TYPE.
@@ -102,14 +106,14 @@ pub struct Header {
     pub request: u8,
     /// RESPONSE-FLAG: at most 2 on 3270-DATA, at most 1 on RESPONSE, else any byte.
     pub flag: u8,
-    /// SEQ-NUMBER, which stands with its high byte first.
+    /// SEQ-NUMBER, which is sent with its high byte first.
     pub seq: u16,
 }
 
 /// Why bytes begin with no header.
 #[derive(Clone, Copy, Debug, PartialEq, Eq)]
 pub enum HeadFault {
-    /// There are fewer than five.
+    /// There are fewer than [`HEADER_LENGTH`].
     Short,
     /// RESPONSE-FLAG is over 2 on 3270-DATA, or over 1 on RESPONSE.
     BadFlag,
@@ -131,15 +135,15 @@ impl fmt::Display for HeadFault {
 
 impl Error for HeadFault {}
 
-/// The header that a record begins with, and the body behind it (RFC 1647, section 8.1).
+/// Reads the header that a record begins with, and the body after it (RFC 1647, section 8.1).
 ///
-/// It is refused by [`HeadFault::Short`] where there are fewer than five bytes, and by
-/// [`HeadFault::BadFlag`] where the type has no such RESPONSE-FLAG. A type without a name and any
-/// REQUEST-FLAG are read.
+/// It answers [`HeadFault::Short`] if there are fewer than [`HEADER_LENGTH`] bytes, and
+/// [`HeadFault::BadFlag`] if the type has no such RESPONSE-FLAG. It accepts a type without a name,
+/// and any REQUEST-FLAG.
 pub fn read_header(bytes: &[u8]) -> Result<(Header, &[u8]), HeadFault>
     ensures found { IfOk result (λ found. Begins bytes.now found.0 found.1.now) }
     ensures fault { IfErr result (HasFault bytes.now) }
-    // Whatever a record begins with is found.
+    // If the bytes begin with a header, that header is found.
     ensures all { (header : Header) (body : List ℕ) → Begins bytes.now header body →
         IsOkAnd result (λ found. (found.0 ≡ header) × (found.1.now ≡ body)) }
     ensures refused { (fault : HeadFault) → HasFault bytes.now fault → result ≡ Err fault }
@@ -167,9 +171,9 @@ fn find_header(bytes: &[u8]) -> Result<(Header, &[u8]), HeadFault>
     Ok((header, body))
 }
 
-/// The five bytes of a header, from which it is read again. Its RESPONSE-FLAG must be one that its
-/// type has, and `Unnamed` must hold a code from 8 on.
-pub fn header_bytes(header: &Header) -> [u8; 5]
+/// The [`HEADER_LENGTH`] bytes of a header; they are read as this header. Its RESPONSE-FLAG must be
+/// one that its type has, and `Unnamed` must hold a code from 8 on.
+pub fn header_bytes(header: &Header) -> [u8; HEADER_LENGTH]
     requires { IsHeader header.now }
     ensures bytes { result ≡ spelling header.now }
     ensures read_back { (body : List ℕ) → Begins (result ++ body) header.now body }
@@ -178,7 +182,7 @@ pub fn header_bytes(header: &Header) -> [u8; 5]
     [header.kind.code(), header.request, header.flag, high, low]
 }
 
-/// The number of the record after the one with this number: 0 comes after 32767 (our profile).
+/// The number of the record after the one with this number: 0 follows 32767 (our profile).
 pub const fn next_seq(seq: u16) -> u16
     ensures { result ≡ next_number seq }
 {

@@ -11,7 +11,7 @@ use crate::reading::read_sub;
 use crate::reply::{After, OwnedMessage, Reply};
 use telnet_wire::{Item, Verb};
 
-/// The rejections and counter-requests that a talk sends at most; with the last it closes (our
+/// The most rejections and counter-requests that a talk sends; it closes with the last (our
 /// profile).
 pub const MOST_REFUSALS: u8 = 8;
 
@@ -38,11 +38,11 @@ pub enum Transition<S> {
     Goes(S, Reply),
     /// A rejection or a counter-request, and the state after it.
     Refuses(S, OwnedMessage),
-    /// The end.
+    /// The end closes.
     Closes(Cause),
 }
 
-/// Where a talk stands; it may be that it closed.
+/// A talk's state; a talk may be closed.
 pub trait TalkState: Copy {
     ghost use Rattle.tn3270e_msg.specs.declared.cause.Cause.{Cause};
 
@@ -52,7 +52,8 @@ pub trait TalkState: Copy {
         ensures { result ≡ closed cause };
 }
 
-/// Applies a transition to a talk, which closes with the last rejection or counter-request that it may send.
+/// Applies a transition to a talk, which closes with the last rejection or counter-request that it
+/// may send.
 pub fn follow<S: TalkState>(
     state: &mut S,
     refusals_left: &mut u8,

@@ -2,11 +2,13 @@
 //! are our profile).
 ghost use Rattle.std.specs.Prelude.{◌≡◌, ◌↔◌, ℕ, List, IsTrue};
 ghost use Rattle.telnet_wire.specs.Items.{item_of};
+ghost use Rattle.telnet_wire.specs.Token.{spelling};
+ghost use Rattle.telnet_wire.specs.Writing.{Appends};
 ghost use Rattle.tn3270e_msg.specs.Talk.{message_says, RequestsFunctions};
 ghost use Rattle.tn3270e_msg.specs.Hearing.{heard_says};
 ghost use Rattle.tn3270e_msg.specs.Lent.{name_of, message_of};
 ghost use Rattle.tn3270e_msg.specs.Device.{device_of};
-ghost use Rattle.tn3270e_msg.specs.HostTable.{host_transition, request_transition, answer_transition, host_start, HostTakes, HostAnswered, IsAsking, granted, device_granted};
+ghost use Rattle.tn3270e_msg.specs.HostTable.{host_transition, request_transition, answer_transition, host_start, HostTakes, HostAnswered, IsAsking, granted, device_granted, agreed_lu, is_agreed, offer_token};
 ghost use Rattle.tn3270e_msg.specs.declared.host_talk.HostState.TheVariants.{Named, Countered};
 
 use crate::cause::Cause;
@@ -18,9 +20,9 @@ use crate::lu::Lu;
 use crate::message::{Name, SubMessage};
 use crate::reply::{After, OwnedMessage, Reason, Reply};
 use std::marker::Model;
-use telnet_wire::{Item, Verb};
+use telnet_wire::{Item, Memory, Verb, put_option};
 
-/// Where a host's talk stands (RFC 1647, section 7).
+/// The state of a host's talk (RFC 1647, section 7).
 #[derive(Clone, Copy, Debug, PartialEq, Eq)]
 pub enum HostState {
     /// TN3270E was offered.
@@ -31,7 +33,7 @@ pub enum HostState {
     Asking(Device),
     /// An LU was granted, for the device that was asked for.
     Named(Device, Lu),
-    /// An LU was granted, and the terminal's functions were countered by RESPONSES alone.
+    /// An LU was granted, and the host countered the terminal's functions by RESPONSES alone.
     Countered(Device, Lu),
     /// Both ends agreed, with this LU granted for this device.
     Agreed(Device, Lu),
@@ -50,7 +52,7 @@ impl TalkState for HostState {
 }
 
 impl HostState {
-    // What the table says.
+    // The table's transition.
     fn transition(self, heard: Heard) -> Transition<HostState>
         ensures { result ≡ host_transition self (heard_says heard.entry) }
     {
@@ -75,7 +77,7 @@ impl HostState {
         }
     }
 
-    // What it says of a message.
+    // The table's transition for a message.
     fn message_transition(self, message: SubMessage) -> Transition<HostState>
         ensures { result ≡ host_transition self (message_says (message_of message.entry)) }
     {
@@ -187,9 +189,9 @@ impl HostTalk {
         }
     }
 
-    /// Takes an item that came, and says what is to be done about it. A message other than those
-    /// that the talk awaits closes it, by BadTalk; so does the eighth rejection or counter-request,
-    /// once it is sent, by TooMany. A closed talk answers its cause again.
+    /// Takes an item from the terminal, and answers what the host must do about it. A message that
+    /// the talk doesn't await closes it, by BadTalk. The eighth rejection or counter-request is
+    /// sent and closes it, by TooMany. A closed talk answers its cause again.
     pub fn take(&mut self, item: &Item) -> Reply
         ensures { HostTakes self.old (item_of item.now) (result) self.new }
     {
@@ -217,15 +219,25 @@ impl HostTalk {
         follow(&mut self.state, &mut self.refusals_left, transition)
     }
 
-    /// Where it stands.
+    /// Adds the talk's first item, DO TN3270E: IAC, DO and the option's code 40, three bytes (RFC
+    /// 1647, section 7).
+    ///
+    /// A vector that can't grow keeps the bytes that it had.
+    pub fn put_offer(out: &mut Vec<u8>) -> Result<(), Memory>
+        ensures { Appends out.old (spelling offer_token) result out.new }
+    {
+        put_option(out, Verb::Do, TN3270E)
+    }
+
+    /// The talk's state.
     pub fn state(&self) -> HostState
         ensures { result ≡ self.now.state }
     {
         self.state
     }
 
-    /// Whether the pool's answer is awaited: after [`Reply::AskPool`], until it is given or the talk
-    /// closes.
+    /// Whether the talk awaits the pool's answer: after [`Reply::AskPool`], until the answer is
+    /// given or the talk closes.
     pub fn asking(&self) -> bool
         ensures { IsTrue result ↔ IsAsking self.now.state }
     {
@@ -242,6 +254,23 @@ impl HostTalk {
             }
             _ => None,
         }
+    }
+
+    /// The LU on which both ends agreed; None before, and once the talk closed.
+    pub fn agreed_lu(&self) -> Option<Lu>
+        ensures { result ≡ agreed_lu self.now.state }
+    {
+        match self.state {
+            HostState::Agreed(_, lu) => Some(lu),
+            _ => None,
+        }
+    }
+
+    /// Whether both ends agreed, and the talk didn't close since.
+    pub fn is_agreed(&self) -> bool
+        ensures { result ≡ is_agreed self.now.state }
+    {
+        matches!(self.state, HostState::Agreed(_, _))
     }
 
     /// The device that the terminal asked for, for which its LU was granted; None before, and once

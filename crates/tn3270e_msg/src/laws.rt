@@ -1,5 +1,5 @@
-//! Laws of headers, messages and talks: each is the contract of a function that does nothing. Proofs of
-//! other crates use them; no program calls them, and the root doesn't export them.
+//! Laws of headers, messages and talks: each is the contract of a function that does nothing.
+//! Proofs of other crates use them; no program calls them, and the root doesn't export them.
 ghost use Rattle.std.specs.Prelude.{◌≡◌};
 ghost use Rattle.tn3270e_msg.specs.Header.{no_response, error_response, always_response, positive, negative};
 ghost use Rattle.tn3270e_msg.specs.Laws.{OneHeader, FaultIsNoHeader, OneHeadFault, OneMessage, FaultIsNoMessage, OneSubFault, OneHearing, NameIsReadAsItself};
@@ -7,15 +7,15 @@ ghost use Rattle.tn3270e_msg.specs.Pair.{TalksAlwaysAgree};
 
 use crate::{ALWAYS_RESPONSE, ERROR_RESPONSE, NEGATIVE, NO_RESPONSE, POSITIVE};
 
-/// Law: a host's talk and a terminal's with each other never close, whatever the pool answers and
-/// however their items are delivered. After eight events at most they have ended: agreed on the LU
-/// that the pool granted, or refused for its reason.
+/// Law: between a host and a terminal of this crate neither talk closes, whatever the pool answers
+/// and however items are delivered. After at most eight events nothing more can happen: both agreed
+/// on the LU that the pool granted, or the terminal was refused for the pool's reason.
 pub fn talks_agree()
     ensures { TalksAlwaysAgree }
 {}
 
-/// Law: bytes begin with one header or have one fault, and are one message or have one fault; an
-/// item says one thing to a talk; a name of an LU is read as itself.
+/// Law: bytes begin with at most one header or have one fault; they are at most one message or have
+/// one fault; an item says one thing to a talk; a name of an LU is read as itself.
 pub fn one_reading()
     ensures header { OneHeader }
     ensures header_or_fault { FaultIsNoHeader }

@@ -1,8 +1,8 @@
 //! TN3270E (RFC 1647): the header of a record, the messages of a negotiation, and both ends' talks
 //! from the host's offer to agreement.
 //!
-//! A talk takes the items of the wire one by one, and says what is to be done about each. It sends
-//! nothing itself, and takes no memory:
+//! A talk takes the items of the wire one by one, and answers what its end must do about each. It
+//! sends nothing itself, and takes no memory:
 //!
 //! ```text
 //! let mut talk = TermTalk::new(Lu::read(b"PNL01"));
@@ -18,9 +18,10 @@
 //! }
 //! ```
 //!
-//! What contracts cite is defined in `specs/`: `Header`, `Message` (the messages, and the payloads
-//! that spell them), `Talk` (what an item says), `HostTable` and `TermTable` (one equation a line of
-//! each talk's table) and `Pair` (both talks with each other, as [`laws::talks_agree`] has it).
+//! `specs/` has the definitions that contracts cite: `Header`, `Message` (the messages, and the
+//! payloads that spell them), `Talk` (what an item says), `HostTable` and `TermTable` (one equation
+//! a line of each talk's table), `Pair` (both talks with each other, for [`laws::talks_agree`]) and
+//! `Words` (the names of causes and reasons, and what `{}` prints).
 #![tactic(auto)]
 
 mod cause;
@@ -41,8 +42,8 @@ mod writing;
 pub use cause::{Cause, Fed, Stop};
 pub use device::Device;
 pub use header::{
-    ALWAYS_RESPONSE, DataType, ERROR_RESPONSE, HeadFault, Header, NEGATIVE, NO_RESPONSE, POSITIVE,
-    RECORD_LIMIT, header_bytes, next_seq, read_header,
+    ALWAYS_RESPONSE, DataType, ERROR_RESPONSE, HEADER_LENGTH, HeadFault, Header, NEGATIVE,
+    NO_RESPONSE, POSITIVE, RECORD_LIMIT, header_bytes, next_seq, read_header,
 };
 pub use host_talk::{HostState, HostTalk};
 pub use lu::Lu;

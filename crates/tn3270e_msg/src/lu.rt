@@ -2,10 +2,11 @@
 ghost use Rattle.std.specs.Prelude.{◌≡◌, ◌≤◌, List, IsTrue, IfSome, Some, length};
 ghost use Rattle.tn3270e_msg.specs.Lu.{is_lu, lu_of, is_lu_letter};
 
+use std::fmt;
 use std::marker::Model;
 
-/// The name of a logical unit: one to eight of `A` to `Z`, `0` to `9`, `@`, `#` and `$`, the first no
-/// digit. Contracts see it as the list of its bytes.
+/// The name of a logical unit: one to eight of `A` to `Z`, `0` to `9`, `@`, `#` and `$`, the first
+/// no digit. Contracts see it as the list of its bytes.
 #[derive(Clone, Copy, Debug, PartialEq, Eq)]
 pub struct Lu {
     letters: [u8; 8],
@@ -26,8 +27,8 @@ impl Model for Lu {
 }
 
 impl Lu {
-    /// The name that these bytes spell, where lower case stands for upper; None unless they are one
-    /// to eight of its letters, the first no digit.
+    /// The name that these bytes spell in either case; None unless they are one to eight of its
+    /// letters, the first no digit.
     pub fn read(bytes: &[u8]) -> Option<Lu>
         ensures value { result ≡ lu_of bytes.now }
         ensures is_lu { IfSome result (λ lu. IsTrue (is_lu lu)) }
@@ -46,13 +47,28 @@ impl Lu {
         Some(Lu { letters, size })
     }
 
-    /// Its one to eight bytes, in upper case; they are read as this name again.
+    /// Its one to eight bytes, in upper case; they are read as this name.
     pub fn as_bytes(&self) -> &[u8]
         ensures value { result.now ≡ self.now }
         ensures is_lu { IsTrue (is_lu self.now) }
         ensures read_back { lu_of self.now ≡ Some self.now }
     {
         &self.letters[..self.size]
+    }
+}
+
+/// Prints the name's letters.
+impl fmt::Display for Lu {
+    ghost use Rattle.std.specs.Prelude.{Some};
+    ghost use Rattle.tn3270e_msg.specs.Words.{lu_text};
+
+    ghost output = { λ lu. Some (lu_text lu) };
+
+    fn fmt<W: fmt::Write>(&self, f: &mut fmt::Formatter<W>) -> fmt::Result {
+        for letter in self.as_bytes() {
+            f.write_char(char::from(*letter))?;
+        }
+        Ok(())
     }
 }
 

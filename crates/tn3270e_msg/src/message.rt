@@ -8,7 +8,7 @@ use std::fmt;
 pub enum Name<'a> {
     /// CONNECT: the LU that is asked for.
     Connect(&'a [u8]),
-    /// ASSOCIATE: the LU of the terminal that a printer is to go with.
+    /// ASSOCIATE: the LU of the terminal with which a printer is associated.
     Associate(&'a [u8]),
 }
 
@@ -19,7 +19,7 @@ pub enum Name<'a> {
 pub enum SubMessage<'a> {
     /// SEND DEVICE-TYPE: the host asks for the terminal's type.
     SendType,
-    /// DEVICE-TYPE REQUEST: the terminal says its type, and which LU it wants, if it wants one.
+    /// DEVICE-TYPE REQUEST: the terminal says its type, and which LU it wants, if any.
     TypeRequest {
         /// The type's text.
         device: &'a [u8],
@@ -33,7 +33,7 @@ pub enum SubMessage<'a> {
         /// The LU that is granted.
         name: &'a [u8],
     },
-    /// DEVICE-TYPE REJECT REASON: the host grants none.
+    /// DEVICE-TYPE REJECT REASON: the host grants no LU.
     TypeReject(Reason),
     /// FUNCTIONS REQUEST: an end proposes these functions.
     FunRequest(&'a [u8]),
@@ -44,9 +44,9 @@ pub enum SubMessage<'a> {
 /// Why the payload of a subnegotiation is no message.
 #[derive(Clone, Copy, Debug, PartialEq, Eq)]
 pub enum SubFault {
-    /// Its first byte isn't 28, or there is none: it is of another option.
+    /// Its first byte isn't 28, or there is none: it belongs to another option.
     NotOurs,
-    /// It is of TN3270E, and has no message's form.
+    /// It belongs to TN3270E, and has no message's form.
     Malformed,
 }
 

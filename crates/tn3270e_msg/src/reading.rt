@@ -13,15 +13,15 @@ use crate::codes::{
 use crate::message::{Name, SubFault, SubMessage};
 use crate::reply::Reason;
 
-/// The message that the payload of a subnegotiation is (RFC 1647, sections 3 and 7); its texts and
-/// lists are lent from the payload.
+/// Reads the payload of a subnegotiation as a message (RFC 1647, sections 3 and 7); the message's
+/// texts and lists are lent from the payload.
 ///
-/// It is refused by [`SubFault::NotOurs`] where its first byte isn't 28 or there is none, and by
-/// [`SubFault::Malformed`] where what follows is no message.
+/// It answers [`SubFault::NotOurs`] if the first byte isn't 28 or there is none, and
+/// [`SubFault::Malformed`] if the bytes after it spell no message.
 pub fn read_sub(bytes: &[u8]) -> Result<SubMessage<'_>, SubFault>
     ensures found { IfOk result (LiesIn bytes.now) }
     ensures fault { IfErr result (HasFault bytes.now) }
-    // Whatever message the bytes spell is found.
+    // If the bytes spell a message, that message is found.
     ensures all { (message : Message) → Says bytes.now message → IsOkAnd result (λ found. message_of found ≡ message) }
     ensures refused { (fault : SubFault) → HasFault bytes.now fault → result ≡ Err fault }
 {
@@ -38,7 +38,7 @@ fn find_message(bytes: &[u8]) -> Result<SubMessage<'_>, SubFault>
     read_ours(rest).ok_or(SubFault::Malformed)
 }
 
-// The message behind the option's code.
+// The message after the option's code.
 fn read_ours(bytes: &[u8]) -> Option<SubMessage<'_>>
     ensures found { IfSome result (LiesIn (40 ∷ bytes.now)) }
     ensures none { IfNone result ((message : Message) → ¬ Says (40 ∷ bytes.now) message) }
@@ -75,7 +75,7 @@ fn type_is(bytes: &[u8]) -> Option<SubMessage<'_>>
     }
 }
 
-// What comes behind a device's text.
+// The name after a device's text, if there is one.
 fn name_at(bytes: &[u8]) -> Option<Option<Name<'_>>>
     ensures found { IfSome result (λ name. IsName (name_of name) × (bytes.now ≡ name_part (name_of name))) }
     ensures none { IfNone result ((name : Option NameOf) → IsName name → bytes.now ≡ name_part name → ⊥) }
@@ -88,7 +88,7 @@ fn name_at(bytes: &[u8]) -> Option<Option<Name<'_>>>
     }
 }
 
-// The text at the front, as far as it goes, and what comes behind it.
+// The longest text at the front, and the bytes after it.
 fn text_at(bytes: &[u8]) -> Option<(&[u8], &[u8])>
     ensures found { IfSome result (λ found. IsFront bytes.now found.0.now found.1.now) }
     ensures none { IfNone result (IsEnd bytes.now) }

@@ -1,14 +1,16 @@
-//! What the two ends' talks answer.
-ghost use Rattle.std.specs.Prelude.{◌≡◌, ◌≤◌, length};
+//! The answers of both ends' talks.
+ghost use Rattle.std.specs.Prelude.{◌≡◌, ◌≤◌, length, option_map};
 ghost use Rattle.tn3270e_msg.specs.Message.{IsMessage};
 ghost use Rattle.tn3270e_msg.specs.Lent.{message_of, payload};
 ghost use Rattle.tn3270e_msg.specs.Talk.{message_sent, payload_sent, IsOwnedMessage};
+ghost use Rattle.tn3270e_msg.specs.Words.{reason_name};
 
 use crate::cause::Cause;
 use crate::codes::RESPONSES;
 use crate::device::Device;
 use crate::lu::Lu;
 use crate::message::{Name, SubMessage};
+use std::fmt;
 use telnet_wire::Verb;
 
 /// Why a host rejects a device request: a code of RFC 1647, section 3, or one that it doesn't name.
@@ -16,7 +18,7 @@ use telnet_wire::Verb;
 pub struct Reason(pub u8);
 
 impl Reason {
-    /// DEVICE-IN-USE: the LU is held, or each is where none was named.
+    /// DEVICE-IN-USE: the named LU is held; or none was named, and all are held.
     pub const DEVICE_IN_USE: Reason = Reason(1);
 
     /// INV-NAME: there is no such LU.
@@ -27,9 +29,38 @@ impl Reason {
 
     /// UNSUPPORTED-REQ: printers aren't served.
     pub const UNSUPPORTED_REQ: Reason = Reason(7);
+
+    /// The reason's name in RFC 1647, section 3, if it is one of these constants; None for any
+    /// other code.
+    pub fn name(self) -> Option<&'static str>
+        ensures { option_map (λ name. name.now) result ≡ reason_name self }
+    {
+        match self.0 {
+            1 => Some("DEVICE-IN-USE"),
+            3 => Some("INV-NAME"),
+            4 => Some("INV-DEVICE-TYPE"),
+            7 => Some("UNSUPPORTED-REQ"),
+            _ => None,
+        }
+    }
 }
 
-/// A message that an end sends. It holds its parts, where a `SubMessage` lends them.
+/// Prints the reason's name, or its code in decimal if it has none.
+impl fmt::Display for Reason {
+    ghost use Rattle.std.specs.Prelude.{Some};
+    ghost use Rattle.tn3270e_msg.specs.Words.{reason_text};
+
+    ghost output = { λ reason. Some (reason_text reason) };
+
+    fn fmt<W: fmt::Write>(&self, f: &mut fmt::Formatter<W>) -> fmt::Result {
+        match self.name() {
+            Some(name) => f.write_str(name),
+            None => write!(f, "{}", self.0),
+        }
+    }
+}
+
+/// A message that an end sends. It owns its parts; a `SubMessage` lends them.
 #[derive(Clone, Copy, Debug, PartialEq, Eq)]
 pub enum OwnedMessage {
     /// SEND DEVICE-TYPE.
@@ -47,7 +78,7 @@ pub enum OwnedMessage {
 }
 
 impl OwnedMessage {
-    /// The message, with its parts lent. It fits a subnegotiation of 256 bytes.
+    /// The message, with its parts lent. Its payload has at most 256 bytes.
     pub fn message(&self) -> SubMessage<'_>
         ensures value { message_of result ≡ message_sent self.now }
         ensures bytes { payload result ≡ payload_sent self.now }
@@ -75,7 +106,7 @@ impl OwnedMessage {
     }
 }
 
-/// How a talk stands once a message is sent.
+/// The talk after a message is sent.
 #[derive(Clone, Copy, Debug, PartialEq, Eq)]
 pub enum After {
     /// It goes on.
@@ -86,21 +117,21 @@ pub enum After {
     Close(Cause),
 }
 
-/// What an end does about an item.
+/// What an end must do about an item.
 #[derive(Clone, Copy, Debug, PartialEq, Eq)]
 pub enum Reply {
-    /// It does nothing.
+    /// Nothing.
     Nothing,
     /// It sends the negotiation of the option with this code.
     Opt(Verb, u8),
-    /// It sends a message, and then stands like this.
+    /// It sends a message; then the talk is like this.
     Sub(OwnedMessage, After),
     /// The host asks its pool for an LU, of this name if there is one;
     /// [`HostTalk::answered`](crate::HostTalk::answered) takes the answer.
     AskPool(Option<Lu>),
     /// The ends agreed.
     Agreed,
-    /// The host refused the terminal an LU. The terminal's talk is over, and it stays open.
+    /// The host refused the terminal an LU. The terminal's talk is over; its connection stays open.
     Refused(Reason),
     /// The end closes.
     Close(Cause),

@@ -1,5 +1,5 @@
-//! The terminal's talk, from the host's offer to agreement (RFC 1647, section 7; the choices among its
-//! replies are our profile).
+//! The terminal's talk, from the host's offer to agreement (RFC 1647, section 7; the choices among
+//! its replies are our profile).
 ghost use Rattle.std.specs.Prelude.{◌≡◌, ℕ, List, Option};
 ghost use Rattle.telnet_wire.specs.Items.{item_of};
 ghost use Rattle.tn3270e_msg.specs.Talk.{message_says, IsFunctions, RequestsFunctions, IsLuIfSome};
@@ -7,7 +7,7 @@ ghost use Rattle.tn3270e_msg.specs.Hearing.{heard_says};
 ghost use Rattle.tn3270e_msg.specs.Lent.{message_of};
 ghost use Rattle.tn3270e_msg.specs.Lu.{lu_of};
 ghost use Rattle.tn3270e_msg.specs.Device.{device_of};
-ghost use Rattle.tn3270e_msg.specs.TermTable.{term_transition, grant_transition, term_start, TermTakes, bound};
+ghost use Rattle.tn3270e_msg.specs.TermTable.{term_transition, grant_transition, term_start, TermTakes, bound, agreed_lu, is_agreed, reason_refused};
 ghost use Rattle.tn3270e_msg.specs.declared.term_talk.TermState.TheVariants.{FunctionsAsked};
 
 use crate::cause::Cause;
@@ -21,10 +21,10 @@ use crate::reply::{After, OwnedMessage, Reason, Reply};
 use std::marker::Model;
 use telnet_wire::{Item, Verb};
 
-/// Where a terminal's talk stands (RFC 1647, section 7).
+/// The state of a terminal's talk (RFC 1647, section 7).
 #[derive(Clone, Copy, Debug, PartialEq, Eq)]
 pub enum TermState {
-    /// Nothing was offered yet.
+    /// The host hasn't offered TN3270E yet.
     Waiting,
     /// The terminal agreed to TN3270E, and wasn't asked for its type yet.
     Willing,
@@ -34,7 +34,7 @@ pub enum TermState {
     FunctionsAsked(Lu),
     /// Both ends agreed, with this LU granted.
     Agreed(Lu),
-    /// It was refused an LU; every later item is dropped.
+    /// The host refused it an LU; every later item is ignored.
     Refused(Reason),
     /// The terminal closes.
     Closed(Cause),
@@ -51,7 +51,7 @@ impl TalkState for TermState {
 }
 
 impl TermState {
-    // What the table says.
+    // The table's transition.
     fn transition(self, wanted: Option<Lu>, heard: Heard) -> Transition<TermState>
         ensures { result ≡ term_transition wanted self (heard_says heard.entry) }
     {
@@ -77,7 +77,7 @@ impl TermState {
         }
     }
 
-    // What it says of a message.
+    // The table's transition for a message.
     fn message_transition(self, wanted: Option<Lu>, message: SubMessage) -> Transition<TermState>
         ensures { result ≡ term_transition wanted self (message_says (message_of message.entry)) }
     {
@@ -173,13 +173,13 @@ impl Model for TermTalk {
 }
 
 impl TermTalk {
-    /// A talk in which nothing came yet, of a terminal that wants this LU, if any.
+    /// A talk before the first item, of a terminal that wants this LU, if any.
     pub fn new(wanted: Option<Lu>) -> TermTalk
         ensures start { result ≡ term_start wanted }
         ensures wanted { IsLuIfSome wanted }
     {
         if let Some(lu) = &wanted {
-            // Reading it tells the prover that it is a name.
+            // For the contract: the letters are those of an LU.
             let _ = lu.as_bytes();
         }
         TermTalk {
@@ -189,9 +189,9 @@ impl TermTalk {
         }
     }
 
-    /// Takes an item that came, and says what is to be done about it. A message other than those
-    /// that the talk awaits closes it, by BadTalk; so does the eighth counter-request, once it is
-    /// sent, by TooMany. A closed talk answers its cause again, and a refused one nothing.
+    /// Takes an item from the host, and answers what the terminal must do about it. A message that
+    /// the talk doesn't await closes it, by BadTalk. The eighth counter-request is sent and closes
+    /// it, by TooMany. A closed talk answers its cause again, and a refused one nothing.
     pub fn take(&mut self, item: &Item) -> Reply
         ensures { TermTakes self.old (item_of item.now) (result) self.new }
     {
@@ -199,11 +199,38 @@ impl TermTalk {
         follow(&mut self.state, &mut self.refusals_left, transition)
     }
 
-    /// Where the talk stands.
+    /// The talk's state.
     pub fn state(&self) -> TermState
         ensures { result ≡ self.now.talk.state }
     {
         self.state
+    }
+
+    /// The LU on which both ends agreed; None before, and once the talk closed.
+    pub fn agreed_lu(&self) -> Option<Lu>
+        ensures { result ≡ agreed_lu self.now.talk.state }
+    {
+        match self.state {
+            TermState::Agreed(lu) => Some(lu),
+            _ => None,
+        }
+    }
+
+    /// Whether both ends agreed, and the talk didn't close since.
+    pub fn is_agreed(&self) -> bool
+        ensures { result ≡ is_agreed self.now.talk.state }
+    {
+        matches!(self.state, TermState::Agreed(_))
+    }
+
+    /// Why the host refused an LU; None unless it did.
+    pub fn reason_refused(&self) -> Option<Reason>
+        ensures { result ≡ reason_refused self.now.talk.state }
+    {
+        match self.state {
+            TermState::Refused(reason) => Some(reason),
+            _ => None,
+        }
     }
 
     /// The LU that was granted; None before, and once the talk closed.

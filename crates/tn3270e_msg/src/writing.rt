@@ -17,7 +17,8 @@ use crate::message::{Name, SubMessage};
 use crate::reply::{After, Reply};
 use telnet_wire::{Memory, put_option, put_sub, put_sub_parts};
 
-/// Adds a message as a subnegotiation, of the very texts and lists that it lends (RFC 1647, section 3).
+/// Adds a message as a subnegotiation, with the texts and lists that it lends (RFC 1647, section
+/// 3).
 ///
 /// Its types and names must be one or more bytes from 21 to 7E. A vector that can't grow is left
 /// unchanged; one that has room takes the message.
@@ -56,11 +57,12 @@ fn put_type_request(out: &mut Vec<u8>, device: &[u8], name: Option<Name<'_>>) ->
     }
 }
 
-/// The most bytes that [`put_reply`] adds: a subnegotiation of 256 bytes, each doubled, with its begin and end.
+/// The most bytes that [`put_reply`] adds: a subnegotiation of 256 bytes, each doubled, with its
+/// begin and end.
 pub const REPLY_ROOM: usize = 2 * 256 + 4;
 
-/// Adds what a talk replies, where it says something, and answers the cause by which the reply closes the connection, if it
-/// does. The vector must have room for a reply.
+/// Adds the item that a reply sends, if it sends one. It answers the cause by which the reply
+/// closes the connection, if it does. The vector must have room for a reply.
 pub fn put_reply(out: &mut Vec<u8>, reply: &Reply) -> Option<Cause>
     requires { HasRoomForReply out.old }
     ensures sent { out.new.items ≡ out.old.items ++ sent_bytes (items_sent reply.now) }

@@ -12,29 +12,25 @@ mod host;
 mod script;
 mod subject;
 mod terminal;
-mod words;
 
+use crate::case_file::CaseFile;
 use crate::fault::Failure;
-use anyhow::Result;
 use host::Switchboard;
-use script::{Kind, Line, With, body_of, read_script};
+pub(crate) use host::View;
+use script::{Kind, Line, With, body_of, put_files};
 use std::io;
 use subject::hold;
 use terminal::Desk;
 
 /// Prints how a dialogue came out, and answers whether all of it came as expected.
-fn tell(
-    rt: &impl Print,
-    name: &str,
-    outcome: std::result::Result<(), Failure>,
-) -> io::Result<bool> {
+fn tell(rt: &impl Print, name: &str, outcome: Result<(), Failure<'_>>) -> io::Result<bool> {
     match outcome {
         Ok(()) => {
             println!(rt; "{name}: ok")?;
             Ok(true)
         }
-        Err(Failure { line, fault }) => {
-            println!(rt; "{name}: line {line}: {fault}")?;
+        Err(failure) => {
+            println!(rt; "{name}: {failure}")?;
             Ok(false)
         }
     }
@@ -69,8 +65,15 @@ fn hold_all(rt: &(impl Print + AllocGlobal), script: &[Line<'_>]) -> io::Result<
     Ok(all)
 }
 
-/// Holds the dialogues of a script, and prints how they came out. Answers whether all came as expected.
-pub fn hold_script(rt: &(impl Print + AllocGlobal), text: &str) -> Result<bool> {
-    let script = read_script(rt.alloc(), text)?;
-    Ok(hold_all(rt, script.as_slice())?)
+/// Runs the dialogues of files, and prints the result of each. Whether all are as expected. A file may play the passages of itself and of
+/// the files before it.
+pub fn run_dialogues(rt: &(impl Print + AllocGlobal), files: &[CaseFile]) -> io::Result<bool> {
+    let mut script = Vec::new(rt.alloc());
+    match put_files(&mut script, files) {
+        Ok(()) => hold_all(rt, script.as_slice()),
+        Err(failure) => {
+            println!(rt; "{failure}")?;
+            Ok(false)
+        }
+    }
 }

@@ -35,14 +35,17 @@ fn tell(rt: &(impl Print + Eprint + AllocGlobal), call: Call) -> io::Result<bool
     let how = if came.is_as_promised {
         "as promised"
     } else {
-        "otherwise"
+        "not as promised"
     };
     println!(rt; "{answer}, {how}")?;
     Ok(came.is_as_promised)
 }
 
 /// Tries the call with a name, or prints all names. Whether the result is as promised.
-pub fn try_named(rt: &(impl Print + Eprint + AllocGlobal), name: Option<&str>) -> io::Result<bool> {
+pub fn try_growth(
+    rt: &(impl Print + Eprint + AllocGlobal),
+    name: Option<&str>,
+) -> io::Result<bool> {
     let Some(name) = name else {
         print_names(rt)?;
         return Ok(true);

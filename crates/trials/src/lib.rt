@@ -4,21 +4,23 @@
 
 mod bytes;
 mod calls;
+mod case_file;
 mod dialogue;
 mod fault;
+mod fuzz;
 mod growths;
-mod keys;
 mod likeness;
 mod named;
 mod readers;
 mod serving;
 mod speed;
-mod storm;
+mod stops;
 mod worlds;
 
-pub use dialogue::hold_script;
-pub use growths::try_named;
-pub use serving::{Range, serve};
+pub use case_file::CaseFile;
+pub use dialogue::run_dialogues;
+pub use fuzz::run_fuzz;
+pub use growths::try_growth;
+pub use serving::{Range, run_serving};
 pub use speed::{Scale, measure};
-pub use storm::rage_by;
-pub use worlds::tell_script;
+pub use worlds::run_worlds;

@@ -14,7 +14,7 @@
 mod cases;
 mod client;
 mod clients;
-mod hall;
+mod fixture;
 mod refusals;
 mod seat;
 mod story;
@@ -22,7 +22,7 @@ mod story;
 use crate::fault::Fault;
 use cases::{is_broken_off, tell_whole};
 use client::{Extent, Pace, Place, Trouble, Way};
-use hall::Hall;
+use fixture::ServingFixture;
 use refusals::stay_alike;
 use seat::Seat;
 use std::alloc::{AllocError, Global};
@@ -122,8 +122,8 @@ impl Range {
 
 /// The first case of a kind, of those from one number to another, whose result differs from the expected one.
 fn first_otherwise(
-    hall: &mut Hall,
-    twin: &mut Hall,
+    fixture: &mut ServingFixture,
+    twin: &mut ServingFixture,
     seat: Seat,
     kind: Kind,
     from: usize,
@@ -135,7 +135,7 @@ fn first_otherwise(
             number,
             way: kind.way,
         };
-        if !is_broken_off(hall, twin, WHOLE, seat, trouble) {
+        if !is_broken_off(fixture, twin, WHOLE, seat, trouble) {
             return Some(number);
         }
     }
@@ -161,12 +161,12 @@ fn tell_kind(
 /// Breaks stories off on a connection, in each kind of case. Says whether all came as expected.
 fn try_kinds(
     rt: &impl Print,
-    hall: &mut Hall,
-    twin: &mut Hall,
+    fixture: &mut ServingFixture,
+    twin: &mut ServingFixture,
     range: Range,
     seat: Seat,
 ) -> io::Result<bool> {
-    let Some(extent) = tell_whole(hall, WHOLE) else {
+    let Some(extent) = tell_whole(fixture, WHOLE) else {
         return Ok(false);
     };
     let place = seat.guest().place;
@@ -174,7 +174,7 @@ fn try_kinds(
     for kind in KINDS {
         let to = extent.count(kind.place);
         let from = range.first(to);
-        let otherwise = first_otherwise(hall, twin, seat, kind, from, to);
+        let otherwise = first_otherwise(fixture, twin, seat, kind, from, to);
         all = tell_kind(rt, place, kind.name, from, to, otherwise)? && all;
     }
     Ok(all)
@@ -196,9 +196,9 @@ fn tell_pace(rt: &impl Print, name: &str, told: Option<Extent>) -> io::Result<bo
 }
 
 /// Tells the story at each pace, up to one at which it comes otherwise.
-fn try_paces(rt: &impl Print, hall: &mut Hall) -> io::Result<bool> {
+fn try_paces(rt: &impl Print, fixture: &mut ServingFixture) -> io::Result<bool> {
     for (name, pace) in PACES {
-        if !tell_pace(rt, name, tell_whole(hall, pace))? {
+        if !tell_pace(rt, name, tell_whole(fixture, pace))? {
             return Ok(false);
         }
     }
@@ -206,54 +206,62 @@ fn try_paces(rt: &impl Print, hall: &mut Hall) -> io::Result<bool> {
 }
 
 /// Whether a host that is refused memory stays as its twin; once more, where the program has none for that.
-fn stays_alike(alloc: Global, hall: &mut Hall, twin: &mut Hall) -> Result<bool, AllocError> {
-    match stay_alike(alloc, &mut hall.host, &mut twin.host) {
+fn stays_alike(
+    alloc: Global,
+    fixture: &mut ServingFixture,
+    twin: &mut ServingFixture,
+) -> Result<bool, AllocError> {
+    match stay_alike(alloc, &mut fixture.host, &mut twin.host) {
         Ok(is_alike) => Ok(is_alike),
-        Err(_) => stay_alike(alloc, &mut hall.host, &mut twin.host),
+        Err(_) => stay_alike(alloc, &mut fixture.host, &mut twin.host),
     }
 }
 
 fn try_refusals(
     rt: &(impl Print + AllocGlobal),
-    hall: &mut Hall,
-    twin: &mut Hall,
+    fixture: &mut ServingFixture,
+    twin: &mut ServingFixture,
 ) -> io::Result<bool> {
-    let is_alike = stays_alike(rt.alloc(), hall, twin)?;
+    let is_alike = stays_alike(rt.alloc(), fixture, twin)?;
     let came = if is_alike { "as expected" } else { "otherwise" };
     println!(rt; "calls that may be refused memory: {came}")?;
     Ok(is_alike)
 }
 
-/// Tells the story in a hall at each pace, and breaks it off beside a twin. Says whether all came as expected.
+/// Tells the story at each pace, and breaks it off beside a twin. Says whether all came as expected.
 fn serve_at(
     rt: &(impl Print + AllocGlobal),
     range: Range,
-    hall: &mut Hall,
-    twin: &mut Hall,
+    fixture: &mut ServingFixture,
+    twin: &mut ServingFixture,
 ) -> io::Result<bool> {
     Ok(
-        try_refusals(rt, hall, twin)?
-            && try_paces(rt, hall)?
-            && try_kinds(rt, hall, twin, range, Seat::First)?
-            && try_kinds(rt, hall, twin, range, Seat::Second)?,
+        try_refusals(rt, fixture, twin)?
+            && try_paces(rt, fixture)?
+            && try_kinds(rt, fixture, twin, range, Seat::First)?
+            && try_kinds(rt, fixture, twin, range, Seat::Second)?,
     )
 }
 
-/// A hall; once more, where memory is refused for it.
-fn new_hall(alloc: Global) -> Result<Hall, Fault> {
-    match Hall::new(alloc, WHOLE) {
-        Ok(hall) => Ok(hall),
-        Err(_) => Hall::new(alloc, WHOLE),
+/// A host and its clients; once more, where memory is refused for it.
+fn new_fixture(alloc: Global) -> Result<ServingFixture, Fault> {
+    match ServingFixture::new(alloc, WHOLE) {
+        Ok(fixture) => Ok(fixture),
+        Err(_) => ServingFixture::new(alloc, WHOLE),
     }
 }
 
-fn serve_in(rt: &(impl Print + AllocGlobal), range: Range, hall: &mut Hall) -> io::Result<bool> {
-    let mut twin = new_hall(rt.alloc())?;
-    serve_at(rt, range, hall, &mut twin)
+fn serve_in(
+    rt: &(impl Print + AllocGlobal),
+    range: Range,
+    fixture: &mut ServingFixture,
+) -> io::Result<bool> {
+    let mut twin = new_fixture(rt.alloc())?;
+    serve_at(rt, range, fixture, &mut twin)
 }
 
 /// Tells the story at each pace, and breaks it off. Says whether all came as expected.
-pub fn serve(rt: &(impl Print + AllocGlobal), range: Range) -> io::Result<bool> {
-    let mut hall = new_hall(rt.alloc())?;
-    serve_in(rt, range, &mut hall)
+pub fn run_serving(rt: &(impl Print + AllocGlobal), range: Range) -> io::Result<bool> {
+    let mut fixture = new_fixture(rt.alloc())?;
+    serve_in(rt, range, &mut fixture)
 }

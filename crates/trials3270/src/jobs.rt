@@ -1,12 +1,12 @@
-//! Checks of the program's jobs (jobs3270), over their public calls: what words and lines ask for, printed line by line; input that ends
-//! early or is long, output that fails, and wires in memory, which the program itself can't show. Whole runs of the program are pages in runs/.
-mod asks;
+//! Checks of the program's jobs (jobs3270), over their public calls: the commands of lines and words, by files of cases; input that ends
+//! early or is long, output that fails, and wires in memory, which the program itself can't show. Whole runs of the program are pages in
+//! runs/, and runs/sockets has the loops over sockets.
 mod checks;
-mod lines;
+mod commands;
 mod memory;
-mod sockets;
 mod streams;
 mod terminals;
+mod texts;
 
-pub(crate) use asks::tell_asks;
 pub(crate) use checks::try_jobs;
+pub(crate) use commands::run_commands;

@@ -1,12 +1,12 @@
 -- Unreturned fields: what is kept cell by cell is kept field by field.
-use Rattle.std.proofs.Common.{◌≡◌, ℕ, zero, suc, ◌+◌, ◌<◌, arith, Bool, true, false, Option, None, Some, List, [], ◌∷◌, ◌++◌, length, take, drop, refl, ap, sym, subst, ◌∙◌, if◌then◌else◌}
-use Rattle.std.specs.Prelude.{⊤, replicate, slice_index_or}
+use Rattle.std.proofs.Common.{◌≡◌, ℕ, suc, ◌+◌, ◌<◌, arith, Bool, true, false, Option, None, Some, List, [], ◌∷◌, ◌++◌, length, take, drop, refl, ap, sym, subst, ◌∙◌, if◌then◌else◌}
+use Rattle.std.specs.Prelude.{⊤, slice_index_or}
 use Rattle.std.specs.Option.{option_or}
 use Rattle.std.proofs.lemmas.List.{take-append-drop}
 use Rattle.codes3270.specs.declared.attribute.Attr.{Attr as Attribute}
 use Rattle.codes3270.specs.declared.attribute.Cell.{Cell}
 use Rattle.codes3270.specs.declared.attribute.Cell.TheVariants.{Char, Attr}
-use Rattle.datastream.specs.Fields.{Field, fields, fields_from}
+use Rattle.datastream.specs.Fields.{fields, fields_from}
 use Rattle.datastream.specs.Screen.{attribute_in, attribute_over, is_char_at, last_attribute, text_before_attribute}
 use Rattle.datastream.proofs.Fields.{last_attribute-append, option_or-none, option_or_assoc}
 use Rattle.shadow.specs.Belief.{nulls}

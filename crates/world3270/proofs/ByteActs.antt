@@ -57,7 +57,7 @@ told sending number old = with_host (with_connection number (sent_on sending (co
 
 -- the connection, where the host's line is this one
 abbrev with_this : Option ℕ → Transits → List ℕ → TrackedTerminal → Service → List ℕ → ByteLink
-with_this here transits up tracked service out = with_parts here (record { service = service; out = out }) transits up tracked
+with_this here transits up tracked service out = with_parts here (record { service = service; out = out; rejections = [] }) transits up tracked
 
 -- the host's line says more, and the connection has that under way
 connection_says : (here : Option ℕ) (transits : Transits) (up : List ℕ) (tracked : TrackedTerminal) (sending : Sent) (service : Service) (out : List ℕ) → is_there service ≡ true → IsNotClosed service

@@ -14,6 +14,7 @@ use Rattle.world3270.specs.Places.{EndsAgree, UpIsHeld}
 use Rattle.world3270.specs.Refines.{Begin, IsBegin, Reached, IsReal, IsCounted, GoesOn, ComesTo, SkipsAreThose, BeginIsReached, message_event, once, after}
 use Rattle.world3270.specs.Sendable.{IsTyped}
 use Rattle.world3270.specs.Standing.{WorldStands, IsAt}
+use Rattle.world3270.specs.Stands.{StandsUp}
 use Rattle.world3270.specs.StandsLinks.{TermLeaves}
 use Rattle.world3270.specs.Terminal.{new_display}
 use Rattle.world3270.specs.World.{Place, World, Event as MessageEvent}
@@ -27,6 +28,7 @@ use Rattle.world3270.proofs.HostAnew.{host_anew_stands, panels_stay}
 use Rattle.world3270.proofs.Joinings.{begin_stands, connected, connected_stands, found_below, new_is_alone}
 use Rattle.world3270.proofs.Known.{Goes, facts_now, facts_once, reached_one, reached_still}
 use Rattle.world3270.proofs.Partings.{host_gone_stands, lost_stands, parted_stands}
+use Rattle.world3270.proofs.Stands.{nothing_stands}
 
 -- ---- a terminal leaves its connection
 
@@ -92,12 +94,12 @@ is_alone (Some number) world may = absurd (cc)
 
 -- ---- the begin
 
-pub begin_is_reached : BeginIsReached
-begin_is_reached begin is = record {
+pub begin_is_reached : Known → BeginIsReached
+begin_is_reached known begin is = record {
   are_events = tt;
   typed = All-nil IsTyped;
   panels = refl;
-  stands = begin_stands begin.panels begin.pool begin.terminals;
+  stands = begin_stands (nothing_stands StandsUp known.links.no_bytes known.links.start) begin.panels begin.pool begin.terminals;
 }
 
 -- ---- one event

@@ -21,7 +21,7 @@ use Rattle.world3270.specs.ByteWorld.{ByteWorld, is_there, is_live, transits_at,
 use Rattle.world3270.specs.Link.{Link, is_free, is_up as is_link_up}
 use Rattle.world3270.specs.Placed.{is_queued, comes_up, comes_down, host_acts, host_notes, host_sees, terminal_sees, free_number as free_link, may_connect as may_join}
 use Rattle.world3270.specs.Refines.{SkipsAreThose, after}
-use Rattle.world3270.specs.Standing.{WorldStands, IsAt, IsNotClosed, conn_of, link_of}
+use Rattle.world3270.specs.Standing.{WorldStands, IsAt, IsNotClosed, conn_of}
 use Rattle.world3270.specs.Stands.{StandsDown, StandsUp, BytesStand}
 use Rattle.world3270.specs.World.{Place, World}
 use Rattle.world3270.specs.declared.event.Event.TheVariants as event
@@ -184,7 +184,7 @@ module _ (one : OneDelivery) (no_bytes : ReadingNothing) where
   up_alike number count bytes world stands above =
       let link = stands.links number in
       both_alike (host_there number bytes) (world.link number).host_here _ _ link.host_here
-      (λ here. taken_alike StandsUp (link_of number bytes).host_rest count (up_of number bytes) (world.link number).up above (link.host here).up)
+      (λ here. taken_alike StandsUp link.read count (up_of number bytes) (world.link number).up above link.up)
 
   down_alike : (number count : ℕ) (bytes : ByteWorld) (world : World) → WorldStands bytes world → 0 < count
       → (terminal_there number bytes && is_queued (take count (down_of number bytes))) ≡ comes_down (world.link number)

@@ -53,7 +53,7 @@ use Rattle.world3270.proofs.OneOfMany.{with_other, with_same}
 use Rattle.world3270.proofs.Queues.{not_empty, nothing_sent}
 use Rattle.world3270.proofs.SaidUp.{all_said_up}
 use Rattle.world3270.proofs.StandsFits.{payload_fits}
-use Rattle.world3270.proofs.StandsLinks.{none_for_none}
+use Rattle.world3270.proofs.StandsLinks.{none_for_none, up_behind_rest}
 use Rattle.world3270.proofs.UnderWay.{lost_says}
 use Rattle.world3270.proofs.UpCame.{Taken, heard, one_stood, host_is, counter_is, took_up, took_none, took_next}
 
@@ -170,7 +170,7 @@ module _ (known : Known) (begin : Begin) (is : IsBegin begin) (events : List Mes
 
   nothing_completes : (byte : ℕ) (behind : List ℕ) (counter : Counter) (rest to : Rest) (conn : Conn) → up_of number old ≡ byte ∷ behind
       → service_at number old.host ≡ Service.Open rest conn → Delivers record_limit rest (byte ∷ []) [] to
-      → counter ≡ record { pool = old.host.pool; connection = record { service = Service.Open to conn; out = (counter_at number old.host).connection.out } }
+      → counter ≡ record { pool = old.host.pool; connection = record (counter_at number old.host).connection { service = Service.Open to conn } }
       → OneByte begin events number byte counter old
   nothing_completes byte behind counter rest to conn queue held delivers is_counter =
       let came = known.links.up (link_of number old) link (byte ∷ []) behind [] to (stands.links number) host_here queue
@@ -334,7 +334,7 @@ module _ (known : Known) (begin : Begin) (is : IsBegin begin) (events : List Mes
   not_wrong : (byte : ℕ) (behind : List ℕ) (rest : Rest) (conn : Conn) (fault : WireFault) → up_of number old ≡ byte ∷ behind
       → service_at number old.host ≡ Service.Open rest conn → GoesWrong record_limit rest (byte ∷ []) fault → ⊥
   not_wrong byte behind rest conn fault queue held wrong =
-      let up = ((stands.links number).host host_here).up in
+      let up = up_behind_rest (link_of number old) link (stands.links number) host_here in
       let spelt : BytesUp rest (byte ∷ behind) link.up =
       subst (λ (r : Rest). BytesUp r (byte ∷ behind) link.up) (ap rest_of held)
       (subst (λ (b : List ℕ). BytesUp (rest_of (service_at number old.host)) b link.up) queue up) in

@@ -24,11 +24,12 @@ use Rattle.world3270.specs.Deliveries.{AreDeliveries, host_rest, rest_of_termina
 use Rattle.world3270.specs.Known.{Known}
 use Rattle.world3270.specs.Link.{Link, sent, term_left_if, term_stepped}
 use Rattle.world3270.specs.TrackedTerminals.{TrackedTerminal, TrackedTakes}
-use Rattle.world3270.specs.Standing.{WorldStands, IsNotClosed, link_with, rest_of}
+use Rattle.world3270.specs.Standing.{WorldStands, IsNotClosed, link_of, link_with, rest_of}
 use Rattle.world3270.specs.Stands.{BytesStand, LinkStands, TermStands}
 use Rattle.world3270.specs.StandsLinks.{took_down}
 use Rattle.world3270.specs.Terminal.{TermStep, took as term_took}
 use Rattle.world3270.specs.World.{World, Event as MessageEvent}
+use Rattle.world3270.proofs.StandsLinks.{up_behind_rest}
 
 -- ---- the bytes that were taken
 
@@ -83,7 +84,8 @@ module _ (known : Known) where
       by_service : (service : Service) → service_at number old.host ≡ service → IsNotClosed service → IsRest record_limit (host_rest number old)
       by_service Service.Free e held = subst (λ (s : Service). IsRest record_limit (rest_of s)) (sym e) (known.links.start record_limit)
       by_service (Service.Open rest conn) e held =
-          ((stands.links number).host (sym (stands.links number).host_here ∙ ap is_there e)).up.is_rest
+          let link = stands.links number in
+          (up_behind_rest (link_of number old) (world.link number) link (sym link.host_here ∙ ap is_there e)).is_rest
       by_service (Service.Closed cause) e closed = absurd closed
 
   -- the terminal at a connection

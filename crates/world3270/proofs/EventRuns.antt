@@ -1,7 +1,7 @@
 -- Events over bytes happen one after another, and one more.
-use Rattle.std.proofs.Common.{◌≡◌, ◌<◌, ◌+◌, ◌++◌, drop, take, ℕ, List, [], ◌∷◌, Some, None, length, get_or, refl, sym, subst}
-use Rattle.std.proofs.lemmas.List.{take_more, at_drop_more}
-use Rattle.world3270.specs.ByteRuns.{AllHappen, StopsAt, refused_at}
+use Rattle.std.proofs.Common.{◌≡◌, ◌<◌, ◌+◌, ◌++◌, take, ℕ, List, [], ◌∷◌, None, length, get_or, refl, sym, subst}
+use Rattle.std.proofs.lemmas.List.{take_more}
+use Rattle.world3270.specs.ByteRuns.{AllHappen, refused_at}
 use Rattle.world3270.specs.ByteSteps.{Steps}
 use Rattle.world3270.specs.ByteWorld.{ByteWorld}
 use Rattle.world3270.specs.declared.event.Event.{Event}
@@ -20,8 +20,3 @@ pub one_more : (old : ByteWorld) (events : List Event) (index : ℕ) (d : Event)
 one_more old events index d mid answer new below all steps goes =
     subst (λ (es : List Event). AllHappen es old new) (sym (take_more events index d below))
     (happen_more old (take index events) mid (get_or events index d) answer new all steps goes)
-
-pub stops_there : (events : List Event) (index : ℕ) (d : Event) (mid : ByteWorld) (answer : Stepped) (new : ByteWorld) (part : ℕ) → index < length events
-    → Steps (get_or events index d) mid answer new → refused_at answer ≡ Some part → StopsAt (drop index events) part mid new
-stops_there events index d mid answer new part below steps refused =
-    subst (λ (es : List Event). StopsAt es part mid new) (sym (at_drop_more (λ (es : List Event). es) events index d below)) (answer, steps, refused)

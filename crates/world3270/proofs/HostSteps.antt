@@ -24,6 +24,7 @@ use Rattle.host_core.specs.declared.turn.Turn.TheVariants as whose
 use Rattle.host_core.specs.declared.turn_reason.TurnReason.{TurnReason}
 use Rattle.host_core.specs.declared.turn_reason.TurnReason.TheVariants as turn_reasons
 use Rattle.host_core.specs.Session.{Conn, Pending, is_agreed}
+use Rattle.host_core.specs.Rejections.{lu_asked}
 use Rattle.host_core.specs.Takes.{Answers, HostStep, quiet, closed_by, replied, granted_by, asked, talked_on, hears, believed, once_read, buffer_came, key_came, key_data_came, data_came, answered, refused, write_refused, if_answers, verdict_came, read_verdict_came, response_came, once_agreed, took}
 
 -- its command still waits for its answer, or nothing does
@@ -44,26 +45,26 @@ closes conn cause = record { number = refl; values = refl; pending = inl refl; t
 settles : (conn new : Conn) → new.next_seq ≡ conn.next_seq → new.values ≡ conn.values → new.pending ≡ Pending.Nothing → JustTalks conn (quiet new)
 settles conn new number values none = record { number = number; values = values; pending = inr none; talk = []; says = refl }
 
-replies : (conn : Conn) (grants : Option (List ℕ)) (next : Talk HostState × Reply) → JustTalks conn (replied conn grants next)
-replies conn grants next = record { number = refl; values = refl; pending = inl refl; talk = sayings next.1; says = refl }
+replies : (conn : Conn) (lu grants : Option (List ℕ)) (next : Talk HostState × Reply) → JustTalks conn (replied conn lu grants next)
+replies conn lu grants next = record { number = refl; values = refl; pending = inl refl; talk = sayings next.1; says = refl }
 
-asks : (conn : Conn) (talk : Talk HostState) (answer : Result (List ℕ) Reason) (state : HostState) → JustTalks conn (asked conn talk answer state)
-asks conn talk answer (Asking device) = replies conn (granted_by answer) (follow Closed talk (answer_transition device answer))
-asks conn talk answer Offered = quietly conn
-asks conn talk answer Asked = quietly conn
-asks conn talk answer (Named device lu) = quietly conn
-asks conn talk answer (Countered device lu) = quietly conn
-asks conn talk answer (Agreed device lu) = quietly conn
-asks conn talk answer (Closed cause) = quietly conn
+asks : (conn : Conn) (lu : Option (List ℕ)) (talk : Talk HostState) (answer : Result (List ℕ) Reason) (state : HostState) → JustTalks conn (asked conn lu talk answer state)
+asks conn lu talk answer (Asking device) = replies conn lu (granted_by answer) (follow Closed talk (answer_transition device answer))
+asks conn lu talk answer Offered = quietly conn
+asks conn lu talk answer Asked = quietly conn
+asks conn lu talk answer (Named device granted) = quietly conn
+asks conn lu talk answer (Countered device granted) = quietly conn
+asks conn lu talk answer (Agreed device granted) = quietly conn
+asks conn lu talk answer (Closed cause) = quietly conn
 
-talks : (pool : Answers) (conn : Conn) (talk : Talk HostState) (answer : Reply) → JustTalks conn (talked_on pool conn talk answer)
-talks pool conn talk (reply.AskPool name) = asks conn talk (pool name) talk.state
-talks pool conn talk reply.Nothing = replies conn None (talk, reply.Nothing)
-talks pool conn talk (reply.Opt verb code) = replies conn None (talk, reply.Opt verb code)
-talks pool conn talk (reply.Sub sending after) = replies conn None (talk, reply.Sub sending after)
-talks pool conn talk reply.Agreed = replies conn None (talk, reply.Agreed)
-talks pool conn talk (reply.Refused reason) = replies conn None (talk, reply.Refused reason)
-talks pool conn talk (reply.Close cause) = replies conn None (talk, reply.Close cause)
+talks : (pool : Answers) (conn : Conn) (lu : Option (List ℕ)) (talk : Talk HostState) (answer : Reply) → JustTalks conn (talked_on pool conn lu talk answer)
+talks pool conn lu talk (reply.AskPool name) = asks conn lu talk (pool name) talk.state
+talks pool conn lu talk reply.Nothing = replies conn lu None (talk, reply.Nothing)
+talks pool conn lu talk (reply.Opt verb code) = replies conn lu None (talk, reply.Opt verb code)
+talks pool conn lu talk (reply.Sub sending after) = replies conn lu None (talk, reply.Sub sending after)
+talks pool conn lu talk reply.Agreed = replies conn lu None (talk, reply.Agreed)
+talks pool conn lu talk (reply.Refused reason) = replies conn lu None (talk, reply.Refused reason)
+talks pool conn lu talk (reply.Close cause) = replies conn lu None (talk, reply.Close cause)
 
 -- ---- data
 
@@ -134,7 +135,7 @@ once_it_agreed false step conn just = quietly conn
 pub just_talks : (pool : Answers) (conn : Conn) (message : ToHost) → JustTalks conn (took pool conn message)
 just_talks pool conn (ToHost.TalksUp saying) =
     let next : Talk HostState × Reply = follow Closed conn.talk (host_transition conn.talk.state (says saying)) in
-    talks pool conn next.0 next.1
+    talks pool conn (lu_asked (says saying)) next.0 next.1
 just_talks pool conn (ToHost.Data parts) = once_it_agreed (is_agreed conn.talk.state) _ conn (hears_data parts conn.turn conn.pending conn)
 just_talks pool conn (ToHost.Response number verdict) =
     once_it_agreed (is_agreed conn.talk.state) _ conn (is_answered number verdict conn.pending conn)

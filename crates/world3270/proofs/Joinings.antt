@@ -5,6 +5,7 @@ use Rattle.std.proofs.lemmas.Bool.{cases_lt}
 use Rattle.std.proofs.lemmas.Iterator.Adapters.{position_from-zero}
 use Rattle.std.proofs.lemmas.List.{get_or_past, get_or-replicate, length-replicate, length-set}
 use Rattle.codes3270.specs.Size.{model_2}
+use Rattle.telnet_wire.specs.Reading.{nothing}
 use Rattle.lu_pool.specs.declared.entry.Entry.{Entry}
 use Rattle.panels.specs.Panel.{Panels}
 use Rattle.host_core.specs.Application.{application_of}
@@ -14,8 +15,8 @@ use Rattle.world3270.specs.ByteWorld.{ByteWorld, Transits, TerminalSlot, under_w
 use Rattle.world3270.specs.Link.{Link, begun, unused as unused_link}
 use Rattle.world3270.specs.Places.{EndsAgree}
 use Rattle.world3270.specs.Standing.{WorldStands, IsFlow, IsAt, IsNotClosed, IsSettled, AreTransits, conn_of, rest_of, with_out, link_with}
-use Rattle.world3270.specs.Stands.{LinkStands}
-use Rattle.world3270.specs.StandsLinks.{BeginStands, begun_bytes}
+use Rattle.world3270.specs.Stands.{StandsUp, BytesUp, LinkStands}
+use Rattle.world3270.specs.StandsLinks.{NothingStands, BeginStands, begun_bytes}
 use Rattle.world3270.specs.Terminal.{new_display}
 use Rattle.world3270.specs.World.{Place, World, new_world, with_at}
 use Rattle.world3270.proofs.Frames.{transits_same, transits_other, slot_same, slot_other, connection_same, connection_other, IsHere, alone_there, changed_stands}
@@ -119,7 +120,7 @@ none_from : (number count start : ℕ) → position_from (λ slot. is_attached_t
 none_from number zero start = refl
 none_from number (suc count) start = none_from number count (start + 1)
 
-module _ (panels : Panels) (pool : List Entry) (terminals : ℕ) where
+module _ (empty : NothingStands StandsUp) (panels : Panels) (pool : List Entry) (terminals : ℕ) where
   abbrev begins : ByteWorld
   begins = new_byte_world panels pool terminals
 
@@ -145,6 +146,8 @@ module _ (panels : Panels) (pool : List Entry) (terminals : ℕ) where
     lost = ap (λ (w : Transits). not (is_live w.down)) (transits_begun number);
     host_here = ap (λ (l : Connection). is_there l.service) (connection_begun number);
     term_here = refl;
+    read = nothing;
+    up = subst (λ (w : Transits). BytesUp nothing (under_way w.up []) []) (sym (transits_begun number)) empty;
     host = λ e. absurd (cc);
     term = λ terminal e. absurd (cc);
   }

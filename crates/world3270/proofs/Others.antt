@@ -35,6 +35,7 @@ use Rattle.host_core.specs.declared.turn.Turn.TheVariants as whose
 use Rattle.host_core.specs.declared.turn_reason.TurnReason.{TurnReason}
 use Rattle.host_core.specs.declared.turn_reason.TurnReason.TheVariants as turn_reasons
 use Rattle.host_core.specs.Session.{Conn, Pending, is_agreed}
+use Rattle.host_core.specs.Rejections.{lu_asked}
 use Rattle.host_core.specs.Takes.{Answers, HostStep, quiet, closed_by, asked, talked_on, hears, believed, once_read, buffer_came, key_came, key_data_came, data_came, refused, write_refused, if_answers, verdict_came, read_verdict_came, response_came, once_agreed, took as host_took}
 use Rattle.world3270.specs.Always.{Always}
 use Rattle.world3270.specs.Given.{Given}
@@ -122,25 +123,25 @@ record IsAnswer (pool : Answers) (lu : List ℕ) : Type 0 where
   name : Option (List ℕ)
   answer : pool name ≡ Ok lu
 
-asked_grants : (pool : Answers) (name : Option (List ℕ)) (conn : Conn) (talk : Talk HostState) (answer : Result (List ℕ) Reason) (state : HostState) (lu : List ℕ)
-    → pool name ≡ answer → (asked conn talk answer state).grants ≡ Some lu → IsAnswer pool lu
-asked_grants pool name conn talk (Ok have) (Asking device) lu a e = record { name = name; answer = a ∙ cc }
-asked_grants pool name conn talk (Err reason) (Asking device) lu a e = absurd (cc)
-asked_grants pool name conn talk answer Offered lu a e = absurd (cc)
-asked_grants pool name conn talk answer Asked lu a e = absurd (cc)
-asked_grants pool name conn talk answer (Named device have) lu a e = absurd (cc)
-asked_grants pool name conn talk answer (Countered device have) lu a e = absurd (cc)
-asked_grants pool name conn talk answer (Agreed device have) lu a e = absurd (cc)
-asked_grants pool name conn talk answer (Closed cause) lu a e = absurd (cc)
+asked_grants : (pool : Answers) (name sought : Option (List ℕ)) (conn : Conn) (talk : Talk HostState) (answer : Result (List ℕ) Reason) (state : HostState) (lu : List ℕ)
+    → pool name ≡ answer → (asked conn sought talk answer state).grants ≡ Some lu → IsAnswer pool lu
+asked_grants pool name sought conn talk (Ok have) (Asking device) lu a e = record { name = name; answer = a ∙ cc }
+asked_grants pool name sought conn talk (Err reason) (Asking device) lu a e = absurd (cc)
+asked_grants pool name sought conn talk answer Offered lu a e = absurd (cc)
+asked_grants pool name sought conn talk answer Asked lu a e = absurd (cc)
+asked_grants pool name sought conn talk answer (Named device have) lu a e = absurd (cc)
+asked_grants pool name sought conn talk answer (Countered device have) lu a e = absurd (cc)
+asked_grants pool name sought conn talk answer (Agreed device have) lu a e = absurd (cc)
+asked_grants pool name sought conn talk answer (Closed cause) lu a e = absurd (cc)
 
-talked_grants : (pool : Answers) (conn : Conn) (talk : Talk HostState) (answer : Reply) (lu : List ℕ) → (talked_on pool conn talk answer).grants ≡ Some lu → IsAnswer pool lu
-talked_grants pool conn talk (reply.AskPool name) lu e = asked_grants pool name conn talk (pool name) talk.state lu refl e
-talked_grants pool conn talk reply.Nothing lu e = absurd (cc)
-talked_grants pool conn talk (reply.Opt verb code) lu e = absurd (cc)
-talked_grants pool conn talk (reply.Sub sending after) lu e = absurd (cc)
-talked_grants pool conn talk reply.Agreed lu e = absurd (cc)
-talked_grants pool conn talk (reply.Refused reason) lu e = absurd (cc)
-talked_grants pool conn talk (reply.Close cause) lu e = absurd (cc)
+talked_grants : (pool : Answers) (conn : Conn) (sought : Option (List ℕ)) (talk : Talk HostState) (answer : Reply) (lu : List ℕ) → (talked_on pool conn sought talk answer).grants ≡ Some lu → IsAnswer pool lu
+talked_grants pool conn sought talk (reply.AskPool name) lu e = asked_grants pool name sought conn talk (pool name) talk.state lu refl e
+talked_grants pool conn sought talk reply.Nothing lu e = absurd (cc)
+talked_grants pool conn sought talk (reply.Opt verb code) lu e = absurd (cc)
+talked_grants pool conn sought talk (reply.Sub sending after) lu e = absurd (cc)
+talked_grants pool conn sought talk reply.Agreed lu e = absurd (cc)
+talked_grants pool conn sought talk (reply.Refused reason) lu e = absurd (cc)
+talked_grants pool conn sought talk (reply.Close cause) lu e = absurd (cc)
 
 -- records grant nothing
 believed_grants : (turn_reason : TurnReason) (pending : Pending) (conn : Conn) (result : Result Shadow HeardFault) → (believed turn_reason pending conn result).grants ≡ None
@@ -207,7 +208,7 @@ not_both granted lu none some = absurd (cc)
 grants : (pool : Answers) (conn : Conn) (message : ToHost) (lu : List ℕ) → (host_took pool conn message).grants ≡ Some lu → IsAnswer pool lu
 grants pool conn (ToHost.TalksUp saying) lu e =
     let next : Talk HostState × Reply = follow Closed conn.talk (host_transition conn.talk.state (says saying)) in
-    talked_grants pool conn next.0 next.1 lu e
+    talked_grants pool conn (lu_asked (says saying)) next.0 next.1 lu e
 grants pool conn (ToHost.Data parts) lu e = absurd (not_both _ lu (once_agreed_grants (is_agreed conn.talk.state) (data_came parts conn.turn conn.pending conn) conn (data_grants parts conn.turn conn.pending conn)) e)
 grants pool conn (ToHost.Response number verdict) lu e =
     absurd (not_both _ lu (once_agreed_grants (is_agreed conn.talk.state) (response_came number verdict conn.pending conn) conn (response_grants number verdict conn.pending conn)) e)

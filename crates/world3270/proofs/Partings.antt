@@ -2,7 +2,6 @@
 use Rattle.std.proofs.Common.{◌≡◌, ◌<◌, not, ℕ, Bool, true, false, Option, None, Some, is_some, List, [], length, le_refl, refl, ap, sym, subst, ◌∙◌}
 use Rattle.std.proofs.lemmas.List.{length-set}
 use Rattle.lu_pool.specs.Holders.{given_back}
-use Rattle.telnet_wire.specs.Reading.{Rest}
 use Rattle.host_core.specs.State.{Host, Connection, unused, connection_at, service_at}
 use Rattle.world3270.specs.ByteSteps.{lost_transits, host_gone, terminal_gone}
 use Rattle.world3270.specs.ByteWorld.{ByteWorld, Transit, Transits, TerminalSlot, under_way, cut, sender_gone, is_live, is_there, transits_at, slot_at, with_transits, with_slot, host_there, host_out, out_of}
@@ -36,10 +35,9 @@ like_stands old new link like stands = record {
   lost = like.lost ∙ stands.lost;
   host_here = like.host_here ∙ stands.host_here;
   term_here = like.term_here ∙ stands.term_here;
-  host = λ here. let host = stands.host here in let same = like.host here in record {
-    host = same.0 ∙ host.host;
-    up = subst (λ (r : Rest). BytesUp r new.up link.up) (sym same.1) (subst (λ (b : List ℕ). BytesUp old.host_rest b link.up) (sym like.up) host.up);
-  };
+  read = stands.read;
+  up = subst (λ (b : List ℕ). BytesUp stands.read b link.up) (sym like.up) stands.up;
+  host = λ here. let host = stands.host here in let same = like.host here in record { host = same.0 ∙ host.host; rest_is = same.1 ∙ host.rest_is };
   term = λ terminal here. let term = stands.term terminal here in let same = like.tracked terminal here in record {
     rest = term.rest;
     holds = subst (λ (s : TrackedTerminal). Holds term.rest s link.term) (sym same) term.holds;

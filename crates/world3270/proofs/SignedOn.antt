@@ -38,7 +38,7 @@ unfoldable pub request_taken : FunctionsOffer → World → World
 request_taken wanted world =
     let conn = (world.link 0).host in
     let next = follow HostClosed conn.talk (host_transition conn.talk.state (RequestsFunctions wanted)) in
-    host_took_it 0 (talked_on (answer_to world.pool) conn next.0 next.1) [] world
+    host_took_it 0 (talked_on (answer_to world.pool) conn None next.0 next.1) [] world
 
 unfoldable pub agreement_taken : FunctionsOffer → World → World
 agreement_taken wanted world =

@@ -7,7 +7,7 @@ use Rattle.term_core.specs.Bytes.{TakesByte, TakesBytes}
 use Rattle.keyboard.specs.declared.key.Key.{Key}
 use Rattle.keyboard.specs.declared.key.Pressed.{Pressed}
 use Rattle.keyboard.specs.declared.key.Pressed.TheVariants.{Done, Refused, Send}
-use Rattle.term_core.specs.Feeds.{Feeds, LacksReplyRoom, StopsFor, IsAttached}
+use Rattle.term_core.specs.Feeds.{Feeds, StopsFor, IsAttached}
 use Rattle.term_core.specs.Presses.{LacksKeyRoom, data_pressed, key_outcome}
 use Rattle.term_core.specs.Room.{out_room}
 use Rattle.term_core.specs.State.{Device, Terminal, Link, Closed, Detached, is_bound, phase_of}
@@ -72,28 +72,6 @@ byte_closed room old terminal byte cause fed new attached feeds closed is =
     subst (λ (s : TrackedTerminal). TrackedTakesByte old byte s × (s.terminal.link ≡ Closed cause)) (sym is) (record { takes = took; history = refl }, stops)
 
 -- ---- the room of a terminal's output
-
--- a terminal at a connection keeps its room
-pub sound_on : (at : Option ℕ) (old new : Device) → new.terminal.link ≡ old.terminal.link → old.room ≤ new.room → IsSoundSlot at old → IsSoundSlot at new
-sound_on None old new same grows sound = same ∙ sound
-sound_on (Some number) old new same grows sound = (sound.0, omega (arith, grows, sound.1))
-
-pub sound_when_fed : (at : Option ℕ) (old new : Device) → IsAttached old.terminal.link → old.room ≤ new.room → IsSoundSlot at old → IsSoundSlot at new
-sound_when_fed None old new attached grows sound = absurd (not_detached old.terminal.link attached sound)
-sound_when_fed (Some number) old new attached grows sound = (sound.0, omega (arith, grows, sound.1))
-
-none_taken : (old new : Terminal) (byte taken : ℕ) → taken < 1 → TakesBytes old (take taken (byte ∷ [])) new → new ≡ old
-none_taken old new byte zero few takes = takes
-none_taken old new byte (suc taken) few takes = absurd (omega (arith, few))
-
--- a byte for which there was no memory
-pub byte_lacked : (at : Option ℕ) (old new : Device) (byte : ℕ) (fed : Fed) → IsAttached old.terminal.link → old.room ≤ new.room → IsSoundSlot at old
-    → Feeds new.room old.terminal (byte ∷ []) fed new.terminal → fed.stop ≡ stop.Memory
-    → (new.terminal ≡ old.terminal) × LacksReplyRoom out_room new.terminal.out
-byte_lacked None old new byte fed attached grows sound feeds memory = absurd (not_detached old.terminal.link attached sound)
-byte_lacked (Some number) old new byte fed attached grows sound feeds memory =
-    let stops = subst (λ (s : Stop). StopsFor new.room s old.terminal (byte ∷ []) fed.taken new.terminal) memory feeds.stops in
-    (none_taken old.terminal new.terminal byte fed.taken stops.0 feeds.takes, omega (arith, grows, sound.1, stops.2))
 
 unbound_sends_nothing : (answer : Pressed) (screen : Screen) (body : List ℕ) → data_pressed false answer screen ≡ Some body → ⊥
 unbound_sends_nothing Done screen body sends = cc

@@ -555,7 +555,9 @@ begin_stands written is_rest empty terminal wanted = record {
   lost = refl;
   host_here = refl;
   term_here = refl;
-  host = λ here. record { host = refl; up = empty };
+  read = nothing;
+  up = empty;
+  host = λ here. record { host = refl; rest_is = refl };
   term = λ which here. record {
     rest = nothing;
     holds = record {

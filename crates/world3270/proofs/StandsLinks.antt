@@ -71,12 +71,11 @@ press_stands presses compose key bytes link terminal stands here sendable =
       lost = stands.lost;
       host_here = stands.host_here;
       term_here = stands.term_here;
-      host = λ there. record {
-        host = (stands.host there).host;
-        up = subst (λ (l : Bool). BytesUp bytes.host_rest (sent l bytes.up new.terminal.out) (sent link.lost link.up (key_came key link.term).sends)) (sym stands.lost)
-            (said_goes_up compose link.lost bytes.host_rest bytes.up new.terminal.out link.up (key_came key link.term).sends at_key.items
-            (stands.host there).up out at_key.fit at_key.said);
-      };
+      read = stands.read;
+      up = subst (λ (l : Bool). BytesUp stands.read (sent l bytes.up new.terminal.out) (sent link.lost link.up (key_came key link.term).sends)) (sym stands.lost)
+          (said_goes_up compose link.lost stands.read bytes.up new.terminal.out link.up (key_came key link.term).sends at_key.items
+          stands.up out at_key.fit at_key.said);
+      host = λ there. let host = stands.host there in record { host = host.host; rest_is = host.rest_is };
       term = λ which is. record {
         rest = term.rest;
         holds = silenced term.rest new (key_came key link.term).end at_key.holds;
@@ -362,12 +361,11 @@ ran_stands compose bytes link now behind new stands silent ran =
       lost = stands.lost ∙ sym ran.lost;
       host_here = stands.host_here ∙ sym ran.host_here;
       term_here = stands.term_here ∙ sym ran.term_here;
-      host = λ there. let host = stands.host (sym ran.host_here ∙ there) in record {
-        host = host.host ∙ sym ran.host;
-        up = subst (λ (m : List ToHost). BytesUp bytes.host_rest (sent bytes.lost bytes.up new.terminal.out) m) (sym ran.up)
-            (subst (λ (l : Bool). BytesUp bytes.host_rest (sent l bytes.up new.terminal.out) (sent link.lost link.up ran.sends)) (sym stands.lost)
-            (said_goes_up compose link.lost bytes.host_rest bytes.up new.terminal.out link.up ran.sends ran.says host.up out ran.fit ran.said));
-      };
+      read = stands.read;
+      up = subst (λ (m : List ToHost). BytesUp stands.read (sent bytes.lost bytes.up new.terminal.out) m) (sym ran.up)
+          (subst (λ (l : Bool). BytesUp stands.read (sent l bytes.up new.terminal.out) (sent link.lost link.up ran.sends)) (sym stands.lost)
+          (said_goes_up compose link.lost stands.read bytes.up new.terminal.out link.up ran.sends ran.says stands.up out ran.fit ran.said));
+      host = λ there. let host = stands.host (sym ran.host_here ∙ there) in record { host = host.host ∙ sym ran.host; rest_is = host.rest_is };
       term = λ which is. record { rest = ran.rest; holds = silenced ran.rest new now.term ran.holds; silent = refl; down = ran.down };
     }
 
@@ -419,7 +417,9 @@ host_sends compose bytes link conn items messages stands fit said = record {
   lost = stands.lost;
   host_here = stands.host_here;
   term_here = stands.term_here;
-  host = λ here. record { host = refl; up = (stands.host here).up };
+  read = stands.read;
+  up = stands.up;
+  host = λ here. record { host = refl; rest_is = (stands.host here).rest_is };
   term = λ terminal here. let term = stands.term terminal here in record {
     rest = term.rest;
     holds = record { talk = term.holds.talk; attached = term.holds.attached; is_end = term.holds.is_end };
@@ -438,10 +438,15 @@ same_term bytes with_bytes link with_link term a b c d = record {
   down = subst (λ (q : List ℕ). BytesDown term.rest q with_link.down) (sym b) (subst (λ (m : List ToTerminal). BytesDown term.rest bytes.down m) (sym d) term.down);
 }
 
+-- Where the host is there, its decoder holds what was read.
+pub up_behind_rest : (bytes : ByteLink) (link : Link) → LinkStands bytes link → link.host_here ≡ true → BytesUp bytes.host_rest bytes.up link.up
+up_behind_rest bytes link stands here = subst (λ (r : Rest). BytesUp r bytes.up link.up) (sym (stands.host here).rest_is) stands.up
+
 pub up_stands : StandsGoOn StandsUp → UpStands
 up_stands goes_on bytes link front behind items to stands here queue delivers =
     let host = stands.host here in
-    let some = goes_on bytes.host_rest to front behind items link.up (subst (λ (b : List ℕ). BytesUp bytes.host_rest b link.up) queue host.up) delivers in
+    let some = goes_on bytes.host_rest to front behind items link.up
+    (subst (λ (b : List ℕ). BytesUp bytes.host_rest b link.up) queue (up_behind_rest bytes link stands here)) delivers in
     record {
       taken = some.taken;
       others = some.others;
@@ -451,7 +456,9 @@ up_stands goes_on bytes link front behind items to stands here queue delivers =
         lost = stands.lost;
         host_here = stands.host_here;
         term_here = stands.term_here;
-        host = λ there. record { host = host.host; up = some.stands };
+        read = to;
+        up = some.stands;
+        host = λ there. record { host = host.host; rest_is = refl };
         term = λ terminal there. same_term bytes _ link _ (stands.term terminal there) refl refl refl refl;
       };
     }
@@ -461,12 +468,14 @@ loss_stands bytes link stands = record {
   lost = refl;
   host_here = stands.host_here;
   term_here = stands.term_here;
-  host = λ here. record { host = (stands.host here).host; up = (stands.host here).up };
+  read = stands.read;
+  up = stands.up;
+  host = λ here. let host = stands.host here in record { host = host.host; rest_is = host.rest_is };
   term = λ terminal here. same_term bytes _ link _ (stands.term terminal here) refl refl refl refl;
 }
 
-no_host : (link : Link) (bytes : ByteLink) → false ≡ true → HostStands bytes link
-no_host link bytes e = cc
+no_host : (link : Link) (bytes : ByteLink) (rest : Rest) → false ≡ true → HostStands bytes link rest
+no_host link bytes rest e = cc
 
 no_term : (link : Link) (bytes : ByteLink) (terminal : ℕ) → None ≡ Some terminal → TermStands bytes link
 no_term link bytes terminal e = cc
@@ -476,7 +485,9 @@ host_leaves bytes link stands = record {
   lost = refl;
   host_here = refl;
   term_here = stands.term_here;
-  host = λ here. no_host _ _ here;
+  read = stands.read;
+  up = stands.up;
+  host = λ here. no_host _ _ stands.read here;
   term = λ terminal here. same_term bytes _ link _ (stands.term terminal here) refl refl refl refl;
 }
 
@@ -485,6 +496,8 @@ term_leaves bytes link stands = record {
   lost = refl;
   host_here = stands.host_here;
   term_here = refl;
-  host = λ here. record { host = (stands.host here).host; up = (stands.host here).up };
+  read = stands.read;
+  up = stands.up;
+  host = λ here. let host = stands.host here in record { host = host.host; rest_is = host.rest_is };
   term = λ terminal here. no_term _ _ terminal here;
 }

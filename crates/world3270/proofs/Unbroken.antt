@@ -30,11 +30,12 @@ use Rattle.world3270.specs.Sendable.{IsTyped}
 use Rattle.world3270.specs.Standing.{link_of}
 use Rattle.world3270.specs.Stands.{StandsUp}
 use Rattle.world3270.specs.Terminal.{TermStep, took as term_took}
-use Rattle.world3270.specs.Unbroken.{SameEnds, DeliveriesCloseNothing, NobodyHasRefused, NothingIsRefused}
+use Rattle.world3270.specs.Unbroken.{SameEnds, DeliveriesCloseNothing, NobodyHasRefused, NothingIsRefused, UnderWayRefusesNothing}
 use Rattle.world3270.specs.World.{World, Event, IsEvent, AreEvents, with_at}
 use Rattle.world3270.specs.declared.event.Event.TheVariants as event
 use Rattle.world3270.specs.declared.event.Stepped.{Stepped}
 use Rattle.world3270.proofs.Known.{facts, after_more, are_more}
+use Rattle.world3270.proofs.StandsLinks.{up_behind_rest}
 
 -- ---- over messages: who is at the ends of a connection
 
@@ -248,8 +249,21 @@ pub nothing_is_refused : Known → NothingIsRefused
 nothing_is_refused known bytes number sequence outcome before behind is there delivers =
     let link : Link = (after is.begin is.events).link number in
     let stands = is.reached.stands.links number in
-    let up = (stands.host (sym stands.host_here ∙ there)).up in
+    let up = up_behind_rest (link_of number bytes) link stands (sym stands.host_here ∙ there) in
     let one = known.links.one_delivery record_limit (link_of number bytes).host_rest (link_of number bytes).up up.items (before ++ response sequence outcome ∷ behind)
     nothing nothing up.delivers delivers in
     among sequence outcome before behind link.up (subst (λ (items : List WireItem). Pairwise StandsUp items link.up) one.0 up.each)
     ((facts known.worlds is.begin is.is_begin is.events is.reached.are_events is.reached.typed).nobody_refuses.none_refused number)
+
+pub under_way_refuses_nothing : KnownWorlds → UnderWayRefusesNothing
+under_way_refuses_nothing known begin events bytes number is reached =
+    let stands = reached.stands.links number in
+    let none = (facts known begin is events reached.are_events reached.typed).nobody_refuses.none_refused number in
+    record {
+      read = stands.read;
+      holds = λ there. sym (stands.host (sym stands.host_here ∙ there)).rest_is;
+      spelt = stands.up;
+      carried_out = λ sequence outcome before behind among_them.
+          among sequence outcome before behind ((after begin events).link number).up
+          (subst (λ (items : List WireItem). Pairwise StandsUp items ((after begin events).link number).up) among_them stands.up.each) none;
+    }

@@ -18,7 +18,6 @@ use Rattle.datastream.specs.NoteLaws.{HeldStaysProtected, NoteKeepsForm, NotesCo
 use Rattle.datastream.specs.Screen.{Screen, attribute_in, attribute_over, is_char, is_char_at, last_attribute, protects, ring}
 use Rattle.datastream.specs.declared.command_code.CommandCode.TheVariants.{Write}
 use Rattle.datastream.specs.declared.order.Order.TheVariants.{Sba, Char as Data}
-use Rattle.world3270.specs.Headline.{IsUnmodified}
 use Rattle.world3270.specs.Unreturned.{IsInUnmodified, IsKept, NotedSince, SamePlaces, UnmodifiedIsKept}
 
 -- ---- one place

@@ -35,6 +35,8 @@ use Rattle.host_core.specs.declared.turn.Turn.TheVariants as whose
 use Rattle.host_core.specs.declared.turn_reason.TurnReason.{TurnReason}
 use Rattle.host_core.specs.declared.turn_reason.TurnReason.TheVariants as turn_reasons
 use Rattle.host_core.specs.Session.{Conn, Pending, is_agreed}
+use Rattle.host_core.specs.Rejections.{lu_asked}
+use Rattle.host_core.specs.declared.rejection.Rejection.{Rejection}
 use Rattle.host_core.specs.Takes.{HostStep, Answers, quiet, with_talk, replied, granted_by, talked_on, talked, hears, believed, once_read, key_came, key_data_came, data_came, answered, if_answers, response_came, once_agreed, took}
 use Rattle.world3270.specs.Given.{Given}
 use Rattle.world3270.specs.Link.{Link, sent}
@@ -83,16 +85,16 @@ leads link step rest wanted from to at l talk turn pending left = record {
 
 -- ---- the talk
 
-abbrev talk_step : Link → Talk HostState → List ToTerminal → Option (List ℕ) → HostStep
-talk_step link next sends grants = record { conn = with_talk link.host next; sends = sends; grants = grants; closes = None }
+abbrev talk_step : Link → Talk HostState → List ToTerminal → Option (List ℕ) → Option Rejection → HostStep
+talk_step link next sends grants rejects = record { conn = with_talk link.host next; sends = sends; grants = grants; rejects = rejects; closes = None }
 
 -- the talk moves on, by a step that is known
-talks : (app : Application) (pool : List Entry) (link : Link) (rest : List ToHost) (k : Kept app (view_of link)) (from to : Talking) (saying : Saying) (sends : List ToTerminal) (grants : Option (List ℕ)) (message : ToHost)
+talks : (app : Application) (pool : List Entry) (link : Link) (rest : List ToHost) (k : Kept app (view_of link)) (from to : Talking) (saying : Saying) (sends : List ToTerminal) (grants : Option (List ℕ)) (rejects : Option Rejection) (message : ToHost)
     → IsAt (view_of link) k.wanted (Moment.Talks from) → message ≡ ToHost.TalksUp saying
-    → talked (answer_to pool) link.host (host_talk_at (Moment.Talks from)) (says saying) ≡ talk_step link (host_talk_at (Moment.Talks to)) sends grants
-    → Grants pool link.host (talk_step link (host_talk_at (Moment.Talks to)) sends grants) → Leads k.wanted (Moment.Talks from) (Moment.Talks to) sends → UnderWay link.lost rest (up_at k.wanted (Moment.Talks to))
+    → talked (answer_to pool) link.host (host_talk_at (Moment.Talks from)) (says saying) ≡ talk_step link (host_talk_at (Moment.Talks to)) sends grants rejects
+    → Grants pool link.host (talk_step link (host_talk_at (Moment.Talks to)) sends grants rejects) → Leads k.wanted (Moment.Talks from) (Moment.Talks to) sends → UnderWay link.lost rest (up_at k.wanted (Moment.Talks to))
     → Fact k.wanted (scene_of (view_of link)) (Moment.Talks to) → Answered app pool link rest (took (answer_to pool) link.host message)
-talks app pool link rest k from to saying sends grants message at is step g l left fact =
+talks app pool link rest k from to saying sends grants rejects message at is step g l left fact =
     subst (λ m. Answered app pool link rest (took (answer_to pool) link.host m)) (sym is)
     (subst (Answered app pool link rest) (sym (ap (λ (t : Talk HostState). talked (answer_to pool) link.host t (says saying)) at.host_talk ∙ step))
     (record {
@@ -104,7 +106,7 @@ talks app pool link rest k from to saying sends grants message at is step g l le
         exact = k.exact;
         wanted = k.wanted;
         moment = Moment.Talks to;
-        at = leads link (talk_step link (host_talk_at (Moment.Talks to)) sends grants) rest k.wanted (Moment.Talks from) (Moment.Talks to) at l refl at.turn at.pending left;
+        at = leads link (talk_step link (host_talk_at (Moment.Talks to)) sends grants rejects) rest k.wanted (Moment.Talks from) (Moment.Talks to) at l refl at.turn at.pending left;
         fact = fact;
       };
       open_end = refl;
@@ -128,11 +130,11 @@ asks_pool given (Some name) is =
     ∙ ap (λ l. follow HostClosed (start_at Asked) (named_transition Model2 l)) (given.belief.names name is)
 
 pool_asked : Given → (pool : Answers) (conn : Conn) (wanted : Option (List ℕ)) → IsLuIfSome wanted
-    → talked pool conn (start_at Asked) (says (asking_type wanted)) ≡ replied conn (granted_by (pool wanted)) (follow HostClosed at_asking (answer_transition Model2 (pool wanted)))
-pool_asked given pool conn wanted is = ap (λ (p : Talk HostState × Reply). talked_on pool conn p.0 p.1) (asks_pool given wanted is)
+    → talked pool conn (start_at Asked) (says (asking_type wanted)) ≡ replied conn (lu_asked (says (asking_type wanted))) (granted_by (pool wanted)) (follow HostClosed at_asking (answer_transition Model2 (pool wanted)))
+pool_asked given pool conn wanted is = ap (λ (p : Talk HostState × Reply). talked_on pool conn (lu_asked (says (asking_type wanted))) p.0 p.1) (asks_pool given wanted is)
 
-abbrev answered_by : Conn → Result (List ℕ) Reason → HostStep
-answered_by conn answer = replied conn (granted_by answer) (follow HostClosed at_asking (answer_transition Model2 answer))
+abbrev answered_by : Conn → Option (List ℕ) → Result (List ℕ) Reason → HostStep
+answered_by conn wanted answer = replied conn (lu_asked (says (asking_type wanted))) (granted_by answer) (follow HostClosed at_asking (answer_transition Model2 answer))
 
 suits : Given → (pool : List Entry) (wanted : Option (List ℕ)) (lu : List ℕ) → IsSound pool → IsLuIfSome wanted → answer_to pool wanted ≡ Ok lu → Suits wanted lu
 suits given pool None lu sound is e = record { is_lu = given.pool.lus pool None lu sound e; is_wanted = tt }
@@ -145,12 +147,13 @@ grants_type given app pool sound link rest k message at f left e = by_answer (an
   where
     by_answer : (answer : Result (List ℕ) Reason) → answer_to pool k.wanted ≡ answer → Answered app pool link rest (took (answer_to pool) link.host message)
     by_answer (Ok lu) a =
-        talks app pool link rest k Talking.NamingType (Talking.Granting lu) (asking_type k.wanted) (ToTerminal.TalksDown (Saying.Sub (TypeIs Model2 lu)) ∷ []) (Some lu) message at e
-        (pool_asked given (answer_to pool) link.host k.wanted f.1 ∙ ap (answered_by link.host) a) (Grants.one k.wanted lu refl refl a) (record { term = refl; down = refl }) left
+        talks app pool link rest k Talking.NamingType (Talking.Granting lu) (asking_type k.wanted) (ToTerminal.TalksDown (Saying.Sub (TypeIs Model2 lu)) ∷ []) (Some lu) None message at e
+        (pool_asked given (answer_to pool) link.host k.wanted f.1 ∙ ap (answered_by link.host k.wanted) a) (Grants.one k.wanted lu refl refl a) (record { term = refl; down = refl }) left
         (f.0, suits given pool k.wanted lu sound f.1 a)
     by_answer (Err reason) a =
-        talks app pool link rest k Talking.NamingType (Talking.Rejecting reason) (asking_type k.wanted) (ToTerminal.TalksDown (Saying.Sub (TypeReject reason)) ∷ []) None message at e
-        (pool_asked given (answer_to pool) link.host k.wanted f.1 ∙ ap (answered_by link.host) a) (Grants.none refl (claim_at link.host (start_at Asked) at.host_talk)) (record { term = refl; down = refl }) left
+        talks app pool link rest k Talking.NamingType (Talking.Rejecting reason) (asking_type k.wanted) (ToTerminal.TalksDown (Saying.Sub (TypeReject reason)) ∷ []) None
+        (Some (record { lu = lu_asked (says (asking_type k.wanted)); reason = reason })) message at e
+        (pool_asked given (answer_to pool) link.host k.wanted f.1 ∙ ap (answered_by link.host k.wanted) a) (Grants.none refl (claim_at link.host (start_at Asked) at.host_talk)) (record { term = refl; down = refl }) left
         (f.0, tt)
 
 -- ---- records
@@ -331,15 +334,15 @@ answers given app pool sound link message rest e k = by_moment k.moment k.at k.f
     by_talk : (talking : Talking) → IsAt (view_of link) k.wanted (Moment.Talks talking) → Fact k.wanted (scene_of (view_of link)) (Moment.Talks talking) → Answered app pool link rest (took (answer_to pool) link.host message)
     by_talk Talking.Accepting at f =
         let first = front link.lost link.up message rest _ [] e at.goes_up in
-        talks app pool link rest k Talking.Accepting Talking.AskingType (Saying.Opt Will 40) (ToTerminal.TalksDown (Saying.Sub SendType) ∷ []) None message at first.0 refl
+        talks app pool link rest k Talking.Accepting Talking.AskingType (Saying.Opt Will 40) (ToTerminal.TalksDown (Saying.Sub SendType) ∷ []) None None message at first.0 refl
         (Grants.none refl (claim_at link.host (start_at Offered) at.host_talk)) (record { term = refl; down = refl }) first.1 f
     by_talk Talking.NamingType at f =
         let first = front link.lost link.up message rest _ [] e at.goes_up in
         grants_type given app pool sound link rest k message at f first.1 first.0
     by_talk (Talking.AskingFunctions lu) at f =
         let first = front link.lost link.up message rest _ [] e at.goes_up in
-        talks app pool link rest k (Talking.AskingFunctions lu) (Talking.Agreeing lu) (Saying.Sub FunRequest) (ToTerminal.TalksDown (Saying.Sub FunIs) ∷ []) None message at first.0
-        (ap (λ w. let next = follow HostClosed (start_at (Named Model2 lu)) (host_transition (Named Model2 lu) (Comes.RequestsFunctions w)) in talked_on (answer_to pool) link.host next.0 next.1) responses_alone)
+        talks app pool link rest k (Talking.AskingFunctions lu) (Talking.Agreeing lu) (Saying.Sub FunRequest) (ToTerminal.TalksDown (Saying.Sub FunIs) ∷ []) None None message at first.0
+        (ap (λ w. let next = follow HostClosed (start_at (Named Model2 lu)) (host_transition (Named Model2 lu) (Comes.RequestsFunctions w)) in talked_on (answer_to pool) link.host None next.0 next.1) responses_alone)
         (Grants.none refl (claim_at link.host (start_at (Named Model2 lu)) at.host_talk)) (record { term = refl; down = refl }) first.1 f
     by_talk Talking.Offering at f = no_more at.goes_up
     by_talk Talking.AskingType at f = no_more at.goes_up

@@ -7,7 +7,7 @@ use Rattle.world3270.specs.declared.event.Ran.{Ran}
 use Rattle.world3270.specs.declared.event.Stepped.{Stepped}
 use Rattle.world3270.specs.declared.event.Stepped.TheVariants as stepped
 
--- behind how many bytes memory was refused, if it was
+-- after how many bytes memory was refused, if it was
 abbrev pub refused_at : Stepped → Option ℕ
 refused_at stepped.Done = None
 refused_at (stepped.Refused why) = None
@@ -21,12 +21,13 @@ AllHappen [] old new = new ≡ old
 AllHappen (event ∷ events) old new =
     (answer : Stepped) × (mid : ByteWorld) × Steps event old answer mid × (refused_at answer ≡ None) × AllHappen events mid new
 
--- memory was refused to the first of these, behind so many bytes, unless there is none
+-- memory was refused to the first of these, after `part` of its bytes; or there is none
 abbrev pub StopsAt : List Event → ℕ → ByteWorld → ByteWorld → Type 0
 StopsAt [] part old new = (part ≡ 0) × (new ≡ old)
 StopsAt (event ∷ events) part old new = (answer : Stepped) × Steps event old answer new × (refused_at answer ≡ Some part)
 
--- So many events happened whole; then there was none, or memory was refused to the next, behind so many bytes.
+-- The first `whole` events happened. Then there was none, or memory was refused to the next one,
+-- after `part` of its bytes.
 pub record Runs (events : List Event) (old : ByteWorld) (ran : Ran) (new : ByteWorld) : Type 0 where
   pub few : ran.whole ≤ length events
   pub mid : ByteWorld

@@ -49,7 +49,7 @@ abbrev pub sees_loss : Option ℕ → ByteWorld → Bool
 sees_loss None world = false
 sees_loss (Some number) world = is_lost number world
 
--- of so many numbers, from this one on, the least that neither end holds
+-- of `count` numbers, from this one on, the least that neither end holds
 unfoldable pub free_from : ℕ → ℕ → ByteWorld → Option ℕ
 free_from zero number world = None
 free_from (suc count) number world = if is_held number world then free_from count (number + 1) world else Some number
@@ -75,16 +75,17 @@ has_place (event.Connect terminal wanted) world = is_terminal terminal world && 
 has_place (event.RestartTerm terminal) world = is_terminal terminal world
 has_place event.RestartHost world = true
 
--- ---- bytes come
+-- ---- bytes are delivered
 
--- A terminal is fed bytes: it took so many of them, one after another, and its history follows. While it is at a connection, its output
--- buffer has at least the room that a terminal makes.
+-- A terminal is fed bytes: it took the first `fed.taken` of them, one after another, and its
+-- history follows. While it is at a connection, its output buffer has at least the room that a
+-- terminal makes.
 pub record TrackedFeeds (old : TrackedTerminal) (bytes : List ℕ) (fed : Fed) (new : TrackedTerminal) : Type 0 where
   pub few : fed.taken ≤ length bytes
   pub takes : TrackedTakes old (take fed.taken bytes) new
   pub stops : StopsFor out_room fed.stop old.terminal bytes fed.taken new.terminal
 
--- memory was refused behind so many bytes
+-- memory was refused after this number of bytes
 abbrev pub refused_behind : ℕ → Stepped
 refused_behind zero = stepped.Memory
 refused_behind (suc count) = stepped.Part (suc count)
@@ -94,7 +95,7 @@ answer_fed stop.Going taken = stepped.Done
 answer_fed stop.Memory taken = refused_behind taken
 answer_fed (stop.Closed cause) taken = stepped.Done
 
--- of what a terminal has to send, so many bytes are sent
+-- of the bytes that a terminal has to send, the first `count` are sent
 abbrev pub sent_of : ℕ → TerminalSlot → TerminalSlot
 sent_of count old = record old { tracked = record old.tracked { terminal = record old.tracked.terminal { out = drop count old.tracked.terminal.out } } }
 
@@ -108,7 +109,7 @@ host_told true count number world =
     with_host (with_connection number (record (connection_at number world.host) { out = drop count (connection_at number world.host).out }) world.host) world
 host_told false count number world = world
 
--- so many bytes came up, or down
+-- `count` bytes were taken from those under way up, or down
 abbrev pub up_came : ℕ → ℕ → ByteWorld → ByteWorld
 up_came count number world =
     let transits = transits_at number world in
@@ -129,7 +130,7 @@ abbrev pub host_gone : ℕ → ByteWorld → ByteWorld
 host_gone number world =
     with_transits number (record (lost_transits number world) { down = sender_gone (host_out number world) (transits_at number world).down }) (with_host (given_up number world.host) world)
 
--- what is before the operator then stays, but for what this makes of it
+-- the terminal's slot is this one then
 abbrev pub terminal_gone : TerminalSlot → ℕ → ℕ → ByteWorld → ByteWorld
 terminal_gone slot terminal number world =
     with_transits number (record (lost_transits number world) { up = sender_gone (slot_at terminal world).tracked.terminal.out (transits_at number world).up })
@@ -194,7 +195,7 @@ pub record ActsHost (does : Option Sent) (number : ℕ) (old : ByteWorld) (answe
   pub answers : answer ≡ answer_acted act
   pub leaves : new ≡ with_host host old
 
--- ---- connecting, and beginning anew
+-- ---- connecting and restarting
 
 -- memory is refused and nothing changed, or the connection begins
 pub data Connects (terminal : ℕ) (wanted : Option (List ℕ)) (number : ℕ) (old : ByteWorld) (answer : Stepped) (new : ByteWorld) : Type 0 where

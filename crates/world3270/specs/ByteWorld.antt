@@ -1,5 +1,6 @@
--- The world over bytes (our profile): a host, what is under way on each connection, and terminals, each with the history of its screen.
--- What an end has to send is under way: there is no other queue.
+-- The world over bytes (our profile): a host, what is under way on each connection, and terminals,
+-- each with the history of its screen. What an end has to send is under way: there is no other
+-- queue.
 use Rattle.std.specs.Prelude.{◌==◌, ◌≤◌, ◌-◌, ℕ, Bool, true, false, List, [], Option, Some, None, is_some, drop, position, replicate, slice_index_or, slice_set, take}
 use Rattle.lu_pool.specs.declared.entry.Entry.{Entry}
 use Rattle.panels.specs.Panel.{Panels}
@@ -9,8 +10,9 @@ use Rattle.datastream.specs.Screen.{blank_screen}
 use Rattle.term_core.specs.State.{new_terminal, lost}
 use Rattle.world3270.specs.TrackedTerminals.{TrackedTerminal, newly_tracked}
 
--- What is under way in one direction: all that the sender has to send; the connection was lost while it had so many bytes, and what it
--- said since is ignored; or the sender left, and these bytes may still come.
+-- What is under way in one direction. Live: all bytes that the sender has to send. Cut: the first
+-- ones of these, as many as there were when the connection was lost; later ones are ignored.
+-- SenderGone: these bytes, which the sender had to send when it left.
 pub data Transit : Type 0 where
   Live : Transit
   Cut : ℕ → Transit
@@ -39,19 +41,19 @@ under_way Transit.Live out = out
 under_way (Transit.Cut kept) out = take kept out
 under_way (Transit.SenderGone bytes) out = bytes
 
--- the first bytes came: so many
+-- the first `count` bytes under way are taken
 abbrev pub came : ℕ → Transit → Transit
 came count Transit.Live = Transit.Live
 came count (Transit.Cut kept) = Transit.Cut (kept - count)
 came count (Transit.SenderGone bytes) = Transit.SenderGone (drop count bytes)
 
--- the connection is lost while the sender has so many bytes to send
+-- the connection is lost while the sender has `count` bytes to send
 abbrev pub cut : ℕ → Transit → Transit
 cut count Transit.Live = Transit.Cut count
 cut count (Transit.Cut kept) = Transit.Cut kept
 cut count (Transit.SenderGone bytes) = Transit.SenderGone bytes
 
--- the sender leaves, and had these bytes to send
+-- the sender leaves while it has these bytes to send
 abbrev pub sender_gone : List ℕ → Transit → Transit
 sender_gone out Transit.Live = Transit.SenderGone out
 sender_gone out (Transit.Cut kept) = Transit.SenderGone (take kept out)
@@ -62,7 +64,7 @@ is_live Transit.Live = true
 is_live (Transit.Cut kept) = false
 is_live (Transit.SenderGone bytes) = false
 
--- whether what comes is the sender's
+-- whether the bytes under way are still the sender's
 abbrev pub is_senders : Transit → Bool
 is_senders Transit.Live = true
 is_senders (Transit.Cut kept) = true
@@ -70,7 +72,7 @@ is_senders (Transit.SenderGone bytes) = false
 
 -- ---- connections and terminals
 
--- a number that was never used: as if its ends had left before anything was said
+-- a number that was never used: as if both ends had left with nothing to send
 abbrev pub unused_transits : Transits
 unused_transits = record { down = Transit.SenderGone []; up = Transit.SenderGone [] }
 

@@ -21,7 +21,7 @@ use Rattle.host_core.specs.Application.{Application}
 
 -- ---- the fields of the sign-on panel
 
--- a name of three characters, which has to be filled in
+-- a name of three characters, which must be filled in
 abbrev pub name_field : Field
 name_field = record {
   number = 0;
@@ -53,11 +53,11 @@ fields_of (suc panel) = []
 
 -- ---- the screens that are asked for
 
--- so many cells of an item, the first of which is its attribute
+-- the first `count` cells of an item, beginning with its attribute
 abbrev pub item : ℕ → Attribute → List ℕ → List Want
 item count attr content = map (item_cell attr content) (range_with_len 0 count)
 
--- a field, and the stopper behind it
+-- a field, and the stopper after it
 abbrev pub field_and_stopper : Values → Message → Bool → Field → List Want
 field_and_stopper values message keep field =
     let attr = field_attr values message keep field in

@@ -25,7 +25,7 @@ use Rattle.world3270.specs.World.{Place, World, Event, new_world}
 
 -- ---- what happens, with one terminal
 
--- on a connection: a message comes up, the host acts, a message comes down; and so on, so many times
+-- rounds on a connection: a message is delivered up, the host acts, a message is delivered down
 abbrev pub rounds : ℕ → ℕ → List Event
 rounds number zero = []
 rounds number (suc more) = Event.Up number ∷ Event.Act number ∷ Event.Down number ∷ rounds number more

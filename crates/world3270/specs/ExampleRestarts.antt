@@ -1,5 +1,5 @@
--- A run of the example in which the terminal's screen is cleared, then the terminal begins anew, then the host. Readers and proofs need
--- it, and nothing rests on it (our profile).
+-- A run of the example: the terminal's screen is cleared, then the terminal restarts, then the
+-- host. Readers and proofs need it, and nothing rests on it (our profile).
 use Rattle.std.specs.Prelude.{◌≡◌, true, false, List, [], ◌∷◌, ◌++◌, replicate, Some}
 use Rattle.codes3270.specs.declared.attention.Aid.TheVariants.{Clear}
 use Rattle.keyboard.specs.declared.key.Key.TheVariants as key
@@ -21,7 +21,7 @@ cleared_entry = connected ++ presses (key.Tab ∷ key.Char 0x58 ∷ key.Clear �
 abbrev pub answered_clear : List Event
 answered_clear = cleared_entry ++ settle 0
 
--- the terminal begins anew
+-- the terminal restarts
 abbrev pub terminal_anew : List Event
 terminal_anew = answered_clear ++ Event.RestartTerm 0 ∷ []
 
@@ -33,7 +33,7 @@ loss_seen = terminal_anew ++ Event.HostSees 0 ∷ []
 abbrev pub back_at_host : List Event
 back_at_host = loss_seen ++ connected
 
--- the host begins anew
+-- the host restarts
 abbrev pub host_anew : List Event
 host_anew = back_at_host ++ Event.RestartHost ∷ []
 
@@ -55,8 +55,9 @@ host_waits = record { place = alone; host_here = true; pool = l1_held }
 abbrev pub host_left : Place → Apart
 host_left place = record { place = place; host_here = false; pool = example_pool }
 
--- After Clear the host knows that each cell is null, and shows the panel anew. When the terminal or the host begins anew, the LU is free
--- once the host has left the connection; then the terminal is granted it again, and shown the first panel.
+-- After Clear the host knows that each cell is null, and shows the panel again. If the terminal or
+-- the host restarts, the LU is free once the host has left the connection; then the terminal gets
+-- the LU and the first panel again.
 pub record RestartingRun : Type 0 where
   pub are_events : AreEvents back_at_new_host
   pub decides : IsHostsTurn (seen_link ((after cleared_entry).link 0))

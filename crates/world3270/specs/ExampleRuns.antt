@@ -32,7 +32,8 @@ complete_entry = answered_again ++ presses (key.Char 0x41 ∷ key.Char 0x42 ∷ 
 abbrev pub kept_sign_on : WantedScreen
 kept_sign_on = sign_on ((letter_field.number, 0xE7 ∷ []) ∷ []) (Required name_field.number) true
 
--- The letter is kept, not written anew, and the name asked for; then the name is stored, and shown.
+-- The letter is kept, not written again, and the name asked for; then the name is stored, and
+-- shown.
 pub record StoredRun : Type 0 where
   pub are_events : AreEvents complete_entry
   pub first : end_on 0 (after connected) ≡ bound_and_shows fresh_sign_on
@@ -57,7 +58,8 @@ connected_again =
 abbrev pub entered_again : List Event
 entered_again = connected_again ++ presses (key.Char 0x42 ∷ key.Enter ∷ []) ++ Event.Up 0 ∷ []
 
--- L1 is refused while the host holds the lost connection, and granted once it sees the loss; then the first panel is shown anew.
+-- L1 is refused while the host holds the lost connection, and granted once it sees the loss; then
+-- the first panel is shown again.
 pub record ReconnectingRun : Type 0 where
   pub are_events : AreEvents entered_again
   pub refused : end_on 1 (after lost_entry) ≡ refused_l1

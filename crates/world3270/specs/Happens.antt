@@ -114,7 +114,7 @@ joined app terminal wanted (Some number) world = record world {
   place = with_at terminal (Place.At number) world.place;
 }
 
--- ---- beginning anew
+-- ---- restarting
 
 abbrev pub term_anew : Application → ℕ → Place → World → World
 term_anew app terminal (Place.At number) world = parted terminal number (new_display app.begins) world

@@ -24,7 +24,7 @@ use Rattle.world3270.specs.declared.event.Stepped.TheVariants as stepped
 
 -- ---- a world that a list of events leads to
 
--- with what a world begins: panels, a pool of LUs, and so many terminals
+-- with what a world begins: panels, a pool of LUs, and a number of terminals
 pub record Begin : Type 0 where
   pub panels : Panels
   pub pool : List Entry
@@ -39,7 +39,7 @@ pub record IsBegin (begin : Begin) : Type 0 where
 abbrev pub after : Begin → List MessageEvent → World
 after begin events = run (application_of begin.panels) events (new_world (application_of begin.panels) begin.pool begin.terminals)
 
--- the bytes stand for the world after these events
+-- the bytes represent the world after these events
 pub record Reached (begin : Begin) (events : List MessageEvent) (bytes : ByteWorld) : Type 0 where
   pub are_events : AreEvents events
   pub typed : All IsTyped events
@@ -90,7 +90,7 @@ IsCounted event = ⊤
 
 -- ---- the laws
 
--- A world that begins stands for one that begins.
+-- A world that begins represents one that begins.
 abbrev pub BeginIsReached : Type 0
 BeginIsReached = (begin : Begin) → IsBegin begin → Reached begin [] (new_byte_world begin.panels begin.pool begin.terminals)
 
@@ -147,7 +147,7 @@ SkipsAreThose = (begin : Begin) (events : List MessageEvent) (event : Event) (by
 
 -- ---- so
 
--- the bytes stand for some world that a list of events leads to
+-- the bytes represent some world that a list of events leads to
 pub record IsReached (bytes : ByteWorld) : Type 0 where
   pub begin : Begin
   pub is_begin : IsBegin begin

@@ -9,13 +9,13 @@ use Rattle.world3270.specs.ByteWorld.{ByteWorld, slot_at, terminal_at}
 use Rattle.world3270.specs.TrackedTerminals.{TrackedTerminal}
 use Rattle.world3270.specs.Seen.{HostSeen, TerminalSeen, SeenLink, Seen, conn_seen}
 
--- the host's end: none where the host has left the connection, or has closed it
+-- the host's end: none if the host has left the connection or closed it
 abbrev pub service_seen : Service → Option HostSeen
 service_seen Service.Free = None
 service_seen (Service.Open rest conn) = Some (conn_seen conn)
 service_seen (Service.Closed cause) = None
 
--- the LU that a terminal is bound to
+-- the LU that a terminal is bound to, if it is bound
 abbrev pub bound_of : TermPhase → Option (List ℕ)
 bound_of (phase.Bound lu) = Some lu
 bound_of phase.Idle = None
@@ -23,6 +23,7 @@ bound_of phase.Talking = None
 bound_of (phase.Refused reason) = None
 bound_of (phase.Closed cause) = None
 
+-- the terminal with this number
 abbrev pub tracked_seen : ℕ → TrackedTerminal → TerminalSeen
 tracked_seen number tracked = record {
   number = number;
@@ -32,11 +33,12 @@ tracked_seen number tracked = record {
   erased = tracked.history.erased;
 }
 
--- the terminal's end, where a terminal is attached
+-- the terminal's end, if a terminal is attached
 abbrev pub attached_seen : Option ℕ → ByteWorld → Option TerminalSeen
 attached_seen None world = None
 attached_seen (Some terminal) world = Some (tracked_seen terminal (slot_at terminal world).tracked)
 
+-- a connection, by its number
 abbrev pub seen_connection : ℕ → ByteWorld → SeenLink
 seen_connection number world = record {
   lost = is_lost number world;
@@ -44,5 +46,6 @@ seen_connection number world = record {
   terminal = attached_seen (terminal_at number world.slots) world;
 }
 
+-- the pool, and the connections by their numbers
 abbrev pub seen_bytes : ByteWorld → Seen
 seen_bytes world = record { pool = world.host.pool; link = λ number. seen_connection number world }

@@ -1,4 +1,5 @@
--- When a world over bytes stands for one over messages (our profile): each connection does, and each terminal has its place.
+-- When a world over bytes represents one over messages (our profile): each connection does, and
+-- each terminal has its place.
 use Rattle.std.specs.Prelude.{◌≡◌, ◌≤◌, ⊤, ℕ, Bool, false, List, [], length, Option, Some, None, is_some}
 use Rattle.codes3270.specs.Size.{model_2}
 use Rattle.telnet_wire.specs.Reading.{Rest, nothing}
@@ -14,7 +15,8 @@ use Rattle.world3270.specs.World.{Place, World}
 
 -- ---- a connection of the world over bytes
 
--- what the host holds of a connection, and of its stream; of a number that isn't open, what a new one has
+-- the host's state of a connection, and what its decoder holds; for a number that isn't open, those
+-- of a new connection
 abbrev pub conn_of : Service → Conn
 conn_of Service.Free = new_conn model_2
 conn_of (Service.Open rest conn) = conn
@@ -33,7 +35,7 @@ abbrev pub tracked_of : Option ℕ → ByteWorld → TrackedTerminal
 tracked_of None world = new_tracked
 tracked_of (Some terminal) world = with_out [] (slot_at terminal world).tracked
 
--- as it is where this terminal, if one, is at its end
+-- a connection at whose other end is this terminal, if one
 abbrev pub link_with : Option ℕ → ℕ → ByteWorld → ByteLink
 link_with here number world = record {
   lost = is_lost number world;
@@ -51,7 +53,8 @@ link_of number world = link_with (terminal_at number world.slots) number world
 
 -- ---- what is under way
 
--- What was cut is no more than its sender has to send; and a sender that is there hasn't left.
+-- A lost connection holds no more bytes than its sender has to send. A sender that has left isn't
+-- there.
 abbrev pub IsFlow : Bool → List ℕ → Transit → Type 0
 IsFlow there out Transit.Live = ⊤
 IsFlow there out (Transit.Cut kept) = kept ≤ length out

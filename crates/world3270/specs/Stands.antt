@@ -1,5 +1,5 @@
--- When bytes stand for messages: what is under way in each direction spells them, one item each, and nothing besides (RFC 1647,
--- sections 8.1 and 10.4; what is sent when is our profile).
+-- When bytes represent messages: what is under way in each direction spells them, one item each,
+-- and nothing else (RFC 1647, sections 8.1 and 10.4; what is sent when is our profile).
 use Rattle.std.specs.Prelude.{◌≡◌, ◌≢◌, ◌<◌, ◌^◌, ℕ, Bool, true, List, [], length, Option, Some}
 use Rattle.codes3270.specs.Size.{model_2}
 use Rattle.datastream.specs.Grammar.{CommandParts, IsCommand}
@@ -83,8 +83,9 @@ StandsUp item (ToHost.Response number verdict) =
 
 -- ---- what is under way
 
--- With what the receiving decoder holds before them, the bytes spell items that stand for the messages, one by one, and nothing of
--- one more. What it holds is the beginning of one, within the limits.
+-- With what the receiving decoder holds before them, the bytes spell items that represent the
+-- messages, one by one, and no part of one more. What the decoder holds is the beginning of one,
+-- within the limits.
 pub record BytesStand {X : Type 0} (Stands : WireItem → X → Type 0) (rest : Rest) (bytes : List ℕ) (messages : List X) : Type 0 where
   pub is_rest : IsRest record_limit rest
   pub items : List WireItem
@@ -126,22 +127,26 @@ pub record Holds (rest : Rest) (tracked : TrackedTerminal) (end : TermEnd) : Typ
   pub attached : tracked.terminal.link ≡ Attached rest talk
   pub is_end : IsEnd (end_at talk tracked) end
 
--- the host's end, and what comes up to it
-pub record HostStands (bytes : ByteLink) (link : Link) : Type 0 where
+-- the host's end, whose decoder holds this rest
+pub record HostStands (bytes : ByteLink) (link : Link) (rest : Rest) : Type 0 where
   pub host : bytes.host ≡ link.host
-  pub up : BytesUp bytes.host_rest bytes.up link.up
+  pub rest_is : bytes.host_rest ≡ rest
 
--- the terminal's end, and what comes down to it; all that the terminal said is under way
+-- the terminal's end, and what is under way to it; the terminal's own output is under way already
 pub record TermStands (bytes : ByteLink) (link : Link) : Type 0 where
   pub rest : Rest
   pub holds : Holds rest bytes.tracked link.term
   pub silent : bytes.tracked.terminal.out ≡ []
   pub down : BytesDown rest bytes.down link.down
 
--- Of an end that was left nothing is said: no step reads it, or what is under way to it.
+-- After `read`, the bytes under way up to the host spell the messages under way there, also if the
+-- host has left. While it is there, `read` is what its decoder holds. Nothing else is said of an
+-- end that has left, nor of what is under way to a terminal that has: no step reads these.
 pub record LinkStands (bytes : ByteLink) (link : Link) : Type 0 where
   pub lost : bytes.lost ≡ link.lost
   pub host_here : bytes.host_here ≡ link.host_here
   pub term_here : bytes.term_here ≡ link.term_here
-  pub host : link.host_here ≡ true → HostStands bytes link
+  pub read : Rest
+  pub up : BytesUp read bytes.up link.up
+  pub host : link.host_here ≡ true → HostStands bytes link read
   pub term : (terminal : ℕ) → link.term_here ≡ Some terminal → TermStands bytes link

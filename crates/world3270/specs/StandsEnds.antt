@@ -1,5 +1,5 @@
--- What holds of the ends of a connection where bytes stand for messages: a terminal makes of each item, and of each key, what it makes
--- of it over messages (our profile).
+-- What holds of the ends of a connection whose bytes represent messages: a terminal makes of each
+-- item, and of each key, what it makes of it over messages (our profile).
 use Rattle.std.specs.Prelude.{◌≡◌, ⊤, ℕ, Bool, true, false, List, ◌++◌, length, Option, None}
 use Rattle.std.specs.List.{AllByRecursion}
 use Rattle.datastream.specs.Grammar.{IsCommand}
@@ -27,7 +27,7 @@ use Rattle.world3270.specs.Terminal.{TermEnd, TermStep, is_bound, took, key_came
 
 -- ---- what is painted
 
--- A record with a paint of what is wanted stands for it, wherever it fits what is believed.
+-- A record with a paint of the wanted screen represents that paint, if it fits the belief.
 abbrev pub PaintStands : Type 0
 PaintStands = (number : ℕ) (wanted : WantedScreen) (believed : Shadow) (bytes body : List ℕ)
     → Begins bytes (command_header always_response number) body → IsCommand (paint (length wanted.cells) believed wanted) body → fits believed wanted ≡ true
@@ -65,7 +65,7 @@ MayCome end (ToTerminal.Note number command) = IsOpen end.talk.talk.state × IsN
 
 -- ---- what a terminal makes of an item
 
--- an item comes that stands for a message, which may come, to an end with a screen that can be sent
+-- an item arrives that represents a message, which may arrive, at an end whose screen can be sent
 pub record ItemComes (message : ToTerminal) (item : WireItem) (old : ByteEnd) (end : TermEnd) (step : ByteStep) : Type 0 where
   pub stands : StandsDown item message
   pub may : MayCome end message
@@ -81,7 +81,7 @@ pub record SameStep (bytes : ByteStep) (step : TermStep) : Type 0 where
   pub fit : AllByRecursion (CanCome record_limit) bytes.says
   pub closed : bytes.closes ≡ step.closes
 
--- A terminal makes of an item what it makes of the message that the item stands for.
+-- A terminal makes of an item what it makes of the message that the item represents.
 abbrev pub TermTakes : Type 0
 TermTakes = (message : ToTerminal) (item : WireItem) (old : ByteEnd) (end : TermEnd) (step : ByteStep)
     → ItemComes message item old end step → SameStep step (took end message)
@@ -105,7 +105,7 @@ TakesKeepSendable = (message : ToTerminal) (item : WireItem) (end : TermEnd)
 
 -- ---- what it makes of a key
 
--- it stays attached; what it sent stands behind what it had to send before
+-- it stays attached; its data is appended to what it had to send before
 pub record SameKey (old new : TrackedTerminal) (rest : Rest) (step : TermStep) : Type 0 where
   pub holds : Holds rest new step.end
   pub items : List WireItem

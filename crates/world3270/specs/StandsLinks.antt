@@ -1,5 +1,5 @@
--- What holds of queues and connections where bytes stand for messages: a connection over bytes stands for one over messages, whatever
--- happens on it (our profile).
+-- What holds of queues and connections whose bytes represent messages: a connection over bytes
+-- represents one over messages, whatever happens on it (our profile).
 use Rattle.std.specs.Prelude.{◌≡◌, ◌||◌, ⊤, ℕ, Bool, true, false, List, [], ◌∷◌, ◌++◌, Option, Some, None}
 use Rattle.std.specs.List.{AllByRecursion, list_any}
 use Rattle.codes3270.specs.Size.{model_2}
@@ -22,11 +22,11 @@ use Rattle.world3270.specs.World.{World}
 
 -- ---- what is under way
 
--- No bytes stand for no messages.
+-- No bytes represent no messages.
 abbrev pub NothingStands : {X : Type 0} → (WireItem → X → Type 0) → Type 0
 NothingStands Stands = BytesStand Stands nothing [] []
 
--- New items behind a queue stand for new messages behind those that it stands for.
+-- A queue with new items appended represents its messages with new ones appended.
 abbrev pub StandsCompose : {X : Type 0} → (WireItem → X → Type 0) → Type 0
 StandsCompose {X} Stands = (rest : Rest) (bytes : List ℕ) (messages more : List X) (items : List WireItem)
     → BytesStand Stands rest bytes messages → AllByRecursion (CanCome record_limit) items → Pairwise Stands items more
@@ -40,7 +40,8 @@ pub record TakesSome {X : Type 0} (Stands : WireItem → X → Type 0) (mid : Re
   pub each : Pairwise Stands items taken
   pub stands : BytesStand Stands mid behind others
 
--- Bytes that were taken off the front delivered items that stand for the first messages, and the bytes behind stand for the others.
+-- The bytes taken off the front deliver items that represent the first messages, and the bytes
+-- after them represent the others.
 abbrev pub StandsGoOn : {X : Type 0} → (WireItem → X → Type 0) → Type 0
 StandsGoOn {X} Stands = (rest mid : Rest) (bytes behind : List ℕ) (items : List WireItem) (messages : List X)
     → BytesStand Stands rest (bytes ++ behind) messages → Delivers record_limit rest bytes items mid
@@ -71,7 +72,8 @@ abbrev pub handed_on : TrackedTerminal → ByteLink → ByteLink
 handed_on tracked bytes =
     record bytes { up = sent bytes.lost bytes.up tracked.terminal.out; tracked = record tracked { terminal = record tracked.terminal { out = [] } } }
 
--- A connection stands for one over messages after a key, where the screen that it leaves can be sent.
+-- A connection represents one over messages after a key, if the screen that the key leaves can be
+-- sent.
 abbrev pub PressStands : Type 0
 PressStands = (key : Key) (bytes : ByteLink) (link : Link) (terminal : ℕ)
     → LinkStands bytes link → link.term_here ≡ Some terminal → IsSendable (key_outcome key bytes.tracked.terminal.station).screen
@@ -101,14 +103,15 @@ took_down (message ∷ messages) others link = took_down messages others (term_s
 abbrev pub fed : TrackedTerminal → List ℕ → ByteLink → ByteLink
 fed tracked behind bytes = record (handed_on tracked bytes) { down = behind }
 
--- it stands for one on which the first of the messages came down
+-- it represents one on which the first of the messages were delivered down
 pub record CameDown (bytes : ByteLink) (link : Link) : Type 0 where
   pub taken : List ToTerminal
   pub others : List ToTerminal
   pub whole : link.down ≡ taken ++ others
   pub stands : LinkStands bytes (took_down taken others link)
 
--- the terminal is there, with a screen that can be sent, and what comes down may come and closes nothing
+-- the terminal is there, with a screen that can be sent; each message down may arrive, and closes
+-- nothing
 pub record IsReady (bytes : ByteLink) (link : Link) : Type 0 where
   pub stands : LinkStands bytes link
   pub terminal : ℕ
@@ -117,7 +120,7 @@ pub record IsReady (bytes : ByteLink) (link : Link) : Type 0 where
   pub none : NoneCloses link.term link.down
   pub sendable : IsSendable link.term.display.screen
 
--- A connection stands for one over messages after any bytes that the terminal takes off its queue.
+-- A connection represents one over messages after any bytes that the terminal takes off its queue.
 abbrev pub DownStands : Type 0
 DownStands = (bytes : ByteLink) (link : Link) (front behind : List ℕ) (new : TrackedTerminal)
     → IsReady bytes link → bytes.down ≡ front ++ behind → TrackedTakes bytes.tracked front new → CameDown (fed new behind bytes) link
@@ -160,13 +163,13 @@ said_down conn items bytes = record bytes { host = conn; down = sent bytes.lost 
 abbrev pub sent_down : Conn → List ToTerminal → Link → Link
 sent_down conn messages link = record link { host = conn; down = sent link.lost link.down messages }
 
--- A connection stands for one over messages after the host says items that stand for what it sends.
+-- A connection represents one over messages after the host says items that represent what it sends.
 abbrev pub HostSends : Type 0
 HostSends = (bytes : ByteLink) (link : Link) (conn : Conn) (items : List WireItem) (messages : List ToTerminal)
     → LinkStands bytes link → AllByRecursion (CanCome record_limit) items → Pairwise StandsDown items messages
     → LinkStands (said_down conn items bytes) (sent_down conn messages link)
 
--- the first of the messages came up, and the others stand behind them
+-- the first of the messages were delivered up, and the others are still under way
 pub record CameUp (bytes : ByteLink) (link : Link) (items : List WireItem) : Type 0 where
   pub taken : List ToHost
   pub others : List ToHost
@@ -174,13 +177,14 @@ pub record CameUp (bytes : ByteLink) (link : Link) (items : List WireItem) : Typ
   pub each : Pairwise StandsUp items taken
   pub stands : LinkStands bytes (record link { up = others })
 
--- The items that come up to the host stand for the first messages, and the connection for one with the others.
+-- The items that arrive at the host represent the first messages, and the connection represents one
+-- with the others.
 abbrev pub UpStands : Type 0
 UpStands = (bytes : ByteLink) (link : Link) (front behind : List ℕ) (items : List WireItem) (to : Rest)
     → LinkStands bytes link → link.host_here ≡ true → bytes.up ≡ front ++ behind → Delivers record_limit bytes.host_rest front items to
     → CameUp (record bytes { host_rest = to; up = behind }) link items
 
--- It stands for one after it is lost, and after an end leaves it.
+-- It represents one after it is lost, and after an end leaves it.
 abbrev pub LossStands : Type 0
 LossStands = (bytes : ByteLink) (link : Link) → LinkStands bytes link → LinkStands (record bytes { lost = true }) (record link { lost = true })
 

@@ -28,12 +28,13 @@ newly_tracked wanted = record { terminal = connected wanted; history = record { 
 
 -- ---- bytes
 
--- whether a write was taken, and the screen behind it
+-- the history once a write with restore was applied, if one was; this is the screen after it
 abbrev pub restored_by : Bool → Screen → History → History
 restored_by true screen old = record { last_restored = screen; erased = false }
 restored_by false screen old = old
 
--- a byte came: where it completed a write with restore, which was applied, the screen behind that is what was left
+-- the history after a byte: if the byte completed a write with restore that was applied, the screen
+-- after that write is the last restored one
 abbrev pub marked : Station → History → History
 marked station old = restored_by station.took_write station.screen old
 

@@ -1,25 +1,28 @@
--- Nobody refuses a command, and neither end closes a connection for what comes to it, over bytes (our profile; responses are those of
--- RFC 1647, section 10.4).
+-- Over bytes nobody refuses a command, and no delivery makes an end close its connection (our
+-- profile; responses are those of RFC 1647, section 10.4).
 use Rattle.std.specs.Prelude.{◌≡◌, ◌==◌, ⊤, ℕ, Bool, true, false, List, ◌∷◌, ◌++◌, Some}
 use Rattle.std.specs.List.{AllByRecursion}
 use Rattle.telnet_wire.specs.Items.{WireItem, CanCome, sent_bytes}
-use Rattle.telnet_wire.specs.Reading.{Delivers, nothing}
+use Rattle.telnet_wire.specs.Reading.{Rest, Delivers, nothing}
 use Rattle.term_core.specs.Says.{response}
 use Rattle.term_core.specs.declared.outcome.Outcome.{Outcome}
 use Rattle.term_core.specs.declared.outcome.Outcome.TheVariants.{DeviceEnd}
 use Rattle.tn3270e_msg.specs.Header.{record_limit}
+use Rattle.host_core.specs.Messages.{ToHost}
 use Rattle.host_core.specs.State.{service_at}
 use Rattle.world3270.specs.Always.{NobodyRefuses}
 use Rattle.world3270.specs.ByteSteps.{Steps, is_lost}
 use Rattle.world3270.specs.ByteWorld.{ByteWorld, host_there, slot_at, terminal_at, up_of}
+use Rattle.world3270.specs.Deliveries.{host_rest}
 use Rattle.world3270.specs.Refines.{Begin, GoesOn, IsBegin, IsReached, Reached, after}
 use Rattle.world3270.specs.Standing.{rest_of}
+use Rattle.world3270.specs.Stands.{BytesUp}
 use Rattle.world3270.specs.World.{Event as MessageEvent}
 use Rattle.world3270.specs.declared.event.Event.{Event}
 use Rattle.world3270.specs.declared.event.Event.TheVariants as event
 use Rattle.world3270.specs.declared.event.Stepped.{Stepped}
 
--- bytes come, up or down
+-- a delivery of bytes, up or down
 abbrev pub IsDelivery : Event → Type 0
 IsDelivery (event.Up number count) = ⊤
 IsDelivery (event.Down number count) = ⊤
@@ -31,7 +34,7 @@ pub record SameEnds (number : ℕ) (old new : ByteWorld) : Type 0 where
   pub host : host_there number new ≡ host_there number old
   pub terminal : terminal_at number new.slots ≡ terminal_at number old.slots
 
--- Whatever comes up or down, neither end closes the connection, nor any other.
+-- Whatever is delivered, neither end closes the connection, nor any other.
 abbrev pub DeliveriesCloseNothing : Type 0
 DeliveriesCloseNothing = (event : Event) (old : ByteWorld) (answer : Stepped) (new : ByteWorld)
     → IsReached old → IsDelivery event → Steps event old answer new → (number : ℕ) → SameEnds number old new
@@ -75,14 +78,32 @@ NothingIsRefused = (bytes : ByteWorld) (number sequence : ℕ) (outcome : Outcom
     → Delivers record_limit (rest_of (service_at number bytes.host)) (up_of number bytes) (before ++ response sequence outcome ∷ behind) nothing
     → outcome ≡ DeviceEnd
 
--- What a terminal said in a step: items behind what it had to send, and each response among them says that the command was carried out.
+-- After `read`, the bytes under way up to a host spell these messages, and each response among them
+-- says that the command was carried out. While the host is there, `read` is what its decoder holds.
+-- After that it is the beginning of at most one item.
+pub record SpellsNoRefusal (number : ℕ) (bytes : ByteWorld) (messages : List ToHost) : Type 0 where
+  pub read : Rest
+  pub holds : host_there number bytes ≡ true → read ≡ host_rest number bytes
+  pub spelt : BytesUp read (up_of number bytes) messages
+  pub carried_out : (sequence : ℕ) (outcome : Outcome) (before behind : List WireItem)
+      → spelt.items ≡ before ++ response sequence outcome ∷ behind → outcome ≡ DeviceEnd
+
+-- On each connection, also if its host has left, the bytes under way up spell the messages under
+-- way up, and refuse nothing.
+abbrev pub UnderWayRefusesNothing : Type 0
+UnderWayRefusesNothing = (begin : Begin) (events : List MessageEvent) (bytes : ByteWorld) (number : ℕ)
+    → IsBegin begin → Reached begin events bytes → SpellsNoRefusal number bytes ((after begin events).link number).up
+
+-- What a terminal said in a step: items after what it had to send, and each response among them
+-- says that the command was carried out.
 pub record SaysNoRefusal (terminal : ℕ) (old new : ByteWorld) : Type 0 where
   pub says : List WireItem
   pub sent : (slot_at terminal new).tracked.terminal.out ≡ (slot_at terminal old).tracked.terminal.out ++ sent_bytes says
   pub fit : AllByRecursion (CanCome record_limit) says
   pub carried_out : (sequence : ℕ) (outcome : Outcome) (before behind : List WireItem) → says ≡ before ++ response sequence outcome ∷ behind → outcome ≡ DeviceEnd
 
--- A terminal refuses nothing that comes to it, whether or not its host is still there to read the response.
+-- A terminal refuses nothing that is delivered to it, whether or not its host is still there to
+-- read the response.
 abbrev pub TerminalsRefuseNothing : Type 0
 TerminalsRefuseNothing = (terminal number count : ℕ) (old : ByteWorld) (answer : Stepped) (new : ByteWorld)
     → IsReached old → terminal_at number old.slots ≡ Some terminal → Steps (event.Down number count) old answer new → SaysNoRefusal terminal old new

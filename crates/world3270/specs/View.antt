@@ -1,5 +1,5 @@
--- What a connection is to the stages of its session, for proofs: what is under way, what the host has of it, and what stands before the
--- operator.
+-- What the stages of a session see of a connection, for proofs: what is under way, the host's end,
+-- and the operator's screen.
 use Rattle.std.specs.Prelude.{Bool, List}
 use Rattle.codes3270.specs.Size.{Shape}
 use Rattle.datastream.specs.Screen.{Screen}

@@ -41,8 +41,9 @@ new_world app pool terminals = record {
   verdicts = [];
 }
 
--- what happens: a key at a terminal; the next message comes up to the host, or down to the terminal; the host acts, or sends a note;
--- the connection is lost; an end sees that; a terminal connects, and wants an LU, if one; a terminal or the host begins anew
+-- What happens: a key at a terminal; the next message is delivered up to the host, or down to the
+-- terminal; the host acts, or sends a note; the connection is lost; an end sees that; a terminal
+-- connects, and wants an LU, if one; a terminal or the host restarts.
 pub data Event : Type 0 where
   Press : (terminal : ℕ) → Key → Event
   Up : (number : ℕ) → Event

@@ -1,4 +1,4 @@
-//! What may happen to the world, and what becomes of it.
+//! What may happen to the world, and the answers to it.
 ghost use Rattle.tn3270e_msg.specs.Talk.{IsLuIfSome};
 ghost use Rattle.world3270.specs.Refines.{IsReal};
 
@@ -7,16 +7,16 @@ use keyboard::laws::keys_are_real;
 use keyboard::{Key, Refusal};
 use tn3270e_msg::Lu;
 
-/// An event, at a terminal or on a connection, by its number. Bytes come up to the host and down to the terminal, so many.
+/// An event, at a terminal or on a connection, by its number.
 #[derive(Drop)]
 pub enum Event {
     /// A key at a terminal.
     Key(usize, Key),
-    /// Bytes come up to the host: so many of those under way, or all.
+    /// A number of the bytes under way to the host are delivered, or all if there are fewer.
     Up(usize, usize),
-    /// Bytes come down to the terminal: so many of those under way, or all.
+    /// A number of the bytes under way to the terminal are delivered, or all if there are fewer.
     Down(usize, usize),
-    /// The host acts, where it has the turn.
+    /// The host acts, if it has the turn.
     Act(usize),
     /// The host sends a note.
     Note(usize, NoteText),
@@ -28,22 +28,22 @@ pub enum Event {
     TermSees(usize),
     /// A terminal connects, and wants an LU, if one.
     Connect(usize, Option<Lu>),
-    /// A terminal begins anew.
+    /// A terminal restarts.
     RestartTerm(usize),
-    /// The host begins anew.
+    /// The host restarts.
     RestartHost,
 }
 
-/// What became of an event.
+/// What an event came to.
 #[derive(Clone, Copy, Debug, PartialEq, Eq)]
 pub enum Stepped {
     /// It happened.
     Done,
     /// The keyboard refused the key.
     Refused(Refusal),
-    /// There was nothing for it to happen to; nothing has changed.
+    /// It can't happen in this world; nothing has changed.
     Skipped,
-    /// Memory was refused behind so many bytes, at least one; the rest may come again.
+    /// Memory was refused after this number of bytes, at least one; the rest is still under way.
     Part(usize),
     /// Memory was refused; nothing has changed.
     Memory,
@@ -52,13 +52,14 @@ pub enum Stepped {
 /// How far a list of events went.
 #[derive(Clone, Copy, Debug, PartialEq, Eq)]
 pub struct Ran {
-    /// So many events happened whole.
+    /// How many events happened whole.
     pub whole: usize,
-    /// Of the next, a delivery, so many bytes were taken before memory was refused; 0 where there is none.
+    /// If the next event is a delivery that was refused memory, how many bytes were taken before
+    /// that; else 0.
     pub part: usize,
 }
 
-/// Law: an event's key, name or text is one of those that there are.
+/// Law: the key of an event is a key of the keyboard, its name an LU's, and its text a note's.
 pub(crate) fn events_are_real(event: &Event)
     ensures { IsReal event.now }
 {
@@ -68,6 +69,7 @@ pub(crate) fn events_are_real(event: &Event)
         Event::Down(_, _) => {}
         Event::Act(_) => {}
         Event::Note(_, text) => {
+            // For the contract: it is a note's text.
             let _text = text.text();
         }
         Event::Lose(_) => {}
@@ -79,11 +81,12 @@ pub(crate) fn events_are_real(event: &Event)
     }
 }
 
-/// Law: what a terminal wants is named as LUs are.
+/// Law: the LU that a terminal wants has the name of an LU.
 fn names_are_lus(wanted: &Option<Lu>)
     ensures { IsLuIfSome wanted.now }
 {
     if let Some(lu) = wanted {
+        // For the contract: it is the name of an LU.
         let _name = lu.as_bytes();
     }
 }

@@ -18,7 +18,7 @@ ghost use Rattle.world3270.specs.Sendable.{AlwaysTyped, DataCanBeSpelt, PaintsAr
 ghost use Rattle.world3270.specs.Skipped.{SkippedChangesNothing};
 ghost use Rattle.world3270.specs.Stands.{StandsDown, StandsUp};
 ghost use Rattle.world3270.specs.StandsEnds.{PaintStands, TakesKeepSendable, TermPresses, TermTakes, WritesAreMarked};
-ghost use Rattle.world3270.specs.Unbroken.{DeliveriesCloseNothing, NobodyCloses, NobodyHasRefused, NothingIsRefused, TerminalsRefuseNothing};
+ghost use Rattle.world3270.specs.Unbroken.{DeliveriesCloseNothing, NobodyCloses, NobodyHasRefused, NothingIsRefused, TerminalsRefuseNothing, UnderWayRefusesNothing};
 ghost use Rattle.world3270.specs.StandsLinks.{BeginStands, BytesAreMarked, DownIsNotRefused, DownStands, HostLeaves, HostSends, LossStands, NothingStands, PressStands, StandsCompose, StandsGoOn, TermLeaves, UpStands, WhatComesMayCome};
 
 use datastream::laws::{fields_both_ways, kept_since_the_write, sent_is_read, what_a_note_keeps};
@@ -164,34 +164,36 @@ pub fn a_lost_connection_takes_nothing()
 
 /// Law: an example, runs of a small host that are computed to their ends. A required field is left
 /// out, asked for and filled in; a connection is lost, and the LU refused until the host sees that;
-/// the screen is read after PA1, and where a field is in doubt; Clear, a terminal that begins anew,
-/// and a host that does; notes, two of which cross a key; a PF key and Clear that lead on; what a
-/// loss leaves under way. Where the host decides it knows what was typed.
+/// the screen is read after PA1, and if a field is in doubt; Clear, a terminal that restarts, and a
+/// host that restarts; notes, two of which cross a key; a PF key and Clear that lead on; what a
+/// loss leaves under way. When the host decides it knows what was typed.
 pub fn the_runs_end_so()
     ensures { TheRunsEndSo }
 {}
 
-/// Law: what holds where bytes stand for messages: a terminal makes of the bytes what it makes of
-/// the messages, and a connection over bytes stands for one over messages, step by step.
+/// Law: what holds if bytes represent messages: a terminal makes of the bytes what it makes of the
+/// messages, and a connection over bytes represents one over messages, step by step.
 pub fn bytes_stand_for_messages()
-    // A paint that fits what is believed stands for what is wanted.
+    // A paint that fits the belief represents the wanted screen.
     ensures paint { PaintStands }
-    // A terminal makes of an item, and of a key, what it makes of them over messages; an item is marked as a write exactly where it
-    // stands for a paint that finds the terminal bound. Whatever bytes come, there is a history of them.
+    // A terminal makes of an item, and of a key, what it makes of them over messages. An item is
+    // marked as a write exactly if it represents a paint that finds the terminal bound. Whatever
+    // bytes it takes, there is a history of them.
     ensures takes { TermTakes }
     ensures marks { WritesAreMarked }
     ensures history { HistoryFollows }
     ensures sendable { TakesKeepSendable }
     ensures presses { TermPresses }
-    // Bytes stand for messages however they are cut, and as they come and go.
+    // Bytes represent messages however they are cut, as they are sent and as they are taken.
     ensures down_empty { NothingStands StandsDown }
     ensures up_empty { NothingStands StandsUp }
     ensures down_more { StandsCompose StandsDown }
     ensures up_more { StandsCompose StandsUp }
     ensures down_taken { StandsGoOn StandsDown }
     ensures up_taken { StandsGoOn StandsUp }
-    // A connection that begins stands for one over messages that begins, and goes on so: with keys, with what comes down and up,
-    // each of whose bytes is marked as such items are, with what the host says, as it is lost, and as an end leaves it.
+    // A connection that begins represents one over messages that begins. It still does after a key,
+    // a delivery in either direction, a message from the host, a loss, and after an end left it. A
+    // byte down is marked as a write exactly if it completes such a paint.
     ensures begin { BeginStands }
     ensures press { PressStands }
     ensures down { DownStands }
@@ -202,7 +204,7 @@ pub fn bytes_stand_for_messages()
     ensures loss { LossStands }
     ensures host_leaves { HostLeaves }
     ensures term_leaves { TermLeaves }
-    // What comes down in the world is as these steps want it.
+    // In the world each message down may arrive as these steps require.
     ensures coming { Always WhatComesMayCome }
 {
     what_is_given();
@@ -239,7 +241,7 @@ fn what_is_known()
 /// item that the bytes complete at the receiver, or that one event. An event is skipped exactly if
 /// it is skipped over messages. The headline holds of what is seen of each such world. Bytes that
 /// come up or down close no connection; no end ever closes one by a cause; and no response refuses
-/// a command.
+/// a command, also if it is under way to a host that has left.
 pub fn bytes_follow_messages()
     ensures begin { BeginIsReached }
     ensures steps { StepsGoOn }
@@ -251,6 +253,7 @@ pub fn bytes_follow_messages()
     ensures history { NobodyHasRefused }
     ensures none_refused { NothingIsRefused }
     ensures say_no_refusal { TerminalsRefuseNothing }
+    ensures under_way_refuses_nothing { UnderWayRefusesNothing }
 {
     what_is_known();
 }

@@ -6,8 +6,8 @@ ghost use Rattle.world3270.specs.ByteWorld.Transit.{Live as StaysLive, SenderGon
 use std::alloc::Global;
 use std::marker::Model;
 
-/// The bytes in flight in one direction: all that the sender has to send; that many of them, if the connection
-/// is lost; or these bytes, if the sender is gone.
+/// The bytes in flight in one direction: all that the sender has to send; the first ones of them,
+/// if the connection is lost; or these bytes, if the sender is gone.
 #[derive(Drop)]
 pub(crate) enum InFlight {
     Live,
@@ -58,7 +58,7 @@ impl Direction {
         }
     }
 
-    /// Whether what comes is the sender's.
+    /// Whether the bytes in flight are still the sender's.
     pub(crate) fn is_senders(&self) -> bool
         ensures { result ≡ is_senders self.now }
     {
@@ -69,7 +69,7 @@ impl Direction {
         }
     }
 
-    /// The bytes under way, of a sender that has these to send.
+    /// The bytes under way, if the sender has these to send.
     pub(crate) fn under_way<'a>(&'a self, out: &'a [u8]) -> &'a [u8]
         ensures { result.now ≡ under_way self.now out.now }
     {
@@ -80,7 +80,7 @@ impl Direction {
         }
     }
 
-    /// So many bytes came.
+    /// The first `count` bytes are taken.
     pub(crate) fn came(&mut self, count: usize)
         ensures { self.new ≡ came count self.old }
     {
@@ -91,7 +91,7 @@ impl Direction {
         }
     }
 
-    /// The connection is lost while the sender has so many bytes to send.
+    /// The connection is lost while the sender has `count` bytes to send.
     pub(crate) fn cut(&mut self, count: usize)
         ensures { self.new ≡ cut count self.old }
     {
@@ -100,7 +100,7 @@ impl Direction {
         }
     }
 
-    /// The sender leaves, and had these bytes to send.
+    /// The sender leaves while it has these bytes to send.
     pub(crate) fn leave(&mut self, out: Vec<u8>)
         ensures { self.new ≡ sender_gone out.items self.old }
     {
@@ -116,7 +116,7 @@ impl Direction {
     }
 }
 
-/// The first bytes: so many, or all.
+/// The first `count` bytes, or all if there are fewer.
 pub(crate) fn first(bytes: &[u8], count: usize) -> &[u8]
     ensures { result.now ≡ take count bytes.now }
 {
@@ -127,7 +127,7 @@ pub(crate) fn first(bytes: &[u8], count: usize) -> &[u8]
     }
 }
 
-/// Drops the first bytes: so many, or all.
+/// Drops the first `count` bytes, or all if there are fewer.
 fn drop_first(bytes: &mut Vec<u8>, count: usize)
     ensures { bytes.new.items ≡ drop count bytes.old.items }
 {
@@ -174,7 +174,7 @@ impl Link {
         self.up.begin();
     }
 
-    /// The connection is lost while both ends have so many bytes to send.
+    /// The connection is lost while the host has `down` bytes to send, and the terminal `up` bytes.
     pub(crate) fn cut(&mut self, down: usize, up: usize)
         ensures { self.new ≡ record { down = cut down self.old.down; up = cut up self.old.up } }
     {
@@ -182,7 +182,8 @@ impl Link {
         self.up.cut(up);
     }
 
-    /// The host leaves, and the connection is lost: it had these bytes to send, and the terminal so many.
+    /// The host leaves while it has the bytes `unsent` to send, and the terminal `up` bytes; the
+    /// connection is lost.
     pub(crate) fn host_leaves(&mut self, unsent: Vec<u8>, up: usize)
         ensures { self.new ≡ record { down = sender_gone unsent.items self.old.down; up = cut up self.old.up } }
     {
@@ -190,7 +191,8 @@ impl Link {
         self.up.cut(up);
     }
 
-    /// The terminal leaves, and the connection is lost: it had these bytes to send, and the host so many.
+    /// The terminal leaves while it has the bytes `unsent` to send, and the host `down` bytes; the
+    /// connection is lost.
     pub(crate) fn terminal_leaves(&mut self, down: usize, unsent: Vec<u8>)
         ensures { self.new ≡ record { down = cut down self.old.down; up = sender_gone unsent.items self.old.up } }
     {
@@ -205,14 +207,14 @@ impl Link {
         self.down.is_live()
     }
 
-    /// So many bytes came down.
+    /// The first `count` bytes down are taken.
     pub(crate) fn came_down(&mut self, count: usize)
         ensures { self.new ≡ record self.old { down = came count self.old.down } }
     {
         self.down.came(count);
     }
 
-    /// So many bytes came up.
+    /// The first `count` bytes up are taken.
     pub(crate) fn came_up(&mut self, count: usize)
         ensures { self.new ≡ record self.old { up = came count self.old.up } }
     {

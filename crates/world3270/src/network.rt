@@ -1,4 +1,5 @@
-//! What a world is made of: a host, the connections that it serves, and terminals; and how bytes move between them.
+//! The parts of a world: a host, the connections that it serves, and terminals; and how bytes move
+//! between them.
 ghost use Rattle.std.specs.Prelude.{◌≡◌, ◌<◌, ◌≤◌, None, Some, true, false, is_some, length, IfOk, IfSome, replicate, take};
 ghost use Rattle.host_core.specs.Feeds.{Feeds, counter_at, with_counter};
 ghost use Rattle.host_core.specs.State.{most_connections};
@@ -22,7 +23,8 @@ use telnet_wire::Memory;
 use term_core::Terminal;
 use tn3270e_msg::{Fed, Lu, Stop};
 
-/// A host, the connections that it serves, and terminals. What an end has to send is under way: there is no other queue.
+/// A host, the connections that it serves, and terminals. What an end has to send is under way:
+/// there is no other queue.
 #[derive(Drop)]
 pub(crate) struct Network {
     host: Host,
@@ -42,7 +44,7 @@ impl Model for Network {
     ghost invariant = { λ network. length network.links.items ≡ most_connections };
 }
 
-/// So many connections, never used.
+/// The connections of a new world, never used.
 fn unused_links(alloc: Global) -> Result<Vec<Link>, Memory>
     ensures { IfOk result (λ links. links.items ≡ replicate most_connections unused_transits) }
 {
@@ -53,7 +55,7 @@ fn unused_links(alloc: Global) -> Result<Vec<Link>, Memory>
     Ok(links)
 }
 
-/// So many terminals, that begin.
+/// This number of new terminals.
 fn new_slots(alloc: Global, terminals: usize) -> Result<Vec<TerminalSlot>, Memory>
     ensures { IfOk result (λ slots. slots.items ≡ replicate terminals new_slot) }
 {
@@ -72,7 +74,7 @@ fn terminal_at(slots: &[TerminalSlot], conn: usize) -> Option<usize>
     slots.iter().position(|slot| slot.is_at(conn))
 }
 
-/// What the terminal at a connection has to send: nothing where none is.
+/// What the terminal at a connection has to send: nothing if no terminal is there.
 fn out_at(slots: &[TerminalSlot], conn: usize) -> &[u8]
     ensures { result.now ≡ out_among (terminal_at conn slots.now) slots.now }
 {
@@ -82,7 +84,7 @@ fn out_at(slots: &[TerminalSlot], conn: usize) -> &[u8]
     }
 }
 
-/// What becomes of a key, by what the keyboard answers.
+/// The answer to a key, by what the keyboard answers.
 fn pressed_as(pressed: Pressed) -> Stepped
     ensures { result ≡ answer_pressed pressed }
 {
@@ -93,7 +95,7 @@ fn pressed_as(pressed: Pressed) -> Stepped
     }
 }
 
-/// What becomes of an act, or of a note.
+/// The answer to an act, or to a note.
 fn acted_as(acted: Acted) -> Stepped
     ensures { result ≡ answer_acted acted }
 {
@@ -104,7 +106,7 @@ fn acted_as(acted: Acted) -> Stepped
     }
 }
 
-/// What becomes of a delivery.
+/// The answer to a delivery.
 fn fed_as(fed: Fed) -> Stepped
     ensures { result ≡ answer_fed fed.stop fed.taken }
 {
@@ -118,7 +120,7 @@ fn fed_as(fed: Fed) -> Stepped
     }
 }
 
-/// Whether there are bytes among the first of these: so many, or all.
+/// Whether at least one byte is among the first `count` of these.
 fn are_queued(bytes: &[u8], count: usize) -> bool
     ensures { result ≡ is_queued (take count bytes.now) }
 {
@@ -129,7 +131,8 @@ fn are_queued(bytes: &[u8], count: usize) -> bool
 }
 
 impl Network {
-    /// As it begins, with so many terminals: nobody holds an LU, and no connection was ever used.
+    /// A new world with this number of terminals: nobody holds an LU, and no connection was ever
+    /// used.
     pub(crate) fn new(
         alloc: Global,
         panels: PanelSet,
@@ -159,7 +162,7 @@ impl Network {
         self.slots[terminal].terminal()
     }
 
-    /// What the terminal at a connection has to send: nothing where none is.
+    /// What the terminal at a connection has to send: nothing if no terminal is there.
     fn terminal_out(&self, conn: usize) -> &[u8]
         ensures { result.now ≡ terminal_out conn self.now }
     {
@@ -234,7 +237,7 @@ impl Network {
         self.links[conn].terminal_leaves(down, unsent);
     }
 
-    /// A terminal leaves its connection, which is lost, and begins anew.
+    /// A terminal leaves its connection, which is lost, and restarts.
     fn terminal_leaves_anew(&mut self, terminal: usize, conn: usize)
         requires terminal { terminal < length self.old.slots }
         requires number { conn < most_connections }
@@ -338,7 +341,7 @@ impl Network {
         Stepped::Done
     }
 
-    /// A terminal begins anew; its connection, if it is at one, is lost.
+    /// A terminal restarts; its connection, if it is at one, is lost.
     pub(crate) fn restart_term(&mut self, terminal: usize) -> Stepped
         ensures { Steps (event.RestartTerm terminal) self.old result self.new }
     {
@@ -371,7 +374,7 @@ impl Network {
         None
     }
 
-    /// A terminal that is alone begins a connection on a number that nobody holds.
+    /// A terminal without a connection begins one on a number that nobody holds.
     fn begin(&mut self, terminal: usize, conn: usize, wanted: Option<Lu>) -> Stepped
         requires terminal { terminal < length self.old.slots }
         requires number { conn < most_connections }
@@ -388,7 +391,8 @@ impl Network {
         }
     }
 
-    /// A terminal connects, and wants an LU, if one. Skipped unless it is alone and a number is free.
+    /// A terminal connects, and wants an LU, if one. Skipped unless it has no connection and a
+    /// number is free.
     pub(crate) fn connect(&mut self, terminal: usize, wanted: Option<Lu>) -> Stepped
         ensures { Steps (event.Connect terminal wanted) self.old result self.new }
     {
@@ -423,7 +427,7 @@ impl Network {
         }
     }
 
-    /// The host begins anew; its connections are lost.
+    /// The host restarts; its connections are lost.
     pub(crate) fn restart_host(&mut self) -> Stepped
         ensures { Steps event.RestartHost self.old result self.new }
     {
@@ -432,7 +436,7 @@ impl Network {
         Stepped::Done
     }
 
-    /// The host takes bytes that are under way to it: so many of them, or all.
+    /// The host takes the first `count` bytes that are under way to it, or all if there are fewer.
     fn feed_host(&mut self, conn: usize, count: usize) -> Fed
         requires { conn < most_connections }
         ensures fed { Feeds conn (counter_at conn self.old.host) (take count (up_of conn self.old)) result (counter_at conn self.new.host) }
@@ -443,7 +447,7 @@ impl Network {
         self.host.feed(conn, bytes)
     }
 
-    /// The host's first bytes are sent, where what comes is the host's.
+    /// The host's first `count` bytes are sent, if those that were taken are still the host's.
     fn tell_host(&mut self, is_its: bool, conn: usize, count: usize)
         requires number { conn < most_connections }
         requires count { is_its ≡ true → count ≤ length (host_out conn self.old) }
@@ -454,7 +458,8 @@ impl Network {
         }
     }
 
-    /// The first bytes of the terminal at a connection are sent, where what comes is the terminal's.
+    /// The first `count` bytes of the terminal at a connection are sent, if those that were taken
+    /// are still the terminal's.
     fn tell_terminal(&mut self, is_its: bool, conn: usize, count: usize)
         requires { is_its ≡ true → count ≤ length (terminal_out conn self.old) }
         ensures { self.new ≡ terminal_told is_its count (terminal_at conn self.old.slots) self.old }
@@ -467,7 +472,7 @@ impl Network {
         }
     }
 
-    /// So many bytes came down.
+    /// The first `count` bytes down are taken.
     fn came_down(&mut self, conn: usize, count: usize)
         requires number { conn < most_connections }
         requires count { is_senders (transits_at conn self.old).down ≡ true → count ≤ length (host_out conn self.old) }
@@ -478,7 +483,7 @@ impl Network {
         self.links[conn].came_down(count);
     }
 
-    /// So many bytes came up.
+    /// The first `count` bytes up are taken.
     fn came_up(&mut self, conn: usize, count: usize)
         requires number { conn < most_connections }
         requires count { is_senders (transits_at conn self.old).up ≡ true → count ≤ length (terminal_out conn self.old) }
@@ -489,7 +494,7 @@ impl Network {
         self.links[conn].came_up(count);
     }
 
-    /// Whether bytes come up: so many of those that are under way to the host, or all.
+    /// Whether a delivery up of `count` bytes can happen.
     fn comes_up(&self, conn: usize, count: usize) -> bool
         ensures place { result ≡ has_place (event.Up conn count) self.now }
         ensures number { result ≡ true → conn < most_connections }
@@ -509,7 +514,8 @@ impl Network {
         }
     }
 
-    /// Bytes come up to the host: so many of those under way, or all. Skipped where none are, or the host isn't there.
+    /// The first `count` bytes under way to the host are delivered, or all if there are fewer.
+    /// Skipped if there are none, or the host isn't there.
     pub(crate) fn bring_up(&mut self, conn: usize, count: usize) -> Stepped
         ensures { Steps (event.Up conn count) self.old result self.new }
     {
@@ -522,7 +528,7 @@ impl Network {
         fed_as(fed)
     }
 
-    /// The terminal that bytes come down to, if they do: so many of those under way to it, or all.
+    /// The terminal to which a delivery down of `count` bytes goes, if it can happen.
     fn comes_down(&self, conn: usize, count: usize) -> Option<usize>
         ensures place { is_some result ≡ has_place (event.Down conn count) self.now }
         ensures found { IfSome result (λ terminal. terminal_at conn self.now.slots ≡ Some terminal) }
@@ -536,7 +542,8 @@ impl Network {
         }
     }
 
-    /// A terminal takes bytes that are under way to it: so many of them, or all.
+    /// A terminal takes the first `count` bytes that are under way to it, or all if there are
+    /// fewer.
     fn feed_terminal(&mut self, terminal: usize, conn: usize, count: usize) -> Fed
         requires terminal { terminal < length self.old.slots }
         requires number { conn < most_connections }
@@ -560,7 +567,8 @@ impl Network {
         }
     }
 
-    /// Bytes come down to the terminal: so many of those under way, or all. Skipped where none are, or no terminal is there.
+    /// The first `count` bytes under way to the terminal are delivered, or all if there are fewer.
+    /// Skipped if there are none, or no terminal is there.
     pub(crate) fn bring_down(&mut self, conn: usize, count: usize) -> Stepped
         ensures { Steps (event.Down conn count) self.old result self.new }
     {

@@ -9,7 +9,8 @@ use std::marker::Model;
 /// The longest text that a note may have.
 const LONGEST: usize = 131;
 
-/// The text of a note: at most 131 characters of code page 037. Contracts see it as the list of these.
+/// The text of a note: at most 131 characters of code page 037. Contracts see it as the list of
+/// these.
 #[derive(Drop)]
 pub struct NoteText {
     text: [u8; LONGEST],
@@ -49,7 +50,7 @@ fn is_note_text(text: &[u8]) -> bool
 }
 
 impl NoteText {
-    /// A text: None where it is longer than a note may be, or has something else than characters of code page 037.
+    /// A note's text: None if it is longer than 131 characters, or if one isn't of code page 037.
     pub fn new(text: &[u8]) -> Option<NoteText>
         ensures { result ≡ note_text text.now }
     {

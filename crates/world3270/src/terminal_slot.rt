@@ -1,6 +1,7 @@
 //! A terminal, with its connection and the history of its screen.
 ghost use Rattle.std.specs.Prelude.{◌≡◌, ◌<◌, ◌≤◌, drop, length, IfOk, IfSome, OnOk, OnErr, Some, None};
 ghost use Rattle.host_core.specs.State.{most_connections, opened, phase_of, service_at, with_connection};
+ghost use Rattle.keyboard.specs.Leaves.{erases};
 ghost use Rattle.term_core.specs.Feeds.{IsAttached};
 ghost use Rattle.term_core.specs.Presses.{LacksKeyRoom, answer_to_key};
 ghost use Rattle.term_core.specs.Room.{out_room};
@@ -18,8 +19,9 @@ use telnet_wire::Memory;
 use term_core::{TermPhase, Terminal};
 use tn3270e_msg::{Fed, Lu, Stop};
 
-/// A terminal, the number of the connection whose end it holds, and its history: the screen just after it last took a write with
-/// restore on its latest connection, and whether Erase Input was done since.
+/// A terminal, the number of the connection whose end it holds, and its history: the screen just
+/// after it last took a write with restore on its latest connection, and whether Erase Input was
+/// done since.
 #[derive(Drop)]
 pub(crate) struct TerminalSlot {
     terminal: Terminal,
@@ -40,7 +42,7 @@ impl Model for TerminalSlot {
 }
 
 impl TerminalSlot {
-    /// A terminal that begins, alone.
+    /// A new terminal, without a connection.
     pub(crate) fn new(alloc: Global) -> Result<TerminalSlot, Memory>
         ensures { IfOk result (λ slot. slot ≡ new_slot) }
     {
@@ -93,22 +95,23 @@ impl TerminalSlot {
         self.terminal.sent(count);
     }
 
-    /// Presses a key; an Erase Input that is done is remembered. Memory is refused only for a key that sends, if the room that a
-    /// terminal makes isn't enough.
+    /// Presses a key; an Erase Input that is done is remembered. Memory is refused only to a key
+    /// that sends, if the room that a terminal makes isn't enough.
     pub(crate) fn press(&mut self, key: Key) -> Result<Pressed, Memory>
         ensures pressed { OnOk result (self.new ≡ record self.old { tracked = tracked_after_key key self.old.tracked }) }
         ensures answer { IfOk result (λ answer. answer ≡ answer_to_key key self.old.tracked.terminal) }
         ensures unchanged { OnErr result (self.new ≡ self.old) }
         ensures full { OnErr result (LacksKeyRoom out_room key self.old.tracked.terminal) }
     {
-        let erases = matches!(key, Key::EraseInput);
+        let erases = erases(&key);
         let pressed = self.terminal.press(key)?;
         let done = matches!(pressed, Pressed::Done);
         self.erased = self.erased || (done && erases);
         Ok(pressed)
     }
 
-    /// Begins a connection, here and at the host. The terminal's room is made first: if memory is refused, nothing has changed.
+    /// Begins a connection, here and at the host. The terminal's room is made first: if memory is
+    /// refused, nothing has changed.
     pub(crate) fn attach(
         &mut self,
         host: &mut Host,
@@ -141,7 +144,7 @@ impl TerminalSlot {
         self.terminal.lost()
     }
 
-    /// Begins anew, alone.
+    /// Restarts, without a connection.
     pub(crate) fn restart(&mut self)
         ensures { self.new ≡ new_slot }
     {
@@ -151,7 +154,7 @@ impl TerminalSlot {
         self.erased = false;
     }
 
-    /// Leaves its connection, hands back what wasn't sent, and begins anew.
+    /// Leaves its connection, hands back what wasn't sent, and restarts.
     pub(crate) fn leave_anew(&mut self) -> Vec<u8>
         ensures unsent { result.items ≡ self.old.tracked.terminal.out }
         ensures anew { self.new ≡ new_slot }
@@ -161,7 +164,7 @@ impl TerminalSlot {
         unsent
     }
 
-    /// Whether bytes that come now stop at once.
+    /// Why a terminal in this phase takes no bytes, if it takes none.
     fn stops(&self) -> Option<Stop>
         ensures { StopsAtOnce result self.now.tracked.terminal.link }
     {
@@ -184,7 +187,7 @@ impl TerminalSlot {
         }
     }
 
-    /// Takes a byte, and answers what stopped it, if something did.
+    /// Takes a byte, and answers what stops the terminal then, if something does.
     fn feed_byte(&mut self, byte: u8) -> Stop
         requires attached { IsAttached self.old.tracked.terminal.link }
         ensures took { TookByte result self.old.tracked byte self.new.tracked }
@@ -203,7 +206,7 @@ impl TerminalSlot {
         }
     }
 
-    /// Takes bytes, one after another; its history follows.
+    /// Takes bytes, one after another, and updates the history.
     pub(crate) fn feed(&mut self, bytes: &[u8]) -> Fed
         ensures fed { TrackedFeeds self.old.tracked bytes.now result self.new.tracked }
         ensures at { self.new.at ≡ self.old.at }
@@ -233,6 +236,13 @@ impl TerminalSlot {
             stop: Stop::Going,
         }
     }
+}
+
+/// Whether a key is Erase Input.
+fn erases(key: &Key) -> bool
+    ensures { result ≡ erases key.now }
+{
+    matches!(key, Key::EraseInput)
 }
 
 /// A copy of a screen.

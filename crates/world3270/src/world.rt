@@ -19,10 +19,10 @@ use std::marker::Model;
 use telnet_wire::Memory;
 use term_core::Terminal;
 
-/// A host that serves panels, the connections to it, and terminals. Bytes that an end has to send are under way: they come when
-/// an event brings them, or never, where the connection is lost.
+/// A host that serves panels, the connections to it, and terminals. Bytes that an end has to send
+/// are under way until an event delivers them; on a lost connection they may never be delivered.
 ///
-/// Whatever happens to it, the headline holds of what is seen of it: each call that changes it says so.
+/// Whatever happens to it, the headline holds of it: each call that changes it says so.
 #[derive(Drop)]
 pub struct World {
     network: Network,
@@ -39,7 +39,7 @@ impl Model for World {
     ghost invariant = { λ world. IsReached world.network };
 }
 
-/// Behind how many bytes memory was refused, if it was.
+/// After how many bytes memory was refused, if it was.
 fn refused_at(answer: Stepped) -> Option<usize>
     ensures { result ≡ refused_at answer }
 {
@@ -53,7 +53,7 @@ fn refused_at(answer: Stepped) -> Option<usize>
 }
 
 impl World {
-    /// A world at its begin, with 1 to 16 terminals: nobody holds an LU, and no connection was ever used.
+    /// A new world, with 1 to 16 terminals: nobody holds an LU, and no connection was ever used.
     pub fn new(
         alloc: Global,
         panels: PanelSet,
@@ -104,10 +104,11 @@ impl World {
         self.network.queued_down(conn)
     }
 
-    /// Law: the headline holds of what is seen of this world, whatever happened to it.
+    /// Law: the headline holds of this world, whatever happened to it.
     pub fn headline_holds(&self)
         ensures { Headline (seen_bytes self.now) }
     {
+        // For the contract: the world is reached.
         let _network = &self.network;
         bytes_follow_messages();
     }
@@ -117,10 +118,12 @@ impl World {
     pub fn represents_messages(&self)
         ensures { IsReached self.now }
     {
+        // For the contract: the world is reached.
         let _network = &self.network;
     }
 
-    /// An event happens, or is skipped; the bytes represent a world over messages before it and after it.
+    /// An event happens, or is skipped; the bytes represent a world over messages before it and
+    /// after it.
     fn happen(&mut self, event: &Event) -> Stepped
         ensures steps { Steps event.now self.old result self.new }
         ensures messages { StepOverMessages event.now self.old result self.new }
@@ -130,7 +133,7 @@ impl World {
         self.network.happen(event)
     }
 
-    /// An event happens, or is skipped where there is nothing for it to happen to.
+    /// An event happens, or is skipped if it can't happen.
     pub fn step(&mut self, event: Event) -> Stepped
         ensures steps { Steps event self.old result self.new }
         ensures messages { StepOverMessages event self.old result self.new }

@@ -325,7 +325,7 @@ fn figures_of(rt: &HostRuntime, subjects: &mut Subjects, fields: u16) -> io::Res
 }
 
 /// Measures former and present.
-pub fn print_figures(rt: &HostRuntime) -> io::Result<()> {
+pub fn compare_speed(rt: &HostRuntime) -> io::Result<()> {
     let mut subjects = Subjects::new(rt.alloc());
     for fields in FIELD_COUNTS {
         figures_of(rt, &mut subjects, fields)?;

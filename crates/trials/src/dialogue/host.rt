@@ -14,6 +14,7 @@
 //! note C WHAT TEXT      a note is written: sent, or nothing
 //! lost C [BYTES]        the connection is lost before these were sent
 //! restart               the host restarts
+//! rejected C WHAT       removes the oldest rejection that wasn't reported yet: [LU] REASON, or none if there is none
 //! phase C PHASE         free, talking, bound LU, or closed CAUSE
 //! turn C WHOSE          host or terminal
 //! pending C N           the number of the command that waits for its answer, or none
@@ -35,6 +36,7 @@ use crate::dialogue::subject::Subject;
 use crate::fault::Fault;
 use exchange::{Delivery, Exchange};
 use std::alloc::{AllocError, Global};
+pub(crate) use view::View;
 
 /// Where a host's panels are written, and the host, once it serves.
 #[derive(Drop)]

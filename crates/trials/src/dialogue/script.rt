@@ -11,6 +11,7 @@
 ghost use Rattle.std.specs.Prelude.{◌≤◌, IfOk, length};
 
 use crate::bytes::first_of;
+use crate::case_file::CaseFile;
 use crate::fault::{Failure, Fault};
 use std::alloc::Global;
 
@@ -35,7 +36,9 @@ pub(crate) enum Kind {
 /// A line of a script, with each `play` replaced by the lines of its passage.
 #[derive(Clone, Copy)]
 pub(crate) struct Line<'a> {
-    /// Its number, from 1 on.
+    /// Its file.
+    pub(crate) file: &'a str,
+    /// Its number in that file, from 1 on.
     pub(crate) number: usize,
     pub(crate) kind: Kind,
     pub(crate) with: With,
@@ -62,28 +65,38 @@ pub(crate) fn body_of<'a>(lines: &'a [Line<'a>]) -> &'a [Line<'a>]
     }
 }
 
-/// The lines of a script.
-pub(crate) fn read_script<'a>(alloc: Global, text: &'a str) -> Result<Vec<Line<'a>>, Failure> {
-    let mut script = Vec::new(alloc);
-    put_lines(&mut script, text)?;
-    Ok(script)
+/// Adds the lines of files.
+pub(crate) fn put_files<'a>(
+    script: &mut Vec<Line<'a>>,
+    files: &'a [CaseFile],
+) -> Result<(), Failure<'a>> {
+    for file in files {
+        put_lines(script, file.name.as_str(), file.text.as_str())?;
+    }
+    Ok(())
 }
 
-fn put_lines<'a>(script: &mut Vec<Line<'a>>, text: &'a str) -> Result<(), Failure> {
-    let mut number = 0usize;
-    for line in text.lines() {
-        number = number.saturating_add(1);
-        if let Err(fault) = put_line(script, number, line.trim()) {
-            return Err(Failure {
-                line: number,
-                fault,
-            });
+fn put_lines<'a>(
+    script: &mut Vec<Line<'a>>,
+    file: &'a str,
+    text: &'a str,
+) -> Result<(), Failure<'a>> {
+    let mut line = 0usize;
+    for words in text.lines() {
+        line = line.saturating_add(1);
+        if let Err(fault) = put_line(script, file, line, words.trim()) {
+            return Err(Failure { file, line, fault });
         }
     }
     Ok(())
 }
 
-fn put_line<'a>(script: &mut Vec<Line<'a>>, number: usize, text: &'a str) -> Result<(), Fault> {
+fn put_line<'a>(
+    script: &mut Vec<Line<'a>>,
+    file: &'a str,
+    number: usize,
+    text: &'a str,
+) -> Result<(), Fault> {
     if text.is_empty() || text.starts_with('#') {
         return Ok(());
     }
@@ -97,6 +110,7 @@ fn put_line<'a>(script: &mut Vec<Line<'a>>, number: usize, text: &'a str) -> Res
         _ => (Kind::Command, present_subject(script.as_slice())?, text),
     };
     script.push(Line {
+        file,
         number,
         kind,
         with,

@@ -16,7 +16,7 @@ pub(crate) trait Subject: Sized + Drop {
 }
 
 /// Holds a dialogue, as often as its subject wants.
-pub(crate) fn hold<S: Subject>(alloc: Global, body: &[Line<'_>]) -> Result<(), Failure> {
+pub(crate) fn hold<'a, S: Subject>(alloc: Global, body: &[Line<'a>]) -> Result<(), Failure<'a>> {
     let holdings = hold_again::<S>(alloc, body, 1)?;
     for holding in 2..=holdings {
         hold_again::<S>(alloc, body, holding)?;
@@ -25,11 +25,11 @@ pub(crate) fn hold<S: Subject>(alloc: Global, body: &[Line<'_>]) -> Result<(), F
 }
 
 /// Holds a dialogue, and again if memory is refused. Answers how often it is to be held.
-fn hold_again<S: Subject>(
+fn hold_again<'a, S: Subject>(
     alloc: Global,
-    body: &[Line<'_>],
+    body: &[Line<'a>],
     holding: usize,
-) -> Result<usize, Failure> {
+) -> Result<usize, Failure<'a>> {
     match hold_once::<S>(alloc, body, holding) {
         Err(
             Failure {
@@ -41,26 +41,28 @@ fn hold_again<S: Subject>(
     }
 }
 
-fn hold_once<S: Subject>(
+fn hold_once<'a, S: Subject>(
     alloc: Global,
-    body: &[Line<'_>],
+    body: &[Line<'a>],
     holding: usize,
-) -> Result<usize, Failure> {
+) -> Result<usize, Failure<'a>> {
     match S::fresh(alloc, holding) {
         Ok(mut subject) => obey_all(&mut subject, body),
         Err(refused) => Err(Failure {
-            line: 0,
+            file: body.first().map_or("", |line| line.file),
+            line: body.first().map_or(0, |line| line.number),
             fault: Fault::NoMemory(refused),
         }),
     }
 }
 
 /// Has a subject obey all lines. Answers how often a dialogue with these is to be held.
-fn obey_all<S: Subject>(subject: &mut S, body: &[Line<'_>]) -> Result<usize, Failure> {
+fn obey_all<'a, S: Subject>(subject: &mut S, body: &[Line<'a>]) -> Result<usize, Failure<'a>> {
     for line in body {
         if let Kind::Command = line.kind {
             if let Err(fault) = subject.obey(line.text) {
                 return Err(Failure {
+                    file: line.file,
                     line: line.number,
                     fault,
                 });

@@ -29,7 +29,8 @@ mod sights;
 
 use crate::bytes::{bytes_of, expect_spelt, first_of};
 use crate::dialogue::subject::Subject;
-use crate::fault::{Fault, expect, expect_text};
+use crate::fault::{Fault, expect_text};
+use crate::stops::expect_fed;
 use keyboard::Key;
 use keys::{key_or_character, press};
 use sights::{Sight, read_sight, seen};
@@ -89,8 +90,7 @@ impl Desk {
     /// Takes bytes of the host, which have to be taken whole.
     fn hear_whole(&mut self, bytes: &[u8]) -> Result<(), Fault> {
         self.hear(bytes);
-        self.expect(Sight::Stop, "going")?;
-        expect(self.fed.taken == bytes.len(), "fewer bytes were taken")
+        expect_fed(self.alloc, bytes.len(), "going", self.fed)
     }
 
     /// Takes all of these.

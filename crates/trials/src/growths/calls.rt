@@ -8,7 +8,7 @@ use crate::growths::story::{CLEAR, ENTER};
 use crate::growths::terminals::{Attached, Does};
 use crate::growths::trial::{Came, try_on};
 use crate::growths::worlds::{Lets, Small};
-use crate::worlds::Deed;
+use crate::worlds::ScriptedEvent;
 use std::io;
 
 /// A call, by what it is made on.
@@ -114,7 +114,7 @@ pub(crate) static CALLS: [(&str, Call); 41] = [
     ("world3270:World::new", Call::Make(Makes::World)),
     (
         "world3270:World::step,connect",
-        Call::World(Lets::Step(0, Deed::Connect(0, ""))),
+        Call::World(Lets::Step(0, ScriptedEvent::Connect(0, ""))),
     ),
     (
         "world3270:World::step,reconnect",
@@ -122,7 +122,7 @@ pub(crate) static CALLS: [(&str, Call); 41] = [
     ),
     (
         "world3270:World::step,act",
-        Call::World(Lets::Step(15, Deed::Act(0))),
+        Call::World(Lets::Step(15, ScriptedEvent::Act(0))),
     ),
     ("world3270:World::run", Call::World(Lets::Run)),
 ];

@@ -2,7 +2,7 @@
 use crate::fault::Fault;
 use crate::growths::story::PANELS;
 use crate::growths::trial::{Answer, Trial};
-use crate::worlds::{Deed, Town, look_same_on, step};
+use crate::worlds::{ScriptedEvent, WorldFixture, look_same_on, step};
 use keyboard::Key;
 use std::alloc::Global;
 use std::io;
@@ -14,46 +14,46 @@ const CONN: usize = 0;
 const TERMINAL: usize = 0;
 
 /// All that is under way comes up to the host, or down to the terminal.
-const UP: Deed<'static> = Deed::Up(CONN, usize::MAX);
+const UP: ScriptedEvent<'static> = ScriptedEvent::Up(CONN, usize::MAX);
 
-const DOWN: Deed<'static> = Deed::Down(CONN, usize::MAX);
+const DOWN: ScriptedEvent<'static> = ScriptedEvent::Down(CONN, usize::MAX);
 
 /// From the beginning to the greeting.
-static STORY: [Deed<'static>; 18] = [
-    Deed::Connect(TERMINAL, ""),
+static STORY: [ScriptedEvent<'static>; 18] = [
+    ScriptedEvent::Connect(TERMINAL, ""),
     DOWN,
     UP,
     DOWN,
     UP,
     DOWN,
     UP,
-    Deed::Act(CONN),
+    ScriptedEvent::Act(CONN),
     DOWN,
     UP,
-    Deed::Letter(TERMINAL, 'A'),
-    Deed::Note(CONN, "NOTE"),
-    Deed::Key(TERMINAL, "enter"),
+    ScriptedEvent::Letter(TERMINAL, 'A'),
+    ScriptedEvent::Note(CONN, "NOTE"),
+    ScriptedEvent::Key(TERMINAL, "enter"),
     DOWN,
     UP,
-    Deed::Act(CONN),
+    ScriptedEvent::Act(CONN),
     DOWN,
     UP,
 ];
 
 /// A terminal connects, and its connection is lost while it has something to send.
-static LOSS: [Deed<'static>; 5] = [
-    Deed::Connect(TERMINAL, ""),
+static LOSS: [ScriptedEvent<'static>; 5] = [
+    ScriptedEvent::Connect(TERMINAL, ""),
     DOWN,
-    Deed::Lose(CONN),
-    Deed::HostSees(CONN),
-    Deed::TermSees(TERMINAL),
+    ScriptedEvent::Lose(CONN),
+    ScriptedEvent::HostSees(CONN),
+    ScriptedEvent::TermSees(TERMINAL),
 ];
 
 /// A call on a world.
 #[derive(Clone, Copy)]
 pub(crate) enum Lets {
     /// So many events of the story, and then this one.
-    Step(usize, Deed<'static>),
+    Step(usize, ScriptedEvent<'static>),
     /// A terminal connects behind a loss, in which it gave away the room of its output.
     Reconnect,
     /// The whole story.
@@ -64,21 +64,21 @@ pub(crate) enum Lets {
 #[derive(Drop)]
 pub(crate) struct Small {
     lets: Lets,
-    town: Box<Town>,
+    fixture: Box<WorldFixture>,
     events: Vec<Event>,
     taken: usize,
 }
 
 fn story(alloc: Global) -> Result<Vec<Event>, Fault> {
     let mut events = Vec::new(alloc);
-    for deed in &STORY {
-        events.push(deed.event()?)?;
+    for scripted in &STORY {
+        events.push(scripted.event()?)?;
     }
     Ok(events)
 }
 
 /// What happens before the call.
-fn before(lets: Lets) -> &'static [Deed<'static>] {
+fn before(lets: Lets) -> &'static [ScriptedEvent<'static>] {
     match lets {
         Lets::Step(count, _) => STORY.get(..count).unwrap_or(&[]),
         Lets::Reconnect => &LOSS,
@@ -86,19 +86,19 @@ fn before(lets: Lets) -> &'static [Deed<'static>] {
     }
 }
 
-fn prepare(town: &mut Town, lets: Lets) -> Result<(), Fault> {
-    for deed in before(lets) {
-        step(town, deed)?;
+fn prepare(fixture: &mut WorldFixture, lets: Lets) -> Result<(), Fault> {
+    for scripted in before(lets) {
+        step(fixture, scripted)?;
     }
     Ok(())
 }
 
 /// Something happens.
-fn step_once(town: &mut Town, deed: &Deed<'_>) -> Answer {
-    let Ok(event) = deed.event() else {
+fn step_once(fixture: &mut WorldFixture, scripted: &ScriptedEvent<'_>) -> Answer {
+    let Ok(event) = scripted.event() else {
         return Answer::Otherwise;
     };
-    match town.step(event) {
+    match fixture.step(event) {
         Stepped::Done => Answer::Done,
         Stepped::Part(_) | Stepped::Refused(_) | Stepped::Skipped => Answer::Otherwise,
         Stepped::Memory => Answer::Memory,
@@ -106,15 +106,15 @@ fn step_once(town: &mut Town, deed: &Deed<'_>) -> Answer {
 }
 
 /// Runs the events from a place up to another.
-fn run_part(town: &mut Town, events: &[Event], from: usize, to: usize) -> Ran {
-    town.run(events.get(from..to).unwrap_or(&[]))
+fn run_part(fixture: &mut WorldFixture, events: &[Event], from: usize, to: usize) -> Ran {
+    fixture.run(events.get(from..to).unwrap_or(&[]))
 }
 
 impl Small {
     /// Runs what is left of the story. No delivery of it is refused in its midst.
     fn run(&mut self) -> Answer {
         let all = self.events.len();
-        let ran = run_part(&mut self.town, &self.events, self.taken, all);
+        let ran = run_part(&mut self.fixture, &self.events, self.taken, all);
         self.taken = self.taken.saturating_add(ran.whole);
         if ran.part > 0 {
             Answer::Otherwise
@@ -131,11 +131,11 @@ impl Trial for Small {
 
     fn before(alloc: Global, lets: Lets) -> io::Result<Small> {
         let events = story(alloc)?;
-        let mut town = Town::new(alloc, PANELS)?;
-        prepare(&mut town, lets)?;
+        let mut fixture = WorldFixture::new(alloc, PANELS)?;
+        prepare(&mut fixture, lets)?;
         Ok(Small {
             lets,
-            town,
+            fixture,
             events,
             taken: 0,
         })
@@ -143,20 +143,20 @@ impl Trial for Small {
 
     fn call(&mut self) -> Answer {
         match self.lets {
-            Lets::Step(_, deed) => step_once(&mut self.town, &deed),
-            Lets::Reconnect => step_once(&mut self.town, &Deed::Connect(TERMINAL, "")),
+            Lets::Step(_, scripted) => step_once(&mut self.fixture, &scripted),
+            Lets::Reconnect => step_once(&mut self.fixture, &ScriptedEvent::Connect(TERMINAL, "")),
             Lets::Run => self.run(),
         }
     }
 
     fn take(&mut self, count: usize) {
-        run_part(&mut self.town, &self.events, 0, count);
+        run_part(&mut self.fixture, &self.events, 0, count);
         self.taken = count;
     }
 
-    /// What the terminal shows is told by what it sends.
+    /// What it sends tells what the terminal shows.
     fn go_on(&mut self) {
-        self.town.run(&[
+        self.fixture.run(&[
             Event::Down(CONN, usize::MAX),
             Event::Key(TERMINAL, Key::Char('A')),
             Event::Key(TERMINAL, Key::Enter),
@@ -164,6 +164,6 @@ impl Trial for Small {
     }
 
     fn looks_same(&self, twin: &Small) -> bool {
-        look_same_on(&self.town, &twin.town, CONN)
+        look_same_on(&self.fixture, &twin.fixture, CONN)
     }
 }

@@ -1,60 +1,58 @@
-//! A case, told three times side by side: event by event; by lists of events; and event by event, each delivery byte by byte. What
-//! happens next, where that isn't said, is what the first telling leads to.
+//! A case, run three times side by side: event by event; by lists of events; and event by event, each delivery byte by byte. Where a
+//! command depends on what an event did, the first run decides.
 use crate::bytes::{first_of, number_of};
-use crate::fault::{Failure, Fault};
-use crate::worlds::command::{Command, Question, Word, deed_of};
-use crate::worlds::deed::Deed;
+use crate::fault::{Failure, Fault, expect, expect_of};
+use crate::worlds::answers::{put_answer, put_outcome};
+use crate::worlds::case_run::{CaseRun, run};
+use crate::worlds::command::{Command, Question, Word, scripted_event};
 use crate::worlds::likeness::look_same;
-use crate::worlds::script::{Line, panel_text, put_text};
-use crate::worlds::sights::{put_answer, put_outcome};
-use crate::worlds::telling::{Telling, run};
+use crate::worlds::script::{Line, panel_text};
+use crate::worlds::scripted_event::ScriptedEvent;
 use crate::worlds::watch::Watch;
 use host_core::MOST_CONNECTIONS;
-use std::alloc::{AllocError, Global};
+use std::alloc::Global;
 use world3270::{Event, Stepped};
 
 /// More rounds than it takes until nothing is under way.
 const MOST_ROUNDS: usize = 64;
 
+/// Stands for a line where there is none.
+const NO_LINE: &str = "no line";
+
 /// A case that runs three times.
 #[derive(Drop)]
 struct Case {
     alloc: Global,
-    by_event: Telling,
-    by_list: Telling,
-    by_byte: Telling,
+    by_event: CaseRun,
+    by_list: CaseRun,
+    by_byte: CaseRun,
     /// What is to happen by list before the next question.
     waiting: Vec<Event>,
     /// Who is where in the first run.
     watch: Watch,
-    /// What the case must print.
-    expected: String,
-    /// The number of the line that is executed.
-    line: usize,
-    /// The number of the first line after which the headline didn't hold.
-    fails_at: Option<usize>,
+    /// How many lines of the first run's output were as wanted so far.
+    met: usize,
 }
 
-/// What a case came to.
-#[derive(Drop)]
-pub(crate) struct Outcome {
-    /// What it printed, and what is to be said of that.
-    pub(crate) text: String,
-    pub(crate) is_right: bool,
+/// Expects that two outputs have the same lines.
+fn expect_page(alloc: Global, of: &'static str, wanted: &str, came: &str) -> Result<(), Fault> {
+    let mut others = came.lines();
+    for line in wanted.lines() {
+        expect_of(alloc, of, line, others.next().unwrap_or(NO_LINE))?;
+    }
+    expect_of(alloc, of, NO_LINE, others.next().unwrap_or(NO_LINE))
 }
 
 impl Case {
     fn new(alloc: Global, panel_text: &str) -> Result<Case, Fault> {
         Ok(Case {
             alloc,
-            by_event: Telling::new(alloc, panel_text)?,
-            by_list: Telling::new(alloc, panel_text)?,
-            by_byte: Telling::new(alloc, panel_text)?,
+            by_event: CaseRun::new(alloc, panel_text)?,
+            by_list: CaseRun::new(alloc, panel_text)?,
+            by_byte: CaseRun::new(alloc, panel_text)?,
             waiting: Vec::new(alloc),
             watch: Watch::new(),
-            expected: String::new(alloc),
-            line: 0,
-            fails_at: None,
+            met: 0,
         })
     }
 
@@ -64,30 +62,31 @@ impl Case {
         Case::new(alloc, text.as_str())
     }
 
-    /// Something happens event by event, and is watched.
-    fn step_watched(&mut self, deed: &Deed<'_>) -> Result<(), Fault> {
-        let begins = self.watch.free_number(&self.by_event.town);
-        self.by_event.step(deed)?;
-        if self.by_event.came != Stepped::Skipped {
-            self.watch.follow(deed, begins, &self.by_event.town);
-            if self.fails_at.is_none() && !self.watch.holds(&self.by_event.town) {
-                self.fails_at = Some(self.line);
-            }
+    /// Something happens event by event, and is watched: the headline has to hold after it.
+    fn step_watched(&mut self, scripted: &ScriptedEvent<'_>) -> Result<(), Fault> {
+        let begins = self.watch.free_number(&self.by_event.fixture);
+        self.by_event.step(scripted)?;
+        if self.by_event.came == Stepped::Skipped {
+            return Ok(());
         }
-        Ok(())
+        self.watch.follow(scripted, begins, &self.by_event.fixture);
+        expect(
+            self.watch.holds(&self.by_event.fixture),
+            "the headline fails: a belief and its screen differ, or two sessions have one LU",
+        )
     }
 
-    /// Something happens in each telling. Lists of events don't say what became of it: that is taken from the first telling.
-    fn step(&mut self, deed: &Deed<'_>) -> Result<(), Fault> {
-        self.step_watched(deed)?;
+    /// Something happens in each run. Lists of events don't say what became of it: that is taken from the first run.
+    fn step(&mut self, scripted: &ScriptedEvent<'_>) -> Result<(), Fault> {
+        self.step_watched(scripted)?;
         self.by_list.came = self.by_event.came;
-        self.waiting.push(deed.event()?)?;
-        self.by_byte.step_in_bytes(deed)
+        self.waiting.push(scripted.event()?)?;
+        self.by_byte.step_in_bytes(scripted)
     }
 
-    /// The same, and each page says what became of it.
-    fn happen(&mut self, deed: &Deed<'_>) -> Result<(), Fault> {
-        self.step(deed)?;
+    /// The same, and each output says what became of it.
+    fn happen(&mut self, scripted: &ScriptedEvent<'_>) -> Result<(), Fault> {
+        self.step(scripted)?;
         put_outcome(&mut self.by_event)?;
         put_outcome(&mut self.by_list)?;
         Ok(put_outcome(&mut self.by_byte)?)
@@ -96,7 +95,7 @@ impl Case {
     /// Keys of a text are pressed, up to the first that doesn't act.
     fn type_text(&mut self, terminal: usize, text: &str) -> Result<(), Fault> {
         for letter in text.chars() {
-            self.happen(&Deed::Letter(terminal, letter))?;
+            self.happen(&ScriptedEvent::Letter(terminal, letter))?;
             if self.by_event.came != Stepped::Done {
                 return Ok(());
             }
@@ -104,15 +103,15 @@ impl Case {
         Ok(())
     }
 
-    /// All that is under way comes on a connection, and the host acts there. Says whether something happened.
+    /// All that is under way is delivered on a connection, and the host acts there. Says whether something happened.
     fn go_round_on(&mut self, conn: usize) -> Result<bool, Fault> {
         let mut happened = false;
-        for deed in [
-            Deed::Up(conn, usize::MAX),
-            Deed::Act(conn),
-            Deed::Down(conn, usize::MAX),
+        for scripted in [
+            ScriptedEvent::Up(conn, usize::MAX),
+            ScriptedEvent::Act(conn),
+            ScriptedEvent::Down(conn, usize::MAX),
         ] {
-            self.step(&deed)?;
+            self.step(&scripted)?;
             happened = self.by_event.came != Stepped::Skipped || happened;
         }
         Ok(happened)
@@ -122,7 +121,7 @@ impl Case {
     fn go_round(&mut self) -> Result<bool, Fault> {
         let mut happened = false;
         for conn in 0..MOST_CONNECTIONS {
-            if self.by_event.town.is_busy(conn) {
+            if self.by_event.fixture.is_busy(conn) {
                 happened = self.go_round_on(conn)? || happened;
             }
         }
@@ -130,7 +129,7 @@ impl Case {
     }
 
     /// Rounds, up to one in which nothing happened.
-    fn settle(&mut self) -> Result<(), Fault> {
+    fn run_until_idle(&mut self) -> Result<(), Fault> {
         for _ in 0..MOST_ROUNDS {
             if !self.go_round()? {
                 return Ok(());
@@ -141,7 +140,7 @@ impl Case {
 
     /// All that is to happen by list does.
     fn run_list(&mut self) -> Result<(), Fault> {
-        run(&mut self.by_list.town, self.waiting.as_slice())?;
+        run(&mut self.by_list.fixture, self.waiting.as_slice())?;
         self.waiting.clear();
         Ok(())
     }
@@ -150,13 +149,51 @@ impl Case {
         self.run_list()?;
         put_answer(self.alloc, &mut self.by_event, question, number)?;
         put_answer(self.alloc, &mut self.by_list, question, number)?;
-        Ok(put_answer(self.alloc, &mut self.by_byte, question, number)?)
+        put_answer(self.alloc, &mut self.by_byte, question, number)?;
+        self.expect_alike()
+    }
+
+    /// Expects all runs to have printed the same.
+    fn expect_alike(&self) -> Result<(), Fault> {
+        let page = self.by_event.page.as_str();
+        expect_page(
+            self.alloc,
+            "by lists of events: ",
+            page,
+            self.by_list.page.as_str(),
+        )?;
+        expect_page(
+            self.alloc,
+            "byte by byte: ",
+            page,
+            self.by_byte.page.as_str(),
+        )
+    }
+
+    /// The next line of the first run's output, of those that no line of the case wanted yet.
+    fn next_line(&self) -> &str {
+        let mut lines = self.by_event.page.lines();
+        lines.nth(self.met).unwrap_or(NO_LINE)
+    }
+
+    /// Expects this to be the next line of the output.
+    fn expect_line(&mut self, wanted: &str) -> Result<(), Fault> {
+        expect_of(self.alloc, "", wanted, self.next_line())?;
+        self.met = self.met.saturating_add(1);
+        Ok(())
+    }
+
+    fn expect_blank(&mut self, count: u16) -> Result<(), Fault> {
+        for _ in 0..count {
+            self.expect_line("")?;
+        }
+        Ok(())
     }
 
     /// Obeys a command with the number of a terminal or a connection.
     fn obey_at(&mut self, command: Command, number: usize, rest: &str) -> Result<(), Fault> {
         match command {
-            Command::Do(happening) => self.happen(&deed_of(happening, number, rest)?),
+            Command::Do(word) => self.happen(&scripted_event(word, number, rest)?),
             Command::Type => self.type_text(number, rest),
             Command::Ask(question) => self.ask(question, number),
         }
@@ -164,9 +201,10 @@ impl Case {
 
     fn obey(&mut self, line: &Line<'_>) -> Result<(), Fault> {
         match line.word {
-            Word::Text | Word::Blank => put_text(&mut self.expected, line),
-            Word::Settle => self.settle(),
-            Word::RestartHost => self.happen(&Deed::RestartHost),
+            Word::Text => self.expect_line(line.words),
+            Word::Blank => self.expect_blank(number_of(line.words)?),
+            Word::Settle => self.run_until_idle(),
+            Word::RestartHost => self.happen(&ScriptedEvent::RestartHost),
             Word::At(command) => {
                 let (number, rest) = first_of(line.words);
                 self.obey_at(command, usize::from(number_of(number)?), rest)
@@ -175,95 +213,59 @@ impl Case {
         }
     }
 
-    /// What is wrong with the page, and the expected page.
-    fn unexpected(&self) -> Option<(&'static str, &str)> {
-        let expected = self.expected.as_str();
-        if self.by_event.page.as_str() == expected {
-            None
-        } else {
-            Some(("OTHERWISE, expected\n", expected))
-        }
-    }
-
-    /// Where another telling came to something else, and what it printed, if that differs.
-    fn unlike(&self) -> Option<(&'static str, &str)> {
-        let page = self.by_event.page.as_str();
-        let by_list = self.by_list.page.as_str();
-        let by_byte = self.by_byte.page.as_str();
-        let town = &self.by_event.town;
-        if by_list != page {
-            Some(("DIFFERS by run\n", by_list))
-        } else if by_byte != page {
-            Some(("DIFFERS byte by byte\n", by_byte))
-        } else if look_same(town, &self.by_list.town) && look_same(town, &self.by_byte.town) {
-            None
-        } else {
-            Some(("DIFFERS at the end\n", ""))
-        }
-    }
-
-    /// Adds all that is to be said of the page. Says whether all was right.
-    fn put_verdict(&self, text: &mut String) -> Result<bool, AllocError> {
-        let unexpected = self.unexpected();
-        let unlike = self.unlike();
-        put_judgement(text, unexpected, "as expected\n")?;
-        put_judgement(text, unlike, "the same by run and byte by byte\n")?;
-        if let Some(line) = self.fails_at {
-            write!(text, "headline fails at line {line}\n")?;
-        }
-        Ok(unexpected.is_none() && unlike.is_none() && self.fails_at.is_none())
-    }
-
-    fn judge(&self) -> Result<Outcome, AllocError> {
-        let mut text = String::from_str(self.alloc, self.by_event.page.as_str())?;
-        let is_right = self.put_verdict(&mut text)?;
-        Ok(Outcome { text, is_right })
-    }
-
-    fn obey_all(&mut self, body: &[Line<'_>]) -> Result<Outcome, Fault> {
-        for line in body {
-            self.line = line.number;
-            self.obey(line)?;
-        }
+    /// Expects that no output is left, and that all runs came to the same.
+    fn finish(&mut self) -> Result<(), Fault> {
         self.run_list()?;
-        Ok(self.judge()?)
+        expect_of(self.alloc, "", NO_LINE, self.next_line())?;
+        self.expect_alike()?;
+        let world = &self.by_event.fixture;
+        expect(
+            look_same(world, &self.by_list.fixture),
+            "by lists of events the world is another at the end",
+        )?;
+        expect(
+            look_same(world, &self.by_byte.fixture),
+            "byte by byte the world is another at the end",
+        )
     }
-}
 
-/// Adds what is wrong and a page that shows it, or that all is right.
-fn put_judgement(
-    text: &mut String,
-    wrong: Option<(&'static str, &str)>,
-    right: &str,
-) -> Result<(), AllocError> {
-    match wrong {
-        Some((what, page)) => {
-            text.push_str(what)?;
-            text.push_str(page)
+    fn obey_all<'a>(&mut self, body: &[Line<'a>]) -> Result<(), Failure<'a>> {
+        for line in body {
+            if let Err(fault) = self.obey(line) {
+                return Err(failure_at(Some(line), fault));
+            }
         }
-        None => text.push_str(right),
+        match self.finish() {
+            Ok(()) => Ok(()),
+            Err(fault) => Err(failure_at(body.last(), fault)),
+        }
     }
 }
 
-/// Tells a case.
-fn tell_in(case: &mut Case, body: &[Line<'_>]) -> Result<Outcome, Failure> {
-    match case.obey_all(body) {
-        Ok(outcome) => Ok(outcome),
-        Err(fault) => Err(Failure {
-            line: case.line,
+/// The failure at a line, if there is one.
+fn failure_at<'a>(line: Option<&Line<'a>>, fault: Fault) -> Failure<'a> {
+    match line {
+        Some(line) => Failure {
+            file: line.file,
+            line: line.number,
             fault,
-        }),
+        },
+        None => Failure {
+            file: "",
+            line: 0,
+            fault,
+        },
     }
 }
 
-/// Tells a case with the panels of these lines.
-pub(crate) fn tell(
+/// Runs a case with the panels of these lines.
+pub(crate) fn run_case<'a>(
     alloc: Global,
     panels: &[Line<'_>],
-    body: &[Line<'_>],
-) -> Result<Outcome, Failure> {
+    body: &[Line<'a>],
+) -> Result<(), Failure<'a>> {
     match Case::read(alloc, panels) {
-        Ok(mut case) => tell_in(&mut case, body),
-        Err(fault) => Err(Failure { line: 0, fault }),
+        Ok(mut case) => case.obey_all(body),
+        Err(fault) => Err(failure_at(body.first(), fault)),
     }
 }

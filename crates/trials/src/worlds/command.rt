@@ -21,7 +21,7 @@
 //! ```
 use crate::bytes::number_of;
 use crate::fault::Fault;
-use crate::worlds::deed::Deed;
+use crate::worlds::scripted_event::ScriptedEvent;
 
 /// What may be asked.
 #[derive(Clone, Copy)]
@@ -38,7 +38,7 @@ pub(crate) enum Question {
 
 /// What may happen, at a terminal or on a connection.
 #[derive(Clone, Copy)]
-pub(crate) enum Happening {
+pub(crate) enum EventWord {
     Connect,
     Key,
     Up,
@@ -54,7 +54,7 @@ pub(crate) enum Happening {
 /// A command with the number of a terminal or a connection.
 #[derive(Clone, Copy)]
 pub(crate) enum Command {
-    Do(Happening),
+    Do(EventWord),
     /// The keys of a text are pressed.
     Type,
     Ask(Question),
@@ -84,17 +84,17 @@ pub(crate) static WORDS: [(&str, Word); 22] = [
     ("|", Word::Text),
     (">", Word::Text),
     ("blank", Word::Blank),
-    ("connect", Word::At(Command::Do(Happening::Connect))),
-    ("key", Word::At(Command::Do(Happening::Key))),
+    ("connect", Word::At(Command::Do(EventWord::Connect))),
+    ("key", Word::At(Command::Do(EventWord::Key))),
     ("type", Word::At(Command::Type)),
-    ("up", Word::At(Command::Do(Happening::Up))),
-    ("down", Word::At(Command::Do(Happening::Down))),
-    ("act", Word::At(Command::Do(Happening::Act))),
-    ("note", Word::At(Command::Do(Happening::Note))),
-    ("lose", Word::At(Command::Do(Happening::Lose))),
-    ("hostsees", Word::At(Command::Do(Happening::HostSees))),
-    ("termsees", Word::At(Command::Do(Happening::TermSees))),
-    ("restartterm", Word::At(Command::Do(Happening::RestartTerm))),
+    ("up", Word::At(Command::Do(EventWord::Up))),
+    ("down", Word::At(Command::Do(EventWord::Down))),
+    ("act", Word::At(Command::Do(EventWord::Act))),
+    ("note", Word::At(Command::Do(EventWord::Note))),
+    ("lose", Word::At(Command::Do(EventWord::Lose))),
+    ("hostsees", Word::At(Command::Do(EventWord::HostSees))),
+    ("termsees", Word::At(Command::Do(EventWord::TermSees))),
+    ("restartterm", Word::At(Command::Do(EventWord::RestartTerm))),
     ("restarthost", Word::RestartHost),
     ("settle", Word::Settle),
     ("show", Word::At(Command::Ask(Question::Show))),
@@ -104,21 +104,21 @@ pub(crate) static WORDS: [(&str, Word); 22] = [
 ];
 
 /// What happens with a number, by the rest of a line.
-pub(crate) fn deed_of<'a>(
-    happening: Happening,
+pub(crate) fn scripted_event<'a>(
+    word: EventWord,
     number: usize,
     rest: &'a str,
-) -> Result<Deed<'a>, Fault> {
-    Ok(match happening {
-        Happening::Connect => Deed::Connect(number, rest),
-        Happening::Key => Deed::Key(number, rest),
-        Happening::Up => Deed::Up(number, usize::from(number_of(rest)?)),
-        Happening::Down => Deed::Down(number, usize::from(number_of(rest)?)),
-        Happening::Act => Deed::Act(number),
-        Happening::Note => Deed::Note(number, rest),
-        Happening::Lose => Deed::Lose(number),
-        Happening::HostSees => Deed::HostSees(number),
-        Happening::TermSees => Deed::TermSees(number),
-        Happening::RestartTerm => Deed::RestartTerm(number),
+) -> Result<ScriptedEvent<'a>, Fault> {
+    Ok(match word {
+        EventWord::Connect => ScriptedEvent::Connect(number, rest),
+        EventWord::Key => ScriptedEvent::Key(number, rest),
+        EventWord::Up => ScriptedEvent::Up(number, usize::from(number_of(rest)?)),
+        EventWord::Down => ScriptedEvent::Down(number, usize::from(number_of(rest)?)),
+        EventWord::Act => ScriptedEvent::Act(number),
+        EventWord::Note => ScriptedEvent::Note(number, rest),
+        EventWord::Lose => ScriptedEvent::Lose(number),
+        EventWord::HostSees => ScriptedEvent::HostSees(number),
+        EventWord::TermSees => ScriptedEvent::TermSees(number),
+        EventWord::RestartTerm => ScriptedEvent::RestartTerm(number),
     })
 }

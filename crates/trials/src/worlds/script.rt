@@ -5,30 +5,44 @@
 //! panels PANELS         begins a panel text with this name
 //! | TEXT                a line of it
 //! world PANELS NAME     begins a case with this name, in a world whose host serves those panels
-//! > TEXT                a line that the case must print
-//! blank N               N empty lines that it must print
+//! > TEXT                the next line that the case must print
+//! blank N               N empty lines that it must print next
 //! ```
 //!
 //! Any other line is a command of its case.
 ghost use Rattle.std.specs.Prelude.{◌≤◌, length};
 
-use crate::bytes::{first_of, number_of};
-use crate::fault::Fault;
+use crate::bytes::first_of;
+use crate::case_file::CaseFile;
 use crate::named::named;
 use crate::worlds::command::{WORDS, Word};
 use std::alloc::{AllocError, Global};
 
-/// A line of a script: its number, from 1 on, its kind by its first word, and the words after that.
+/// A line: its file, its number there, from 1 on, its kind by its first word, and the words after that.
 #[derive(Clone, Copy)]
 pub(crate) struct Line<'a> {
+    pub(crate) file: &'a str,
     pub(crate) number: usize,
     pub(crate) word: Word,
     pub(crate) words: &'a str,
 }
 
-/// The lines of a script.
-pub(crate) fn read_script<'a>(alloc: Global, text: &'a str) -> Result<Vec<Line<'a>>, AllocError> {
-    let mut script = Vec::new(alloc);
+/// Adds the lines of files.
+pub(crate) fn put_files<'a>(
+    script: &mut Vec<Line<'a>>,
+    files: &'a [CaseFile],
+) -> Result<(), AllocError> {
+    for file in files {
+        put_lines(script, file.name.as_str(), file.text.as_str())?;
+    }
+    Ok(())
+}
+
+fn put_lines<'a>(
+    script: &mut Vec<Line<'a>>,
+    file: &'a str,
+    text: &'a str,
+) -> Result<(), AllocError> {
     let mut number = 0usize;
     for line in text.lines() {
         number = number.saturating_add(1);
@@ -36,13 +50,14 @@ pub(crate) fn read_script<'a>(alloc: Global, text: &'a str) -> Result<Vec<Line<'
             let (word, words) = first_of(line);
             let word = named(&WORDS, word).unwrap_or(Word::Unknown);
             script.push(Line {
+                file,
                 number,
                 word,
                 words,
             })?;
         }
     }
-    Ok(script)
+    Ok(())
 }
 
 /// The lines up to the next heading.
@@ -67,28 +82,12 @@ pub(crate) fn panels_named<'a>(script: &'a [Line<'a>], name: &str) -> &'a [Line<
     &[]
 }
 
-/// Adds the text that a line has, if it has some.
-pub(crate) fn put_text(text: &mut String, line: &Line<'_>) -> Result<(), Fault> {
-    match line.word {
-        Word::Text => {
-            text.push_str(line.words)?;
-            text.push('\n')?;
-        }
-        Word::Blank => {
-            for _ in 0..number_of(line.words)? {
-                text.push('\n')?;
-            }
-        }
-        _ => {}
-    }
-    Ok(())
-}
-
 /// The panel text of these lines.
-pub(crate) fn panel_text(alloc: Global, panels: &[Line<'_>]) -> Result<String, Fault> {
+pub(crate) fn panel_text(alloc: Global, panels: &[Line<'_>]) -> Result<String, AllocError> {
     let mut text = String::new(alloc);
     for line in panels {
-        put_text(&mut text, line)?;
+        text.push_str(line.words)?;
+        text.push('\n')?;
     }
     Ok(text)
 }

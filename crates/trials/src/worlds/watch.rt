@@ -2,8 +2,8 @@
 ghost use Rattle.std.specs.Prelude.{◌<◌};
 
 use crate::worlds::belief::is_believed;
-use crate::worlds::deed::Deed;
-use crate::worlds::town::{TERMINALS, Town};
+use crate::worlds::fixture::{TERMINALS, WorldFixture};
+use crate::worlds::scripted_event::ScriptedEvent;
 use host_core::{MOST_CONNECTIONS, Turn};
 use term_core::TermPhase;
 
@@ -40,9 +40,9 @@ impl Watch {
     }
 
     /// The least number that neither end of a connection holds.
-    pub(crate) fn free_number(&self, town: &Town) -> Option<usize> {
+    pub(crate) fn free_number(&self, fixture: &WorldFixture) -> Option<usize> {
         for conn in 0..MOST_CONNECTIONS {
-            if !town.is_host_at(conn) && !self.is_at(conn) {
+            if !fixture.is_host_at(conn) && !self.is_at(conn) {
                 return Some(conn);
             }
         }
@@ -50,44 +50,49 @@ impl Watch {
     }
 
     /// Something happened; where it began a connection, one with this number. Who isn't at a connection any more is nowhere.
-    pub(crate) fn follow(&mut self, deed: &Deed<'_>, begins: Option<usize>, town: &Town) {
+    pub(crate) fn follow(
+        &mut self,
+        scripted: &ScriptedEvent<'_>,
+        begins: Option<usize>,
+        fixture: &WorldFixture,
+    ) {
         for terminal in 0..TERMINALS {
-            self.places[terminal] = if town.terminal(terminal).phase() == TermPhase::Idle {
+            self.places[terminal] = if fixture.terminal(terminal).phase() == TermPhase::Idle {
                 None
             } else {
-                place_behind(self.places[terminal], terminal, deed, begins)
+                place_behind(self.places[terminal], terminal, scripted, begins)
             };
         }
     }
 
     /// Whether the headline holds: the screen is as the host believes it, where the host holds the turn with its last command
     /// answered; and no LU is that of two sessions.
-    pub(crate) fn holds(&self, town: &Town) -> bool {
+    pub(crate) fn holds(&self, fixture: &WorldFixture) -> bool {
         for terminal in 0..TERMINALS {
-            if !self.is_seen_right(town, terminal) || self.is_shared(town, terminal) {
+            if !self.is_seen_right(fixture, terminal) || self.is_shared(fixture, terminal) {
                 return false;
             }
         }
         true
     }
 
-    fn is_seen_right(&self, town: &Town, terminal: usize) -> bool
+    fn is_seen_right(&self, fixture: &WorldFixture, terminal: usize) -> bool
         requires { terminal < 4 }
     {
         match self.places[terminal] {
-            Some(place) => !decides(town, place.conn) || sees(town, place.conn, terminal),
+            Some(place) => !decides(fixture, place.conn) || sees(fixture, place.conn, terminal),
             None => true,
         }
     }
 
     /// Whether the LU of a terminal's session is that of a session of a terminal of a greater number.
-    fn is_shared(&self, town: &Town, terminal: usize) -> bool
+    fn is_shared(&self, fixture: &WorldFixture, terminal: usize) -> bool
         requires { terminal < 4 }
     {
         for other in terminal + 1..TERMINALS {
-            if self.is_session(town, terminal)
-                && self.is_session(town, other)
-                && town.terminal(other).phase() == town.terminal(terminal).phase()
+            if self.is_session(fixture, terminal)
+                && self.is_session(fixture, other)
+                && fixture.terminal(other).phase() == fixture.terminal(terminal).phase()
             {
                 return true;
             }
@@ -96,13 +101,13 @@ impl Watch {
     }
 
     /// Whether a terminal is bound, on a connection that isn't lost, at whose other end the host is.
-    fn is_session(&self, town: &Town, terminal: usize) -> bool
+    fn is_session(&self, fixture: &WorldFixture, terminal: usize) -> bool
         requires { terminal < 4 }
     {
         match self.places[terminal] {
             Some(place) => place.is_up
-                && town.is_host_at(place.conn)
-                && town.terminal(terminal).phase().is_bound(),
+                && fixture.is_host_at(place.conn)
+                && fixture.terminal(terminal).phase().is_bound(),
             None => false,
         }
     }
@@ -112,15 +117,15 @@ impl Watch {
 fn place_behind(
     place: Option<Place>,
     terminal: usize,
-    deed: &Deed<'_>,
+    scripted: &ScriptedEvent<'_>,
     begins: Option<usize>,
 ) -> Option<Place> {
-    match deed {
-        Deed::Connect(own, _) if *own == terminal => Some(Place {
+    match scripted {
+        ScriptedEvent::Connect(own, _) if *own == terminal => Some(Place {
             conn: begins?,
             is_up: true,
         }),
-        Deed::Lose(conn) => {
+        ScriptedEvent::Lose(conn) => {
             let place = place?;
             Some(Place {
                 is_up: place.is_up && place.conn != *conn,
@@ -132,17 +137,20 @@ fn place_behind(
 }
 
 /// Whether the host is there, holds the turn, and has its last command answered.
-fn decides(town: &Town, conn: usize) -> bool {
-    town.is_host_at(conn)
+fn decides(fixture: &WorldFixture, conn: usize) -> bool {
+    fixture.is_host_at(conn)
         && conn < MOST_CONNECTIONS
-        && town.host().turn(conn) == Turn::Host
-        && town.host().pending(conn).is_none()
+        && fixture.host().turn(conn) == Turn::Host
+        && fixture.host().pending(conn).is_none()
 }
 
 /// Whether the screen is as the host believes it.
-fn sees(town: &Town, conn: usize, terminal: usize) -> bool
+fn sees(fixture: &WorldFixture, conn: usize, terminal: usize) -> bool
     requires { terminal < 4 }
 {
     conn < MOST_CONNECTIONS
-        && is_believed(town.host().shadow(conn), town.terminal(terminal).screen())
+        && is_believed(
+            fixture.host().shadow(conn),
+            fixture.terminal(terminal).screen(),
+        )
 }

@@ -1,11 +1,11 @@
 //! Checks of the jobs that the program itself can't show.
-use crate::jobs::sockets::refusals_are_told;
 use crate::jobs::streams::{
     a_script_tells_of_its_writer, broken_input_is_refused, input_is_limited,
     output_that_fails_is_told,
 };
 use crate::jobs::terminals::{an_operator_signs_on, runs_end_early, waits_end};
 use jobs3270::typed_text;
+use std::alloc::Global;
 use std::io;
 
 #[derive(Clone, Copy)]
@@ -17,12 +17,11 @@ enum Check {
     Session,
     Waits,
     EarlyEnds,
-    Refusals,
     NoText,
 }
 
 /// Each check, and what it shows, in words.
-static CHECKS: [(Check, &str); 9] = [
+static CHECKS: [(Check, &str); 8] = [
     (Check::BrokenInput, "input that breaks off is refused"),
     (
         Check::LongInput,
@@ -49,18 +48,13 @@ static CHECKS: [(Check, &str); 9] = [
         "a terminal's script ends at a line, or where nothing is printed",
     ),
     (
-        Check::Refusals,
-        "a host tells each refusal over sockets, with the LU that was asked for",
-    ),
-    (
         Check::NoText,
         "a line without a second word has no typed text",
     ),
 ];
 
 impl Check {
-    fn holds(self, rt: &HostRuntime) -> bool {
-        let alloc = rt.alloc();
+    fn holds(self, alloc: Global) -> bool {
         match self {
             Check::BrokenInput => broken_input_is_refused(alloc),
             Check::LongInput => input_is_limited(alloc),
@@ -69,18 +63,17 @@ impl Check {
             Check::Session => an_operator_signs_on(alloc),
             Check::Waits => waits_end(alloc),
             Check::EarlyEnds => runs_end_early(alloc),
-            Check::Refusals => refusals_are_told(rt, alloc),
             Check::NoText => typed_text("type").is_empty(),
         }
     }
 }
 
 /// Makes the checks, and prints a line for each. Whether all hold.
-pub fn try_jobs(rt: &HostRuntime) -> io::Result<bool> {
+pub fn try_jobs(rt: &(impl Print + AllocGlobal)) -> io::Result<bool> {
     let mut all = true;
     for (check, shows) in &CHECKS {
-        let holds = check.holds(rt);
-        println!(rt; "{shows}: {}", if holds { "so" } else { "otherwise" })?;
+        let holds = check.holds(rt.alloc());
+        println!(rt; "{shows}: {}", if holds { "ok" } else { "fails" })?;
         all = all && holds;
     }
     Ok(all)

@@ -37,7 +37,7 @@ fn played(alloc: Global, input: Pieces<'_>, room: usize) -> Outcome {
     outcome_of(status, out, faults)
 }
 
-/// Whether an input isn't read: nothing is printed, and one fault is told.
+/// Whether an input isn't read: nothing is printed, and one fault is reported.
 fn is_not_read(alloc: Global, input: Pieces<'_>) -> bool {
     let outcome = shown(alloc, input, usize::MAX);
     outcome.status == 1
@@ -112,7 +112,7 @@ fn script_ends(alloc: Global, room: usize, status: u8, faults: &[u8]) -> bool {
     outcome.status == status && outcome.faults.as_slice() == faults
 }
 
-/// What can't be written is told, in the place of a line that isn't understood.
+/// What can't be written is reported, instead of a line that isn't understood.
 pub(crate) fn a_script_tells_of_its_writer(alloc: Global) -> bool {
     script_ends(alloc, 4, 6, b"output failed\n")
         && script_ends(alloc, 5, 1, b"line 2: not understood\n")

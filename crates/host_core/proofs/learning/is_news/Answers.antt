@@ -1,5 +1,5 @@
-use Rattle.std.proofs.Common.{◌≡◌, Bool, true, false, not, List, ℕ, Option, Some, None, refl, ap, sym, ◌∙◌}
-use Rattle.std.specs.Prelude.{bytes_eq, option_copied}
+use Rattle.std.proofs.Common.{◌≡◌, Bool, true, false, not, Option, refl, ap, sym, ◌∙◌}
+use Rattle.std.specs.Prelude.{bytes_eq}
 use Rattle.std.specs.Option.{option_map_or}
 use Rattle.datastream.specs.Inbound.{without_nulls}
 use Rattle.shadow.specs.Asked.{field_at, value_of}

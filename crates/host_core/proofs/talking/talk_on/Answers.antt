@@ -8,22 +8,22 @@ ask-answer-requires c =
     none_held c.args.number c.args.pool.now (granted c.args.talk.now.state) c.requires.holder
     (asks_with_none c.args.talk.now c.take.new.self (item_of c.args.item.now) c.in-AskPool.name c.in-AskPool.ensures)
 
-pub answered-requires : goal.answered-requires
-answered-requires c = awaits_answer c.args.talk.now c.take.new.self (item_of c.args.item.now) c.in-AskPool.name c.in-AskPool.ensures
+pub answered-reply-requires : goal.answered-reply-requires
+answered-reply-requires c = awaits_answer c.args.talk.now c.take.new.self (item_of c.args.item.now) c.in-AskPool.name c.in-AskPool.ensures
 
 pub returns-in-AskPool-clause-taken : goal.returns-in-AskPool-clause-taken
 returns-in-AskPool-clause-taken c =
-    replies_by_pool _ _ _ _ c.take.new.self _ _ c.in-AskPool.name c.ask-answer.result c.answered.result _ _ _ c.in-AskPool.ensures c.ask-answer.ensures.answer c.answered.ensures
-    c.ask-answer.ensures.becomes c.put_reply.ensures.closes c.put_reply.ensures.sent
+    replies_by_pool _ _ _ _ c.take.new.self _ _ c.in-AskPool.name c.ask-answer.result c.answered-reply.result _ _ _ c.in-AskPool.ensures c.ask-answer.ensures.answer c.answered-reply.ensures
+    c.ask-answer.ensures.becomes c.put_reply.ensures.closes c.put_reply.ensures.sent _ _ c.keep_rejection.ensures
 
 pub returns-in-AskPool-clause-holds : goal.returns-in-AskPool-clause-holds
 returns-in-AskPool-clause-holds c =
-    unless_closed_then c.args.number c.ask-answer.new.pool c.put_reply.result (granted c.answered.new.self.state)
-    (granted_by_pool c.args.number c.ask-answer.new.pool c.take.new.self c.answered.new.self c.ask-answer.result c.answered.result c.answered.ensures c.ask-answer.ensures.holds)
+    unless_closed_then c.args.number c.ask-answer.new.pool c.put_reply.result (granted c.answered-reply.new.self.state)
+    (granted_by_pool c.args.number c.ask-answer.new.pool c.take.new.self c.answered-reply.new.self c.ask-answer.result c.answered-reply.result c.answered-reply.ensures c.ask-answer.ensures.holds)
 
 pub returns-in_default-clause-taken : goal.returns-in_default-clause-taken
 returns-in_default-clause-taken c =
-    replies _ _ _ _ _ c.take.result _ _ _ c.in_default.not-AskPool c.take.ensures c.put_reply-in_default.ensures.closes c.put_reply-in_default.ensures.sent
+    replies _ _ _ _ _ c.take.result _ _ _ c.in_default.not-AskPool c.take.ensures c.put_reply-in_default.ensures.closes c.put_reply-in_default.ensures.sent _ _ c.keep_rejection-in_default.ensures
 
 pub returns-in_default-clause-holds : goal.returns-in_default-clause-holds
 returns-in_default-clause-holds c =

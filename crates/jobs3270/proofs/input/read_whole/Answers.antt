@@ -1,7 +1,7 @@
 use Rattle.std.proofs.Common.{rules, ◌≡◌, ◌<◌, ◌+◌, ◌-◌, ◌^◌, ◌∙◌, ◌++◌, [], ap, refl, subst, sym, string_bytes, ℕ, List, min, length, take, arith}
 use Rattle.std.proofs.KnownBytes.{Consumes-kept, Consumes-trans}
 use Rattle.std.specs.Io.KnownBytes.{Consumes}
-use Rattle.jobs3270.specs.Counting.{Reads, more}
+use Rattle.jobs3270.specs.Counting.{Reads, chunk_size, more}
 use Rattle.jobs3270.specs.Runs.{read_failed}
 use Rattle.jobs3270.proofs.Endings.{accepted, reads_more, refused, too_many}
 use Rattle.jobs3270.proofs.ReadsOn.{in_pieces, reads_nothing, reads_on, refused_in_pieces, text_in_pieces}
@@ -14,9 +14,9 @@ pub returns-in-Ended-clause-fault : goal.returns-in-Ended-clause-fault
 returns-in-Ended-clause-fault g c =
     let before = c.loop.invariant in
     let counts = c.in-Ended.ensures.counts in
-    refused c.text_of.result (g.I.Source.seen c.args.input.now) (g.I.Source.seen c.read.new.self) c.loop.bytes.items
+    refused c.text_of.result (g.I.Source.seen c.args.input.now) (g.I.Source.seen c.read_chunk.new.source) c.loop.bytes.items
     (record {
-      consumed = Consumes-kept (g.I.Source.seen c.args.input.now).left (g.I.Source.seen c.loop.input).left (g.I.Source.seen c.read.new.self).left c.loop.bytes.items
+      consumed = Consumes-kept (g.I.Source.seen c.args.input.now).left (g.I.Source.seen c.loop.input).left (g.I.Source.seen c.read_chunk.new.source).left c.loop.bytes.items
           before.consumed c.in-Ended.ensures.bytes.0;
       at_end = c.in-Ended.ensures.bytes.1;
       ended = rw (← before.ends) counts.ends;
@@ -29,7 +29,7 @@ long had count all sum is sums more = omega arith
 
 pub returns-then-saturating_add-gt-MOST_BYTES-clause-fault : goal.returns-then-saturating_add-gt-MOST_BYTES-clause-fault
 returns-then-saturating_add-gt-MOST_BYTES-clause-fault g c =
-    too_many (g.I.Source.seen c.args.input.now) (g.I.Source.seen c.loop.input) (g.I.Source.seen c.read.new.self) c.loop.bytes.items c.read.new.buffer c.in-Gave.count
+    too_many (g.I.Source.seen c.args.input.now) (g.I.Source.seen c.loop.input) (g.I.Source.seen c.read_chunk.new.source) c.loop.bytes.items c.read_chunk.new.chunk c.in-Gave.count
     c.loop.invariant.consumed c.in-Gave.ensures.bytes c.in-Gave.ensures.within.1
     (long (length c.loop.bytes.items) c.in-Gave.count c.len.result c.saturating_add.result (c.len.ensures ∙ search rules) c.saturating_add.ensures c.if-saturating_add-gt-MOST_BYTES.true)
 
@@ -38,33 +38,32 @@ returns-in-Failed-clause-fault g c = read_failed (c.in-Failed.ensures.counts.fai
 
 pub loop-preserved : goal.loop-preserved
 loop-preserved g c =
-    let room : length c.read.new.buffer ≡ 4096 = search rules in
     let before = c.loop.invariant in
     let first = g.I.Source.seen c.args.input.now in
-    let new = g.I.Source.seen c.read.new.self in
-    elim c.match-read.branch [
+    let new = g.I.Source.seen c.read_chunk.new.source in
+    elim c.match-read_chunk.branch [
       | in-Gave+else-saturating_add-gt-MOST_BYTES+else-is_err w ↦
-          let came = take w.in-Gave.count c.read.new.buffer in
-          let items : c.match-read.bytes.items ≡ c.loop.bytes.items ++ came = search rules in
+          let came = take w.in-Gave.count c.read_chunk.new.chunk in
+          let items : c.match-read_chunk.bytes.items ≡ c.loop.bytes.items ++ came = search rules in
           record {
             consumed = subst (λ (bytes : List ℕ). Consumes first.left new.left bytes) (sym items)
                 (Consumes-trans first.left (g.I.Source.seen c.loop.input).left new.left c.loop.bytes.items came before.consumed w.in-Gave.ensures.bytes);
             within = search rules;
-            pieces = reads_on g.I.Source.gave 4096 c.loop.counter c.args.input.now c.loop.input c.read.new.self c.loop.bytes.items came _ (Gave w.in-Gave.count)
-                before.pieces (subst (λ (n : ℕ). g.I.Source.gave c.loop.input n (take w.in-Gave.count c.read.new.buffer) (Gave w.in-Gave.count) c.read.new.self) room w.in-Gave.ensures.gave) items;
+            pieces = reads_on g.I.Source.gave chunk_size c.loop.counter c.args.input.now c.loop.input c.read_chunk.new.source c.loop.bytes.items came _ (Gave w.in-Gave.count)
+                before.pieces w.in-Gave.ensures.gave items;
             not_read = λ none. absurd (omega arith);
-            read = λ some. reads_more _ _ _ c.loop.counter before.not_read before.read c.read.ensures.counts.reads;
+            read = λ some. reads_more _ _ _ c.loop.counter before.not_read before.read c.read_chunk.ensures.counts.reads;
             ends = w.in-Gave.ensures.counts.ends ∙ before.ends;
             failures = w.in-Gave.ensures.counts.failures ∙ before.failures;
           }
-      | in-Interrupted w ↦ let items : c.match-read.bytes.items ≡ c.loop.bytes.items = search rules in record {
+      | in-Interrupted w ↦ let items : c.match-read_chunk.bytes.items ≡ c.loop.bytes.items = search rules in record {
         consumed = search rules;
         within = search rules;
-        pieces = subst (λ (all : List ℕ). Reads g.I.Source.gave 4096 (c.loop.counter + 1) c.args.input.now all c.read.new.self) (sym items)
-            (reads_nothing g.I.Source.gave 4096 c.loop.counter c.args.input.now c.loop.input c.read.new.self c.loop.bytes.items Interrupted
-            before.pieces (subst (λ (n : ℕ). g.I.Source.gave c.loop.input n [] Interrupted c.read.new.self) room w.in-Interrupted.ensures.gave));
+        pieces = subst (λ (all : List ℕ). Reads g.I.Source.gave chunk_size (c.loop.counter + 1) c.args.input.now all c.read_chunk.new.source) (sym items)
+            (reads_nothing g.I.Source.gave chunk_size c.loop.counter c.args.input.now c.loop.input c.read_chunk.new.source c.loop.bytes.items Interrupted
+            before.pieces w.in-Interrupted.ensures.gave);
         not_read = λ none. absurd (omega arith);
-        read = λ some. reads_more _ _ _ c.loop.counter before.not_read before.read c.read.ensures.counts.reads;
+        read = λ some. reads_more _ _ _ c.loop.counter before.not_read before.read c.read_chunk.ensures.counts.reads;
         ends = w.in-Interrupted.ensures.counts.ends ∙ before.ends;
         failures = w.in-Interrupted.ensures.counts.failures ∙ before.failures;
       }
@@ -72,42 +71,38 @@ loop-preserved g c =
 
 pub returns-in-Ended-clause-pieces : goal.returns-in-Ended-clause-pieces
 returns-in-Ended-clause-pieces g c =
-    let room : length c.read.new.buffer ≡ 4096 = search rules in
-    text_in_pieces g.I.Source.gave string_bytes c.text_of.result c.args.input.now c.read.new.self c.loop.bytes.items c.text_of.ensures.text
-    (in_pieces g.I.Source.gave c.loop.counter c.args.input.now c.loop.input c.read.new.self c.loop.bytes.items [] c.loop.bytes.items Ended c.loop-test.true
-    c.loop.invariant.pieces (subst (λ (n : ℕ). g.I.Source.gave c.loop.input n [] Ended c.read.new.self) room c.in-Ended.ensures.gave) (sym (append-nil c.loop.bytes.items)))
+    text_in_pieces g.I.Source.gave string_bytes c.text_of.result c.args.input.now c.read_chunk.new.source c.loop.bytes.items c.text_of.ensures.text
+    (in_pieces g.I.Source.gave c.loop.counter c.args.input.now c.loop.input c.read_chunk.new.source c.loop.bytes.items [] c.loop.bytes.items Ended c.loop-test.true
+    c.loop.invariant.pieces c.in-Ended.ensures.gave (sym (append-nil c.loop.bytes.items)))
 
 pub returns-in-Ended-clause-refused_in_pieces : goal.returns-in-Ended-clause-refused_in_pieces
 returns-in-Ended-clause-refused_in_pieces g c =
-    let room : length c.read.new.buffer ≡ 4096 = search rules in
-    refused_in_pieces g.I.Source.gave c.text_of.result c.args.input.now c.read.new.self c.loop.bytes.items
-    (in_pieces g.I.Source.gave c.loop.counter c.args.input.now c.loop.input c.read.new.self c.loop.bytes.items [] c.loop.bytes.items Ended c.loop-test.true
-    c.loop.invariant.pieces (subst (λ (n : ℕ). g.I.Source.gave c.loop.input n [] Ended c.read.new.self) room c.in-Ended.ensures.gave) (sym (append-nil c.loop.bytes.items)))
+    refused_in_pieces g.I.Source.gave c.text_of.result c.args.input.now c.read_chunk.new.source c.loop.bytes.items
+    (in_pieces g.I.Source.gave c.loop.counter c.args.input.now c.loop.input c.read_chunk.new.source c.loop.bytes.items [] c.loop.bytes.items Ended c.loop-test.true
+    c.loop.invariant.pieces c.in-Ended.ensures.gave (sym (append-nil c.loop.bytes.items)))
 
 pub returns-then-saturating_add-gt-MOST_BYTES-clause-refused_in_pieces : goal.returns-then-saturating_add-gt-MOST_BYTES-clause-refused_in_pieces
 returns-then-saturating_add-gt-MOST_BYTES-clause-refused_in_pieces g c =
-    let room : length c.read.new.buffer ≡ 4096 = search rules in
-    let came = take c.in-Gave.count c.read.new.buffer in (
+    let came = take c.in-Gave.count c.read_chunk.new.chunk in (
       c.loop.bytes.items ++ came,
-      in_pieces g.I.Source.gave c.loop.counter c.args.input.now c.loop.input c.read.new.self c.loop.bytes.items came _ (Gave c.in-Gave.count) c.loop-test.true
-          c.loop.invariant.pieces (subst (λ (n : ℕ). g.I.Source.gave c.loop.input n (take c.in-Gave.count c.read.new.buffer) (Gave c.in-Gave.count) c.read.new.self) room c.in-Gave.ensures.gave) refl,
+      in_pieces g.I.Source.gave c.loop.counter c.args.input.now c.loop.input c.read_chunk.new.source c.loop.bytes.items came _ (Gave c.in-Gave.count) c.loop-test.true
+          c.loop.invariant.pieces c.in-Gave.ensures.gave refl,
     )
 
 pub returns-in-Failed-clause-refused_in_pieces : goal.returns-in-Failed-clause-refused_in_pieces
-returns-in-Failed-clause-refused_in_pieces g c =
-    let room : length c.read.new.buffer ≡ 4096 = search rules in (
-      c.loop.bytes.items,
-      in_pieces g.I.Source.gave c.loop.counter c.args.input.now c.loop.input c.read.new.self c.loop.bytes.items [] c.loop.bytes.items Failed c.loop-test.true
-          c.loop.invariant.pieces (subst (λ (n : ℕ). g.I.Source.gave c.loop.input n [] Failed c.read.new.self) room c.in-Failed.ensures.gave) (sym (append-nil c.loop.bytes.items)),
-    )
+returns-in-Failed-clause-refused_in_pieces g c = (
+  c.loop.bytes.items,
+  in_pieces g.I.Source.gave c.loop.counter c.args.input.now c.loop.input c.read_chunk.new.source c.loop.bytes.items [] c.loop.bytes.items Failed c.loop-test.true
+      c.loop.invariant.pieces c.in-Failed.ensures.gave (sym (append-nil c.loop.bytes.items)),
+)
 
 pub returns-in-Ended-clause-whole : goal.returns-in-Ended-clause-whole
 returns-in-Ended-clause-whole g c =
     let before = c.loop.invariant in
     let counts = c.in-Ended.ensures.counts in
-    accepted string_bytes c.text_of.result (g.I.Source.seen c.args.input.now) (g.I.Source.seen c.read.new.self) c.loop.bytes.items
+    accepted string_bytes c.text_of.result (g.I.Source.seen c.args.input.now) (g.I.Source.seen c.read_chunk.new.source) c.loop.bytes.items
     (record {
-      consumed = Consumes-kept (g.I.Source.seen c.args.input.now).left (g.I.Source.seen c.loop.input).left (g.I.Source.seen c.read.new.self).left c.loop.bytes.items
+      consumed = Consumes-kept (g.I.Source.seen c.args.input.now).left (g.I.Source.seen c.loop.input).left (g.I.Source.seen c.read_chunk.new.source).left c.loop.bytes.items
           before.consumed c.in-Ended.ensures.bytes.0;
       at_end = c.in-Ended.ensures.bytes.1;
       ended = rw (← before.ends) counts.ends;
@@ -117,9 +112,8 @@ returns-in-Ended-clause-whole g c =
 
 pub returns-then-is_err-clause-refused_in_pieces : goal.returns-then-is_err-clause-refused_in_pieces
 returns-then-is_err-clause-refused_in_pieces g c =
-    let room : length c.read.new.buffer ≡ 4096 = search rules in
-    let came = take c.in-Gave.count c.read.new.buffer in (
+    let came = take c.in-Gave.count c.read_chunk.new.chunk in (
       c.loop.bytes.items ++ came,
-      in_pieces g.I.Source.gave c.loop.counter c.args.input.now c.loop.input c.read.new.self c.loop.bytes.items came _ (Gave c.in-Gave.count) c.loop-test.true
-          c.loop.invariant.pieces (subst (λ (n : ℕ). g.I.Source.gave c.loop.input n (take c.in-Gave.count c.read.new.buffer) (Gave c.in-Gave.count) c.read.new.self) room c.in-Gave.ensures.gave) refl,
+      in_pieces g.I.Source.gave c.loop.counter c.args.input.now c.loop.input c.read_chunk.new.source c.loop.bytes.items came _ (Gave c.in-Gave.count) c.loop-test.true
+          c.loop.invariant.pieces c.in-Gave.ensures.gave refl,
     )

@@ -1,8 +1,10 @@
-use Rattle.std.proofs.Common.{◌∙◌, sym}
+use Rattle.std.proofs.Common.{◌∙◌, ap, sym}
+use Rattle.jobs3270.specs.Waits.{is_memory}
 use Rattle.jobs3270.proofs.Waits.{is_fed}
 use Rattle.jobs3270.proofs.operator.take.Goals as goal
 
 pub returns : goal.returns
 returns c =
-    is_fed c.feed-fed.new.self.room c.args.terminal.now.terminal c.feed-fed.new.self.terminal c.args.bytes.now c.feed-fed.result.taken c.feed-fed.result.stop c.requires c.feed-fed.ensures.fed.few c.feed-fed.ensures.fed.takes c.feed-fed.ensures.fed.stops
-    (sym c.is_memory.ensures ∙ c.if-is_memory.false)
+    let feeds = c.feed_all.ensures.feeds in
+    is_fed c.feed_all.new.terminal.room c.args.terminal.now.terminal c.feed_all.new.terminal.terminal c.args.bytes.now c.feed_all.ensures.fed.taken
+    c.feed_all.ensures.fed.stop c.requires feeds.few feeds.takes feeds.stops (ap is_memory (sym c.feed_all.ensures.stop_is) ∙ sym c.is_memory.ensures ∙ c.if-is_memory.false)

@@ -25,7 +25,7 @@ returns-in_default c =
     let next = enumerate_source c.next.new.self in
     let is = lines_left_some it next before.pattern c.in-Some.line step.0 in
     rw step.1 (is_no_command c.args.script.now (enumerate_count c.loop-index.index-iterator + 1) (lines_left it) c.args.world.now c.loop-index.world
-    (string_bytes c.args.text.now) (string_bytes c.loop-index.text) before.so_far c.in-Some.line.now (lines_left next) is (sym c.asked.ensures ∙ c.in_default.is))
+    (string_bytes c.args.text.now) (string_bytes c.loop-index.text) before.so_far c.in-Some.line.now (lines_left next) is (sym c.playable_command.ensures ∙ c.in_default.is))
 
 pub loop-index-preserved : goal.loop-index-preserved
 loop-index-preserved c =
@@ -39,8 +39,8 @@ loop-index-preserved c =
       is_finite = tt;
       pattern = step.0.1 ∙ before.pattern;
       so_far = played_more c.args.script.now (enumerate_count c.loop-index.index-iterator + 1) (lines_left it) c.args.world.now c.loop-index.world
-          (string_bytes c.args.text.now) (string_bytes c.loop-index.text) before.so_far c.in-Some.line.now (lines_left next) is c.in-Some-asked.asks
-          c.play_line.new.world (string_bytes c.play_line.new.text) (enumerate_count c.next.new.self + 1) (sym c.asked.ensures ∙ c.in-Some-asked.is)
+          (string_bytes c.args.text.now) (string_bytes c.loop-index.text) before.so_far c.in-Some.line.now (lines_left next) is c.in-Some-playable_command.command
+          c.play_line.new.world (string_bytes c.play_line.new.text) (enumerate_count c.next.new.self + 1) (sym c.playable_command.ensures ∙ c.in-Some-playable_command.is)
           c.in_ok-play_line.ensures (ap (λ (n : ℕ). n + 1) step.2);
     }
 

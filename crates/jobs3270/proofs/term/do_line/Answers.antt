@@ -3,6 +3,6 @@ use Rattle.std.proofs.lemmas.List.{append-nil}
 use Rattle.std.proofs.lemmas.Result.{on_ok_weaker}
 use Rattle.jobs3270.proofs.term.do_line.Goals as goal
 
-pub returns-in-Waits : goal.returns-in-Waits
-returns-in-Waits g c =
-    rw c.in-Waits.is (on_ok_weaker c.wait.result (λ waited. ([], (waited, refl), sym (append-nil (string_bytes c.args.text.now)))) c.wait.ensures)
+pub returns-in-Wait : goal.returns-in-Wait
+returns-in-Wait g c =
+    rw c.in-Wait.is (on_ok_weaker c.wait.result (λ waited. ([], (waited, refl), sym (append-nil (string_bytes c.args.text.now)))) c.wait.ensures)

@@ -1,13 +1,10 @@
-use Rattle.std.proofs.Common.{refl, arith}
+use Rattle.std.proofs.Common.{arith}
 use Rattle.term_core.proofs.Steps.{byte_more}
 use Rattle.term_core.proofs.feeding.feed_attached.Goals as goal
 
-pub returns-in-Some-clause-fed : goal.returns-in-Some-clause-fed
-returns-in-Some-clause-fed c = record {
-  few = omega arith;
-  takes = byte_more _ c.args.bytes.now c.loop-taken.taken c.loop-taken.decoder c.loop-taken.talk c.loop-taken.station c.loop-taken.out c.reserve.new.self _ (omega arith) c.reserve.ensures.items c.loop-taken.invariant.taken c.in-Some.ensures.taken;
-  stops = refl;
-}
+pub returns-in-Some-clause-takes : goal.returns-in-Some-clause-takes
+returns-in-Some-clause-takes c =
+    byte_more _ c.args.bytes.now c.loop-taken.taken c.loop-taken.decoder c.loop-taken.talk c.loop-taken.station c.loop-taken.out c.reserve.new.self _ (omega arith) c.reserve.ensures.items c.loop-taken.invariant.taken c.in-Some.ensures.taken
 
 pub loop-taken-preserved : goal.loop-taken-preserved
 loop-taken-preserved c = record {

@@ -5,16 +5,15 @@ ghost use Rattle.host_core.specs.State.{most_connections};
 use crate::bytes::{bytes_of, expect_spelt, first_of, number_of};
 use crate::calls::{act, feed, feed_each, note, open};
 use crate::dialogue::host::belief::{fact_word, text_of};
-use crate::dialogue::host::sights::{Sight, acted_word, seen, sight_named};
+use crate::dialogue::host::sights::{Sight, acted_word, rejection_text, seen, sight_named};
 use crate::dialogue::host::view::View;
-use crate::dialogue::words::stop_seen;
-use crate::fault::{Fault, expect, expect_bytes, expect_text};
+use crate::fault::{Fault, expect_bytes, expect_text};
 use crate::readers::read_host;
+use crate::stops::expect_fed;
 use codes3270::Addr;
 use host_core::{Host, MOST_CONNECTIONS};
 use shadow::Shadow;
 use std::alloc::Global;
-use tn3270e_msg::Fed;
 
 /// How what a client sends comes to the host.
 #[derive(Clone, Copy)]
@@ -45,12 +44,6 @@ pub(crate) struct Exchange {
     delivery: Delivery,
     /// A connection as it was.
     kept: Option<View>,
-}
-
-/// What an end that was fed bytes came to: what stopped it, and how many it took.
-fn expect_fed(alloc: Global, taken: usize, stop: &str, came: Fed) -> Result<(), Fault> {
-    expect_text(alloc, stop, stop_seen(alloc, came.stop)?.as_str())?;
-    expect(came.taken == taken, "more or fewer bytes were taken")
 }
 
 /// What is believed of the field at an address: how, and of which characters.
@@ -101,6 +94,7 @@ impl Exchange {
             "act" => self.act(conn, words),
             "keep" => self.keep(conn),
             "stays" => self.expect_kept(conn),
+            "rejected" => self.expect_rejection(conn, words),
             _ => self.obey_longer(conn, word, words),
         }
     }
@@ -199,6 +193,14 @@ impl Exchange {
     {
         let unsent = self.host.closed(conn);
         expect_spelt(self.alloc, words, unsent.as_slice())
+    }
+
+    /// Takes the oldest rejection that wasn't reported yet, which must be this.
+    fn expect_rejection(&mut self, conn: usize, expected: &str) -> Result<(), Fault>
+        requires { conn < most_connections }
+    {
+        let came = rejection_text(self.alloc, self.host.next_rejection(conn))?;
+        expect_text(self.alloc, expected, came.as_str())
     }
 
     /// Remembers what is to be seen.

@@ -3,8 +3,7 @@ ghost use Rattle.std.specs.Prelude.{◌<◌};
 ghost use Rattle.host_core.specs.State.{most_connections};
 
 use crate::dialogue::host::belief::belief_word;
-use crate::dialogue::words::{bound_seen, closed_seen};
-use host_core::{Acted, Host, Phase, Turn};
+use host_core::{Acted, Host, Phase, Rejection, Turn};
 use std::alloc::{AllocError, Global};
 
 /// What is to be seen.
@@ -52,8 +51,8 @@ fn phase_seen(alloc: Global, phase: Phase) -> Result<String, AllocError> {
     match phase {
         Phase::Free => String::from_str(alloc, "free"),
         Phase::Talking => String::from_str(alloc, "talking"),
-        Phase::Bound(lu) => bound_seen(alloc, &lu),
-        Phase::Closed(cause) => closed_seen(alloc, cause),
+        Phase::Bound(lu) => format!(in alloc; "bound {lu}"),
+        Phase::Closed(cause) => format!(in alloc; "closed {cause}"),
     }
 }
 
@@ -67,6 +66,23 @@ fn turn_word(turn: Turn) -> &'static str {
 fn pending_seen(alloc: Global, pending: Option<u16>) -> Result<String, AllocError> {
     match pending {
         Some(number) => number.to_string(alloc),
+        None => String::from_str(alloc, "none"),
+    }
+}
+
+/// A rejection: the LU that was asked for, if one was named, and the reason.
+pub(crate) fn rejection_text(
+    alloc: Global,
+    rejection: Option<Rejection>,
+) -> Result<String, AllocError> {
+    match rejection {
+        Some(
+            Rejection {
+                lu: Some(lu),
+                reason,
+            },
+        ) => format!(in alloc; "{lu} {reason}"),
+        Some(Rejection { lu: None, reason }) => reason.to_string(alloc),
         None => String::from_str(alloc, "none"),
     }
 }

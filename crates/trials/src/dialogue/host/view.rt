@@ -4,7 +4,7 @@ ghost use Rattle.host_core.specs.State.{most_connections};
 
 use crate::dialogue::host::belief::put_fields;
 use crate::dialogue::host::sights::{Sight, seen};
-use crate::fault::{Fault, expect_bytes, expect_text};
+use crate::fault::{Fault, expect_bytes_of, expect_text};
 use host_core::Host;
 use std::alloc::{AllocError, Global};
 
@@ -49,7 +49,12 @@ impl View {
     /// Expects another to be the same.
     pub(crate) fn expect(&self, alloc: Global, came: &View) -> Result<(), Fault> {
         expect_text(alloc, self.sights.as_str(), came.sights.as_str())?;
-        expect_bytes(alloc, self.fields.as_slice(), came.fields.as_slice())?;
-        expect_bytes(alloc, self.out.as_slice(), came.out.as_slice())
+        expect_bytes_of(
+            alloc,
+            "fields: ",
+            self.fields.as_slice(),
+            came.fields.as_slice(),
+        )?;
+        expect_bytes_of(alloc, "output: ", self.out.as_slice(), came.out.as_slice())
     }
 }

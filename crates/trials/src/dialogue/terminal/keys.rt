@@ -1,13 +1,12 @@
 //! Keys by their names, and the answer to a key, in words.
-use crate::keys::key_named;
 use codes3270::{Aid, aid_byte};
-use keyboard::{Key, Pressed, Refusal};
+use keyboard::{Key, Pressed};
 use std::alloc::{AllocError, Global};
 use term_core::Terminal;
 
 /// The key with a name; a name of one character is that character's key.
 pub(crate) fn key_or_character(name: &str) -> Option<Key> {
-    key_named(name).or_else(|| character_key(name))
+    Key::named(name).or_else(|| character_key(name))
 }
 
 fn character_key(name: &str) -> Option<Key> {
@@ -35,27 +34,12 @@ pub(crate) fn press(
 ) -> Result<String, AllocError> {
     match press_again(terminal, key)? {
         Pressed::Done => String::from_str(alloc, "done"),
-        Pressed::Refused(refusal) => refused_seen(alloc, refusal),
+        Pressed::Refused(refusal) => format!(in alloc; "refused {refusal}"),
         Pressed::Send(aid) => sent_seen(alloc, aid),
     }
-}
-
-fn refused_seen(alloc: Global, refusal: Refusal) -> Result<String, AllocError> {
-    let word = refusal_word(refusal);
-    format!(in alloc; "refused {word}")
 }
 
 fn sent_seen(alloc: Global, aid: Aid) -> Result<String, AllocError> {
     let byte = aid_byte(aid);
     format!(in alloc; "sends {byte:02X}")
-}
-
-fn refusal_word(refusal: Refusal) -> &'static str {
-    match refusal {
-        Refusal::Locked => "locked",
-        Refusal::Protected => "protected",
-        Refusal::NotNumeric => "not-numeric",
-        Refusal::NoRoom => "no-room",
-        Refusal::NoCode => "no-code",
-    }
 }

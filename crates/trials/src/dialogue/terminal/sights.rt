@@ -1,10 +1,10 @@
 //! What is to be seen of a terminal, in words.
 use crate::bytes::{first_of, number_of};
-use crate::dialogue::words::{bound_seen, closed_seen, stop_seen};
 use crate::fault::Fault;
+use crate::stops::stop_text;
 use codes3270::{Addr, Cell, aid_byte, attr_code};
 use std::alloc::{AllocError, Global};
-use term_core::{TermPhase, Terminal, screen_lines};
+use term_core::{Terminal, screen_lines};
 use tn3270e_msg::Fed;
 
 /// What is to be seen.
@@ -72,8 +72,8 @@ pub(crate) fn seen(
 ) -> Result<String, AllocError> {
     match sight {
         Sight::Taken => fed.taken.to_string(alloc),
-        Sight::Stop => stop_seen(alloc, fed.stop),
-        Sight::Phase => phase_seen(alloc, terminal.phase()),
+        Sight::Stop => stop_text(alloc, fed.stop),
+        Sight::Phase => terminal.phase().to_string(alloc),
         Sight::Lock => terminal.lock().to_string(alloc),
         Sight::TookWrite => String::from_str(alloc, yes_or_no(terminal.took_write())),
         Sight::Cursor => terminal.screen().cursor().get().to_string(alloc),
@@ -91,19 +91,6 @@ fn byte_seen(alloc: Global, byte: u8) -> Result<String, AllocError> {
 
 fn yes_or_no(answer: bool) -> &'static str {
     if answer { "yes" } else { "no" }
-}
-
-fn phase_seen(alloc: Global, phase: TermPhase) -> Result<String, AllocError> {
-    match phase {
-        TermPhase::Idle => String::from_str(alloc, "idle"),
-        TermPhase::Talking => String::from_str(alloc, "talking"),
-        TermPhase::Bound(lu) => bound_seen(alloc, &lu),
-        TermPhase::Refused(reason) => {
-            let code = reason.0;
-            format!(in alloc; "refused {code:02X}")
-        }
-        TermPhase::Closed(cause) => closed_seen(alloc, cause),
-    }
 }
 
 fn cell_seen(alloc: Global, terminal: &Terminal, at: u16) -> Result<String, AllocError> {

@@ -9,7 +9,7 @@ use Rattle.world3270.proofs.Follows.{EventsGo, runs_go_on, steps_go_on}
 use Rattle.world3270.proofs.Leaving.{nobody_closes}
 use Rattle.world3270.proofs.SeenStands.{headline_is_seen}
 use Rattle.world3270.specs.Refines.{SkipsAreThose, StepsGoOn}
-use Rattle.world3270.proofs.Unbroken.{deliveries_close_nothing, nobody_has_refused, nothing_is_refused}
+use Rattle.world3270.proofs.Unbroken.{deliveries_close_nothing, nobody_has_refused, nothing_is_refused, under_way_refuses_nothing}
 use Rattle.world3270.proofs.laws.bytes_follow_messages.Goals as goal
 
 skips : Known → SkipsAreThose
@@ -34,7 +34,7 @@ steps : Known → StepsGoOn
 steps known = steps_go_on known (all_go known) (skips known)
 
 pub returns-clause-begin : goal.returns-clause-begin
-returns-clause-begin c = begin_is_reached
+returns-clause-begin c = begin_is_reached c.what_is_known.ensures
 
 pub returns-clause-steps : goal.returns-clause-steps
 returns-clause-steps c = steps c.what_is_known.ensures
@@ -62,3 +62,6 @@ returns-clause-none_refused c = nothing_is_refused c.what_is_known.ensures
 
 pub returns-clause-say_no_refusal : goal.returns-clause-say_no_refusal
 returns-clause-say_no_refusal c = terminals_refuse_nothing c.what_is_known.ensures
+
+pub returns-clause-under_way_refuses_nothing : goal.returns-clause-under_way_refuses_nothing
+returns-clause-under_way_refuses_nothing c = under_way_refuses_nothing c.what_is_known.ensures.worlds

@@ -6,10 +6,10 @@ use Rattle.host_core.proofs.connection.Connection.act.Goals as goal
 
 pub returns-in-Open-clause-acted : goal.returns-in-Open-clause-acted
 returns-in-Open-clause-acted c =
-    does_connection (acted_by (application_of c.args.panels.now)) c.args.self.now c.self.inside.service c.in-Open.end c.deref_mut.result.now c.act.new.self c.self.inside.out c.act.new.out c.act.result
+    does_connection (acted_by (application_of c.args.panels.now)) c.args.self.now c.self.inside.service c.in-Open.end c.deref_mut.result.now c.act.new.self c.self.inside.out c.act.new.out c.act.result _
     (sym c.self.view_is) c.self.invariant c.in-Open.is c.deref_mut.ensures.value c.act.ensures.acted
 
 pub returns-in-Open-clause-held : goal.returns-in-Open-clause-held
 returns-in-Open-clause-held c =
-    act_holds c.args.self.now c.self.inside.service c.in-Open.end c.deref_mut.result.now c.act.new.self c.self.inside.out c.act.new.out c.act.result
+    act_holds c.args.self.now c.self.inside.service c.in-Open.end c.deref_mut.result.now c.act.new.self c.self.inside.out c.act.new.out c.act.result _
     (sym c.self.view_is) c.in-Open.is c.deref_mut.ensures.value (application_of c.args.panels.now) c.act.ensures.acted

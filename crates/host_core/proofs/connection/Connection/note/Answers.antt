@@ -5,10 +5,10 @@ use Rattle.host_core.proofs.connection.Connection.note.Goals as goal
 
 pub returns-in-Open-clause-noted : goal.returns-in-Open-clause-noted
 returns-in-Open-clause-noted c =
-    does_connection (noted_by c.args.text.now) c.args.self.now c.self.inside.service c.in-Open.end c.deref_mut.result.now c.note.new.self c.self.inside.out c.note.new.out c.note.result
+    does_connection (noted_by c.args.text.now) c.args.self.now c.self.inside.service c.in-Open.end c.deref_mut.result.now c.note.new.self c.self.inside.out c.note.new.out c.note.result _
     (sym c.self.view_is) c.self.invariant c.in-Open.is c.deref_mut.ensures.value c.note.ensures.noted
 
 pub returns-in-Open-clause-held : goal.returns-in-Open-clause-held
 returns-in-Open-clause-held c =
-    note_holds c.args.self.now c.self.inside.service c.in-Open.end c.deref_mut.result.now c.note.new.self c.self.inside.out c.note.new.out c.note.result
+    note_holds c.args.self.now c.self.inside.service c.in-Open.end c.deref_mut.result.now c.note.new.self c.self.inside.out c.note.new.out c.note.result _
     (sym c.self.view_is) c.in-Open.is c.deref_mut.ensures.value c.args.text.now c.note.ensures.noted

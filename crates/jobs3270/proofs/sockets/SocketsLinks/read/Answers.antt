@@ -1,6 +1,5 @@
 use Rattle.std.proofs.Common.{rules, ◌≡◌, ◌<◌, ◌≤◌, List, ℕ, length, subst, slice_index_or, slice_set}
 use Rattle.host_core.specs.Serves.{bytes_got}
-use Rattle.jobs3270.specs.Refusals.{HostSays, TerminalSays}
 use Rattle.jobs3270.proofs.SocketCalls.{gives_at, gives_nothing, read_counts}
 use Rattle.jobs3270.proofs.sockets.SocketsLinks.read.Goals as goal
 
@@ -10,12 +9,11 @@ returns-then-conn-len-clause-gave g c = gives_nothing c.args.self.now c.args.con
 pub returns-clause-counts : goal.returns-clause-counts
 returns-clause-counts g c =
     read_counts c.args.self.now
-    (record { places = slice_set c.self.inside.places.items c.args.conn c.read-answer.new.self; heard = c.args.self.now.heard; moved = c.args.self.now.moved })
+    (record { slots = slice_set c.self.inside.slots.items c.args.conn c.read-answer.new.self; moved = c.args.self.now.moved })
     c.args.conn (search rules) c.read-answer.new.self (search rules) c.index_mut.result.now (search rules) g.S.RawRead.read_gave
     (length c.read-answer.new.buffer) (bytes_got c.read-answer.result c.read-answer.new.buffer) c.read-answer.result c.read-answer.ensures.gives
 
 pub returns-clause-gave : goal.returns-clause-gave
 returns-clause-gave g c =
     gives_at c.args.self.now _ c.args.conn (search rules) c.read-answer.new.self (search rules) c.index_mut.result.now (search rules) g.S.RawRead.read_gave
-    (length c.read-answer.new.buffer) (bytes_got c.read-answer.result c.read-answer.new.buffer) c.read-answer.result c.index_mut-2.result.now c.hear_terminal.new.self (search rules) (search rules) (search rules) (search rules)
-    c.read-answer.ensures.gives (subst (λ (bytes : List ℕ). TerminalSays c.index_mut-2.result.now bytes c.hear_terminal.new.self) c.got.ensures c.hear_terminal.ensures)
+    (length c.read-answer.new.buffer) (bytes_got c.read-answer.result c.read-answer.new.buffer) c.read-answer.result (search rules) c.read-answer.ensures.gives

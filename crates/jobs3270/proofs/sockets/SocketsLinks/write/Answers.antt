@@ -1,6 +1,5 @@
 use Rattle.std.proofs.Common.{rules, ◌≡◌, ◌<◌, ◌≤◌, List, ℕ, length, subst, slice_index_or, slice_set}
 use Rattle.host_core.specs.Serves.{bytes_got}
-use Rattle.jobs3270.specs.Refusals.{HostSays, TerminalSays}
 use Rattle.jobs3270.proofs.SocketCalls.{takes_at, takes_nothing, write_counts}
 use Rattle.jobs3270.proofs.sockets.SocketsLinks.write.Goals as goal
 
@@ -10,12 +9,11 @@ returns-then-conn-len-clause-took g c = takes_nothing c.args.self.now c.args.con
 pub returns-clause-counts : goal.returns-clause-counts
 returns-clause-counts g c =
     write_counts c.args.self.now
-    (record { places = slice_set c.self.inside.places.items c.args.conn c.write-answer.new.self; heard = c.args.self.now.heard; moved = c.args.self.now.moved })
+    (record { slots = slice_set c.self.inside.slots.items c.args.conn c.write-answer.new.self; moved = c.args.self.now.moved })
     c.args.conn (search rules) c.write-answer.new.self (search rules) c.index_mut.result.now (search rules) g.S.RawWrite.write_took
     c.args.bytes.now c.write-answer.result c.write-answer.ensures.takes
 
 pub returns-clause-took : goal.returns-clause-took
 returns-clause-took g c =
     takes_at c.args.self.now _ c.args.conn (search rules) c.write-answer.new.self (search rules) c.index_mut.result.now (search rules) g.S.RawWrite.write_took
-    c.args.bytes.now c.write-answer.result c.index_mut-2.result.now c.hear_host.new.self (search rules) (search rules) (search rules) (search rules)
-    c.write-answer.ensures.takes (subst (λ (bytes : List ℕ). HostSays c.index_mut-2.result.now bytes c.hear_host.new.self) c.taken.ensures c.hear_host.ensures)
+    c.args.bytes.now c.write-answer.result (search rules) c.write-answer.ensures.takes

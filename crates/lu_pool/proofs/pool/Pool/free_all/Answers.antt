@@ -1,4 +1,4 @@
-use Rattle.lu_pool.proofs.Below.{after_all}
+use Rattle.lu_pool.proofs.Freeing.{after_all}
 use Rattle.lu_pool.proofs.pool.Pool.free_all.Goals as goal
 
 pub invariant_of-self : goal.invariant_of-self

@@ -1,0 +1,11 @@
+use Rattle.std.proofs.Common.{◌&&◌, refl}
+use Rattle.jobs3270.proofs.Rounds.{no_exchange, exchanged_more}
+use Rattle.jobs3270.proofs.idle.run_round.Goals as goal
+
+pub loop-number-init : goal.loop-number-init
+loop-number-init c = no_exchange c.args.world.now
+
+pub loop-number-preserved : goal.loop-number-preserved
+loop-number-preserved c =
+    exchanged_more c.loop-number.number c.args.world.now c.loop-number.world c.exchange.new.world c.loop-number.quiet c.in_ok-quiet.field-0
+    (c.loop-number.quiet && c.in_ok-quiet.field-0) c.loop-number.invariant c.in_ok-quiet.ensures refl
