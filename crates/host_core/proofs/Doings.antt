@@ -1,19 +1,27 @@
 -- What is done is what there is to do.
-use Rattle.std.proofs.Common.{◌≡◌, ◌≢◌, ◌<◌, ◌+◌, ◌++◌, ◌∷◌, [], ℕ, Bool, true, List, Some, None, refl, ap, sym, subst, ◌∙◌, Vec, if◌then◌else◌}
+use Rattle.std.proofs.Common.{◌≡◌, ◌<◌, ◌+◌, ◌++◌, ◌∷◌, [], ℕ, Bool, true, false, List, Option, Some, None, refl, ap, sym, subst, ◌∙◌, Vec, if◌then◌else◌}
 use Rattle.std.specs.Prelude.{vec_len}
 use Rattle.std.specs.Vec.{vec_capacity}
 use Rattle.std.specs.declared.alloc.Global.{Global}
+use Rattle.codes3270.specs.declared.attention.Aid.{Aid}
+use Rattle.codes3270.specs.declared.attention.Aid.TheVariants.{NoAid, Enter, Clear, Pf, Pa}
+use Rattle.panels.specs.Screen.{Values}
+use Rattle.panels.specs.declared.next.Next.{Next}
+use Rattle.panels.specs.declared.next.Next.TheVariants.{Go, Again}
 use Rattle.telnet_wire.specs.Items.{sent_bytes}
-use Rattle.host_core.specs.Acts.{Act, Sent, act_on, acted, done, may_act}
+use Rattle.host_core.specs.Acts.{Act, Sent, act_on, acted, after_key, done, first_missing, learned, led, may_act, unless_missing}
 use Rattle.host_core.specs.Application.{Application}
-use Rattle.host_core.specs.Keeps.{ChangesValues, DoesOn, IsSentOn, WantsMemory, act_of, room_of}
+use Rattle.host_core.specs.Does.{Grow}
+use Rattle.host_core.specs.Keeps.{DoesOn, IsSentOn, WantsMemory, act_of, reads, show_for, show_once, teaches, values_shown}
 use Rattle.host_core.specs.Rooms.{note_room, room_for}
-use Rattle.host_core.specs.declared.acting.Act.{Act as Chosen}
-use Rattle.host_core.specs.declared.acting.Act.TheVariants as chosen
+use Rattle.host_core.specs.declared.acted.Acted.{Acted}
+use Rattle.host_core.specs.declared.acted.Acted.TheVariants.{Sent as IsSent, Memory as NoMemory}
+use Rattle.host_core.specs.declared.acting.Shown.{Shown}
+use Rattle.host_core.specs.declared.turn_reason.TurnReason.{TurnReason}
+use Rattle.host_core.specs.declared.turn_reason.TurnReason.TheVariants.{Agreement, Key, Refusal}
 use Rattle.host_core.specs.Notes.{may_note, noted, noted_as}
 use Rattle.host_core.specs.Says.{item_sent}
 use Rattle.host_core.specs.Session.{Conn, is_agreed}
-use Rattle.host_core.specs.declared.acted.Acted.TheVariants.{Sent as IsSent, Memory as NoMemory}
 
 -- room was made before
 pub sent_behind : (sent : Sent) (before roomy after : Vec ℕ Global) (new : Conn) → roomy.items ≡ before.items → IsSentOn sent roomy after new → IsSentOn sent before after new
@@ -22,59 +30,122 @@ sent_behind sent before roomy after new same on = record {
   bytes = on.bytes ∙ ap (λ (bytes : List ℕ). bytes ++ sent_bytes (item_sent sent.message ∷ [])) same;
 }
 
-if_may : (may : Bool) (sent : Sent) (old : Conn) (before after : Vec ℕ Global) (new : Conn) → may ≡ true → IsSentOn sent before after new
-    → DoesOn (if may then Some sent else None) old before IsSent new after
-if_may may sent old before after new is on = rw is on
-
-pub acts : (app : Application) (act : Act) (old new : Conn) (before roomy after : Vec ℕ Global) → may_act old.turn old.pending (is_agreed old.talk.state) ≡ true
-    → act ≡ act_on app old old.turn_reason → roomy.items ≡ before.items → IsSentOn (done app old act) roomy after new
-    → DoesOn (acted app old) old before IsSent new after
-acts app act old new before roomy after may is same on =
-    if_may (may_act old.turn old.pending (is_agreed old.talk.state)) (done app old (act_on app old old.turn_reason)) old before after new may
-    (sent_behind (done app old (act_on app old old.turn_reason)) before roomy after new same (subst (λ (a : Act). IsSentOn (done app old a) roomy after new) is on))
+if_done : (may : Bool) (sent : Sent) (old new : Conn) (before after : Vec ℕ Global) (answer : Acted) → may ≡ true → DoesOn (Some sent) old before answer new after
+    → DoesOn (if may then Some sent else None) old before answer new after
+if_done may sent old new before after answer is does = rw is does
 
 pub notes : (text : List ℕ) (old new : Conn) (before roomy after : Vec ℕ Global) → may_note old.turn old.pending (is_agreed old.talk.state) ≡ true
     → roomy.items ≡ before.items → IsSentOn (noted_as text old) roomy after new
     → DoesOn (noted text old) old before IsSent new after
 notes text old new before roomy after may same on =
-    if_may (may_note old.turn old.pending (is_agreed old.talk.state)) (noted_as text old) old before after new may (sent_behind (noted_as text old) before roomy after new same on)
+    if_done (may_note old.turn old.pending (is_agreed old.talk.state)) (noted_as text old) old new before after IsSent may (sent_behind (noted_as text old) before roomy after new same on)
 
 -- ---- memory
 
-if_wanted : (may : Bool) (sent : Sent) (old : Conn) (before after : Vec ℕ Global) → may ≡ true → after.items ≡ before.items → WantsMemory sent old before
-    → DoesOn (if may then Some sent else None) old before NoMemory old after
-if_wanted may sent old before after is same wants = rw is (refl, same, wants)
+-- the room didn't do
+pub sends_without_room : (sent : Sent) (old : Conn) (before after : Vec ℕ Global) (room : ℕ) → room ≡ room_for sent.message → vec_capacity before < vec_len before + room
+    → after.items ≡ before.items → DoesOn (Some sent) old before NoMemory old after
+sends_without_room sent old before after room size short same =
+    (refl, same, WantsMemory.room (subst (λ (n : ℕ). vec_capacity before < vec_len before + n) size short))
 
-room_of_sent : (app : Application) (conn : Conn) (act : Chosen) → room_for (done app conn (act_of conn.values act)).message ≡ room_of act
-room_of_sent app conn chosen.Read = refl
-room_of_sent app conn (chosen.Show panel message keep changed) = refl
+missing_values : (app : Application) (old : Conn) (panel target : ℕ) (values : Values) (missing : Option ℕ) → (done app old (unless_missing panel target values missing)).conn.values ≡ values
+missing_values app old panel target values None = refl
+missing_values app old panel target values (Some field) = refl
 
--- the room didn't do for what there is to do
-pub acts_without_room : (app : Application) (act : Chosen) (old : Conn) (before after : Vec ℕ Global) (room : ℕ) → may_act old.turn old.pending (is_agreed old.talk.state) ≡ true
-    → act_of old.values act ≡ act_on app old old.turn_reason → room ≡ room_of act → vec_capacity before < vec_len before + room → after.items ≡ before.items
-    → DoesOn (acted app old) old before NoMemory old after
-acts_without_room app act old before after room may is size short same =
-    let asked : room ≡ room_for (done app old (act_on app old old.turn_reason)).message =
-    size ∙ sym (room_of_sent app old act) ∙ ap (λ (a : Act). room_for (done app old a).message) is in
-    if_wanted (may_act old.turn old.pending (is_agreed old.talk.state)) (done app old (act_on app old old.turn_reason)) old before after may same
-    (WantsMemory.room (subst (λ (n : ℕ). vec_capacity before < vec_len before + n) asked short))
+led_values : (app : Application) (old conn : Conn) (values : Values) (aid : Aid) (next : Next) → (done app old (led app conn values aid next)).conn.values ≡ values
+led_values app old conn values aid Again = refl
+led_values app old conn values Enter (Go target) = missing_values app old conn.panel target values (first_missing values (app.fields conn.panel))
+led_values app old conn values NoAid (Go target) = refl
+led_values app old conn values Clear (Go target) = refl
+led_values app old conn values (Pf key) (Go target) = refl
+led_values app old conn values (Pa key) (Go target) = refl
 
-changed_values : (app : Application) (conn : Conn) (act : Act) → ChangesValues conn.values act → (done app conn act).conn.values ≢ conn.values
-changed_values app conn Act.Read changes = absurd changes
-changed_values app conn (Act.Show panel message keep values) changes = changes
+show_values : (app : Application) (old conn : Conn) (reason : TurnReason) → (done app old (show_for app conn reason)).conn.values ≡ conn.values
+show_values app old conn Agreement = refl
+show_values app old conn (Key Clear buffered) = refl
+show_values app old conn (Key NoAid buffered) = led_values app old conn conn.values NoAid (app.next conn.panel NoAid)
+show_values app old conn (Key Enter buffered) = led_values app old conn conn.values Enter (app.next conn.panel Enter)
+show_values app old conn (Key (Pf key) buffered) = led_values app old conn conn.values (Pf key) (app.next conn.panel (Pf key))
+show_values app old conn (Key (Pa key) buffered) = led_values app old conn conn.values (Pa key) (app.next conn.panel (Pa key))
+show_values app old conn Refusal = refl
 
--- values change
-pub acts_without_values : (app : Application) (old : Conn) (before : Vec ℕ Global) → may_act old.turn old.pending (is_agreed old.talk.state) ≡ true
-    → ChangesValues old.values (act_on app old old.turn_reason) → DoesOn (acted app old) old before NoMemory old before
-acts_without_values app old before may changes =
-    if_wanted (may_act old.turn old.pending (is_agreed old.talk.state)) (done app old (act_on app old old.turn_reason)) old before before may refl
-    (WantsMemory.values (changed_values app old (act_on app old old.turn_reason) changes))
+-- the value of some field had to grow
+pub shows_without_values : (app : Application) (old : Conn) (before after : Vec ℕ Global) → after.items ≡ before.items → Grow old.values (values_shown app old)
+    → DoesOn (Some (done app old (show_once app old))) old before NoMemory old after
+shows_without_values app old before after same grows =
+    (refl, same, WantsMemory.values (subst (λ (values : Values). Grow old.values values) (sym (show_values app old (record old { values = values_shown app old }) old.turn_reason)) grows))
+
+-- ---- what is shown, once the values of fields are set
+
+led_once : (app : Application) (conn : Conn) (values : Values) (aid : Aid) (next : Next) → led app (record conn { values = values }) values aid next ≡ led app conn values aid next
+led_once app conn values aid Again = refl
+led_once app conn values Enter (Go target) = refl
+led_once app conn values NoAid (Go target) = refl
+led_once app conn values Clear (Go target) = refl
+led_once app conn values (Pf key) (Go target) = refl
+led_once app conn values (Pa key) (Go target) = refl
+
+if_unread : (reading : Bool) (act : Act) → reading ≡ false → (if reading then Act.Read else act) ≡ act
+if_unread reading act is = rw is refl
+
+if_read : (reading : Bool) (act : Act) → reading ≡ true → (if reading then Act.Read else act) ≡ Act.Read
+if_read reading act is = rw is refl
+
+-- nothing is read: what is done is what is shown
+key_shown : (app : Application) (conn : Conn) (aid : Aid) (buffered : Bool) → reads app conn (Key aid buffered) ≡ false
+    → after_key app conn aid buffered ≡ show_for app (record conn { values = if teaches (Key aid buffered) then learned conn.shadow (app.fields conn.panel) conn.values else conn.values }) (Key aid buffered)
+key_shown app conn Clear buffered unread = refl
+key_shown app conn NoAid buffered unread = if_unread _ _ unread ∙ sym (led_once app conn (learned conn.shadow (app.fields conn.panel) conn.values) NoAid (app.next conn.panel NoAid))
+key_shown app conn Enter buffered unread = if_unread _ _ unread ∙ sym (led_once app conn (learned conn.shadow (app.fields conn.panel) conn.values) Enter (app.next conn.panel Enter))
+key_shown app conn (Pf key) buffered unread = if_unread _ _ unread ∙ sym (led_once app conn (learned conn.shadow (app.fields conn.panel) conn.values) (Pf key) (app.next conn.panel (Pf key)))
+key_shown app conn (Pa key) buffered unread = if_unread _ _ unread ∙ sym (led_once app conn (learned conn.shadow (app.fields conn.panel) conn.values) (Pa key) (app.next conn.panel (Pa key)))
+
+shown_for : (app : Application) (conn : Conn) (reason : TurnReason) → reads app conn reason ≡ false
+    → act_on app conn reason ≡ show_for app (record conn { values = if teaches reason then learned conn.shadow (app.fields conn.panel) conn.values else conn.values }) reason
+shown_for app conn Agreement unread = refl
+shown_for app conn (Key aid buffered) unread = key_shown app conn aid buffered unread
+shown_for app conn Refusal unread = refl
+
+key_read : (app : Application) (conn : Conn) (aid : Aid) (buffered : Bool) → reads app conn (Key aid buffered) ≡ true → after_key app conn aid buffered ≡ Act.Read
+key_read app conn Clear buffered read = absurd (cc)
+key_read app conn NoAid buffered read = if_read _ _ read
+key_read app conn Enter buffered read = if_read _ _ read
+key_read app conn (Pf key) buffered read = if_read _ _ read
+key_read app conn (Pa key) buffered read = if_read _ _ read
+
+read_for : (app : Application) (conn : Conn) (reason : TurnReason) → reads app conn reason ≡ true → act_on app conn reason ≡ Act.Read
+read_for app conn Agreement read = absurd (cc)
+read_for app conn (Key aid buffered) read = key_read app conn aid buffered read
+read_for app conn Refusal read = absurd (cc)
+
+-- ---- what there is to do
+
+acts : (app : Application) (act : Act) (old new : Conn) (before after : Vec ℕ Global) (answer : Acted) → may_act old.turn old.pending (is_agreed old.talk.state) ≡ true
+    → act_on app old old.turn_reason ≡ act → DoesOn (Some (done app old act)) old before answer new after → DoesOn (acted app old) old before answer new after
+acts app act old new before after answer may is does =
+    if_done (may_act old.turn old.pending (is_agreed old.talk.state)) (done app old (act_on app old old.turn_reason)) old new before after answer may
+    (subst (λ (a : Act). DoesOn (Some (done app old a)) old before answer new after) (sym is) does)
+
+pub acts_by_reading : (app : Application) (old new : Conn) (before after : Vec ℕ Global) (answer : Acted) → may_act old.turn old.pending (is_agreed old.talk.state) ≡ true
+    → reads app old old.turn_reason ≡ true → DoesOn (Some (done app old Act.Read)) old before answer new after → DoesOn (acted app old) old before answer new after
+acts_by_reading app old new before after answer may read does = acts app Act.Read old new before after answer may (read_for app old old.turn_reason read) does
+
+pub acts_by_showing : (app : Application) (old new : Conn) (before after : Vec ℕ Global) (answer : Acted) → may_act old.turn old.pending (is_agreed old.talk.state) ≡ true
+    → reads app old old.turn_reason ≡ false → DoesOn (Some (done app old (show_once app old))) old before answer new after → DoesOn (acted app old) old before answer new after
+acts_by_showing app old new before after answer may unread does = acts app (show_once app old) old new before after answer may (shown_for app old old.turn_reason unread) does
+
+-- a panel is shown, once the values of fields are set
+pub shows_once : (app : Application) (shown : Shown) (old mid new : Conn) (before roomy after : Vec ℕ Global) → mid ≡ record old { values = values_shown app old }
+    → act_of mid.values shown ≡ show_for app mid mid.turn_reason → roomy.items ≡ before.items → IsSentOn (done app mid (act_of mid.values shown)) roomy after new
+    → DoesOn (Some (done app old (show_once app old))) old before IsSent new after
+shows_once app shown old mid new before roomy after set is same on =
+    let set_before : Conn = record old { values = values_shown app old } in
+    let shown_is : act_of (values_shown app old) shown ≡ show_once app old = subst (λ (c : Conn). act_of c.values shown ≡ show_for app c c.turn_reason) set is in
+    let sent : IsSentOn (done app set_before (act_of (values_shown app old) shown)) roomy after new = subst (λ (c : Conn). IsSentOn (done app c (act_of c.values shown)) roomy after new) set on in
+    sent_behind (done app old (show_once app old)) before roomy after new same
+    (subst (λ (act : Act). IsSentOn (done app old act) roomy after new) shown_is sent)
 
 pub notes_without_room : (text : List ℕ) (old : Conn) (before after : Vec ℕ Global) → may_note old.turn old.pending (is_agreed old.talk.state) ≡ true
     → vec_capacity before < vec_len before + note_room → after.items ≡ before.items → DoesOn (noted text old) old before NoMemory old after
 notes_without_room text old before after may short same =
-    if_wanted (may_note old.turn old.pending (is_agreed old.talk.state)) (noted_as text old) old before after may same (WantsMemory.room short)
-
--- a read leaves the panel
-pub panel_stays : (app : Application) (old new : Conn) (before after : Vec ℕ Global) (count : ℕ) → old.panel < count → IsSentOn (done app old Act.Read) before after new → new.panel < count
-panel_stays app old new before after count below on = subst (λ (panel : ℕ). panel < count) (sym (ap (λ (conn : Conn). conn.panel) on.conn)) below
+    if_done (may_note old.turn old.pending (is_agreed old.talk.state)) (noted_as text old) old old before after NoMemory may (refl, same, WantsMemory.room short)

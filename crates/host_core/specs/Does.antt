@@ -1,6 +1,7 @@
 -- What acts and notes make of a connection number (our profile).
-use Rattle.std.specs.Prelude.{◌≡◌, ◌≢◌, ◌<◌, ◌+◌, ℕ, List, [], ◌∷◌, ◌++◌, length, Option, Some, None}
+use Rattle.std.specs.Prelude.{◌≡◌, ◌<◌, ◌+◌, ℕ, List, [], ◌∷◌, ◌++◌, length, Option, Some, None}
 use Rattle.panels.specs.Screen.{Values}
+use Rattle.panels.specs.Values.{HasToGrow, value_of}
 use Rattle.telnet_wire.specs.Items.{sent_bytes}
 use Rattle.host_core.specs.Acts.{Sent, acted}
 use Rattle.host_core.specs.Application.{Application}
@@ -38,11 +39,15 @@ values_of Service.Free = []
 values_of (Service.Open rest conn) = conn.values
 values_of (Service.Closed cause) = []
 
+-- some field's value needs more memory than before: the field had no value, or a shorter one
+abbrev pub Grow : Values → Values → Type 0
+Grow old new = (field : ℕ) × (text : List ℕ) × (value_of new field ≡ Some text) × HasToGrow (value_of old field) text
+
 -- Memory can be wanted for two reasons alone: the bytes that wait leave less of the room that a connection keeps than the command
--- may take, or the values of fields change.
+-- may take, or the value of some field has to grow.
 pub data MayWantMemory (sent : Sent) (old : Connection) : Type 0 where
   room : out_room < length old.out + room_for sent.message → MayWantMemory sent old
-  values : sent.conn.values ≢ values_of old.service → MayWantMemory sent old
+  values : Grow (values_of old.service) sent.conn.values → MayWantMemory sent old
 
 -- If there is something to do it is done, or memory is refused and nothing has changed.
 abbrev pub Does : Option Sent → Connection → Acted → Connection → Type 0

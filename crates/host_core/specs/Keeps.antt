@@ -1,8 +1,9 @@
 -- How the host keeps a connection, and its steps as the code takes them (our profile); only private contracts and proofs need it.
-use Rattle.std.specs.Prelude.{◌≡◌, ◌≢◌, ◌==◌, ◌↔◌, ◌<◌, ◌+◌, ⊤, ℕ, true, List, [], ◌∷◌, ◌++◌, drop, Option, Some, None, map, unwrap_or, Vec, vec_len, if◌then◌else◌}
+use Rattle.std.specs.Prelude.{◌≡◌, ◌≢◌, ◌==◌, ◌&&◌, not, ◌↔◌, ◌<◌, ◌+◌, ⊤, ℕ, Bool, true, false, List, [], ◌∷◌, ◌++◌, drop, Option, Some, None, map, Vec, vec_len, if◌then◌else◌}
 use Rattle.std.specs.Vec.{vec_capacity}
 use Rattle.std.specs.declared.alloc.Global.{Global}
 use Rattle.codes3270.specs.WriteControl.{wcc_of}
+use Rattle.codes3270.specs.declared.attention.Aid.TheVariants.{Clear}
 use Rattle.datastream.specs.Grammar.{CommandParts, IsCommand, codes_of}
 use Rattle.datastream.specs.Reading.{orders_in}
 use Rattle.datastream.specs.declared.command_code.CommandCode.{CommandCode}
@@ -11,6 +12,7 @@ use Rattle.lu_pool.specs.Asking.{answer_to}
 use Rattle.lu_pool.specs.Pool.{Holds}
 use Rattle.lu_pool.specs.declared.entry.Entry.{Entry}
 use Rattle.panels.specs.Screen.{Values}
+use Rattle.panels.specs.declared.message.Message.TheVariants.{Fresh}
 use Rattle.shadow.specs.Stores.{is_plain}
 use Rattle.telnet_wire.specs.Held.{Held, IsRunning as Running}
 use Rattle.telnet_wire.specs.Items.{WireItem, sent_bytes}
@@ -19,19 +21,22 @@ use Rattle.tn3270e_msg.specs.HostTable.{granted}
 use Rattle.tn3270e_msg.specs.declared.cause.Cause.{Cause}
 use Rattle.tn3270e_msg.specs.declared.cause.Stop.{Stop}
 use Rattle.tn3270e_msg.specs.declared.cause.Stop.TheVariants.{Going, Memory, Closed as ClosedStop}
-use Rattle.host_core.specs.Acts.{Act, Sent}
+use Rattle.host_core.specs.Acts.{Act, Sent, is_to_be_read, learned, led, repeated, target_or}
+use Rattle.host_core.specs.Application.{Application}
+use Rattle.host_core.specs.Does.{Grow}
 use Rattle.host_core.specs.Bytes.{Counter, service_after}
 use Rattle.host_core.specs.Items.{TakesItem}
 use Rattle.host_core.specs.Rejections.{kept_with}
-use Rattle.host_core.specs.Rooms.{command_room, read_buffer_room, room_for}
+use Rattle.host_core.specs.Rooms.{room_for}
 use Rattle.host_core.specs.Says.{item_sent}
 use Rattle.host_core.specs.Session.{Conn, Pending}
 use Rattle.host_core.specs.Takes.{HostStep, pool_after}
-use Rattle.host_core.specs.declared.acting.Act.{Act as Chosen}
-use Rattle.host_core.specs.declared.acting.Act.TheVariants as chosen
+use Rattle.host_core.specs.declared.acting.Shown.{Shown}
 use Rattle.host_core.specs.declared.acted.Acted.{Acted}
 use Rattle.host_core.specs.declared.acted.Acted.TheVariants.{Sent as IsSent, Nothing, Memory as NoMemory}
 use Rattle.host_core.specs.declared.pending.Pending.{Pending as Unanswered}
+use Rattle.host_core.specs.declared.turn_reason.TurnReason.{TurnReason}
+use Rattle.host_core.specs.declared.turn_reason.TurnReason.TheVariants.{Agreement, Key, Refusal}
 use Rattle.host_core.specs.declared.rejection.Rejection.{Rejection}
 use Rattle.host_core.specs.declared.pending.Pending.TheVariants as unanswered
 
@@ -116,30 +121,48 @@ cause_of (ClosedStop cause) = Some cause
 
 -- ---- acts
 
--- the act that was chosen, while fields have these values; a panel is shown with these, unless they change
-abbrev pub act_of : Values → Chosen → Act
-act_of values chosen.Read = Act.Read
-act_of values (chosen.Show panel message keep changed) = Act.Show panel message keep (unwrap_or changed values)
+-- a key other than Clear, by which the host learns what the operator typed
+abbrev pub teaches : TurnReason → Bool
+teaches Agreement = false
+teaches (Key Clear buffered) = false
+teaches (Key aid buffered) = true
+teaches Refusal = false
 
--- the most bytes that its command takes
-abbrev pub room_of : Chosen → ℕ
-room_of chosen.Read = read_buffer_room
-room_of (chosen.Show panel message keep changed) = command_room
+-- whether the screen is read: it is to be, and wasn't yet
+abbrev pub reads : Application → Conn → TurnReason → Bool
+reads app conn Agreement = false
+reads app conn (Key Clear buffered) = false
+reads app conn (Key aid buffered) = is_to_be_read app conn aid && not buffered
+reads app conn Refusal = false
 
--- it sets other values than these
-abbrev pub ChangesValues : Values → Act → Type 0
-ChangesValues values Act.Read = ⊥
-ChangesValues values (Act.Show panel message keep new) = new ≢ values
+-- the values of fields with which a panel is shown
+abbrev pub values_shown : Application → Conn → Values
+values_shown app conn = if teaches conn.turn_reason then learned conn.shadow (app.fields conn.panel) conn.values else conn.values
+
+-- the act by which a panel is shown, with these values of fields
+abbrev pub act_of : Values → Shown → Act
+act_of values shown = Act.Show shown.panel shown.message shown.keep values
+
+-- the act by which a panel is shown, once the values of fields are set
+abbrev pub show_for : Application → Conn → TurnReason → Act
+show_for app conn Agreement = Act.Show app.start Fresh false conn.values
+show_for app conn (Key Clear buffered) = Act.Show (target_or conn.panel (app.next conn.panel Clear)) Fresh false conn.values
+show_for app conn (Key aid buffered) = led app conn conn.values aid (app.next conn.panel aid)
+show_for app conn Refusal = Act.Show conn.panel (repeated conn.message) false conn.values
+
+-- the act by which a panel is shown, from before the values of fields are set
+abbrev pub show_once : Application → Conn → Act
+show_once app conn = show_for app (record conn { values = values_shown app conn }) conn.turn_reason
 
 -- something was sent: its bytes were appended to what was there
 pub record IsSentOn (sent : Sent) (before after : Vec ℕ Global) (new : Conn) : Type 0 where
   pub conn : new ≡ sent.conn
   pub bytes : after.items ≡ before.items ++ sent_bytes (item_sent sent.message ∷ [])
 
--- why memory was wanted: the room didn't do, or values changed
+-- why memory was wanted: the room didn't do, or the value of some field had to grow
 pub data WantsMemory (sent : Sent) (old : Conn) (before : Vec ℕ Global) : Type 0 where
   room : vec_capacity before < vec_len before + room_for sent.message → WantsMemory sent old before
-  values : sent.conn.values ≢ old.values → WantsMemory sent old before
+  values : Grow old.values sent.conn.values → WantsMemory sent old before
 
 -- There is nothing to do, or it is done, or memory is refused; then nothing has changed.
 abbrev pub DoesOn : Option Sent → Conn → Vec ℕ Global → Acted → Conn → Vec ℕ Global → Type 0

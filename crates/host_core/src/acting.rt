@@ -1,5 +1,5 @@
 //! What a host does in its turn.
-ghost use Rattle.std.specs.Prelude.{◌≡◌, ◌≤◌, ◌<◌, ℕ, false, IfOk, OnErr, length, unwrap_or};
+ghost use Rattle.std.specs.Prelude.{◌≡◌, ◌≤◌, ◌<◌, ℕ, Bool, false, Some, OnOk, OnErr, length};
 ghost use Rattle.std.specs.List.{list_any};
 ghost use Rattle.std.specs.Vec.{vec_capacity};
 ghost use Rattle.codes3270.specs.declared.attention.Aid.TheVariants.{Clear};
@@ -7,14 +7,16 @@ ghost use Rattle.panels.specs.Keys.{IsKey};
 ghost use Rattle.panels.specs.Screen.{Values as FieldValues};
 ghost use Rattle.panels.specs.declared.message.Message.TheVariants.{Fresh};
 ghost use Rattle.panels.specs.declared.next.Next.TheVariants.{Go};
-ghost use Rattle.host_core.specs.Acts.{Act as Doing, act_on, acted, after_key, gone_to, is_in_doubt as in_doubt, is_to_be_read, led, may_act, repeated, target_or, unless_missing};
-ghost use Rattle.host_core.specs.Application.{application_of};
-ghost use Rattle.host_core.specs.Choices.{CanBeDone};
-ghost use Rattle.host_core.specs.Keeps.{ChangesValues, DoesOn, act_of, room_of};
+ghost use Rattle.host_core.specs.Acts.{Act as Doing, acted, done, gone_to, is_in_doubt as in_doubt, is_to_be_read, led, may_act, repeated, target_or, unless_missing};
+ghost use Rattle.host_core.specs.Application.{Application, application_of};
+ghost use Rattle.host_core.specs.Choices.{CanBeShown};
+ghost use Rattle.host_core.specs.Does.{Grow};
+ghost use Rattle.host_core.specs.Keeps.{DoesOn, act_of, reads, show_for, show_once, teaches, values_shown};
 ghost use Rattle.host_core.specs.Session.{is_agreed};
+ghost use Rattle.host_core.specs.declared.turn_reason.TurnReason.TheVariants.{Key as KeyPressed};
 
 use crate::acted::Acted;
-use crate::learning::{first_missing, is_in_doubt, learned};
+use crate::learning::{first_missing, is_in_doubt, learn_all};
 use crate::pending::Pending;
 use crate::room::{COMMAND_ROOM, READ_BUFFER_ROOM};
 use crate::sending::panel_in;
@@ -22,26 +24,28 @@ use crate::session::Session;
 use crate::turn::Turn;
 use crate::turn_reason::TurnReason;
 use codes3270::Aid;
-use panels::{Field, Message, Next, PanelSet, Values};
+use panels::{Field, Message, Next, PanelSet};
 use shadow::Shadow;
 use telnet_wire::Memory;
 
-/// What the host may do: read the whole screen, or show a panel with a message.
-#[derive(Drop)]
-pub(crate) enum Act {
-    Read,
-    /// The panel, its message, whether fields keep what the operator left in them, and the values of fields if they change.
-    Show(usize, Message, bool, Option<Values>),
+/// What the host shows: a panel, with a message, and whether fields keep what the operator left in them.
+#[derive(Clone, Copy)]
+pub(crate) struct Shown {
+    pub(crate) panel: usize,
+    pub(crate) message: Message,
+    pub(crate) keep: bool,
 }
 
-impl Act {
-    /// The most bytes that its command takes.
-    fn room(&self) -> usize
-        ensures { result ≡ room_of self.now }
+impl Shown {
+    /// A panel with nothing to tell about the last key.
+    fn fresh(panel: usize) -> Shown
+        ensures { (values : FieldValues) → act_of values result ≡ Doing.Show panel Fresh false values }
+        ensures can_be_done { (count : ℕ) → panel < count → CanBeShown count result }
     {
-        match self {
-            Act::Read => READ_BUFFER_ROOM,
-            Act::Show(_, _, _, _) => COMMAND_ROOM,
+        Shown {
+            panel,
+            message: Message::Fresh,
+            keep: false,
         }
     }
 }
@@ -65,18 +69,17 @@ fn repeated(message: Message) -> Message
 }
 
 /// A target is shown fresh; but while a required field is missing, the panel is shown again.
-fn unless_missing(
-    panel: usize,
-    target: usize,
-    changed: Option<Values>,
-    missing: Option<usize>,
-) -> Act
-    ensures act { (values : FieldValues) → act_of values result ≡ unless_missing panel target (unwrap_or changed values) missing }
-    ensures can_be_done { (count : ℕ) → panel < count → target < count → CanBeDone count result }
+fn unless_missing(panel: usize, target: usize, missing: Option<usize>) -> Shown
+    ensures act { (values : FieldValues) → act_of values result ≡ unless_missing panel target values missing }
+    ensures can_be_done { (count : ℕ) → panel < count → target < count → CanBeShown count result }
 {
     match missing {
-        None => Act::Show(target, Message::Fresh, false, changed),
-        Some(field) => Act::Show(panel, Message::Required(field), true, changed),
+        None => Shown::fresh(target),
+        Some(field) => Shown {
+            panel,
+            message: Message::Required(field),
+            keep: true,
+        },
     }
 }
 
@@ -107,6 +110,19 @@ fn next_of(panels: &PanelSet, panel: usize, aid: &Aid) -> Next
     panel_in(panels, panel).next(*aid)
 }
 
+/// Whether the host learns what the operator typed: after a key other than Clear.
+fn teaches(turn_reason: TurnReason) -> bool
+    ensures { result ≡ teaches turn_reason }
+{
+    match turn_reason {
+        TurnReason::Agreement | TurnReason::Refusal => false,
+        TurnReason::Key(aid, _) => match aid {
+            Aid::Clear => false,
+            Aid::NoAid | Aid::Enter | Aid::Pf(_) | Aid::Pa(_) => true,
+        },
+    }
+}
+
 impl Session {
     /// Whether the screen is to be read before a key is answered: after PA, or where some field of the panel is in doubt.
     fn is_to_be_read(&self, panels: &PanelSet, aid: &Aid) -> bool
@@ -122,77 +138,107 @@ impl Session {
     }
 
     /// The first required field that is missing, after Enter.
-    fn missing_after(&self, panels: &PanelSet, values: &Values, aid: &Aid) -> Option<usize>
+    fn missing_after(&self, panels: &PanelSet, aid: &Aid) -> Option<usize>
         requires { self.now.panel < length panels.now.panels }
-        ensures { (target : ℕ) → gone_to (application_of panels.now) self.now target values.now aid.now ≡ unless_missing self.now.panel target values.now result }
+        ensures { (target : ℕ) → gone_to (application_of panels.now) self.now target self.now.values aid.now ≡ unless_missing self.now.panel target self.now.values result }
     {
         match aid {
-            Aid::Enter => first_missing(values, panel_in(panels, self.panel).fields()),
+            Aid::Enter => first_missing(&self.values, panel_in(panels, self.panel).fields()),
             Aid::NoAid | Aid::Clear | Aid::Pf(_) | Aid::Pa(_) => None,
         }
     }
 
-    /// Where a key leads once these values are set, if they change; a key without a target isn't active.
-    fn led(&self, panels: &PanelSet, changed: Option<Values>, aid: &Aid, next: Next) -> Act
+    /// Where a key leads once the values of fields are set; a key without a target isn't active.
+    fn led(&self, panels: &PanelSet, aid: &Aid, next: Next) -> Shown
         requires panel { self.now.panel < length panels.now.panels }
         requires target { (target : ℕ) → next ≡ Go target → target < length panels.now.panels }
-        ensures act { act_of self.now.values result ≡ led (application_of panels.now) self.now (unwrap_or changed self.now.values) aid.now next }
-        ensures can_be_done { CanBeDone (length panels.now.panels) result }
+        ensures act { act_of self.now.values result ≡ led (application_of panels.now) self.now self.now.values aid.now next }
+        ensures can_be_done { CanBeShown (length panels.now.panels) result }
     {
         match next {
-            Next::Again => Act::Show(self.panel, Message::KeyNotActive, true, changed),
+            Next::Again => Shown {
+                panel: self.panel,
+                message: Message::KeyNotActive,
+                keep: true,
+            },
             Next::Go(target) => {
-                let missing = self.missing_after(panels, self.values_once(&changed), aid);
-                unless_missing(self.panel, target, changed, missing)
+                unless_missing(self.panel, target, self.missing_after(panels, aid))
             }
         }
     }
 
     /// What is shown after Clear: the target of that key, else the same panel.
-    fn after_clear(&self, panels: &PanelSet) -> Act
+    fn after_clear(&self, panels: &PanelSet) -> Shown
         requires { self.now.panel < length panels.now.panels }
         ensures act { act_of self.now.values result ≡ Doing.Show (target_or self.now.panel ((application_of panels.now).next self.now.panel Clear)) Fresh false self.now.values }
-        ensures can_be_done { CanBeDone (length panels.now.panels) result }
+        ensures can_be_done { CanBeShown (length panels.now.panels) result }
     {
-        let target = match next_of(panels, self.panel, &Aid::Clear) {
-            Next::Again => self.panel,
-            Next::Go(target) => target,
-        };
-        Act::Show(target, Message::Fresh, false, None)
+        match next_of(panels, self.panel, &Aid::Clear) {
+            Next::Again => Shown::fresh(self.panel),
+            Next::Go(target) => Shown::fresh(target),
+        }
     }
 
-    /// What is done after a key. It takes memory if that changes the values of fields.
-    fn after_key(&self, panels: &PanelSet, aid: &Aid, buffered: bool) -> Result<Act, Memory>
+    /// What is shown after a key, once the values of fields are set.
+    fn after_key(&self, panels: &PanelSet, aid: &Aid) -> Shown
         requires { self.now.panel < length panels.now.panels }
-        ensures act { IfOk result (λ act. act_of self.now.values act ≡ after_key (application_of panels.now) self.now aid.now buffered) }
-        ensures can_be_done { IfOk result (CanBeDone (length panels.now.panels)) }
-        ensures memory { OnErr result (ChangesValues self.now.values (after_key (application_of panels.now) self.now aid.now buffered)) }
+        ensures act { (buffered : Bool) → act_of self.now.values result ≡ show_for (application_of panels.now) self.now (KeyPressed aid.now buffered) }
+        ensures can_be_done { CanBeShown (length panels.now.panels) result }
     {
-        if let Aid::Clear = aid {
-            return Ok(self.after_clear(panels));
+        match aid {
+            Aid::Clear => self.after_clear(panels),
+            Aid::NoAid | Aid::Enter | Aid::Pf(_) | Aid::Pa(_) => {
+                self.led(panels, aid, next_of(panels, self.panel, aid))
+            }
         }
-        if self.is_to_be_read(panels, aid) && !buffered {
-            return Ok(Act::Read);
+    }
+
+    /// What is shown, once the values of fields are set: at agreement the first panel, after a refusal the same panel, whole.
+    fn shown(&self, panels: &PanelSet) -> Shown
+        requires { self.now.panel < length panels.now.panels }
+        ensures act { act_of self.now.values result ≡ show_for (application_of panels.now) self.now self.now.turn_reason }
+        ensures can_be_done { CanBeShown (length panels.now.panels) result }
+    {
+        match self.turn_reason {
+            TurnReason::Agreement => Shown::fresh(panels.start()),
+            TurnReason::Key(aid, _) => self.after_key(panels, &aid),
+            TurnReason::Refusal => Shown {
+                panel: self.panel,
+                message: repeated(self.message),
+                keep: false,
+            },
+        }
+    }
+
+    /// Whether the screen is read before anything is shown.
+    fn reads_first(&self, panels: &PanelSet) -> bool
+        requires { self.now.panel < length panels.now.panels }
+        ensures { result ≡ reads (application_of panels.now) self.now self.now.turn_reason }
+    {
+        match self.turn_reason {
+            TurnReason::Agreement | TurnReason::Refusal => false,
+            TurnReason::Key(aid, buffered) => match aid {
+                Aid::Clear => false,
+                Aid::NoAid | Aid::Enter | Aid::Pf(_) | Aid::Pa(_) => {
+                    self.is_to_be_read(panels, &aid) && !buffered
+                }
+            },
+        }
+    }
+
+    /// Sets the values of fields, before a panel is shown. Memory is needed only if a value has to grow.
+    fn learn(&mut self, panels: &PanelSet) -> Result<(), Memory>
+        requires { self.old.panel < length panels.now.panels }
+        ensures values { OnOk result (self.new ≡ record self.old { values = values_shown (application_of panels.now) self.old }) }
+        ensures memory { OnErr result (Grow self.old.values (values_shown (application_of panels.now) self.old)) }
+        ensures err { OnErr result (self.new ≡ self.old) }
+    {
+        if !teaches(self.turn_reason) {
+            return Ok(());
         }
         panels.panels_are_sound();
         let fields = panel_in(panels, self.panel).fields();
-        let changed = learned(&self.shadow, fields, &self.values, self.alloc)?;
-        Ok(self.led(panels, changed, aid, next_of(panels, self.panel, aid)))
-    }
-
-    /// What is done: at agreement the first panel is shown, after a refusal the same panel, whole. It takes memory if that changes
-    /// the values of fields.
-    pub(crate) fn act_on(&self, panels: &PanelSet) -> Result<Act, Memory>
-        requires { self.now.panel < length panels.now.panels }
-        ensures act { IfOk result (λ act. act_of self.now.values act ≡ act_on (application_of panels.now) self.now self.now.turn_reason) }
-        ensures can_be_done { IfOk result (CanBeDone (length panels.now.panels)) }
-        ensures memory { OnErr result (ChangesValues self.now.values (act_on (application_of panels.now) self.now self.now.turn_reason)) }
-    {
-        match self.turn_reason {
-            TurnReason::Agreement => Ok(Act::Show(panels.start(), Message::Fresh, false, None)),
-            TurnReason::Key(aid, buffered) => self.after_key(panels, &aid, buffered),
-            TurnReason::Refusal => Ok(Act::Show(self.panel, repeated(self.message), false, None)),
-        }
+        learn_all(&mut self.values, &self.shadow, fields)
     }
 
     /// Whether both ends agreed.
@@ -215,8 +261,39 @@ impl Session {
         }
     }
 
-    /// Sends what there is to do in its turn. Nothing has changed if memory is refused, which is asked for if the values of fields
-    /// change, or if the command may not fit into the room that is there.
+    /// Reads the whole screen, if there is room for the command.
+    fn read_in_turn(&mut self, out: &mut Vec<u8>) -> Acted
+        ensures acted { (app : Application) → DoesOn (Some (done app self.old Doing.Read)) self.old out.old result self.new out.new }
+        ensures panel { self.new.panel ≡ self.old.panel }
+        ensures capacity { vec_capacity out.old ≤ vec_capacity out.new }
+    {
+        if out.reserve(READ_BUFFER_ROOM).is_err() {
+            return Acted::Memory;
+        }
+        self.read(out);
+        Acted::Sent
+    }
+
+    /// Shows a panel, if there is room for the command and for the values of fields.
+    fn show_in_turn(&mut self, panels: &PanelSet, out: &mut Vec<u8>) -> Acted
+        requires panel { self.old.panel < length panels.now.panels }
+        ensures acted { DoesOn (Some (done (application_of panels.now) self.old (show_once (application_of panels.now) self.old))) self.old out.old result self.new out.new }
+        ensures panel { self.new.panel < length panels.now.panels }
+        ensures capacity { vec_capacity out.old ≤ vec_capacity out.new }
+    {
+        if out.reserve(COMMAND_ROOM).is_err() {
+            return Acted::Memory;
+        }
+        if self.learn(panels).is_err() {
+            return Acted::Memory;
+        }
+        let shown = self.shown(panels);
+        self.show(panels, shown, out);
+        Acted::Sent
+    }
+
+    /// Sends what there is to do in its turn. Nothing has changed if memory is refused, which is asked for if the value of some
+    /// field has to grow, or if the command may not fit into the room that is there.
     pub(crate) fn act(&mut self, panels: &PanelSet, out: &mut Vec<u8>) -> Acted
         requires panel { self.old.panel < length panels.now.panels }
         ensures acted { DoesOn (acted (application_of panels.now) self.old) self.old out.old result self.new out.new }
@@ -226,18 +303,9 @@ impl Session {
         if !self.may_act() {
             return Acted::Nothing;
         }
-        let Ok(act) = self.act_on(panels) else {
-            return Acted::Memory;
-        };
-        if out.reserve(act.room()).is_err() {
-            return Acted::Memory;
+        if self.reads_first(panels) {
+            return self.read_in_turn(out);
         }
-        match act {
-            Act::Read => self.read(out),
-            Act::Show(panel, message, keep, changed) => {
-                self.show(panels, panel, message, keep, changed, out);
-            }
-        }
-        Acted::Sent
+        self.show_in_turn(panels, out)
     }
 }

@@ -119,7 +119,8 @@ impl Host {
     /// waits for its answer, or the ends haven't agreed.
     ///
     /// Memory is needed only if the bytes that wait to be sent leave less of the connection's room than the largest such command
-    /// takes (1,024 bytes may wait), or if a field's known text isn't its value yet, so that values change.
+    /// takes (1,024 bytes may wait), or if the value of some field has to grow: the field has none yet, or a shorter one than the
+    /// text that is known.
     pub fn act(&mut self, conn: usize) -> Acted
         requires number { conn < most_connections }
         ensures acted { Does (acted_by (application_of self.old.panels) (service_at conn self.old)) (connection_at conn self.old) result (connection_at conn self.new) }

@@ -1,7 +1,8 @@
 //! What is known of a panel's fields.
-ghost use Rattle.std.specs.Prelude.{◌≡◌, ◌≢◌, ◌++◌, ◌∷◌, [], false, Option, Some, IfOk, IfSome, OnOk, OnErr, bytes_eq, option_map, unwrap_or, if◌then◌else◌, not, ◌==◌};
+ghost use Rattle.std.specs.Prelude.{◌≡◌, ◌<◌, ◌++◌, ◌∷◌, [], true, false, length, Option, Some, IfSome, OnOk, OnErr, option_map, if◌then◌else◌, not, ◌==◌};
 ghost use Rattle.std.specs.List.{list_any};
 ghost use Rattle.std.specs.Option.{option_map_or};
+ghost use Rattle.codes3270.specs.Size.{cell_count};
 ghost use Rattle.datastream.specs.Inbound.{without_nulls};
 ghost use Rattle.panels.specs.Characters.{AreCharacters};
 ghost use Rattle.panels.specs.Panel.{HaveNumbersApart};
@@ -10,14 +11,18 @@ ghost use Rattle.shadow.specs.Asked.{field_at, kind_of, value_of};
 ghost use Rattle.shadow.specs.Belief.{Belief};
 ghost use Rattle.shadow.specs.Storable.{CanBeStored};
 ghost use Rattle.host_core.specs.Acts.{first_missing, is_blank, is_in_doubt, is_missing, is_settled_fact, learned, text_known};
-ghost use Rattle.host_core.specs.Learning.{SetsNothing, is_news};
+ghost use Rattle.host_core.specs.Does.{Grow};
+ghost use Rattle.host_core.specs.Learning.{needs_room};
 
-use codes3270::Addr;
+use arrayvec::ArrayVec;
+use codes3270::{Addr, CELL_COUNT};
 use panels::{Field, Values};
 use shadow::laws::what_is_believed_can_be_stored;
 use shadow::{Fact, Shadow};
-use std::alloc::{AllocError, Global};
 use telnet_wire::Memory;
+
+/// The text of a field, which is shorter than the screen.
+type FieldText = ArrayVec<u8, CELL_COUNT>;
 
 /// Whether a fact tells a text.
 fn is_settled(fact: Option<Fact>) -> bool
@@ -38,107 +43,110 @@ pub(crate) fn is_in_doubt(shadow: &Shadow, field: &Field) -> bool
 }
 
 /// Appends a character, unless it is a null.
-fn put_unless_null(text: &mut Vec<u8>, byte: u8) -> Result<(), Memory>
-    ensures { OnOk result (text.new.items ≡ (if not (byte == 0) then text.old.items ++ byte ∷ [] else text.old.items)) }
+fn put_unless_null(text: &mut FieldText, byte: u8)
+    requires { length text.old.items < cell_count }
+    ensures { text.new.items ≡ (if not (byte == 0) then text.old.items ++ byte ∷ [] else text.old.items) }
 {
-    if byte == 0 {
-        return Ok(());
+    if byte != 0 {
+        text.push(byte);
     }
-    text.extend_from_slice(&[byte])
 }
 
 /// The text of the field whose attribute is at an address, without nulls.
-fn text_at(shadow: &Shadow, attr: Addr, alloc: Global) -> Result<Vec<u8>, Memory>
-    ensures { IfOk result (λ text. (belief : Belief) → field_at attr shadow.now ≡ Some belief → text.items ≡ without_nulls (value_of belief.fact)) }
+fn text_at(shadow: &Shadow, attr: Addr) -> FieldText
+    ensures { (belief : Belief) → field_at attr shadow.now ≡ Some belief → result.items ≡ without_nulls (value_of belief.fact) }
 {
-    let mut text = Vec::new(alloc);
-    for index in 0..usize::MAX {
-        let Some(byte) = shadow.value(attr, index) else {
-            return Ok(text);
-        };
-        put_unless_null(&mut text, byte)?;
+    let mut text = ArrayVec::new();
+    let mut index = 0;
+    while let Some(byte) = shadow.value(attr, index) {
+        put_unless_null(&mut text, byte);
+        index += 1;
     }
-    // No memory holds more.
-    Err(AllocError)
+    text
 }
 
 /// The text of a field, without nulls, where it is known.
-fn text_known(shadow: &Shadow, field: &Field, alloc: Global) -> Result<Option<Vec<u8>>, Memory>
+fn text_known(shadow: &Shadow, field: &Field) -> Option<FieldText>
     requires { CanBeStored shadow.now }
-    ensures text { IfOk result (λ text. option_map (λ bytes. bytes.items) text ≡ text_known shadow.now field.now) }
-    ensures characters { IfOk result (λ text. IfSome text (λ bytes. AreCharacters bytes.items)) }
+    ensures text { option_map (λ bytes. bytes.items) result ≡ text_known shadow.now field.now }
+    ensures characters { IfSome result (λ bytes. AreCharacters bytes.items) }
 {
     what_is_believed_can_be_stored();
     let attr = field.extent.attr();
     if !is_settled(shadow.fact(attr)) {
-        return Ok(None);
+        return None;
     }
-    let text = text_at(shadow, attr, alloc)?;
-    Ok(Some(text))
+    Some(text_at(shadow, attr))
 }
 
-/// Sets the value of a field whose text is known.
-fn learn(values: &mut Values, shadow: &Shadow, field: &Field, alloc: Global) -> Result<(), Memory>
+/// Whether the text of a field is known and needs more memory than the field's value has.
+fn needs_room(values: &Values, shadow: &Shadow, field: &Field) -> bool
     requires { CanBeStored shadow.now }
-    ensures { OnOk result (values.new ≡ set_if field.now.number (text_known shadow.now field.now) values.old) }
+    ensures { result ≡ needs_room shadow.now values.now field.now }
 {
-    match text_known(shadow, field, alloc)? {
-        Some(text) => values.set(field.number, text.as_slice()),
-        None => Ok(()),
-    }
-}
-
-/// Whether the text of a field is known and isn't the field's value yet.
-fn is_news(values: &Values, shadow: &Shadow, field: &Field) -> bool
-    requires { CanBeStored shadow.now }
-    ensures news { result ≡ is_news shadow.now values.now field.now }
-    ensures same { result ≡ false → SetsNothing shadow.now values.now field.now }
-{
-    what_is_believed_can_be_stored();
-    let attr = field.extent.attr();
-    if !is_settled(shadow.fact(attr)) {
+    let Some(text) = text_known(shadow, field) else {
         return false;
-    }
+    };
     match values.get(field.number) {
-        Some(value) => !shadow.is_text(attr, value),
+        Some(value) => value.len() < text.len(),
         None => true,
     }
 }
 
 /// Whether there is such a field.
-fn is_some_news(values: &Values, shadow: &Shadow, fields: &[Field]) -> bool
+fn any_needs_room(values: &Values, shadow: &Shadow, fields: &[Field]) -> bool
     requires { CanBeStored shadow.now }
-    ensures news { result ≡ list_any (is_news shadow.now values.now) fields.now }
-    ensures same { result ≡ false → learned shadow.now fields.now values.now ≡ values.now }
+    ensures { result ≡ list_any (needs_room shadow.now values.now) fields.now }
 {
-    for field in fields {
-        if is_news(values, shadow, field) {
-            return true;
-        }
-    }
-    false
+    fields.iter().any(|field| needs_room(values, shadow, field))
 }
 
-/// The values of fields, once the known texts are set; None if that changes none. It takes memory if it changes some.
-pub(crate) fn learned(
-    shadow: &Shadow,
-    fields: &[Field],
-    values: &Values,
-    alloc: Global,
-) -> Result<Option<Values>, Memory>
+/// Sets the value of a field whose text is known.
+fn learn(values: &mut Values, shadow: &Shadow, field: &Field) -> Result<(), Memory>
+    requires { CanBeStored shadow.now }
+    ensures values { OnOk result (values.new ≡ set_if field.now.number (text_known shadow.now field.now) values.old) }
+    ensures memory { OnErr result (needs_room shadow.now values.old field.now ≡ true) }
+{
+    match text_known(shadow, field) {
+        Some(text) => values.set(field.number, text.as_slice()),
+        None => Ok(()),
+    }
+}
+
+/// Sets the values of fields whose texts are known, one after another. If memory is refused, some are set and others not.
+fn learn_each(values: &mut Values, shadow: &Shadow, fields: &[Field]) -> Result<(), Memory>
     requires stored { CanBeStored shadow.now }
     requires numbers { HaveNumbersApart fields.now }
-    ensures values { IfOk result (λ changed. unwrap_or changed values.now ≡ learned shadow.now fields.now values.now) }
-    ensures memory { OnErr result (learned shadow.now fields.now values.now ≢ values.now) }
+    ensures values { OnOk result (values.new ≡ learned shadow.now fields.now values.old) }
+    ensures memory { OnErr result (list_any (needs_room shadow.now values.old) fields.now ≡ true) }
 {
-    if !is_some_news(values, shadow, fields) {
-        return Ok(None);
+    for field in fields {
+        learn(values, shadow, field)?;
+    }
+    Ok(())
+}
+
+/// Sets the known texts of fields as their values. Memory is needed only if a text is longer than the field's value; if it is
+/// refused, nothing changes.
+pub(crate) fn learn_all(
+    values: &mut Values,
+    shadow: &Shadow,
+    fields: &[Field],
+) -> Result<(), Memory>
+    requires stored { CanBeStored shadow.now }
+    requires numbers { HaveNumbersApart fields.now }
+    ensures values { OnOk result (values.new ≡ learned shadow.now fields.now values.old) }
+    ensures memory { OnErr result (Grow values.old (learned shadow.now fields.now values.old)) }
+    ensures err { OnErr result (values.new ≡ values.old) }
+{
+    if !any_needs_room(values, shadow, fields) {
+        // Each text fits into the memory that its value has.
+        return learn_each(values, shadow, fields);
     }
     let mut known = values.clone()?;
-    for field in fields {
-        learn(&mut known, shadow, field, alloc)?;
-    }
-    Ok(Some(known))
+    learn_each(&mut known, shadow, fields)?;
+    *values = known;
+    Ok(())
 }
 
 /// Whether a value is blanks, or nothing.

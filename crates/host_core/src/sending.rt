@@ -1,27 +1,28 @@
 //! The commands that are sent in the host's turn.
-ghost use Rattle.std.specs.Prelude.{◌≡◌, ◌<◌, ◌≤◌, ◌+◌, ◌*◌, ◌++◌, ◌∷◌, [], ℕ, true, false, length, unwrap_or, vec_len};
+ghost use Rattle.std.specs.Prelude.{◌≡◌, ◌<◌, ◌≤◌, ◌+◌, ◌*◌, ◌++◌, ◌∷◌, [], ℕ, true, length, vec_len};
 ghost use Rattle.std.specs.Vec.{vec_capacity};
 ghost use Rattle.codes3270.specs.declared.attention.Aid.{Aid as Identifier};
 ghost use Rattle.datastream.specs.Wanted.{IsScreen};
 ghost use Rattle.shadow.specs.Fits.{fits};
 ghost use Rattle.panels.specs.Keys.{IsKey};
 ghost use Rattle.panels.specs.Panel.{target_of};
-ghost use Rattle.panels.specs.declared.message.Message.TheVariants.{Fresh};
 ghost use Rattle.telnet_wire.specs.Items.{Record, sent_bytes};
 ghost use Rattle.tn3270e_msg.specs.Header.{always_response, spelling};
 ghost use Rattle.host_core.specs.Acts.{Act as Doing, done, wanted_by};
 ghost use Rattle.host_core.specs.Application.{Application, application_of, panel_at};
-ghost use Rattle.host_core.specs.Keeps.{IsSentOn};
+ghost use Rattle.host_core.specs.Choices.{CanBeShown};
+ghost use Rattle.host_core.specs.Keeps.{IsSentOn, act_of};
 ghost use Rattle.host_core.specs.Rooms.{HasRoomFor, command_room, read_buffer_room, record_room};
 ghost use Rattle.host_core.specs.Says.{command_header, read_buffer_command, written};
 
+use crate::acting::Shown;
 use crate::laws::{panels_are_shown, what_is_shown_fits};
 use crate::pending::Pending;
 use crate::session::Session;
 use crate::turn::Turn;
 use codes3270::Wcc;
 use datastream::{CommandCode, CommandWriter, Want, Wanted};
-use panels::{Message, Panel, PanelSet, Values};
+use panels::{Panel, PanelSet};
 use shadow::laws::what_is_wanted_is_painted;
 use telnet_wire::put_record;
 use tn3270e_msg::{ALWAYS_RESPONSE, DataType, ERROR_RESPONSE, Header, header_bytes, next_seq};
@@ -81,15 +82,6 @@ fn put_read_buffer(bytes: &mut Vec<u8>)
     writer.begin(CommandCode::ReadBuffer, none).unwrap();
 }
 
-/// Sets the values of fields, if they change.
-fn set_if_changed(values: &mut Values, changed: Option<Values>)
-    ensures { values.new ≡ unwrap_or changed values.old }
-{
-    if let Some(changed) = changed {
-        *values = changed;
-    }
-}
-
 impl Session {
     /// Asks for the whole screen.
     pub(crate) fn read(&mut self, out: &mut Vec<u8>)
@@ -105,95 +97,56 @@ impl Session {
     }
 
     /// Puts the screen that is wanted: one that keeps fields where that fits what is believed, else a whole one.
-    fn put_wanted(
-        &self,
-        wanted: &mut Wanted,
-        panels: &PanelSet,
-        panel: usize,
-        message: Message,
-        keep: bool,
-        values: &Values,
-    )
-        requires panel { panel < length panels.now.panels }
-        requires fresh { message ≡ Fresh → keep ≡ false }
-        ensures { wanted.new ≡ wanted_by (application_of panels.now) self.now panel message keep values.now }
+    fn put_wanted(&self, wanted: &mut Wanted, panels: &PanelSet, shown: &Shown)
+        requires { CanBeShown (length panels.now.panels) shown.now }
+        ensures { wanted.new ≡ wanted_by (application_of panels.now) self.now shown.now.panel shown.now.message shown.now.keep self.now.values }
     {
-        let shown = panel_in(panels, panel);
-        if !keep {
-            shown.put_wanted(wanted, values, message, false);
+        let panel = panel_in(panels, shown.panel);
+        if !shown.keep {
+            panel.put_wanted(wanted, &self.values, shown.message, false);
             return;
         }
-        shown.put_wanted(wanted, values, message, true);
+        panel.put_wanted(wanted, &self.values, shown.message, true);
         if self.shadow.fits(wanted) {
             return;
         }
-        shown.put_wanted(wanted, values, message, false);
+        panel.put_wanted(wanted, &self.values, shown.message, false);
     }
 
     /// The same. It fits what is believed, and is a screen of the profile.
-    fn put_fitting(
-        &self,
-        wanted: &mut Wanted,
-        panels: &PanelSet,
-        panel: usize,
-        message: Message,
-        keep: bool,
-        values: &Values,
-    )
-        requires panel { panel < length panels.now.panels }
-        requires fresh { message ≡ Fresh → keep ≡ false }
-        ensures wanted { wanted.new ≡ wanted_by (application_of panels.now) self.now panel message keep values.now }
+    fn put_fitting(&self, wanted: &mut Wanted, panels: &PanelSet, shown: &Shown)
+        requires { CanBeShown (length panels.now.panels) shown.now }
+        ensures wanted { wanted.new ≡ wanted_by (application_of panels.now) self.now shown.now.panel shown.now.message shown.now.keep self.now.values }
         ensures fits { fits self.now.shadow wanted.new ≡ true }
         ensures screen { IsScreen wanted.new }
     {
         what_is_shown_fits();
         panels_are_shown();
         panels.panels_are_sound();
-        self.put_wanted(wanted, panels, panel, message, keep, values);
+        self.put_wanted(wanted, panels, shown);
         // For the contract: there is a want for each cell.
         let _cells = wanted.cells();
         // For the contract: the cursor is on the screen.
         let _cursor = wanted.cursor();
     }
 
-    /// The values of fields, once these are set if they change.
-    pub(crate) fn values_once<'a>(&'a self, changed: &'a Option<Values>) -> &'a Values
-        ensures { result.now ≡ unwrap_or changed.now self.now.values }
-    {
-        match changed {
-            Some(values) => values,
-            None => &self.values,
-        }
-    }
-
-    /// Shows a panel with a message and the values of fields, which are set first if they change.
-    pub(crate) fn show(
-        &mut self,
-        panels: &PanelSet,
-        panel: usize,
-        message: Message,
-        keep: bool,
-        changed: Option<Values>,
-        out: &mut Vec<u8>,
-    )
-        requires panel { panel < length panels.now.panels }
-        requires fresh { message ≡ Fresh → keep ≡ false }
+    /// Shows a panel with a message and the values of fields.
+    pub(crate) fn show(&mut self, panels: &PanelSet, shown: Shown, out: &mut Vec<u8>)
+        requires shown { CanBeShown (length panels.now.panels) shown }
         requires room { HasRoomFor command_room out.old }
-        ensures sent { IsSentOn (done (application_of panels.now) self.old (Doing.Show panel message keep (unwrap_or changed self.old.values))) out.old out.new self.new }
+        ensures sent { IsSentOn (done (application_of panels.now) self.old (act_of self.old.values shown)) out.old out.new self.new }
         ensures capacity { vec_capacity out.old ≤ vec_capacity out.new }
     {
         what_is_wanted_is_painted();
         let mut wanted = Wanted::filled(Want::Keep);
-        let values = self.values_once(&changed);
-        self.put_fitting(&mut wanted, panels, panel, message, keep, values);
+        self.put_fitting(&mut wanted, panels, &shown);
         begin_record(&mut self.sent, ALWAYS_RESPONSE, self.next_seq);
         self.shadow.paint(&mut self.sent, &wanted).unwrap();
         send_record(self.sent.as_slice(), out);
         self.turn = Turn::Terminal;
         self.pending = Pending::Writing(self.next_seq);
         self.next_seq = next_seq(self.next_seq);
-        self.panel = panel;
-        self.message = message;
-        set_if_changed(&mut self.values, changed);
+        self.panel = shown.panel;
+        self.message = shown.message;
     }
 }

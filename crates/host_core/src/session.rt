@@ -30,8 +30,6 @@ pub(crate) struct Session {
     pub(crate) turn_reason: TurnReason,
     // The record that was sent last, its header first; it has room for the largest.
     pub(crate) sent: Vec<u8>,
-    // For the texts of fields.
-    pub(crate) alloc: Global,
 }
 
 impl Model for Session {
@@ -77,7 +75,6 @@ impl Session {
             values: Values::new(alloc),
             turn_reason: TurnReason::Agreement,
             sent,
-            alloc,
         })
     }
 

@@ -42,8 +42,7 @@ fn values_are_kept(alloc: Global) -> bool {
 }
 
 fn learns(values: &mut Values) -> bool {
-    values.set_if(2, Some(&[0xC4])).is_ok()
-        && values.set_if(1, None).is_ok()
+    values.set(2, &[0xC4]).is_ok()
         && length_at(values, 2) == Some(1)
         && length_at(values, 1) == Some(2)
 }

@@ -1,5 +1,5 @@
 -- The values of fields, by the fields' numbers (our profile).
-use Rattle.std.specs.Prelude.{ℕ, List, Option, None, Some}
+use Rattle.std.specs.Prelude.{◌<◌, ⊤, ℕ, List, length, Option, None, Some}
 use Rattle.std.specs.Map.{lookup}
 use Rattle.std.specs.BTreeMap.{insert_entry, is_at}
 use Rattle.std.specs.Ordering.{nat_cmp}
@@ -12,3 +12,8 @@ value_of values field = lookup (is_at (nat_cmp field)) values
 abbrev pub set_if : ℕ → Option (List ℕ) → List (ℕ × List ℕ) → List (ℕ × List ℕ)
 set_if field None values = values
 set_if field (Some text) values = insert_entry nat_cmp values field text
+
+-- a text needs more memory than a value has: there is no value yet, or a shorter one
+abbrev pub HasToGrow : Option (List ℕ) → List ℕ → Type 0
+HasToGrow None text = ⊤
+HasToGrow (Some value) text = length value < length text

@@ -1,5 +1,5 @@
 //! Texts in the host's code.
-ghost use Rattle.std.specs.Prelude.{◌≡◌, List, ℕ, IfOk, chars};
+ghost use Rattle.std.specs.Prelude.{◌≡◌, ◌<◌, [], List, ℕ, IfOk, OnOk, OnErr, chars, length};
 ghost use Rattle.panels.specs.Characters.{AreCharacters, codes_of};
 
 use codes3270::from_latin1;
@@ -37,6 +37,29 @@ impl Characters {
     {
         let bytes = bytes.to_vec(alloc)?;
         Ok(Characters { bytes })
+    }
+
+    /// No characters. This takes no memory.
+    pub(crate) fn new(alloc: Global) -> Characters
+        ensures { result ≡ [] }
+    {
+        let bytes = Vec::new(alloc);
+        Characters { bytes }
+    }
+
+    /// Becomes a copy of bytes, which are storable and no nulls. Memory is needed only if there are more than before; if it is
+    /// refused nothing changes.
+    pub(crate) fn replace(&mut self, bytes: &[u8]) -> Result<(), AllocError>
+        requires { AreCharacters bytes.now }
+        ensures ok { OnOk result (self.new ≡ bytes.now) }
+        ensures memory { OnErr result (length self.old < length bytes.now) }
+        ensures err { OnErr result (self.new ≡ self.old) }
+    {
+        let more = bytes.len().saturating_sub(self.bytes.len());
+        self.bytes.reserve(more)?;
+        self.bytes.clear();
+        self.bytes.extend_from_slice(bytes).unwrap();
+        Ok(())
     }
 
     /// The codes of a text's characters, as far as they have one.

@@ -1,9 +1,9 @@
 //! The values of fields.
-ghost use Rattle.std.specs.Prelude.{◌≡◌, ◌≢◌, List, ℕ, [], Some, option_copied, option_map, OnOk, OnErr, IfSome};
+ghost use Rattle.std.specs.Prelude.{◌≡◌, ◌≢◌, List, ℕ, [], Some, option_copied, OnOk, OnErr, IfSome, IsSome};
 ghost use Rattle.std.specs.BTreeMap.{insert_entry};
 ghost use Rattle.std.specs.Ordering.{nat_cmp};
 ghost use Rattle.panels.specs.Characters.{AreCharacters};
-ghost use Rattle.panels.specs.Values.{value_of, set_if};
+ghost use Rattle.panels.specs.Values.{HasToGrow, value_of};
 
 use crate::characters::Characters;
 use std::alloc::{AllocError, Global};
@@ -55,29 +55,49 @@ impl Values {
         Some(self.values.get(&field)?.as_slice())
     }
 
-    /// Gives a field a copy of bytes as its value. Where memory is wanting nothing changes.
+    /// Gives a field that has a value another one, and hands out the first.
+    fn exchange(&mut self, field: usize, value: Characters) -> Characters
+        requires { IsSome (value_of self.old field) }
+        ensures old { value_of self.old field ≡ Some result }
+        ensures new { self.new ≡ insert_entry nat_cmp self.old field value }
+        ensures back { insert_entry nat_cmp self.old field result ≡ self.old }
+    {
+        // A key that is there takes no memory.
+        match self.values.insert(field, value) {
+            Ok(Some(former)) => former,
+            Ok(None) | Err(_) => unreachable!(),
+        }
+    }
+
+    /// Gives a field that has a value a copy of bytes in its place.
+    fn replace(&mut self, field: usize, bytes: &[u8]) -> Result<(), AllocError>
+        requires set { IsSome (value_of self.old field) }
+        requires characters { AreCharacters bytes.now }
+        ensures entries { OnOk result (self.new ≡ insert_entry nat_cmp self.old field bytes.now) }
+        ensures memory { OnErr result (HasToGrow (value_of self.old field) bytes.now) }
+        ensures err { OnErr result (self.new ≡ self.old) }
+    {
+        let mut value = self.exchange(field, Characters::new(self.alloc));
+        let replaced = value.replace(bytes);
+        self.exchange(field, value);
+        replaced
+    }
+
+    /// Gives a field a copy of bytes as its value. Memory is needed only if the field has no value yet, or a shorter one. If it is
+    /// refused nothing changes.
     pub fn set(&mut self, field: usize, bytes: &[u8]) -> Result<(), AllocError>
         requires { AreCharacters bytes.now }
         ensures entries { OnOk result (self.new ≡ insert_entry nat_cmp self.old field bytes.now) }
         ensures value { OnOk result (value_of self.new field ≡ Some bytes.now) }
         ensures others { OnOk result ((other : ℕ) → other ≢ field → value_of self.new other ≡ value_of self.old other) }
+        ensures memory { OnErr result (HasToGrow (value_of self.old field) bytes.now) }
         ensures err { OnErr result (self.new ≡ self.old) }
     {
+        if self.values.contains_key(&field) {
+            return self.replace(field, bytes);
+        }
         let value = Characters::copy(self.alloc, bytes)?;
         self.values.insert(field, value)?;
         Ok(())
-    }
-
-    /// The same, where there are bytes; without any nothing changes. So that a host changes the values of a panel's fields all
-    /// or none, it sets them one by one in a copy.
-    pub fn set_if(&mut self, field: usize, known: Option<&[u8]>) -> Result<(), AllocError>
-        requires { IfSome known (λ bytes. AreCharacters bytes.now) }
-        ensures values { OnOk result (self.new ≡ set_if field (option_map (λ bytes. bytes.now) known.entry) self.old) }
-        ensures err { OnErr result (self.new ≡ self.old) }
-    {
-        match known {
-            Some(bytes) => self.set(field, bytes),
-            None => Ok(()),
-        }
     }
 }

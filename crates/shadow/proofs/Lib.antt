@@ -47,3 +47,4 @@ pub mod Walks
 pub mod KeyWalks
 pub mod Ranges
 pub mod Settles
+pub mod ShorterTexts

@@ -1,9 +1,7 @@
 -- What a belief answers when it is asked (our profile).
-use Rattle.std.specs.Prelude.{◌==◌, ℕ, Bool, false, List, [], ◌∷◌, map, slice_get, bytes_eq, Option, Some, None, option_map, option_and_then, if◌then◌else◌}
-use Rattle.std.specs.Option.{option_map_or}
+use Rattle.std.specs.Prelude.{◌==◌, ℕ, List, [], ◌∷◌, map, slice_get, Option, Some, None, option_map, option_and_then, if◌then◌else◌}
 use Rattle.codes3270.specs.declared.attribute.Cell.{Cell}
 use Rattle.codes3270.specs.declared.attribute.Cell.TheVariants.{Char, Attr}
-use Rattle.datastream.specs.Inbound.{without_nulls}
 use Rattle.shadow.specs.declared.fact.Fact.{Fact as FactKind}
 use Rattle.shadow.specs.declared.fact.Fact.TheVariants.{Exact, ExactOrNulls, Text, TextOrNulls, Any}
 use Rattle.shadow.specs.declared.known.Known.{Known}
@@ -60,7 +58,3 @@ fact_at place shadow = option_map (λ belief. kind_of belief.fact) (field_at pla
 -- a character of the text that the fact of a field speaks of
 abbrev pub value_at : ℕ → ℕ → Shadow → Option ℕ
 value_at place index shadow = option_and_then (λ belief. slice_get (value_of belief.fact) index) (field_at place shadow)
-
--- whether the text that the fact of a field speaks of is this one, nulls apart
-abbrev pub is_text_at : ℕ → List ℕ → Shadow → Bool
-is_text_at place text shadow = option_map_or (λ belief. bytes_eq (without_nulls (value_of belief.fact)) text) (field_at place shadow) false

@@ -1,5 +1,5 @@
 //! What is held of a field.
-ghost use Rattle.std.specs.Prelude.{◌≡◌, ◌<◌, ◌≤◌, ◌+◌, ◌*◌, ◌++◌, length, drop, slice_get, option_map, option_and_then, bytes_eq, [], true, false};
+ghost use Rattle.std.specs.Prelude.{◌≡◌, ◌<◌, ◌≤◌, ◌+◌, ◌*◌, ◌++◌, length, drop, slice_get, option_map, option_and_then, bytes_eq, [], true, false, IfSome};
 ghost use Rattle.std.specs.Option.{option_map_or};
 ghost use Rattle.codes3270.specs.Size.{cell_count};
 ghost use Rattle.datastream.specs.Inbound.{without_nulls};
@@ -159,7 +159,8 @@ pub(crate) fn fact_held_at(places: &CellBeliefs, place: usize) -> Option<Fact>
 /// A character of the text that the fact speaks of.
 pub(crate) fn value_held_at(places: &CellBeliefs, place: usize, index: usize) -> Option<u8>
     requires { place < cell_count }
-    ensures { result ≡ option_and_then (λ belief. slice_get (value_of belief.fact) index) (belief_with place (beliefs_held places.now 0 places.now)) }
+    ensures value { result ≡ option_and_then (λ belief. slice_get (value_of belief.fact) index) (belief_with place (beliefs_held places.now 0 places.now)) }
+    ensures few { IfSome result (λ char. index < cell_count) }
 {
     match places.get(place) {
         CellBelief::Attr(_, _, knowledge) => character(places, place, knowledge, index),
@@ -186,64 +187,6 @@ fn are_text(ahead: Ahead<'_>, text: &[u8]) -> bool
         }
     }
     rest.is_empty()
-}
-
-/// Whether the text that is told is this one, nulls apart.
-fn is_told(ahead: Ahead<'_>, text: &[u8]) -> bool
-    ensures { result ≡ bytes_eq (without_nulls (text_told ahead.entry)) text.now }
-{
-    let mut rest = text;
-    for place in ahead {
-        let CellBelief::Told(char) = place else {
-            return rest.is_empty();
-        };
-        if char != 0 {
-            match rest {
-                [first, others @ ..] if *first == char => rest = others,
-                _ => return false,
-            }
-        }
-    }
-    rest.is_empty()
-}
-
-/// Whether a text is empty.
-fn is_nothing(text: &[u8]) -> bool
-    ensures { result ≡ bytes_eq [] text.now }
-{
-    text.is_empty()
-}
-
-/// Whether the text that the fact of a field speaks of is this one, nulls apart; `place` is its attribute's.
-fn is_text(places: &CellBeliefs, place: usize, knowledge: TextKnowledge, text: &[u8]) -> bool
-    requires { place < cell_count }
-    ensures { result ≡ bytes_eq (without_nulls (value_of (fact_held knowledge (drop (place + 1) places.now ++ places.now)))) text.now }
-{
-    match knowledge {
-        TextKnowledge::Cells => {
-            if all_known(places.ahead(place)) {
-                are_text(places.ahead(place), text)
-            } else {
-                is_nothing(text)
-            }
-        }
-        TextKnowledge::ExactOrNulls => is_told(places.ahead(place), text),
-        TextKnowledge::Text => is_told(places.ahead(place), text),
-        TextKnowledge::TextOrNulls => is_told(places.ahead(place), text),
-    }
-}
-
-/// Whether the text that the fact of the field at an address speaks of is this one, nulls apart. False if no field is there.
-pub(crate) fn is_text_held_at(places: &CellBeliefs, place: usize, text: &[u8]) -> bool
-    requires { place < cell_count }
-    ensures { result ≡ option_map_or (λ belief. bytes_eq (without_nulls (value_of belief.fact)) text.now) (belief_with place (beliefs_held places.now 0 places.now)) false }
-{
-    match places.get(place) {
-        CellBelief::Attr(_, _, knowledge) => is_text(places, place, knowledge, text),
-        CellBelief::Known(_) => false,
-        CellBelief::Told(_) => false,
-        CellBelief::Unknown => false,
-    }
 }
 
 /// Whether the characters of a field are known, and without nulls another text.

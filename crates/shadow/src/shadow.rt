@@ -1,12 +1,12 @@
 //! What a host believes of a terminal's screen.
-ghost use Rattle.std.specs.Prelude.{◌≡◌, ◌<◌, ◌≤◌, ◌+◌, ◌++◌, true, false, Ok, Err, Some, MatchResult, MatchOption, OnOk, OnErr, length, replicate, vec_len, vec_capacity, if◌then◌else◌};
+ghost use Rattle.std.specs.Prelude.{◌≡◌, ◌<◌, ◌≤◌, ◌+◌, ◌++◌, true, false, Ok, Err, Some, MatchResult, MatchOption, OnOk, OnErr, length, replicate, vec_len, vec_capacity, if◌then◌else◌, IfSome};
 ghost use Rattle.codes3270.specs.Size.{cell_count};
 ghost use Rattle.datastream.specs.Grammar.{is_write};
 ghost use Rattle.datastream.specs.InboundFields.{cells_sent};
 ghost use Rattle.datastream.specs.declared.command_code.CommandCode.TheVariants.{Write, EraseWrite};
 ghost use Rattle.datastream.specs.declared.inbound_part.Form.TheVariants.{Buffer};
 ghost use Rattle.shadow.specs.Appending.{WritesSome};
-ghost use Rattle.shadow.specs.Asked.{known_at, fact_at, is_text_at, value_at};
+ghost use Rattle.shadow.specs.Asked.{known_at, fact_at, value_at};
 ghost use Rattle.shadow.specs.Belief.Shadow.{NothingKnown, Unformatted};
 ghost use Rattle.shadow.specs.Fits.{fits};
 ghost use Rattle.shadow.specs.Heard.{heard, heard_parts, heard_short, heard_attention};
@@ -16,7 +16,7 @@ ghost use Rattle.shadow.specs.Seen.{heard_buffer};
 ghost use Rattle.shadow.specs.Stores.{is_plain};
 ghost use Rattle.shadow.specs.Taken.{taken, taken_write, taken_erase};
 
-use crate::asking::{fact_held_at, has_attribute, is_text_held_at, known_held_at, value_held_at};
+use crate::asking::{fact_held_at, has_attribute, known_held_at, value_held_at};
 use crate::buffer::{any_other, put_read};
 use crate::cell_belief::CellBelief;
 use crate::cell_beliefs::CellBeliefs;
@@ -119,24 +119,14 @@ impl Shadow {
     }
 
     /// The character with an index of the text that the fact of a field speaks of. None past its end, and where the fact is
-    /// `Any`.
+    /// `Any`. A text is shorter than the screen.
     pub fn value(&self, attr: Addr, index: usize) -> Option<u8>
-        ensures { result ≡ value_at attr index self.now }
+        ensures value { result ≡ value_at attr index self.now }
+        ensures few { IfSome result (λ char. index < cell_count) }
     {
         match self.held() {
             Some(places) => value_held_at(places, attr.get() as usize, index),
             None => None,
-        }
-    }
-
-    /// Whether the text that the fact of a field speaks of is this one, nulls apart. The fact `Any` speaks of the empty text. False
-    /// if no field is believed to be at the address.
-    pub fn is_text(&self, attr: Addr, text: &[u8]) -> bool
-        ensures { result ≡ is_text_at attr text.now self.now }
-    {
-        match self.held() {
-            Some(places) => is_text_held_at(places, attr.get() as usize, text),
-            None => false,
         }
     }
 

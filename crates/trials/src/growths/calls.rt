@@ -76,7 +76,6 @@ pub(crate) static CALLS: [(&str, Call); 41] = [
     ("panels:Values::clone", Call::Make(Makes::ValuesAgain)),
     ("panels:Values::set,new", Call::Make(Makes::ValueNew)),
     ("panels:Values::set,again", Call::Make(Makes::ValueAgain)),
-    ("panels:Values::set_if", Call::Make(Makes::ValueIfKnown)),
     ("host_core:Host::new", Call::Make(Makes::Host)),
     ("host_core:Host::open", Call::Host(Asks::Open, 0, &[])),
     (

@@ -30,10 +30,8 @@ pub(crate) enum Makes {
     ValuesAgain,
     /// The value of a field that has none yet.
     ValueNew,
-    /// Of a field that has one.
+    /// Of a field that has a shorter one.
     ValueAgain,
-    /// By `set_if`, of a field that has none yet.
-    ValueIfKnown,
     Terminal,
     ScreenLines,
     ScreenText,
@@ -176,7 +174,6 @@ impl Trial for Maker {
             Makes::ValuesAgain => made(self.texts.values.clone()),
             Makes::ValueNew => made(self.texts.values.set(FIELDS, &NOTE)),
             Makes::ValueAgain => made(self.texts.values.set(0, &NOTE)),
-            Makes::ValueIfKnown => made(self.texts.values.set_if(FIELDS, Some(&NOTE))),
             Makes::Terminal => made(Terminal::new(alloc)),
             Makes::ScreenLines => made(screen_lines(alloc, self.terminal.screen())),
             Makes::ScreenText => made(self.terminal.screen_text(alloc)),

@@ -1,8 +1,16 @@
-use Rattle.std.proofs.Common.{◌≡◌, Some}
+use Rattle.std.proofs.Common.{◌≡◌, ◌≤◌, ◌-◌, ℕ, length, Some}
+use Rattle.codes3270.specs.Size.{cell_count}
 use Rattle.shadow.specs.Asked.{field_at, value_of}
 use Rattle.shadow.specs.Belief.{Belief}
 use Rattle.host_core.proofs.Knowing.{IsRead}
 use Rattle.host_core.proofs.learning.text_at.Given as goal
 
-abbrev pub invariant-loop-index : goal.invariant-loop-index
-invariant-loop-index l = (belief : Belief) → field_at l.attr l.shadow ≡ Some belief → IsRead l.text.items (value_of belief.fact) l.index
+abbrev pub measure-loop : goal.measure-loop
+measure-loop l = cell_count - l.index
+
+abbrev pub invariant-loop : goal.invariant-loop
+invariant-loop l = record {
+  within : l.index ≤ cell_count;
+  few : length l.text.items ≤ l.index;
+  read : (belief : Belief) → field_at l.attr l.shadow ≡ Some belief → IsRead l.text.items (value_of belief.fact) l.index;
+}

@@ -6,22 +6,22 @@ use Rattle.shadow.specs.declared.cell_belief.CellBelief.TheVariants.{Known, Told
 use Rattle.shadow.proofs.Placed.{with_found, with_missed}
 use Rattle.shadow.proofs.asking.value_held_at.Goals as goal
 
-pub returns-in-Attr : goal.returns-in-Attr
-returns-in-Attr c =
+pub returns-in-Attr-clause-value : goal.returns-in-Attr-clause-value
+returns-in-Attr-clause-value c =
     let index = c.args.index in
     c.character.ensures ∙ sym (ap (option_and_then (λ (b : Belief). slice_get (value_of b.fact) index)) (with_found c.args.place c.args.places.now c.in-Attr.field-0 c.in-Attr.field-1 c.in-Attr.knowledge (omega arith) c.in-Attr.ensures.place))
 
-pub returns-in-Known : goal.returns-in-Known
-returns-in-Known c =
+pub returns-in-Known-clause-value : goal.returns-in-Known-clause-value
+returns-in-Known-clause-value c =
     let index = c.args.index in
     sym (ap (option_and_then (λ (b : Belief). slice_get (value_of b.fact) index)) (with_missed c.args.place c.args.places.now (Known c.in-Known.field-0) refl (omega arith) c.in-Known.ensures.place))
 
-pub returns-in-Told : goal.returns-in-Told
-returns-in-Told c =
+pub returns-in-Told-clause-value : goal.returns-in-Told-clause-value
+returns-in-Told-clause-value c =
     let index = c.args.index in
     sym (ap (option_and_then (λ (b : Belief). slice_get (value_of b.fact) index)) (with_missed c.args.place c.args.places.now (Told c.in-Told.field-0) refl (omega arith) c.in-Told.ensures.place))
 
-pub returns-in-Unknown : goal.returns-in-Unknown
-returns-in-Unknown c =
+pub returns-in-Unknown-clause-value : goal.returns-in-Unknown-clause-value
+returns-in-Unknown-clause-value c =
     let index = c.args.index in
     sym (ap (option_and_then (λ (b : Belief). slice_get (value_of b.fact) index)) (with_missed c.args.place c.args.places.now Unknown refl (omega arith) c.in-Unknown.ensures.place))
