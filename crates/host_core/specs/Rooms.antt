@@ -7,9 +7,9 @@ use Rattle.tn3270e_msg.specs.Header.{header_length}
 use Rattle.tn3270e_msg.specs.Writing.{reply_room}
 use Rattle.host_core.specs.Messages.{ToTerminal}
 
--- the most bytes of a record that a host sends: a header, and a paint with five bytes for each cell
+-- the most bytes of a record that a host sends: a header, and a paint with three bytes for each cell
 abbrev pub record_room : ℕ
-record_room = header_length + (6 + 5 * cell_count)
+record_room = header_length + (9 + 3 * cell_count)
 
 -- with each byte doubled, and its end
 abbrev pub command_room : ℕ

@@ -2,8 +2,8 @@
 use codes3270::{CELL_COUNT, COLUMNS};
 use tn3270e_msg::HEADER_LENGTH;
 
-/// The most bytes of a record that a host sends: a header, and a paint with five bytes for each cell.
-pub(crate) const RECORD_ROOM: usize = HEADER_LENGTH + (6 + 5 * CELL_COUNT);
+/// The most bytes of a record that a host sends: a header, and a paint with three bytes for each cell.
+pub(crate) const RECORD_ROOM: usize = HEADER_LENGTH + (9 + 3 * CELL_COUNT);
 
 /// Such a record with each byte doubled, and its end.
 pub(crate) const COMMAND_ROOM: usize = 2 * RECORD_ROOM + 2;

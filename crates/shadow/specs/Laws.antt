@@ -79,9 +79,9 @@ PaintedIsKnown = (size : ℕ) (shadow : Shadow) (wanted : WantedScreen) → Know
 abbrev pub PaintIsPlain : Type 0
 PaintIsPlain = (size : ℕ) (shadow : Shadow) (wanted : WantedScreen) → is_plain (paint size shadow wanted) ≡ true
 
--- A paint takes no more than six bytes, and five for each cell.
+-- A paint takes no more than nine bytes, and three for each cell: an SBA comes only behind a cell that isn't stored.
 abbrev pub PaintIsBounded : Type 0
-PaintIsBounded = (size : ℕ) (shadow : Shadow) (wanted : WantedScreen) → length (paint_bytes size shadow wanted) ≤ 6 + 5 * length wanted.cells
+PaintIsBounded = (size : ℕ) (shadow : Shadow) (wanted : WantedScreen) → length wanted.cells ≤ size → length (paint_bytes size shadow wanted) ≤ 9 + 3 * length wanted.cells
 
 -- A paint of a screen of the profile can be spelt, whatever is believed: its bytes are that very command.
 abbrev pub PaintIsSpelt : Type 0

@@ -51,7 +51,7 @@ record_length : (header : Header) (body : List ℕ) → length (spelling header 
 record_length header body = omega arith
 
 -- a paint of so many cells is within the limit
-paint_fits : (whole bytes cells : ℕ) → whole ≡ 5 + bytes → bytes ≤ 6 + 5 * cells → cells ≡ cell_count → whole ≤ record_limit
+paint_fits : (whole bytes cells : ℕ) → whole ≡ 5 + bytes → bytes ≤ 9 + 3 * cells → cells ≡ cell_count → whole ≤ record_limit
 paint_fits whole bytes cells is few size = omega arith
 
 note_spelt : (command : CommandParts) (text : List ℕ) → command ≡ note_command model_2 text → All IsProper command.orders → IsCommand command (written command)
@@ -74,7 +74,7 @@ spells stands bounded (ToTerminal.Paint number wanted believed) suits sound =
       stands = stands number wanted believed (spelling (command_header always_response number) ++ body) body (begins always_response number body (omega arith) sound.number)
           (subst (λ (n : ℕ). IsCommand (paint n believed wanted) (paint_bytes n believed wanted)) (sym sound.screen.size) sound.spelt) suits;
       comes = paint_fits (length (spelling (command_header always_response number) ++ body)) (length body) (length wanted.cells)
-          (record_length (command_header always_response number) body) (bounded (length wanted.cells) believed wanted) sound.screen.size;
+          (record_length (command_header always_response number) body) (bounded (length wanted.cells) believed wanted (omega arith)) sound.screen.size;
     }
 spells stands bounded (ToTerminal.ReadBuffer number) suits sound = record {
   stands = record {

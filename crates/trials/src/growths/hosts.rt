@@ -70,9 +70,9 @@ pub(crate) const READY: usize = 7;
 /// fits no more, the room is doubled.
 pub(crate) const NO_ROOM_FOR_A_REPLY: usize = OUT_ROOM - REPLY_ROOM;
 
-/// The same of the largest command, 19,224 bytes, in the room that is doubled. A Read Buffer and a note are shorter than the largest
+/// The same of the largest command, 11,550 bytes, in the room that is doubled. A Read Buffer and a note are shorter than the largest
 /// reply, for which each byte that is taken leaves room: they never need more.
-pub(crate) const NO_ROOM_FOR_A_COMMAND: usize = 2 * OUT_ROOM - 19_224;
+pub(crate) const NO_ROOM_FOR_A_COMMAND: usize = 2 * OUT_ROOM - 11_550;
 
 /// A host before the call, and the bytes that it is to be fed.
 #[derive(Drop)]

@@ -1,15 +1,22 @@
 use Rattle.std.proofs.Common.{ap, sym, ◌∙◌, arith, refl}
+use Rattle.codes3270.specs.Size.{cell_count}
 use Rattle.shadow.specs.Asked.{value_of}
 use Rattle.std.specs.Prelude.{option_and_then, slice_get}
 use Rattle.shadow.specs.Belief.{Belief}
 use Rattle.shadow.specs.declared.cell_belief.CellBelief.TheVariants.{Known, Told, Unknown}
 use Rattle.shadow.proofs.Placed.{with_found, with_missed}
+use Rattle.shadow.proofs.ShorterTexts.{few_within}
 use Rattle.shadow.proofs.asking.value_held_at.Goals as goal
 
 pub returns-in-Attr-clause-value : goal.returns-in-Attr-clause-value
 returns-in-Attr-clause-value c =
     let index = c.args.index in
     c.character.ensures ∙ sym (ap (option_and_then (λ (b : Belief). slice_get (value_of b.fact) index)) (with_found c.args.place c.args.places.now c.in-Attr.field-0 c.in-Attr.field-1 c.in-Attr.knowledge (omega arith) c.in-Attr.ensures.place))
+
+pub returns-in-Attr-clause-few : goal.returns-in-Attr-clause-few
+returns-in-Attr-clause-few c =
+    few_within c.args.places.now c.args.place c.in-Attr.field-0 c.in-Attr.field-1 c.in-Attr.knowledge c.args.index cell_count c.character.result
+    (omega arith) c.in-Attr.ensures.place c.in-Attr.ensures.whole c.character.ensures
 
 pub returns-in-Known-clause-value : goal.returns-in-Known-clause-value
 returns-in-Known-clause-value c =
