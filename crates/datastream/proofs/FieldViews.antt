@@ -1,8 +1,8 @@
 -- The list of fields, and the attribute nearest before a cell.
-use Rattle.std.proofs.Common.{◌≡◌, ◌⊎◌, ℕ, ◌+◌, ◌-◌, ◌%◌, ◌<◌, ◌≤◌, not, ◌&&◌, Bool, true, false, List, [], ◌∷◌, ◌++◌, length, map, get_or, take, drop, arith, sym, ◌∙◌, ap, refl, inl, inr, suc, zero, Some, None, append_assoc, length-drop, length-append}
+use Rattle.std.proofs.Common.{◌≡◌, ◌⊎◌, ℕ, ◌+◌, ◌-◌, ◌%◌, ◌<◌, ◌≤◌, not, ◌&&◌, Bool, true, false, List, [], ◌∷◌, ◌++◌, length, map, get_or, take, drop, arith, sym, ◌∙◌, ap, refl, inl, inr, suc, zero, Some, None, length-append}
 use Rattle.std.proofs.Math.Nat.{mod-eq_of_lt, mod-lt}
 use Rattle.std.specs.List.{list_all, sum_by, Contains}
-use Rattle.std.proofs.lemmas.List.{take_more, drop_more, take-append-drop}
+use Rattle.std.proofs.lemmas.List.{take-append-drop}
 use Rattle.std.proofs.lemmas.List.Folds.{list_all-append}
 use Rattle.std.proofs.lemmas.List.Sums.{sum_by-cons}
 use Rattle.std.proofs.lemmas.Bool.{cases_lt, cases_eq, cases_Bool, lt-ltb, ltb-true}
@@ -14,44 +14,10 @@ use Rattle.datastream.specs.Fields.{Field, fields, fields_from}
 use Rattle.datastream.specs.FieldLaws.{IsFieldOf, covers}
 use Rattle.datastream.proofs.Rounds.{round_once, behind_ahead, behind_round, back_to}
 use Rattle.datastream.proofs.Texts.{get_or-ring, get_or-text}
+use Rattle.datastream.proofs.FieldWalk.{fields_walked, fields_are_walked, text_stops, at_drop}
 use Rattle.datastream.proofs.Fields.{attribute_over_governed, all_characters_round}
 
 -- ---- a field of the list is one of the screen
-
--- a text ends at the first attribute, whatever lies behind it
-text_stops : (front back : List Cell) → list_all is_char front ≡ false → text_before_attribute (front ++ back) ≡ text_before_attribute front
-text_stops [] back e = cc
-text_stops (Char byte ∷ front) back e = ap (λ (text : List ℕ). byte ∷ text) (text_stops front back e)
-text_stops (Attr attribute ∷ front) back e = refl
-
-has_attribute : (front back : List Cell) (attribute : Attribute) → list_all is_char (front ++ Attr attribute ∷ back) ≡ false
-has_attribute [] back attribute = refl
-has_attribute (Char byte ∷ front) back attribute = has_attribute front back attribute
-has_attribute (Attr other ∷ front) back attribute = refl
-
-heads : (x y : Cell) (xs ys : List Cell) → x ∷ xs ≡ y ∷ ys → (x ≡ y) × (xs ≡ ys)
-heads x y xs ys e = (cc, cc)
-
--- the cell at a place, and those behind it
-at_drop : (whole : List Cell) (at : ℕ) (cell : Cell) (rest : List Cell) → drop at whole ≡ cell ∷ rest → (at < length whole) × (get_or whole at (Char 0) ≡ cell) × (drop (at + 1) whole ≡ rest)
-at_drop whole at cell rest e =
-    let long : length whole - at ≡ suc (length rest) = sym (length-drop at whole) ∙ ap length e in
-    let below : at < length whole = omega arith in
-    let both = heads (get_or whole at (Char 0)) cell (drop (at + 1) whole) rest (sym (drop_more whole at (Char 0) below) ∙ e) in
-    (below, both.0, both.1)
-
--- what lies behind an attribute up to the next one, round the end
-text_is : (whole : List Cell) (at : ℕ) (attribute : Attribute) (rest : List Cell) → drop at whole ≡ Attr attribute ∷ rest → text_before_attribute (rest ++ whole) ≡ field_text whole at
-text_is whole at attribute rest e =
-    let there = at_drop whole at (Attr attribute) rest e in
-    let upto : take (at + 1) whole ≡ take at whole ++ Attr attribute ∷ [] =
-    rw there.1 at (take_more whole at (Char 0) there.0) in
-    let stops : list_all is_char (rest ++ take (at + 1) whole) ≡ false =
-    rw (upto, ← append_assoc rest (take at whole) (Attr attribute ∷ [])) (has_attribute (rest ++ take at whole) [] attribute) in
-    ap (λ (all : List Cell). text_before_attribute (rest ++ all)) (sym (take-append-drop (at + 1) whole))
-    ∙ ap text_before_attribute (sym (append_assoc rest (take (at + 1) whole) (drop (at + 1) whole)))
-    ∙ text_stops (rest ++ take (at + 1) whole) (drop (at + 1) whole) stops
-    ∙ ap (λ (behind : List Cell). text_before_attribute (behind ++ take (at + 1) whole)) (sym there.2)
 
 fields_there : (whole : List Cell) (at : ℕ) (rest : List Cell) (k : ℕ) (d : Field) → drop at whole ≡ rest → k < length (fields_from whole at rest) → IsFieldOf whole (get_or (fields_from whole at rest) k d)
 fields_there whole at [] k d e below = absurd (omega arith)
@@ -59,7 +25,7 @@ fields_there whole at (Char byte ∷ rest) k d e below =
     fields_there whole (at + 1) rest k d (at_drop whole at (Char byte) rest e).2 below
 fields_there whole at (Attr attribute ∷ rest) zero d e below =
     let there = at_drop whole at (Attr attribute) rest e in
-    record { inside = there.0; attribute = there.1; characters = text_is whole at attribute rest e }
+    record { inside = there.0; attribute = there.1; characters = refl }
 fields_there whole at (Attr attribute ∷ rest) (suc k) d e below =
     fields_there whole (at + 1) rest k d (at_drop whole at (Attr attribute) rest e).2 (omega arith)
 
@@ -299,15 +265,15 @@ none_governs cells none at =
 abbrev text_total : List Field → ℕ
 text_total all = sum_by (λ (field : Field). length field.text) all
 
-total_from : (whole : List Cell) (at : ℕ) (rest : List Cell) → length (text_before_attribute (rest ++ whole)) + (text_total (fields_from whole at rest) + length (fields_from whole at rest)) ≡ length rest + length (text_before_attribute whole)
+total_from : (whole : List Cell) (at : ℕ) (rest : List Cell) → length (text_before_attribute (rest ++ whole)) + (text_total (fields_walked whole at rest) + length (fields_walked whole at rest)) ≡ length rest + length (text_before_attribute whole)
 total_from whole at [] = omega arith
 total_from whole at (Char byte ∷ rest) = omega (arith, total_from whole (at + 1) rest)
 total_from whole at (Attr attribute ∷ rest) =
-    let more : text_total (fields_from whole at (Attr attribute ∷ rest)) ≡ length (text_before_attribute (rest ++ whole)) + text_total (fields_from whole (at + 1) rest) =
-    sum_by-cons (λ (field : Field). length field.text) (made at attribute (text_before_attribute (rest ++ whole))) (fields_from whole (at + 1) rest) in
+    let more : text_total (fields_walked whole at (Attr attribute ∷ rest)) ≡ length (text_before_attribute (rest ++ whole)) + text_total (fields_walked whole (at + 1) rest) =
+    sum_by-cons (λ (field : Field). length field.text) (made at attribute (text_before_attribute (rest ++ whole))) (fields_walked whole (at + 1) rest) in
     omega (arith, more, total_from whole (at + 1) rest)
 
 pub fields_total : (cells : List Cell) → list_all is_char cells ≡ false → text_total (fields cells) + length (fields cells) ≡ length cells
 fields_total cells formatted =
     let same : length (text_before_attribute (cells ++ cells)) ≡ length (text_before_attribute cells) = ap length (text_stops cells cells formatted) in
-    omega (arith, same, total_from cells 0 cells)
+    rw (fields_are_walked cells) (omega (arith, same, total_from cells 0 cells))

@@ -1,11 +1,11 @@
 -- What a screen's read writes is read as that screen's data.
-use Rattle.std.proofs.Common.{◌≡◌, ◌==◌, ℕ, ◌+◌, ◌%◌, ◌<◌, List, [], ◌∷◌, ◌++◌, length, get_or, take, drop, map, filter, Bool, true, false, cond, refl, ap, sym, ◌∙◌, Some, None, arith, append_assoc, subst}
+use Rattle.std.proofs.Common.{◌≡◌, ◌==◌, ℕ, ◌+◌, ◌%◌, ◌<◌, List, [], ◌∷◌, ◌++◌, length, map, filter, Bool, true, false, cond, refl, ap, sym, ◌∙◌, Some, None, arith, append_assoc, subst}
 use Rattle.std.specs.Prelude.{All, ◌&&◌, not}
 use Rattle.std.specs.List.{flat_map, list_all}
 use Rattle.std.proofs.Math.Nat.{mod-lt}
 use Rattle.std.proofs.lemmas.Bool.{cond_both, and_from, false≢true}
-use Rattle.std.proofs.lemmas.List.{append-nil, take-append-drop, take_more, drop_more, get_or-drop, length-map}
-use Rattle.std.proofs.lemmas.List.Elements.{All-head, All-tail, All-nil, All-cons, All-append}
+use Rattle.std.proofs.lemmas.List.{append-nil, length-map}
+use Rattle.std.proofs.lemmas.List.Elements.{All-head, All-tail, All-nil, All-cons}
 use Rattle.codes3270.specs.Size.{cell_count}
 use Rattle.codes3270.specs.Address.{address_bytes}
 use Rattle.codes3270.specs.Aid.{byte_of_aid, is_short_aid}
@@ -20,12 +20,13 @@ use Rattle.datastream.specs.declared.inbound_part.Form.TheVariants.{Modified, Al
 use Rattle.datastream.specs.declared.inbound_part.Part.{Part}
 use Rattle.datastream.specs.declared.inbound_part.Part.TheVariants.{At, Char}
 use Rattle.datastream.specs.Grammar.{set_buffer_address}
-use Rattle.datastream.specs.Screen.{Screen, is_char, text_before_attribute, field_text, places_from}
+use Rattle.datastream.specs.Screen.{Screen, is_char, ring, text_before_attribute, field_text, places_from}
 use Rattle.datastream.specs.Fields.{Field, fields_from}
 use Rattle.datastream.specs.Inbound.{without_nulls, is_modified, modified_field, modified_text, read_modified, cell_bytes, read_buffer}
 use Rattle.datastream.specs.InboundText.{is_text_char, IsTextPart, IsPart, AreParts, IsWhole, stands_alone, IsInbound}
 use Rattle.datastream.specs.InboundText.IsInbound.{alone, long}
 use Rattle.datastream.specs.InboundFields.{field_parts, parts_of_fields, part_of_cell, parts_of_cells, lead_of, is_modified_field, returned_field, returned_of, modified_data, buffer_data, IsStorableCell, IsSendable, SentIsRead}
+use Rattle.datastream.proofs.Texts.{All-ring}
 
 -- ---- parts of texts
 
@@ -72,57 +73,22 @@ text_storable (CharCell byte ∷ cells) proper =
     (text_storable cells (All-tail IsStorableCell (CharCell byte) cells proper))
 text_storable (AttrCell attribute ∷ cells) proper = All-nil (λ c. is_storable c ≡ true)
 
--- ---- a field's text, from its attribute on
-
--- what lies behind an attribute doesn't matter
-text_to_attribute : (xs : List Cell) (attribute : Attribute) (ys zs : List Cell) → text_before_attribute (xs ++ AttrCell attribute ∷ ys) ≡ text_before_attribute (xs ++ AttrCell attribute ∷ zs)
-text_to_attribute [] attribute ys zs = refl
-text_to_attribute (CharCell byte ∷ xs) attribute ys zs = ap (λ t. byte ∷ t) (text_to_attribute xs attribute ys zs)
-text_to_attribute (AttrCell other ∷ xs) attribute ys zs = refl
-
-next_drop : (cells : List Cell) (at : ℕ) (cell : Cell) (rest : List Cell) → at < length cells → drop at cells ≡ cell ∷ rest → drop (at + 1) cells ≡ rest
-next_drop cells at cell rest below left = tail_is (get_or cells at cell) cell (drop (at + 1) cells) rest (sym (drop_more cells at cell below) ∙ left)
-  where
-    tail_is : (x y : Cell) (xs ys : List Cell) → x ∷ xs ≡ y ∷ ys → xs ≡ ys
-    tail_is x y xs ys e = cc
-
-cell_at : (cells : List Cell) (at : ℕ) (cell : Cell) (rest : List Cell) → drop at cells ≡ cell ∷ rest → get_or cells at cell ≡ cell
-cell_at cells at cell rest left =
-    let there : at + 0 ≡ at = omega arith in
-    sym (rw there at (get_or-drop at cells 0 cell)) ∙ ap (λ cs. get_or cs 0 cell) left
-
-same_text : (cells : List Cell) (at : ℕ) (attribute : Attribute) (rest : List Cell) → at < length cells → drop at cells ≡ AttrCell attribute ∷ rest
-    → field_text cells at ≡ text_before_attribute (rest ++ cells)
-same_text cells at attribute rest below left =
-    let behind : drop (at + 1) cells ≡ rest = next_drop cells at (AttrCell attribute) rest below left in
-    let front : take (at + 1) cells ≡ take at cells ++ AttrCell attribute ∷ [] =
-    take_more cells at (AttrCell attribute) below ∙ ap (λ c. take at cells ++ c ∷ []) (cell_at cells at (AttrCell attribute) rest left) in
-    let whole : cells ≡ take at cells ++ AttrCell attribute ∷ rest = sym (take-append-drop at cells) ∙ ap (λ cs. take at cells ++ cs) left in
-    let once : rest ++ (take at cells ++ AttrCell attribute ∷ []) ≡ (rest ++ take at cells) ++ AttrCell attribute ∷ [] = sym (append_assoc rest (take at cells) (AttrCell attribute ∷ [])) in
-    let again : rest ++ (take at cells ++ AttrCell attribute ∷ rest) ≡ (rest ++ take at cells) ++ AttrCell attribute ∷ rest = sym (append_assoc rest (take at cells) (AttrCell attribute ∷ rest)) in
-    ap (λ cs. text_before_attribute (cs ++ take (at + 1) cells)) behind
-    ∙ ap (λ cs. text_before_attribute (rest ++ cs)) front
-    ∙ ap text_before_attribute once
-    ∙ text_to_attribute (rest ++ take at cells) attribute [] rest
-    ∙ ap text_before_attribute (sym again)
-    ∙ ap (λ cs. text_before_attribute (rest ++ cs)) (sym whole)
-
 -- ---- the modified fields
 
-field_is_parts : (form : Form) (cells : List Cell) (at : ℕ) (attribute : Attribute) (rest : List Cell) → (form ≡ Buffer → ⊥) → length cells ≡ cell_count
-    → All IsStorableCell cells → All IsStorableCell rest → at < length cells → drop at cells ≡ AttrCell attribute ∷ rest
-    → AreParts form (field_parts (returned_field (length cells) (record { place = at; attr = attribute; text = text_before_attribute (rest ++ cells) }))) (modified_field cells at)
-field_is_parts form cells at attribute rest other size storable storable_rest below left =
+field_is_parts : (form : Form) (cells : List Cell) (at : ℕ) (attribute : Attribute) → (form ≡ Buffer → ⊥) → length cells ≡ cell_count
+    → All IsStorableCell cells → at < length cells
+    → AreParts form (field_parts (returned_field (length cells) (record { place = at; attr = attribute; text = field_text cells at }))) (modified_field cells at)
+field_is_parts form cells at attribute other size storable below =
     let first : ℕ = (at + 1) % length cells in
     let positive : 0 < length cells = omega arith in
     let in_range : first < cell_count = subst (λ n. first < n) size (mod-lt (at + 1) positive) in
-    let text : List ℕ = without_nulls (text_before_attribute (rest ++ cells)) in
-    let proper : All (λ char. is_text_char char ≡ true) text = text_chars _ (text_storable (rest ++ cells) (All-append IsStorableCell rest cells storable_rest storable)) in (
+    let text : List ℕ = without_nulls (field_text cells at) in
+    let proper : All (λ char. is_text_char char ≡ true) text = text_chars _ (text_storable (ring (at + 1) cells) (All-ring IsStorableCell (at + 1) cells storable)) in (
       set_buffer_address ∷ address_bytes first,
       text,
       text_part form (At first) (set_buffer_address ∷ address_bytes first) other (_, _, (sym (address_read_back first in_range), in_range), refl),
       chars_are_parts form text other proper,
-      ap (λ t. set_buffer_address ∷ address_bytes first ++ without_nulls t) (same_text cells at attribute rest below left),
+      refl,
     )
 
 abbrev sent_from : List Cell → ℕ → List Cell → List Part
@@ -132,19 +98,17 @@ abbrev written_from : List Cell → ℕ → List Cell → List ℕ
 written_from cells at rest = flat_map (modified_field cells) (places_from is_modified at rest)
 
 fields_are_parts : (form : Form) (cells : List Cell) (at : ℕ) (rest : List Cell) → (form ≡ Buffer → ⊥) → length cells ≡ cell_count
-    → All IsStorableCell cells → All IsStorableCell rest → at + length rest ≡ length cells → drop at cells ≡ rest
+    → All IsStorableCell cells → at + length rest ≡ length cells
     → AreParts form (sent_from cells at rest) (written_from cells at rest)
-fields_are_parts form cells at [] other size storable storable_rest ends left = refl
-fields_are_parts form cells at (CharCell byte ∷ rest) other size storable storable_rest ends left =
-    fields_are_parts form cells (at + 1) rest other size storable (All-tail IsStorableCell (CharCell byte) rest storable_rest) (omega arith)
-    (next_drop cells at (CharCell byte) rest (omega arith) left)
-fields_are_parts form cells at (AttrCell attribute ∷ rest) other size storable storable_rest ends left =
-    let storable_tail : All IsStorableCell rest = All-tail IsStorableCell (AttrCell attribute) rest storable_rest in
-    let field : Field = record { place = at; attr = attribute; text = text_before_attribute (rest ++ cells) } in
+fields_are_parts form cells at [] other size storable ends = refl
+fields_are_parts form cells at (CharCell byte ∷ rest) other size storable ends =
+    fields_are_parts form cells (at + 1) rest other size storable (omega arith)
+fields_are_parts form cells at (AttrCell attribute ∷ rest) other size storable ends =
+    let field : Field = record { place = at; attr = attribute; text = field_text cells at } in
     let others : AreParts form (sent_from cells (at + 1) rest) (written_from cells (at + 1) rest) =
-    fields_are_parts form cells (at + 1) rest other size storable storable_tail (omega arith) (next_drop cells at (AttrCell attribute) rest (omega arith) left) in
+    fields_are_parts form cells (at + 1) rest other size storable (omega arith) in
     one_more attribute.mdt field others
-    (field_is_parts form cells at attribute rest other size storable storable_tail (omega arith) left)
+    (field_is_parts form cells at attribute other size storable (omega arith))
   where
     one_more : (modified : Bool) (field : Field) → AreParts form (sent_from cells (at + 1) rest) (written_from cells (at + 1) rest)
         → AreParts form (field_parts (returned_field (length cells) field)) (modified_field cells at)
@@ -169,7 +133,7 @@ text_is_parts form cells other size storable = by (list_all is_char cells) refl
         let nothing : returned_of cells ≡ [] = ap (λ fs. map (returned_field (length cells)) (filter is_modified_field fs)) (no_fields cells 0 cells none) in
         let are : AreParts form (map Char text) text = chars_are_parts form text other (text_chars _ (text_storable cells storable)) in
         subst (λ fs. AreParts form (parts_of_fields text fs) text) (sym nothing) (subst (λ ps. AreParts form ps text) (sym (append-nil (map Char text))) are)
-    by false some = fields_are_parts form cells 0 cells other size storable storable (omega arith) refl
+    by false some = fields_are_parts form cells 0 cells other size storable (omega arith)
 
 -- ---- Read Modified
 

@@ -9,6 +9,7 @@ pub mod Places
 pub mod Fields
 pub mod OrderPlaces
 pub mod Texts
+pub mod FieldWalk
 pub mod FieldViews
 pub mod HeldRounds
 pub mod Notes

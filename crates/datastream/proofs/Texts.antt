@@ -1,7 +1,9 @@
 -- A field's text by places, and what depends on attributes alone.
 use Rattle.std.proofs.Common.{◌≡◌, ℕ, ◌+◌, ◌-◌, ◌%◌, ◌<◌, ◌≤◌, List, [], ◌∷◌, length, get_or, take, drop, map, arith, ◌∙◌, refl, inl, inr, suc, zero, length-drop}
+use Rattle.std.specs.List.{All}
 use Rattle.std.proofs.Math.Nat.{mod-eq_of_lt}
 use Rattle.std.proofs.lemmas.List.{get_or_append_left, get_or-append_right, get_or-drop, get_or-take}
+use Rattle.std.proofs.lemmas.List.Elements.{All-append, All-take, All-drop}
 use Rattle.std.proofs.lemmas.Bool.{cases_lt}
 use Rattle.codes3270.specs.declared.attribute.Cell.{Cell}
 use Rattle.codes3270.specs.declared.attribute.Cell.TheVariants.{Char, Attr}
@@ -22,6 +24,10 @@ get_or-ring cells from i d f below =
           (get_or-append_right (drop from cells) (take from cells) (length cells - from) i d back (omega arith)
           ∙ get_or-take from cells (i - (length cells - from)) d (omega arith))
     ]
+
+-- what holds of all cells does so from any address on
+pub All-ring : (P : Cell → Type 0) (from : ℕ) (cells : List Cell) → All P cells → All P (ring from cells)
+All-ring P from cells each = All-append P (drop from cells) (take from cells) (All-drop P from cells each) (All-take P from cells each)
 
 -- character i of a text is what its cell holds
 pub get_or-text : (cells : List Cell) (i : ℕ) (d : Cell) → i < length (text_before_attribute cells) → get_or cells i d ≡ Char (get_or (text_before_attribute cells) i 0)

@@ -1,9 +1,9 @@
 -- The fields of a screen as a list (GA23-0059-07 on fields): each once, in the order of their attributes' addresses.
-use Rattle.std.specs.Prelude.{◌≡◌, ℕ, ◌+◌, List, [], ◌∷◌, ◌++◌}
+use Rattle.std.specs.Prelude.{◌≡◌, ℕ, ◌+◌, List, [], ◌∷◌}
 use Rattle.codes3270.specs.declared.attribute.Cell.{Cell}
 use Rattle.codes3270.specs.declared.attribute.Cell.TheVariants.{Char, Attr}
 use Rattle.codes3270.specs.declared.attribute.Attr.{Attr as Attribute}
-use Rattle.datastream.specs.Screen.{text_before_attribute}
+use Rattle.datastream.specs.Screen.{field_text}
 
 -- a field: the address of its attribute, the attribute, its characters
 pub record Field : Type 0 where
@@ -11,13 +11,12 @@ pub record Field : Type 0 where
   pub attr : Attribute
   pub text : List ℕ
 
--- the fields whose attributes are in `rest`, the cells of `whole` from an address on: the characters of a field run from
--- the next cell to the next attribute, and continue at address 0 after the last cell
+-- the fields of `cells` whose attributes are in `rest`, the cells from an address on
 abbrev pub fields_from : List Cell → ℕ → List Cell → List Field
-fields_from whole at [] = []
-fields_from whole at (Char byte ∷ rest) = fields_from whole (at + 1) rest
-fields_from whole at (Attr attribute ∷ rest) =
-    record { place = at; attr = attribute; text = text_before_attribute (rest ++ whole) } ∷ fields_from whole (at + 1) rest
+fields_from cells at [] = []
+fields_from cells at (Char byte ∷ rest) = fields_from cells (at + 1) rest
+fields_from cells at (Attr attribute ∷ rest) =
+    record { place = at; attr = attribute; text = field_text cells at } ∷ fields_from cells (at + 1) rest
 
 -- all fields of these cells
 abbrev pub fields : List Cell → List Field

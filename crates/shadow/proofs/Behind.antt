@@ -7,7 +7,8 @@ use Rattle.codes3270.specs.declared.attribute.Attr.{Attr as Attribute}
 use Rattle.codes3270.specs.declared.attribute.Cell.{Cell}
 use Rattle.codes3270.specs.declared.attribute.Cell.TheVariants.{Char, Attr}
 use Rattle.datastream.specs.Screen.{text_before_attribute}
-use Rattle.datastream.specs.Fields.{Field, fields, fields_from}
+use Rattle.datastream.specs.Fields.{Field, fields}
+use Rattle.datastream.proofs.FieldWalk.{fields_walked, fields_are_walked}
 use Rattle.shadow.specs.declared.mdt_state.MdtState.{MdtState}
 use Rattle.shadow.specs.declared.known.Known.{Known}
 use Rattle.shadow.specs.declared.known.Known.TheVariants.{Attr as KnownAttr}
@@ -21,7 +22,7 @@ use Rattle.shadow.proofs.HeardOthers.{chars_known}
 use Rattle.shadow.proofs.LaidOut.{CellFits, laid_out_fits, first_at}
 
 -- where an attribute stands ahead, what follows doesn't matter
-text_inner : (whole more : List Cell) (n : ℕ) (rest : List Cell) → (fields_from whole n rest ≡ [] → ⊥) → text_before_attribute (rest ++ more) ≡ text_before_attribute rest
+text_inner : (whole more : List Cell) (n : ℕ) (rest : List Cell) → (fields_walked whole n rest ≡ [] → ⊥) → text_before_attribute (rest ++ more) ≡ text_before_attribute rest
 text_inner whole more n [] h = absurd (h refl)
 text_inner whole more n (Char c ∷ rest) h = ap (λ (cs : List ℕ). c ∷ cs) (text_inner whole more (n + 1) rest h)
 text_inner whole more n (Attr a ∷ rest) h = refl
@@ -39,7 +40,7 @@ record Stands (first : ℕ) (flat : List Known) (place len : ℕ) (fact : Fact) 
   pub split : flat ≡ front ++ KnownAttr attr mark ∷ (map old_char (known_chars len fact) ++ flat_map field_cells others)
   pub placed : first + length front ≡ place
 
-stands : (whole : List Cell) (n : ℕ) (rest : List Cell) (bs : List Belief) → Pairwise FieldMeets bs (fields_from whole n rest)
+stands : (whole : List Cell) (n : ℕ) (rest : List Cell) (bs : List Belief) → Pairwise FieldMeets bs (fields_walked whole n rest)
     → (first : ℕ) (front : List Known) → first + length front ≡ n + length (text_before_attribute rest) → (place len : ℕ) (fact : Fact) → fact_before bs place len ≡ Some fact
     → Stands first (front ++ flat_map field_cells bs) place len fact × (place < n + length rest)
 stands whole n [] [] h first front at place len fact e = absurd (cc)
@@ -78,7 +79,7 @@ stands whole n (Attr a ∷ rest) (b ∷ bs) h first front at place len fact e =
     cases true test found others is later = here test (cc)
     cases false test found [] is later = absurd (let none = ap (λ (ds : List Belief). fact_before ds place len) is in cc)
     cases false test found (d ∷ others) is later =
-        let some : fields_from whole (n + 1) rest ≡ [] → ⊥ = λ none. subst (Pairwise FieldMeets (d ∷ others)) none (subst (λ (ds : List Belief). Pairwise FieldMeets ds (fields_from whole (n + 1) rest)) is h.1) in
+        let some : fields_walked whole (n + 1) rest ≡ [] → ⊥ = λ none. subst (Pairwise FieldMeets (d ∷ others)) none (subst (λ (ds : List Belief). Pairwise FieldMeets ds (fields_walked whole (n + 1) rest)) is h.1) in
         let long = length-field_cells b (record { place = n; attr = a; text = text_before_attribute (rest ++ whole) }) h.0 in
         let inner = ap length (text_inner whole whole (n + 1) rest some) in
         let same_length = h.0.same_length in
@@ -135,7 +136,7 @@ behind size cells bs whole h some place len fact found =
     let flat : List Known = flat_map field_cells bs in
     let first : ℕ = first_place bs in
     let first_is = first_at cells 0 cells bs h some in
-    let all = stands cells 0 cells bs h first [] (omega arith) place len fact found in
+    let all = stands cells 0 cells bs (subst (Pairwise FieldMeets bs) (fields_are_walked cells) h) first [] (omega arith) place len fact found in
     let within = all.1 in
     let placed = all.0.placed in
     let laid = pairwise-length CellFits (laid_out size bs) cells (laid_out_fits size cells bs whole h some) in

@@ -6,7 +6,8 @@ use Rattle.codes3270.specs.declared.attribute.Cell.{Cell}
 use Rattle.codes3270.specs.declared.attribute.Cell.TheVariants.{Char, Attr}
 use Rattle.codes3270.specs.declared.attribute.Attr.{Attr as Attribute}
 use Rattle.datastream.specs.Screen.{last_attribute, text_before_attribute}
-use Rattle.datastream.specs.Fields.{Field, fields_from}
+use Rattle.datastream.specs.Fields.{Field, fields}
+use Rattle.datastream.proofs.FieldWalk.{fields_walked, fields_are_walked}
 use Rattle.datastream.specs.Held.{Hold, hold_of, hold_under, CharHeld, Held}
 use Rattle.datastream.specs.HeldRound.{HeldFrom, HeldRound}
 use Rattle.datastream.proofs.HeldRounds.{held_round}
@@ -75,7 +76,7 @@ untouched_held false false true l f h k p off = h
 untouched_held false false false l f h k p off = (k refl, h)
 
 held_fields : (e : Bool) (wo wn : List Cell) → HeldFrom e (hold_after e Hold.Free wn) wo wn → (n : ℕ) (h : Hold) (ro rn : List Cell) → hold_after e h rn ≡ hold_after e Hold.Free wn → HeldFrom e h ro rn
-    → Pairwise (FieldKeyed e) (fields_from wo n ro) (fields_from wn n rn)
+    → Pairwise (FieldKeyed e) (fields_walked wo n ro) (fields_walked wn n rn)
 held_fields e wo wn w n h [] [] last r = tt
 held_fields e wo wn w n h [] (x ∷ rn) last r = absurd r
 held_fields e wo wn w n h (x ∷ ro) [] last r = absurd r
@@ -115,7 +116,9 @@ round_keyed e left now r =
     let again : hold_after e (hold_under e (last_attribute now)) now ≡ hold_after e Hold.Free now =
     after_last e (last_attribute now) now ∙ ap (hold_under e) (last_twice (last_attribute now)) ∙ sym first in (
       held-length e (hold_under e (last_attribute now)) left now r,
-      held_fields e left now (subst (λ h. HeldFrom e h left now) (sym first) r) 0 (hold_under e (last_attribute now)) left now again r,
+      subst (λ fs. Pairwise (FieldKeyed e) fs (fields now)) (sym (fields_are_walked left))
+          (subst (Pairwise (FieldKeyed e) (fields_walked left 0 left)) (sym (fields_are_walked now))
+          (held_fields e left now (subst (λ h. HeldFrom e h left now) (sym first) r) 0 (hold_under e (last_attribute now)) left now again r)),
     )
 
 pub held_keyed : (e : Bool) (left now : List Cell) → Held e left now → Keyed e left now

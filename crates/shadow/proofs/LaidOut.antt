@@ -9,6 +9,7 @@ use Rattle.codes3270.specs.WriteControl.{wcc_of}
 use Rattle.datastream.specs.Grammar.{CommandParts, IsCommand, write, other, IsSpelt, is_write}
 use Rattle.datastream.specs.Screen.{Screen, text_before_attribute, blank_screen}
 use Rattle.datastream.specs.Fields.{Field, fields, fields_from}
+use Rattle.datastream.proofs.FieldWalk.{fields_walked, fields_are_walked}
 use Rattle.datastream.specs.Meaning.{unmodified, prepared, written, cleared, after_code, after_command}
 use Rattle.datastream.specs.declared.order.Order.{Order}
 use Rattle.datastream.specs.declared.command_code.CommandCode.{CommandCode}
@@ -75,13 +76,13 @@ parted (Char c ∷ cells) = ap (λ cs. Char c ∷ cs) (parted cells)
 parted (Attr a ∷ cells) = refl
 
 -- the last field goes on at address 0
-ring_last : (whole more : List Cell) (n : ℕ) (rest : List Cell) → fields_from whole n rest ≡ [] → char_cells (text_before_attribute (rest ++ more)) ≡ rest ++ char_cells (text_before_attribute more)
+ring_last : (whole more : List Cell) (n : ℕ) (rest : List Cell) → fields_walked whole n rest ≡ [] → char_cells (text_before_attribute (rest ++ more)) ≡ rest ++ char_cells (text_before_attribute more)
 ring_last whole more n [] e = refl
 ring_last whole more n (Char c ∷ rest) e = ap (λ cs. Char c ∷ cs) (ring_last whole more (n + 1) rest e)
 ring_last whole more n (Attr a ∷ rest) e = absurd (cc)
 
 -- Any other ends at the next attribute
-ring_inner : (whole more : List Cell) (n : ℕ) (rest : List Cell) → (fields_from whole n rest ≡ [] → ⊥) → char_cells (text_before_attribute (rest ++ more)) ++ from_attr rest ≡ rest
+ring_inner : (whole more : List Cell) (n : ℕ) (rest : List Cell) → (fields_walked whole n rest ≡ [] → ⊥) → char_cells (text_before_attribute (rest ++ more)) ++ from_attr rest ≡ rest
 ring_inner whole more n [] h = absurd (h refl)
 ring_inner whole more n (Char c ∷ rest) h = ap (λ cs. Char c ∷ cs) (ring_inner whole more (n + 1) rest h)
 ring_inner whole more n (Attr a ∷ rest) h = refl
@@ -95,22 +96,22 @@ old_chars_fit (k ∷ ks) (c ∷ cs) h = ((h.0, λ _. refl), old_chars_fit ks cs 
 no_beliefs : (bs : List Belief) (fs : List Field) → Pairwise FieldMeets bs fs → fs ≡ [] → bs ≡ []
 no_beliefs = none_left FieldMeets
 
-fields_fit : (whole : List Cell) (n : ℕ) (rest : List Cell) (bs : List Belief) → Pairwise FieldMeets bs (fields_from whole n rest) → (fields_from whole n rest ≡ [] → ⊥)
+fields_fit : (whole : List Cell) (n : ℕ) (rest : List Cell) (bs : List Belief) → Pairwise FieldMeets bs (fields_walked whole n rest) → (fields_walked whole n rest ≡ [] → ⊥)
     → Pairwise CellFits (flat_map field_cells bs) (from_attr rest ++ char_cells (text_before_attribute whole))
 fields_fit whole n [] bs h some = absurd (some refl)
 fields_fit whole n (Char c ∷ rest) bs h some = fields_fit whole (n + 1) rest bs h some
 fields_fit whole n (Attr a ∷ rest) [] h some = absurd h
-fields_fit whole n (Attr a ∷ rest) (b ∷ bs) h some = ((h.0.same_attr, h.0.mark_is), cases (fields_from whole (n + 1) rest) refl (fields_fit whole (n + 1) rest bs h.1))
+fields_fit whole n (Attr a ∷ rest) (b ∷ bs) h some = ((h.0.same_attr, h.0.mark_is), cases (fields_walked whole (n + 1) rest) refl (fields_fit whole (n + 1) rest bs h.1))
   where
     mine : Pairwise CellFits (map old_char (known_chars b.length b.fact)) (char_cells (text_before_attribute (rest ++ whole)))
     mine = old_chars_fit _ _ (chars_known b.length b.fact (text_before_attribute (rest ++ whole)) h.0.same_length h.0.holds)
 
-    cases : (fs : List Field) → fields_from whole (n + 1) rest ≡ fs
-        → ((fields_from whole (n + 1) rest ≡ [] → ⊥) → Pairwise CellFits (flat_map field_cells bs) (from_attr rest ++ char_cells (text_before_attribute whole)))
+    cases : (fs : List Field) → fields_walked whole (n + 1) rest ≡ fs
+        → ((fields_walked whole (n + 1) rest ≡ [] → ⊥) → Pairwise CellFits (flat_map field_cells bs) (from_attr rest ++ char_cells (text_before_attribute whole)))
         → Pairwise CellFits (map old_char (known_chars b.length b.fact) ++ flat_map field_cells bs) (rest ++ char_cells (text_before_attribute whole))
-    cases [] e ih = rw (no_beliefs bs (fields_from whole (n + 1) rest) h.1 e, append-nil, ← ring_last whole whole (n + 1) rest e) mine
+    cases [] e ih = rw (no_beliefs bs (fields_walked whole (n + 1) rest) h.1 e, append-nil, ← ring_last whole whole (n + 1) rest e) mine
     cases (f ∷ fs) e ih =
-        let some : fields_from whole (n + 1) rest ≡ [] → ⊥ = λ none. absurd (cc) in
+        let some : fields_walked whole (n + 1) rest ≡ [] → ⊥ = λ none. absurd (cc) in
         subst (Pairwise CellFits (map old_char (known_chars b.length b.fact) ++ flat_map field_cells bs))
         (sym (append_assoc (char_cells (text_before_attribute (rest ++ whole))) (from_attr rest) (char_cells (text_before_attribute whole))) ∙ ap (λ cs. cs ++ char_cells (text_before_attribute whole)) (ring_inner whole whole (n + 1) rest some))
         (pairwise-append CellFits _ _ _ _ mine (ih some))
@@ -124,7 +125,8 @@ first_at whole n (Attr a ∷ rest) (b ∷ bs) h some = let same = h.0.same_place
 
 pub laid_out_fits : (size : ℕ) (cells : List Cell) (bs : List Belief) → length cells ≡ size → Pairwise FieldMeets bs (fields cells) → (fields cells ≡ [] → ⊥) → Pairwise CellFits (laid_out size bs) cells
 laid_out_fits size cells bs whole h some =
-    let flat = fields_fit cells 0 cells bs h some in
+    let walked = fields_are_walked cells in
+    let flat = fields_fit cells 0 cells bs (subst (Pairwise FieldMeets bs) walked h) (λ none. some (walked ∙ none)) in
     let first = first_at cells 0 cells bs h some in
     let tail : length (from_attr cells) ≡ size - first_place bs =
     omega (arith, length-append (char_cells (text_before_attribute cells)) (from_attr cells), length-char_cells (text_before_attribute cells), ap length (parted cells)) in

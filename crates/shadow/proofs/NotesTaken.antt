@@ -13,7 +13,7 @@ use Rattle.datastream.specs.Grammar.{CommandParts, is_write}
 use Rattle.datastream.specs.Held.{without_mdt}
 use Rattle.datastream.specs.Inbound.{without_nulls}
 use Rattle.datastream.specs.Meaning.{unmodified, prepared, written, after_command}
-use Rattle.datastream.specs.Screen.{Screen, is_char, is_char_at, last_attribute, text_before_attribute}
+use Rattle.datastream.specs.Screen.{Screen, is_char, is_char_at, last_attribute, field_text}
 use Rattle.datastream.specs.declared.order.Order.{Order}
 use Rattle.datastream.specs.declared.command_code.CommandCode.{CommandCode}
 use Rattle.datastream.specs.declared.command_code.CommandCode.TheVariants.{Write, EraseWrite, EraseWriteAlternate, ReadBuffer, ReadModified, ReadModifiedAll, EraseAllUnprotected}
@@ -127,7 +127,7 @@ pub record IsRest (bs : List Belief) (whole : List Cell) (olds : List Known) (n 
   pub governs : option_or (last_attribute cells) over ≡ last_attribute whole
 
 one_kept : (bs : List Belief) (whole : List Cell) (olds news : List Known) → IsWritten bs whole olds news
-    → (n : ℕ) (a : Attribute) (cells : List Cell) (b : Belief) (rest : List Belief) (k x : Attribute) (ro rn : List Known) → FieldMeets b (record { place = n; attr = a; text = text_before_attribute (cells ++ whole) })
+    → (n : ℕ) (a : Attribute) (cells : List Cell) (b : Belief) (rest : List Belief) (k x : Attribute) (ro rn : List Known) → FieldMeets b (record { place = n; attr = a; text = field_text whole n })
     → without_mdt a ≡ k → k ≡ x → Pairwise Follows ro rn → ro ≡ drop (n + 1) olds → fact_before bs n b.length ≡ Some b.fact → Closed (Some a) cells rn → option_or (last_attribute cells) (Some a) ≡ last_attribute whole
     → (x ≡ b.attr) × (x.protected ≡ false → fact_after bs n (rn ++ news) ≡ b.fact)
 one_kept bs whole olds news all n a cells b rest k x ro rn meets attr_is same follows is at closed governs = (attribute, fact)
@@ -141,7 +141,7 @@ one_kept bs whole olds news all n a cells b rest k x ro rn meets attr_is same fo
     long : length (known_ahead (rn ++ news)) ≡ b.length
     long =
         same_length (ro ++ olds) (rn ++ news) (pairwise-append Follows ro rn olds news follows all.follows) ∙ ap length ring
-        ∙ sym (pairwise-length KnownIs _ _ (chars_known b.length b.fact (text_before_attribute (cells ++ whole)) meets.same_length meets.holds)) ∙ meets.same_length
+        ∙ sym (pairwise-length KnownIs _ _ (chars_known b.length b.fact (field_text whole n) meets.same_length meets.holds)) ∙ meets.same_length
 
     fact : x.protected ≡ false → fact_after bs n (rn ++ news) ≡ b.fact
     fact free =

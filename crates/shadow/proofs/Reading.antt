@@ -6,7 +6,8 @@ use Rattle.codes3270.specs.declared.attribute.Attr.{Attr as Attribute}
 use Rattle.codes3270.specs.declared.attribute.Cell.{Cell}
 use Rattle.codes3270.specs.declared.attribute.Cell.TheVariants.{Char, Attr as AttrCell}
 use Rattle.datastream.specs.Screen.{text_before_attribute}
-use Rattle.datastream.specs.Fields.{Field, fields, fields_from}
+use Rattle.datastream.specs.Fields.{Field, fields}
+use Rattle.datastream.proofs.FieldWalk.{fields_walked, fields_are_walked}
 use Rattle.datastream.specs.Held.{without_mdt}
 use Rattle.shadow.specs.declared.cell_belief.TextKnowledge.TheVariants.{Cells}
 use Rattle.shadow.specs.declared.cell_belief.CellBelief.{CellBelief}
@@ -69,7 +70,7 @@ read_text [] (AttrCell a ∷ more) = refl
 read_text (Char c ∷ cells) more = ap (λ cs. c ∷ cs) (read_text cells more)
 read_text (AttrCell a ∷ cells) more = refl
 
-later_read : (b : Belief) (bs : List Belief) (screen : List Cell) (m : ℕ) (cells : List Cell) → b.place < m → others (b ∷ bs) (fields_from screen m cells) ≡ true
+later_read : (b : Belief) (bs : List Belief) (screen : List Cell) (m : ℕ) (cells : List Cell) → b.place < m → others (b ∷ bs) (fields_walked screen m cells) ≡ true
 later_read b bs screen m [] later = refl
 later_read b bs screen m (Char c ∷ cells) later = later_read b bs screen (m + 1) cells (omega arith)
 later_read b bs screen m (AttrCell a ∷ cells) later = rw (ne_eqb m b.place (λ e. omega arith)) refl
@@ -83,18 +84,18 @@ later_held f fs whole m (Unknown ∷ ps) later = later_held f fs whole (m + 1) p
 
 abbrev OtherOn : List CellBelief → List Cell → ℕ → CellBelief → List CellBelief → Cell → List Cell → Bool
 OtherOn whole screen n p ps c cells =
-    other_here p (place_stored c) (ps ++ whole) (places_stored cells ++ places_stored screen) || others (beliefs_held whole (n + 1) ps) (fields_from screen (n + 1) cells)
+    other_here p (place_stored c) (ps ++ whole) (places_stored cells ++ places_stored screen) || others (beliefs_held whole (n + 1) ps) (fields_walked screen (n + 1) cells)
 
 other_on : (whole : List CellBelief) (screen : List Cell) (n : ℕ) (p : CellBelief) (ps : List CellBelief) (c : Cell) (cells : List Cell) → AreHeld whole (p ∷ ps)
-    → others (beliefs_held whole n (p ∷ ps)) (fields_from screen n (c ∷ cells)) ≡ OtherOn whole screen n p ps c cells
+    → others (beliefs_held whole n (p ∷ ps)) (fields_walked screen n (c ∷ cells)) ≡ OtherOn whole screen n p ps c cells
 other_on whole screen n (Attr a m t) ps (AttrCell b) cells held =
     rw (eq-eqb n n refl)
-    (ap (λ (ks : List (Option ℕ)). (not (same_attr b a) || (a.protected && differs ks (text_before_attribute (cells ++ screen)))) || others (beliefs_held whole (n + 1) ps) (fields_from screen (n + 1) cells)) held.0
-    ∙ ap (λ (text : List ℕ). (not (same_attr b a) || (a.protected && differs (chars_known (ps ++ whole)) text)) || others (beliefs_held whole (n + 1) ps) (fields_from screen (n + 1) cells)) (sym (read_text cells screen)))
+    (ap (λ (ks : List (Option ℕ)). (not (same_attr b a) || (a.protected && differs ks (text_before_attribute (cells ++ screen)))) || others (beliefs_held whole (n + 1) ps) (fields_walked screen (n + 1) cells)) held.0
+    ∙ ap (λ (text : List ℕ). (not (same_attr b a) || (a.protected && differs (chars_known (ps ++ whole)) text)) || others (beliefs_held whole (n + 1) ps) (fields_walked screen (n + 1) cells)) (sym (read_text cells screen)))
 other_on whole screen n (Attr a m t) ps (Char c) cells held = later_read (belief_held n a m t (ps ++ whole)) (beliefs_held whole (n + 1) ps) screen (n + 1) cells (omega arith)
-other_on whole screen n (Known k) ps (AttrCell b) cells held = later_held (record { place = n; attr = b; text = text_before_attribute (cells ++ screen) }) (fields_from screen (n + 1) cells) whole (n + 1) ps (omega arith)
-other_on whole screen n (Told k) ps (AttrCell b) cells held = later_held (record { place = n; attr = b; text = text_before_attribute (cells ++ screen) }) (fields_from screen (n + 1) cells) whole (n + 1) ps (omega arith)
-other_on whole screen n Unknown ps (AttrCell b) cells held = later_held (record { place = n; attr = b; text = text_before_attribute (cells ++ screen) }) (fields_from screen (n + 1) cells) whole (n + 1) ps (omega arith)
+other_on whole screen n (Known k) ps (AttrCell b) cells held = later_held (record { place = n; attr = b; text = text_before_attribute (cells ++ screen) }) (fields_walked screen (n + 1) cells) whole (n + 1) ps (omega arith)
+other_on whole screen n (Told k) ps (AttrCell b) cells held = later_held (record { place = n; attr = b; text = text_before_attribute (cells ++ screen) }) (fields_walked screen (n + 1) cells) whole (n + 1) ps (omega arith)
+other_on whole screen n Unknown ps (AttrCell b) cells held = later_held (record { place = n; attr = b; text = text_before_attribute (cells ++ screen) }) (fields_walked screen (n + 1) cells) whole (n + 1) ps (omega arith)
 other_on whole screen n (Known k) ps (Char c) cells held = refl
 other_on whole screen n (Told k) ps (Char c) cells held = refl
 other_on whole screen n Unknown ps (Char c) cells held = refl
@@ -111,12 +112,12 @@ held_drop whole (suc n) [] h = tt
 held_drop whole (suc n) (p ∷ ps) h = held_drop whole n ps (held_rest whole p ps h)
 
 pub other_step : (whole : List CellBelief) (screen : List Cell) (n : ℕ) (cell : Cell) (rest : List Cell) → n < length whole → IsHeld whole
-    → others (beliefs_held whole n (drop n whole)) (fields_from screen n (cell ∷ rest))
+    → others (beliefs_held whole n (drop n whole)) (fields_walked screen n (cell ∷ rest))
     ≡ (other_here (get_or whole n Unknown) (place_stored cell) (drop (n + 1) whole ++ whole) (places_stored rest ++ places_stored screen)
-    || others (beliefs_held whole (n + 1) (drop (n + 1) whole)) (fields_from screen (n + 1) rest))
+    || others (beliefs_held whole (n + 1) (drop (n + 1) whole)) (fields_walked screen (n + 1) rest))
 other_step whole screen n cell rest within held =
     let here : drop n whole ≡ get_or whole n Unknown ∷ drop (n + 1) whole = drop_more whole n Unknown within in
-    ap (λ (ps : List CellBelief). others (beliefs_held whole n ps) (fields_from screen n (cell ∷ rest))) here
+    ap (λ (ps : List CellBelief). others (beliefs_held whole n ps) (fields_walked screen n (cell ∷ rest))) here
     ∙ other_on whole screen n (get_or whole n Unknown) (drop (n + 1) whole) cell rest (subst (AreHeld whole) here (held_drop whole n whole held))
 
 -- ---- a screen that was read is known
@@ -134,7 +135,7 @@ field_read n a text ahead is =
     let fact : fact_held Cells ahead ≡ Fact.Exact text = ap fact_known is ∙ ap (λ (o : Option (List ℕ)). exact_or_any o (map Some text)) (whole_fresh text) in
     λ i. record { place = n; attr = without_mdt a; mark = mark_seen a.mdt; length = (ap length is ∙ length-map text Some) i; fact = fact i }
 
-fields_read : (whole : List Cell) (n : ℕ) (rest : List Cell) → beliefs_held (places_stored whole) n (places_stored rest) ≡ map belief_seen (fields_from whole n rest)
+fields_read : (whole : List Cell) (n : ℕ) (rest : List Cell) → beliefs_held (places_stored whole) n (places_stored rest) ≡ map belief_seen (fields_walked whole n rest)
 fields_read whole n [] = refl
 fields_read whole n (Char c ∷ rest) = fields_read whole (n + 1) rest
 fields_read whole n (AttrCell a ∷ rest) =
@@ -142,7 +143,7 @@ fields_read whole n (AttrCell a ∷ rest) =
     ∙ ap (λ (bs : List Belief). belief_seen (record { place = n; attr = a; text = text_before_attribute (rest ++ whole) }) ∷ bs) (fields_read whole (n + 1) rest)
 
 pub read_seen : (cells : List Cell) → shadow_held true (places_stored cells) ≡ seen cells
-read_seen cells = both (beliefs_held (places_stored cells) 0 (places_stored cells)) (fields cells) (chars_known (places_stored cells)) (text_before_attribute cells) (fields_read cells 0 cells) (chars_read [] cells)
+read_seen cells = both (beliefs_held (places_stored cells) 0 (places_stored cells)) (fields cells) (chars_known (places_stored cells)) (text_before_attribute cells) (fields_read cells 0 cells ∙ ap (map belief_seen) (sym (fields_are_walked cells))) (chars_read [] cells)
 
 are_read : (whole : List CellBelief) (cells : List Cell) → AreHeld whole (places_stored cells)
 are_read whole [] = tt

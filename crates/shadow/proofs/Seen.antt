@@ -5,7 +5,8 @@ use Rattle.codes3270.specs.declared.attribute.Cell.{Cell}
 use Rattle.codes3270.specs.declared.attribute.Cell.TheVariants.{Char, Attr}
 use Rattle.codes3270.specs.declared.attribute.Attr.{Attr as Attribute}
 use Rattle.datastream.specs.Screen.{text_before_attribute}
-use Rattle.datastream.specs.Fields.{Field, fields, fields_from}
+use Rattle.datastream.specs.Fields.{Field, fields}
+use Rattle.datastream.proofs.FieldWalk.{fields_walked, fields_are_walked}
 use Rattle.datastream.specs.Held.{without_mdt}
 use Rattle.shadow.specs.declared.known.Known.{Known}
 use Rattle.shadow.specs.Belief.{Fact, Belief, Shadow}
@@ -45,7 +46,7 @@ field_fresh : (n : ℕ) (a : Attribute) (text : List ℕ) (ahead : List Known) �
 field_fresh n a text ahead is =
     λ i. record { place = n; attr = without_mdt a; mark = mark_seen a.mdt; length = (ap length is ∙ length-map text Some) i; fact = fact_fresh n text ahead is i }
 
-pub fields_fresh : (whole : List Cell) (n : ℕ) (rest : List Cell) → beliefs_from [] (map new_cell whole) n (map new_cell rest) ≡ map belief_seen (fields_from whole n rest)
+pub fields_fresh : (whole : List Cell) (n : ℕ) (rest : List Cell) → beliefs_from [] (map new_cell whole) n (map new_cell rest) ≡ map belief_seen (fields_walked whole n rest)
 fields_fresh whole n [] = refl
 fields_fresh whole n (Char c ∷ rest) = fields_fresh whole (n + 1) rest
 fields_fresh whole n (Attr a ∷ rest) =
@@ -60,7 +61,7 @@ both (b ∷ bs) [] known text same is = absurd (cc)
 both (b ∷ bs) (f ∷ fs) known text same is = ap Shadow.Formatted same
 
 pub seen_fresh : (cells : List Cell) → believed [] (map new_cell cells) ≡ seen cells
-seen_fresh cells = both (beliefs_from [] (map new_cell cells) 0 (map new_cell cells)) (fields cells) (known_ahead (map new_cell cells)) (text_before_attribute cells) (fields_fresh cells 0 cells) (ahead_fresh [] cells)
+seen_fresh cells = both (beliefs_from [] (map new_cell cells) 0 (map new_cell cells)) (fields cells) (known_ahead (map new_cell cells)) (text_before_attribute cells) (fields_fresh cells 0 cells ∙ ap (map belief_seen) (sym (fields_are_walked cells))) (ahead_fresh [] cells)
 
 -- what is believed after an erase
 pub erased : (stores : List Store) (cells : List Cell) (before : List Belief) (known : List Known) → before ≡ [] → known ≡ known_stored stores (map new_cell cells)

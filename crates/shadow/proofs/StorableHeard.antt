@@ -1,9 +1,9 @@
 -- What is believed can be stored, whatever is heard; and so can each text that the host is told.
-use Rattle.std.proofs.Common.{◌≡◌, ◌==◌, ℕ, ◌+◌, Bool, true, false, not, List, [], ◌∷◌, ◌++◌, length, map, replicate, Option, Some, None, Ok, Err, refl, ap, subst, if◌then◌else◌, nat_eq, nat_lt, All}
+use Rattle.std.proofs.Common.{◌≡◌, ◌==◌, ℕ, ◌+◌, Bool, true, false, not, List, [], ◌∷◌, length, map, replicate, Option, Some, None, Ok, Err, refl, ap, subst, if◌then◌else◌, nat_eq, nat_lt, All}
 use Rattle.std.specs.Prelude.{IfOk, IfSome, bytes_eq}
 use Rattle.std.specs.List.{list_any}
 use Rattle.std.proofs.lemmas.Bool.{and_from}
-use Rattle.std.proofs.lemmas.List.Elements.{All-head, All-tail, All-nil, All-cons, All-append, All-map, All-replicate}
+use Rattle.std.proofs.lemmas.List.Elements.{All-head, All-tail, All-nil, All-cons, All-map, All-replicate}
 use Rattle.codes3270.specs.declared.attention.Aid.{Aid}
 use Rattle.codes3270.specs.declared.attention.Aid.TheVariants.{NoAid, Enter, Clear, Pf, Pa}
 use Rattle.codes3270.specs.declared.attribute.Cell.{Cell}
@@ -14,12 +14,13 @@ use Rattle.datastream.specs.Fields.{Field, fields, fields_from}
 use Rattle.datastream.specs.Inbound.{without_nulls}
 use Rattle.datastream.specs.InboundFields.{Returned, IsProperReturned, IsStorableCell, leading_text, returned, cells_sent}
 use Rattle.datastream.specs.InboundText.{InboundParts, IsProperPart}
-use Rattle.datastream.specs.Screen.{text_before_attribute}
+use Rattle.datastream.specs.Screen.{ring, field_text, text_before_attribute}
 use Rattle.datastream.specs.declared.inbound_part.Form.{Form}
 use Rattle.datastream.specs.declared.inbound_part.Form.TheVariants.{Modified, All as AllModified, Buffer}
 use Rattle.datastream.proofs.InboundData.{inbound_proper}
 use Rattle.datastream.proofs.InboundSlices.{cells_proper}
 use Rattle.datastream.proofs.InboundViews.{any_returned_proper}
+use Rattle.datastream.proofs.Texts.{All-ring}
 use Rattle.shadow.specs.declared.fault.HeardFault.TheVariants.{NoSuchField, Contradiction}
 use Rattle.shadow.specs.declared.mdt_state.MdtState.TheVariants.{Unknown}
 use Rattle.shadow.specs.Asked.{belief_with}
@@ -36,16 +37,16 @@ text_storable [] h = All-nil IsStorable
 text_storable (Char c ∷ cells) h = All-cons IsStorable c (text_before_attribute cells) (All-head IsStorableCell (Char c) cells h) (text_storable cells (All-tail IsStorableCell (Char c) cells h))
 text_storable (Attr a ∷ cells) h = All-nil IsStorable
 
-fields_storable : (whole : List Cell) (n : ℕ) (rest : List Cell) → All IsStorableCell whole → All IsStorableCell rest → All FieldCanBeStored (map belief_seen (fields_from whole n rest))
-fields_storable whole n [] all h = All-nil FieldCanBeStored
-fields_storable whole n (Char c ∷ rest) all h = fields_storable whole (n + 1) rest all (All-tail IsStorableCell (Char c) rest h)
-fields_storable whole n (Attr a ∷ rest) all h =
-    let more : All IsStorableCell rest = All-tail IsStorableCell (Attr a) rest h in
-    All-cons FieldCanBeStored (belief_seen (record { place = n; attr = a; text = text_before_attribute (rest ++ whole) })) (map belief_seen (fields_from whole (n + 1) rest))
-    (text_storable (rest ++ whole) (All-append IsStorableCell rest whole more all)) (fields_storable whole (n + 1) rest all more)
+fields_storable : (whole : List Cell) (n : ℕ) (rest : List Cell) → All IsStorableCell whole → All FieldCanBeStored (map belief_seen (fields_from whole n rest))
+fields_storable whole n [] h = All-nil FieldCanBeStored
+fields_storable whole n (Char c ∷ rest) h = fields_storable whole (n + 1) rest h
+fields_storable whole n (Attr a ∷ rest) h =
+    All-cons FieldCanBeStored (belief_seen (record { place = n; attr = a; text = field_text whole n })) (map belief_seen (fields_from whole (n + 1) rest))
+    (text_storable (ring (n + 1) whole) (All-ring IsStorableCell (n + 1) whole h))
+    (fields_storable whole (n + 1) rest h)
 
 pub seen_storable : (cells : List Cell) → All IsStorableCell cells → CanBeStored (seen cells)
-seen_storable cells h = cases (fields cells) (fields_storable cells 0 cells h h)
+seen_storable cells h = cases (fields cells) (fields_storable cells 0 cells h)
   where
     cases : (fs : List Field) → All FieldCanBeStored (map belief_seen fs) → CanBeStored (formatted_or fs (text_before_attribute cells))
     cases [] each = All-map IsStorableIfKnown Some (text_before_attribute cells) (text_storable cells h)

@@ -5,8 +5,9 @@ use Rattle.std.specs.List.{list_all}
 use Rattle.std.proofs.lemmas.Bool.{and_parts}
 use Rattle.codes3270.specs.declared.attribute.Cell.{Cell}
 use Rattle.codes3270.specs.declared.attribute.Cell.TheVariants.{Char, Attr}
-use Rattle.datastream.specs.Screen.{Screen, text_before_attribute}
+use Rattle.datastream.specs.Screen.{Screen, text_before_attribute, field_text}
 use Rattle.datastream.specs.Fields.{fields, fields_from}
+use Rattle.datastream.proofs.FieldWalk.{fields_walked, fields_are_walked, text_is}
 use Rattle.datastream.specs.Held.{without_mdt}
 use Rattle.datastream.specs.Meaning.{unmodified}
 use Rattle.datastream.specs.declared.order.Order.{Order}
@@ -131,7 +132,7 @@ old_fact whole n (Attr a ∷ rest) (b ∷ bs) h is place len fact e =
     cases true test found later =
         let parts : (nat_eq b.place place ≡ true) × (nat_eq b.length len ≡ true) = and_parts _ _ test in
         let same : b.fact ≡ fact = cc found in
-        rw (here parts.0) (subst (λ (g : Fact). Holds g (text_before_attribute (rest ++ whole))) same h.0.holds, h.0.same_length ∙ eqb-true _ _ parts.1)
+        rw (here parts.0, text_is whole n a rest (sym is)) (subst (λ (g : Fact). Holds g (field_text whole n)) same h.0.holds, h.0.same_length ∙ eqb-true _ _ parts.1)
     cases false test found later = later found
 
 whole_text_is : (ks : List (Option ℕ)) (text v : List ℕ) → Pairwise KnownIs ks text → whole_text ks ≡ Some v → text ≡ v
@@ -174,7 +175,7 @@ fact_after_holds bs n ss os ns h before = cases (fresh_ahead ss) refl
 
 beliefs_after : (bs : List Belief) (ws : List Known) (wo wn : List Cell) → Slotted ws wo wn → ((place : ℕ) → Before bs place (drop (place + 1) wo ++ wo))
     → (n : ℕ) (rs : List Known) (ro rn : List Cell) → Slotted rs ro rn → ro ≡ drop n wo
-    → Pairwise FieldMeets (beliefs_from bs ws n rs) (fields_from wn n rn)
+    → Pairwise FieldMeets (beliefs_from bs ws n rs) (fields_walked wn n rn)
 beliefs_after bs ws wo wn w before n [] [] [] h is = tt
 beliefs_after bs ws wo wn w before n [] [] (b ∷ rn) h is = absurd h
 beliefs_after bs ws wo wn w before n [] (o ∷ ro) rn h is = absurd h
@@ -198,7 +199,9 @@ beliefs_after bs ws wo wn w before n (KnownAttr k m ∷ rs) (o ∷ ro) (Attr a �
 
 pub believed_meets : (bs : List Belief) (ws : List Known) (wo : List Cell) (s : Screen) → Slotted ws wo s.cells → ((place : ℕ) → Before bs place (drop (place + 1) wo ++ wo))
     → Meets (believed bs ws) s
-believed_meets bs ws wo s w before = cases (beliefs_from bs ws 0 ws) (beliefs_after bs ws wo s.cells w before 0 ws wo s.cells w refl)
+believed_meets bs ws wo s w before =
+    cases (beliefs_from bs ws 0 ws)
+    (subst (Pairwise FieldMeets (beliefs_from bs ws 0 ws)) (sym (fields_are_walked s.cells)) (beliefs_after bs ws wo s.cells w before 0 ws wo s.cells w refl))
   where
     cases : (new : List Belief) → Pairwise FieldMeets new (fields s.cells) → Meets (formatted_as new (known_ahead ws)) s
     cases [] h = (none_now FieldMeets [] (fields s.cells) h refl, ahead_known ws wo s.cells w)

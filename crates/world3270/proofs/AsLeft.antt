@@ -6,7 +6,8 @@ use Rattle.std.proofs.lemmas.List.{take-append-drop}
 use Rattle.codes3270.specs.declared.attribute.Attr.{Attr as Attribute}
 use Rattle.codes3270.specs.declared.attribute.Cell.{Cell}
 use Rattle.codes3270.specs.declared.attribute.Cell.TheVariants.{Char, Attr}
-use Rattle.datastream.specs.Fields.{fields, fields_from}
+use Rattle.datastream.specs.Fields.{fields}
+use Rattle.datastream.proofs.FieldWalk.{fields_walked, fields_are_walked}
 use Rattle.datastream.specs.Screen.{attribute_in, attribute_over, is_char_at, last_attribute, text_before_attribute}
 use Rattle.datastream.proofs.Fields.{last_attribute-append, option_or-none, option_or_assoc}
 use Rattle.shadow.specs.Belief.{nulls}
@@ -114,7 +115,7 @@ text_kept false over (Attr left ∷ lefts) (Attr now ∷ nows) kept is = refl
 
 module _ (erased : Bool) (left now : List Cell) (round : KeptFrom erased (last_attribute now) left now) where
   fields_kept : (at : ℕ) (over : Option Attribute) (lefts nows : List Cell) → KeptFrom erased over lefts nows → option_or (last_attribute nows) over ≡ last_attribute now
-      → Pairwise (IsAsLeft erased) (fields_from left at lefts) (fields_from now at nows)
+      → Pairwise (IsAsLeft erased) (fields_walked left at lefts) (fields_walked now at nows)
   fields_kept at over [] [] kept last = tt
   fields_kept at over [] (cell ∷ nows) kept last = absurd kept
   fields_kept at over (was ∷ lefts) [] kept last = absurd kept
@@ -140,4 +141,6 @@ as_left erased left now kept =
       kinds = kept.places.kinds;
       each = λ place below unmodified. kept.each place below (subst IsInUnmodified (sym (over_is_walked now place)) unmodified);
     }) in
-    fields_kept erased left now round 0 (last_attribute now) left now round (itself (last_attribute now))
+    subst (λ fs. Pairwise (IsAsLeft erased) fs (fields now)) (sym (fields_are_walked left))
+    (subst (Pairwise (IsAsLeft erased) (fields_walked left 0 left)) (sym (fields_are_walked now))
+    (fields_kept erased left now round 0 (last_attribute now) left now round (itself (last_attribute now))))

@@ -5,7 +5,7 @@ use Rattle.std.specs.List.{All, list_all}
 use Rattle.std.specs.Ordering.{nat_cmp}
 use Rattle.std.proofs.lemmas.Bool.{and_from}
 use Rattle.std.proofs.lemmas.List.{length-replicate}
-use Rattle.std.proofs.lemmas.List.Elements.{All-nil, All-cons, All-head, All-tail, All-append, All-map, All-replicate}
+use Rattle.std.proofs.lemmas.List.Elements.{All-nil, All-cons, All-head, All-tail, All-map, All-replicate}
 use Rattle.std.proofs.lemmas.Map.Views.{All-values-insert_entry}
 use Rattle.codes3270.specs.Size.{Shape, cells_in, cell_count}
 use Rattle.codes3270.specs.Storable.{is_storable}
@@ -14,10 +14,11 @@ use Rattle.codes3270.specs.declared.attention.Aid.TheVariants.{NoAid, Enter, Cle
 use Rattle.codes3270.specs.declared.attribute.Cell.{Cell}
 use Rattle.codes3270.specs.declared.attribute.Cell.TheVariants.{Char as CharCell, Attr as AttrCell}
 use Rattle.datastream.specs.Fields.{Field, fields, fields_from}
+use Rattle.datastream.proofs.Texts.{All-ring}
 use Rattle.datastream.specs.Grammar.{IsSpelt as IsSpeltCommand}
 use Rattle.datastream.specs.Inbound.{without_nulls, read_modified, read_buffer}
 use Rattle.datastream.specs.InboundFields.{IsStorableCell, IsSendable, SentIsRead}
-use Rattle.datastream.specs.Screen.{Screen, blank_screen, is_char}
+use Rattle.datastream.specs.Screen.{Screen, blank_screen, is_char, ring}
 use Rattle.datastream.specs.Wanted.{WantedScreen, IsProper, IsScreen}
 use Rattle.datastream.specs.declared.wanted.Want.{Want}
 use Rattle.datastream.specs.declared.wanted.Want.TheVariants.{Char as WantChar, Attr as WantAttr, Keep}
@@ -146,13 +147,13 @@ told_characters (Fact.Text value) text h each = subst AreCharacters h (nulls_out
 told_characters (Fact.TextOrNulls value) text h each = tt
 told_characters (Fact.Any known) text h each = tt
 
-fields_stored : (whole : List Cell) (at : ℕ) (rest : List Cell) → CellsAreStored whole → CellsAreStored rest → All (λ (field : Field). AreStored field.text) (fields_from whole at rest)
-fields_stored whole at [] all each = All-nil (λ (field : Field). AreStored field.text)
-fields_stored whole at (CharCell byte ∷ rest) all each = fields_stored whole (at + 1) rest all (All-tail IsStorableCell (CharCell byte) rest each)
-fields_stored whole at (AttrCell attribute ∷ rest) all each =
-    let more : CellsAreStored rest = All-tail IsStorableCell (AttrCell attribute) rest each in
+fields_stored : (whole : List Cell) (at : ℕ) (rest : List Cell) → CellsAreStored whole → All (λ (field : Field). AreStored field.text) (fields_from whole at rest)
+fields_stored whole at [] all = All-nil (λ (field : Field). AreStored field.text)
+fields_stored whole at (CharCell byte ∷ rest) all = fields_stored whole (at + 1) rest all
+fields_stored whole at (AttrCell attribute ∷ rest) all =
     All-cons (λ (field : Field). AreStored field.text) _ (fields_from whole (at + 1) rest)
-    (text_stored (rest ++ whole) (All-append IsStorableCell rest whole more all)) (fields_stored whole (at + 1) rest all more)
+    (text_stored (ring (at + 1) whole) (All-ring IsStorableCell (at + 1) whole all))
+    (fields_stored whole (at + 1) rest all)
 
 found_characters : (place : ℕ) (beliefs : List Belief) (seen : List Field) → Pairwise FieldMeets beliefs seen → All (λ (field : Field). AreStored field.text) seen
     → IfSome (option_and_then (λ (belief : Belief). told belief.fact) (belief_with place beliefs)) AreCharacters
@@ -171,7 +172,7 @@ known_characters : (shadow : Shadow) (screen : Screen) (field : PanelField) → 
 known_characters Shadow.NothingKnown screen field meets each = tt
 known_characters (Shadow.Unformatted known) screen field meets each = tt
 known_characters (Shadow.Formatted beliefs) screen field meets each =
-    found_characters (field.extent.first - 1) beliefs (fields screen.cells) meets.1 (fields_stored screen.cells 0 screen.cells each each)
+    found_characters (field.extent.first - 1) beliefs (fields screen.cells) meets.1 (fields_stored screen.cells 0 screen.cells each)
 
 set_texts : (number : ℕ) (text : Option (List ℕ)) (values : Values) → AreTexts values → IfSome text AreCharacters → AreTexts (set_if number text values)
 set_texts number None values texts is = texts

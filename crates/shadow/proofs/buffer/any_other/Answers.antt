@@ -1,6 +1,6 @@
 use Rattle.std.proofs.Common.{◌≡◌, ◌∙◌, ◌+◌, ◌||◌, ap, sym, arith, drop, length, List, Bool, suc}
 use Rattle.codes3270.specs.declared.attribute.Cell.{Cell}
-use Rattle.datastream.specs.Fields.{fields_from}
+use Rattle.datastream.proofs.FieldWalk.{fields_walked}
 use Rattle.shadow.specs.InPlace.{beliefs_held}
 use Rattle.shadow.specs.Seen.{others}
 use Rattle.shadow.proofs.Reading.{other_step}
@@ -17,9 +17,9 @@ returns-then-is_other c =
     let screen = c.args.cells in
     let n = c.loop-place.place in
     let rest = c.next.new.self in
-    let later = others (beliefs_held whole (n + 1) (drop (n + 1) whole)) (fields_from screen (n + 1) rest) in
+    let later = others (beliefs_held whole (n + 1) (drop (n + 1) whole)) (fields_walked screen (n + 1) rest) in
     sym (c.loop-place.invariant.others
-    ∙ ap (λ (cs : List Cell). others (beliefs_held whole n (drop n whole)) (fields_from screen n cs)) c.in-Some.ensures.steps
+    ∙ ap (λ (cs : List Cell). others (beliefs_held whole n (drop n whole)) (fields_walked screen n cs)) c.in-Some.ensures.steps
     ∙ other_step whole screen n c.in-Some.cell rest (omega arith) c.requires.held
     ∙ ap (λ (t : Bool). t || later) (sym c.is_other.ensures ∙ c.if-is_other.true))
 
@@ -29,11 +29,11 @@ loop-place-preserved c =
     let screen = c.args.cells in
     let n = c.loop-place.place in
     let rest = c.next.new.self in
-    let later = others (beliefs_held whole (n + 1) (drop (n + 1) whole)) (fields_from screen (n + 1) rest) in
+    let later = others (beliefs_held whole (n + 1) (drop (n + 1) whole)) (fields_walked screen (n + 1) rest) in
     let more : length c.loop-place.rest ≡ suc (length rest) = ap length c.in-Some.ensures.steps in
     record {
       others = c.loop-place.invariant.others
-          ∙ ap (λ (cs : List Cell). others (beliefs_held whole n (drop n whole)) (fields_from screen n cs)) c.in-Some.ensures.steps
+          ∙ ap (λ (cs : List Cell). others (beliefs_held whole n (drop n whole)) (fields_walked screen n cs)) c.in-Some.ensures.steps
           ∙ other_step whole screen n c.in-Some.cell rest (omega arith) c.requires.held
           ∙ ap (λ (t : Bool). t || later) (sym c.is_other.ensures ∙ c.if-is_other.false);
       left = omega arith;
