@@ -103,8 +103,8 @@ tabbed write =
 abbrev pub executed : Order → WriteProgress → WriteProgress
 executed (Data byte) write = record (stored write (Char byte)) { after_data = true }
 executed (Sf attribute) write = stored write (Attr attribute)
-executed (Sba address) write = after_order write write.screen.cells address
-executed Ic write = record { screen = record write.screen { cursor = write.address }; address = write.address; after_data = false }
+executed (Sba address) write = record write { address = address; after_data = false }
+executed Ic write = record write { screen = record write.screen { cursor = write.address }; after_data = false }
 executed (Ra stop byte) write = repeated stop byte write
 executed (Eua stop) write = erased_up_to stop write
 executed Pt write = tabbed write
