@@ -15,7 +15,7 @@ use Rattle.datastream.specs.declared.order.Order.{Order}
 use Rattle.datastream.specs.declared.order.Order.TheVariants.{Sf, Sba, Ic, Pt, Ra, Eua, Char as Data}
 use Rattle.datastream.specs.Grammar.{CommandParts, IsProper}
 use Rattle.datastream.specs.Screen.{Screen, attribute_in, last_attribute, attribute_over, ring, protects, is_protected, is_char, is_char_at, places_from}
-use Rattle.datastream.specs.Meaning.{all_ordered, restored, after_code, after_command}
+use Rattle.datastream.specs.Meaning.{all_executed, restored, after_code, after_command}
 use Rattle.datastream.specs.Held.{Hold, hold_under, CharHeld, Held}
 use Rattle.datastream.specs.HeldRound.{HeldFrom}
 use Rattle.datastream.specs.InboundFields.{IsStorableCell, IsSendable}
@@ -40,24 +40,24 @@ noted at (Eua stop ∷ orders) cells = noted at orders cells
 abbrev screen_of : List Cell → ℕ → Aid → Screen
 screen_of cells cursor aid = record { cells = cells; cursor = cursor; aid = aid }
 
-ordered_note : (orders : List Order) (nulls : Bool) (cells : List Cell) (cursor : ℕ) (aid : Aid) (at : ℕ) → All IsNoteOrder orders → (all_ordered orders nulls (record { screen = screen_of cells cursor aid; address = at })).screen ≡ screen_of (noted at orders cells) cursor aid
-ordered_note [] nulls cells cursor aid at each = refl
-ordered_note (Data byte ∷ orders) nulls cells cursor aid at each =
-    ordered_note orders true (set cells at (Char byte)) cursor aid ((at + 1) % length cells) (All-tail IsNoteOrder (Data byte) orders each)
-ordered_note (Sba address ∷ orders) nulls cells cursor aid at each =
-    ordered_note orders false cells cursor aid address (All-tail IsNoteOrder (Sba address) orders each)
-ordered_note (Sf attribute ∷ orders) nulls cells cursor aid at each = absurd (All-head IsNoteOrder (Sf attribute) orders each)
-ordered_note (Ic ∷ orders) nulls cells cursor aid at each = absurd (All-head IsNoteOrder Ic orders each)
-ordered_note (Pt ∷ orders) nulls cells cursor aid at each = absurd (All-head IsNoteOrder Pt orders each)
-ordered_note (Ra stop byte ∷ orders) nulls cells cursor aid at each = absurd (All-head IsNoteOrder (Ra stop byte) orders each)
-ordered_note (Eua stop ∷ orders) nulls cells cursor aid at each = absurd (All-head IsNoteOrder (Eua stop) orders each)
+executed_note : (orders : List Order) (after_data : Bool) (cells : List Cell) (cursor : ℕ) (aid : Aid) (at : ℕ) → All IsNoteOrder orders → (all_executed orders (record { screen = screen_of cells cursor aid; address = at; after_data = after_data })).screen ≡ screen_of (noted at orders cells) cursor aid
+executed_note [] after_data cells cursor aid at each = refl
+executed_note (Data byte ∷ orders) after_data cells cursor aid at each =
+    executed_note orders true (set cells at (Char byte)) cursor aid ((at + 1) % length cells) (All-tail IsNoteOrder (Data byte) orders each)
+executed_note (Sba address ∷ orders) after_data cells cursor aid at each =
+    executed_note orders false cells cursor aid address (All-tail IsNoteOrder (Sba address) orders each)
+executed_note (Sf attribute ∷ orders) after_data cells cursor aid at each = absurd (All-head IsNoteOrder (Sf attribute) orders each)
+executed_note (Ic ∷ orders) after_data cells cursor aid at each = absurd (All-head IsNoteOrder Ic orders each)
+executed_note (Pt ∷ orders) after_data cells cursor aid at each = absurd (All-head IsNoteOrder Pt orders each)
+executed_note (Ra stop byte ∷ orders) after_data cells cursor aid at each = absurd (All-head IsNoteOrder (Ra stop byte) orders each)
+executed_note (Eua stop ∷ orders) after_data cells cursor aid at each = absurd (All-head IsNoteOrder (Eua stop) orders each)
 
 after_note : (command : CommandParts) (screen : Screen) (note : IsNote command) → after_command command screen ≡ screen_of (noted note.first note.others screen.cells) screen.cursor screen.aid
 after_note command screen note =
     ap (λ code. after_code code command.wcc command.orders screen) note.code
     ∙ ap (λ wcc. after_code Write wcc command.orders screen) note.wcc
     ∙ ap (λ orders. after_code Write (Some quiet) orders screen) note.orders
-    ∙ ap (restored quiet) (ordered_note note.others false screen.cells screen.cursor screen.aid note.first note.each)
+    ∙ ap (restored quiet) (executed_note note.others false screen.cells screen.cursor screen.aid note.first note.each)
 
 cells_after : (command : CommandParts) (screen : Screen) (note : IsNote command) → (after_command command screen).cells ≡ noted note.first note.others screen.cells
 cells_after command screen note = ap (λ (s : Screen). s.cells) (after_note command screen note)

@@ -55,70 +55,64 @@ after_open_attribute (Some distance) at size = (at + distance + 1) % size
 abbrev pub tab_stop : List Cell → ℕ → ℕ
 tab_stop cells at = after_open_attribute (position is_open_attribute (drop at cells)) at (length cells)
 
--- what a write is at: the screen so far, and the address
-pub record Draft : Type 0 where
+-- A write in progress: the screen so far, the buffer address, and whether data came just before. A Program Tab inserts nulls
+-- if data came just before it; it doesn't if it directly follows the command or an order (GA23-0059-07 on Program Tab).
+pub record WriteProgress : Type 0 where
   pub screen : Screen
   pub address : ℕ
+  pub after_data : Bool
 
-abbrev pub with_cells : Draft → List Cell → ℕ → Draft
-with_cells draft cells address =
-    record { screen = record draft.screen { cells = cells }; address = address }
+-- after an order that left these cells and this address
+abbrev pub after_order : WriteProgress → List Cell → ℕ → WriteProgress
+after_order write cells address =
+    record { screen = record write.screen { cells = cells }; address = address; after_data = false }
 
 -- one cell stored at the address, which advances round the end
-abbrev pub stored : Draft → Cell → Draft
-stored draft cell =
-    let cells = draft.screen.cells in
-    with_cells draft (slice_set cells draft.address cell) ((draft.address + 1) % length cells)
+abbrev pub stored : WriteProgress → Cell → WriteProgress
+stored write cell =
+    let cells = write.screen.cells in
+    after_order write (slice_set cells write.address cell) ((write.address + 1) % length cells)
 
 -- a character in each cell up to an address, round the end (GA23-0059-07 on Repeat to Address)
-abbrev pub repeated : ℕ → ℕ → Draft → Draft
-repeated stop byte draft =
-    let cells = draft.screen.cells in
-    with_cells draft (filled draft.address (distance (length cells) draft.address stop) (Char byte) cells) stop
+abbrev pub repeated : ℕ → ℕ → WriteProgress → WriteProgress
+repeated stop byte write =
+    let cells = write.screen.cells in
+    after_order write (filled write.address (distance (length cells) write.address stop) (Char byte) cells) stop
 
 -- nulls in the unprotected cells up to an address, round the end (GA23-0059-07 on Erase Unprotected to Address)
-abbrev pub erased_up_to : ℕ → Draft → Draft
-erased_up_to stop draft =
-    let cells = draft.screen.cells in
-    with_cells draft (opened draft.address (distance (length cells) draft.address stop) cells) stop
+abbrev pub erased_up_to : ℕ → WriteProgress → WriteProgress
+erased_up_to stop write =
+    let cells = write.screen.cells in
+    after_order write (opened write.address (distance (length cells) write.address stop) cells) stop
 
--- The next unprotected field; `nulls` says whether nulls are put in the characters before it (GA23-0059-07 on Program Tab).
--- A PT at the attribute of an unprotected field needs no case of its own: nothing lies before that attribute, and it is the
--- first.
-abbrev pub tabbed : Bool → Draft → Draft
-tabbed nulls draft =
-    let cells = draft.screen.cells in
-    let run = prefix_len is_char (drop draft.address cells) in
-    with_cells draft (if nulls then filled draft.address run (Char 0) cells else cells)
-    (tab_stop cells draft.address)
+-- The next unprotected field; after data, nulls in the characters before the next attribute. Nulls that met no attribute
+-- through the last cell count as data: a PT that follows directly goes on with them from address 0 (GA23-0059-07 on Program
+-- Tab). A PT at the attribute of an unprotected field needs no case of its own: nothing lies before that attribute, and it is
+-- the first.
+abbrev pub tabbed : WriteProgress → WriteProgress
+tabbed write =
+    let cells = write.screen.cells in
+    let ahead = drop write.address cells in
+    record {
+      screen = record write.screen { cells = if write.after_data then filled write.address (prefix_len is_char ahead) (Char 0) cells else cells };
+      address = tab_stop cells write.address;
+      after_data = write.after_data && list_all is_char ahead;
+    }
 
--- The meaning of one order (GA23-0059-07, "Buffer Control Orders and Order Codes"); `nulls` says whether a PT at its place
--- nulls.
-abbrev pub ordered : Order → Bool → Draft → Draft
-ordered (Data byte) nulls draft = stored draft (Char byte)
-ordered (Sf attribute) nulls draft = stored draft (Attr attribute)
-ordered (Sba address) nulls draft = record draft { address = address }
-ordered Ic nulls draft = record draft { screen = record draft.screen { cursor = draft.address } }
-ordered (Ra stop byte) nulls draft = repeated stop byte draft
-ordered (Eua stop) nulls draft = erased_up_to stop draft
-ordered Pt nulls draft = tabbed nulls draft
-
--- whether a PT nulls that directly follows an order (GA23-0059-07 on Program Tab): after data, and after a PT that nulled and
--- met no attribute through the last cell
-abbrev pub nulls_after : Order → Bool → Draft → Bool
-nulls_after (Data byte) nulls draft = true
-nulls_after Pt nulls draft = nulls && list_all is_char (drop draft.address draft.screen.cells)
-nulls_after (Sf attribute) nulls draft = false
-nulls_after (Sba address) nulls draft = false
-nulls_after Ic nulls draft = false
-nulls_after (Ra stop byte) nulls draft = false
-nulls_after (Eua stop) nulls draft = false
+-- the effect of one order (GA23-0059-07, "Buffer Control Orders and Order Codes")
+abbrev pub executed : Order → WriteProgress → WriteProgress
+executed (Data byte) write = record (stored write (Char byte)) { after_data = true }
+executed (Sf attribute) write = stored write (Attr attribute)
+executed (Sba address) write = record write { address = address; after_data = false }
+executed Ic write = record write { screen = record write.screen { cursor = write.address }; after_data = false }
+executed (Ra stop byte) write = repeated stop byte write
+executed (Eua stop) write = erased_up_to stop write
+executed Pt write = tabbed write
 
 -- the orders of a write, one after another
-abbrev pub all_ordered : List Order → Bool → Draft → Draft
-all_ordered [] nulls draft = draft
-all_ordered (order ∷ orders) nulls draft =
-    all_ordered orders (nulls_after order nulls draft) (ordered order nulls draft)
+abbrev pub all_executed : List Order → WriteProgress → WriteProgress
+all_executed [] write = write
+all_executed (order ∷ orders) write = all_executed orders (executed order write)
 
 -- a screen of nulls, with the cursor at 0 (GA23-0059-07 on Erase/Write)
 abbrev pub cleared : Screen → Screen
@@ -138,7 +132,7 @@ abbrev pub written : Option Wcc → List Order → Screen → Screen
 written None orders screen = screen
 written (Some wcc) orders screen =
     restored wcc
-    (all_ordered orders false (record { screen = prepared wcc screen; address = screen.cursor })).screen
+    (all_executed orders (record { screen = prepared wcc screen; address = screen.cursor; after_data = false })).screen
 
 -- a start: a character behind the attribute of an unprotected field
 abbrev pub is_start : Cell × Cell → Bool

@@ -3,7 +3,7 @@ ghost use Rattle.std.specs.Prelude.{◌≡◌, All, false, true};
 ghost use Rattle.codes3270.specs.Storable.{is_storable};
 ghost use Rattle.datastream.specs.Grammar.{IsProper};
 ghost use Rattle.datastream.specs.declared.order.Order.TheVariants.{Sba, Ic, Ra, Eua, Pt};
-ghost use Rattle.datastream.specs.Meaning.{Draft, stored, ordered, nulls_after, all_ordered, prepared, restored, cleared, written, unprotected_erased, after_command};
+ghost use Rattle.datastream.specs.Meaning.{WriteProgress, stored, executed, all_executed, prepared, restored, cleared, written, unprotected_erased, after_command};
 ghost use Rattle.presentation.specs.Applied.{asked_by, asked_by_wcc};
 ghost use Rattle.datastream.specs.InboundFields.{IsStorableCell};
 
@@ -143,8 +143,8 @@ impl Buffer {
     /// The orders of a write, from the cursor on.
     fn obey_all(&mut self, orders: Orders<'_>)
         requires { All IsProper orders }
-        ensures { let draft : Draft = record { screen = self.old; address = self.old.cursor } in
-            self.new ≡ (all_ordered orders.entry false draft).screen }
+        ensures { let start : WriteProgress = record { screen = self.old; address = self.old.cursor; after_data = false } in
+            self.new ≡ (all_executed orders.entry start).screen }
     {
         let mut position = WritePosition::moved_to(self.cursor);
         for order in orders {
@@ -155,10 +155,8 @@ impl Buffer {
     /// One order of a write.
     fn execute(&mut self, order: Order, position: WritePosition) -> WritePosition
         requires { IsProper order }
-        ensures draft { let draft : Draft = record { screen = self.old; address = position.address } in
-            record { screen = self.new; address = result.address } ≡ ordered order position.nulls draft }
-        ensures nulls { let draft : Draft = record { screen = self.old; address = position.address } in
-            result.nulls ≡ nulls_after order position.nulls draft }
+        ensures { let write : WriteProgress = record { screen = self.old; address = position.address; after_data = position.nulls } in
+            record { screen = self.new; address = result.address; after_data = result.nulls } ≡ executed order write }
     {
         let address = position.address;
         match order {
@@ -189,14 +187,16 @@ impl Buffer {
 
     fn store(&mut self, address: Addr, cell: PackedCell) -> Addr
         requires { IsStorableCell cell }
-        ensures { record { screen = self.new; address = result } ≡ stored (record { screen = self.old; address = address }) cell }
+        ensures { let write : WriteProgress = record { screen = self.old; address = address; after_data = false } in
+            record { screen = self.new; address = result; after_data = false } ≡ stored write cell }
     {
         self.cells[address.get() as usize] = cell;
         address.next()
     }
 
     fn place_cursor(&mut self, address: Addr)
-        ensures { record { screen = self.new; address = address } ≡ ordered Ic false (record { screen = self.old; address = address }) }
+        ensures { let write : WriteProgress = record { screen = self.old; address = address; after_data = false } in
+            record { screen = self.new; address = address; after_data = false } ≡ executed Ic write }
     {
         // For the contract: the address is on the screen.
         let _in_range = address.get();
@@ -205,24 +205,24 @@ impl Buffer {
 
     fn repeat(&mut self, address: Addr, stop: Addr, byte: u8)
         requires { is_storable byte ≡ true }
-        ensures { record { screen = self.new; address = stop } ≡ ordered (Ra stop byte) false (record { screen = self.old; address = address }) }
+        ensures { let write : WriteProgress = record { screen = self.old; address = address; after_data = false } in
+            record { screen = self.new; address = stop; after_data = false } ≡ executed (Ra stop byte) write }
     {
         let count = cells::distance_to(address, stop);
         cells::fill(&mut self.cells, address, count, byte);
     }
 
     fn erase_up_to(&mut self, address: Addr, stop: Addr)
-        ensures { record { screen = self.new; address = stop } ≡ ordered (Eua stop) false (record { screen = self.old; address = address }) }
+        ensures { let write : WriteProgress = record { screen = self.old; address = address; after_data = false } in
+            record { screen = self.new; address = stop; after_data = false } ≡ executed (Eua stop) write }
     {
         let count = cells::distance_to(address, stop);
         cells::erase_unprotected_in(&mut self.cells, address, count);
     }
 
     fn tab(&mut self, position: WritePosition) -> WritePosition
-        ensures draft { let draft : Draft = record { screen = self.old; address = position.address } in
-            record { screen = self.new; address = result.address } ≡ ordered Pt position.nulls draft }
-        ensures nulls { let draft : Draft = record { screen = self.old; address = position.address } in
-            result.nulls ≡ nulls_after Pt position.nulls draft }
+        ensures { let write : WriteProgress = record { screen = self.old; address = position.address; after_data = position.nulls } in
+            record { screen = self.new; address = result.address; after_data = result.nulls } ≡ executed Pt write }
     {
         let stop = cells::tab_stop_from(&self.cells, position.address);
         let to_end = cells::has_only_characters_from(&self.cells, position.address);

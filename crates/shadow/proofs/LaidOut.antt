@@ -31,7 +31,7 @@ use Rattle.shadow.proofs.TakenMeets.{SlotIs, Slotted, puts, reset, Before, old_f
 -- the cells after a plain write
 pub cells_written : (wcc : Wcc) (orders : List Order) (s : Screen) → list_all is_plain_order orders ≡ true → (written (Some wcc) orders s).cells ≡ stored (stores (length s.cells) s.cursor orders) (prepared wcc s).cells
 cells_written wcc orders s plain =
-    ap (λ (t : Screen). t.cells) (plain_orders (length s.cells) orders false (record { screen = prepared wcc s; address = s.cursor }) plain (length-prepared wcc s))
+    ap (λ (t : Screen). t.cells) (plain_orders (length s.cells) orders (record { screen = prepared wcc s; address = s.cursor; after_data = false }) plain (length-prepared wcc s))
   where
     length-prepared : (wcc : Wcc) (s : Screen) → length (prepared wcc s).cells ≡ length s.cells
     length-prepared wcc s = cases wcc.reset

@@ -14,7 +14,7 @@ use Rattle.datastream.specs.Screen.{Screen}
 use Rattle.datastream.specs.Fields.{Field}
 use Rattle.datastream.specs.Held.{without_mdt}
 use Rattle.datastream.specs.Wanted.{WantedScreen}
-use Rattle.datastream.specs.Meaning.{Draft, unmodified, prepared, restored, written, cleared}
+use Rattle.datastream.specs.Meaning.{WriteProgress, unmodified, prepared, restored, written, cleared}
 use Rattle.datastream.specs.declared.order.Order.{Order}
 use Rattle.datastream.specs.declared.wanted.Want.{Want}
 use Rattle.datastream.specs.declared.wanted.Want.TheVariants.{Char as WantChar, Attr as WantAttr, Keep}
@@ -223,8 +223,8 @@ paint_orders : (size cursor : ℕ) (reset : Bool) (more : List Store) (s : Scree
     ≡ record { cells = stored more (if reset then map unmodified s.cells else s.cells); cursor = cursor; aid = NoAid }
 paint_orders size cursor reset more s whole =
     let orders : List Order = painting size cursor None more in
-    let draft : Draft = record { screen = prepared (paint_wcc reset) s; address = s.cursor } in
-    ap (restored (paint_wcc reset)) (plain_orders size orders false draft (paints_plain size cursor more None) (length-prepared reset))
+    let write : WriteProgress = record { screen = prepared (paint_wcc reset) s; address = s.cursor; after_data = false } in
+    ap (restored (paint_wcc reset)) (plain_orders size orders write (paints_plain size cursor more None) (length-prepared reset))
     ∙ (λ i. record {
       cells = stored (paints_stores size cursor more s.cursor None (λ k e. absurd (cc)) i) (if reset then map unmodified s.cells else s.cells);
       cursor = paints_cursor size cursor more s.cursor s.cursor None i;

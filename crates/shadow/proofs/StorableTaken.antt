@@ -8,7 +8,7 @@ use Rattle.codes3270.specs.declared.attribute.Cell.TheVariants.{Char, Attr}
 use Rattle.codes3270.specs.declared.write_control.Wcc.{Wcc}
 use Rattle.datastream.specs.Grammar.{IsProper}
 use Rattle.datastream.specs.InboundFields.{IsStorableCell}
-use Rattle.datastream.specs.Meaning.{Draft, by_place, across, filled, opened, erased, unmodified, ordered, nulls_after, all_ordered, cleared, prepared, written}
+use Rattle.datastream.specs.Meaning.{WriteProgress, by_place, across, filled, opened, erased, unmodified, executed, all_executed, cleared, prepared, written}
 use Rattle.datastream.specs.Screen.{Screen, blank_screen, is_char, is_protected}
 use Rattle.datastream.specs.Span.{distance, is_within}
 use Rattle.datastream.specs.declared.command_code.CommandCode.{CommandCode}
@@ -205,19 +205,19 @@ tabbed_storable : (nulls : Bool) (from count : ℕ) (cells : List Cell) → All 
 tabbed_storable true from count cells h = filled_storable from count 0 cells refl h
 tabbed_storable false from count cells h = h
 
-order_storable : (order : Order) (nulls : Bool) (draft : Draft) → IsProper order → All IsStorableCell draft.screen.cells → All IsStorableCell (ordered order nulls draft).screen.cells
-order_storable (Data c) nulls draft p h = All-set IsStorableCell draft.screen.cells draft.address (Char c) p h
-order_storable (Sf a) nulls draft p h = All-set IsStorableCell draft.screen.cells draft.address (Attr a) tt h
-order_storable (Sba to) nulls draft p h = h
-order_storable Ic nulls draft p h = h
-order_storable Pt nulls draft p h = tabbed_storable nulls draft.address (prefix_len is_char (drop draft.address draft.screen.cells)) draft.screen.cells h
-order_storable (Ra stop c) nulls draft p h = filled_storable draft.address (distance (length draft.screen.cells) draft.address stop) c draft.screen.cells p.1 h
-order_storable (Eua stop) nulls draft p h = opened_storable draft.address (distance (length draft.screen.cells) draft.address stop) draft.screen.cells h
+order_storable : (order : Order) (write : WriteProgress) → IsProper order → All IsStorableCell write.screen.cells → All IsStorableCell (executed order write).screen.cells
+order_storable (Data c) write p h = All-set IsStorableCell write.screen.cells write.address (Char c) p h
+order_storable (Sf a) write p h = All-set IsStorableCell write.screen.cells write.address (Attr a) tt h
+order_storable (Sba to) write p h = h
+order_storable Ic write p h = h
+order_storable Pt write p h = tabbed_storable write.after_data write.address (prefix_len is_char (drop write.address write.screen.cells)) write.screen.cells h
+order_storable (Ra stop c) write p h = filled_storable write.address (distance (length write.screen.cells) write.address stop) c write.screen.cells p.1 h
+order_storable (Eua stop) write p h = opened_storable write.address (distance (length write.screen.cells) write.address stop) write.screen.cells h
 
-orders_storable : (orders : List Order) (nulls : Bool) (draft : Draft) → All IsProper orders → All IsStorableCell draft.screen.cells → All IsStorableCell (all_ordered orders nulls draft).screen.cells
-orders_storable [] nulls draft proper h = h
-orders_storable (order ∷ orders) nulls draft proper h =
-    orders_storable orders (nulls_after order nulls draft) (ordered order nulls draft) (All-tail IsProper order orders proper) (order_storable order nulls draft (All-head IsProper order orders proper) h)
+orders_storable : (orders : List Order) (write : WriteProgress) → All IsProper orders → All IsStorableCell write.screen.cells → All IsStorableCell (all_executed orders write).screen.cells
+orders_storable [] write proper h = h
+orders_storable (order ∷ orders) write proper h =
+    orders_storable orders (executed order write) (All-tail IsProper order orders proper) (order_storable order write (All-head IsProper order orders proper) h)
 
 unmodified_storable : (cell : Cell) → IsStorableCell cell → IsStorableCell (unmodified cell)
 unmodified_storable (Char c) h = h
@@ -230,7 +230,7 @@ prepared_storable false cells h = h
 screen_storable : (wcc : Option Wcc) (orders : List Order) (screen : Screen) → All IsProper orders → All IsStorableCell screen.cells → All IsStorableCell (written wcc orders screen).cells
 screen_storable None orders screen proper h = h
 screen_storable (Some wcc) orders screen proper h =
-    orders_storable orders false (record { screen = prepared wcc screen; address = screen.cursor }) proper (prepared_storable wcc.reset screen.cells h)
+    orders_storable orders (record { screen = prepared wcc screen; address = screen.cursor; after_data = false }) proper (prepared_storable wcc.reset screen.cells h)
 
 erase_storable : (size : ℕ) (wcc : Option Wcc) (orders : List Order) → All IsProper orders → CanBeStored (seen (written wcc orders (cleared (blank_screen size))).cells)
 erase_storable size wcc orders proper =

@@ -5,7 +5,7 @@ use Rattle.std.proofs.lemmas.List.{length-set}
 use Rattle.codes3270.specs.declared.attribute.Cell.{Cell}
 use Rattle.codes3270.specs.declared.attribute.Cell.TheVariants.{Char, Attr}
 use Rattle.datastream.specs.Screen.{Screen}
-use Rattle.datastream.specs.Meaning.{Draft, all_ordered, ordered}
+use Rattle.datastream.specs.Meaning.{WriteProgress, all_executed, executed}
 use Rattle.datastream.specs.declared.order.Order.{Order}
 use Rattle.datastream.specs.declared.order.Order.TheVariants.{Sf, Sba, Ic, Pt, Ra, Eua, Char as Data}
 use Rattle.shadow.specs.Belief.{next_address}
@@ -26,25 +26,25 @@ cursor_after size cursor at (Pt ∷ orders) = cursor_after size cursor at orders
 cursor_after size cursor at (Ra stop c ∷ orders) = cursor_after size cursor at orders
 cursor_after size cursor at (Eua stop ∷ orders) = cursor_after size cursor at orders
 
-abbrev screen_stored : ℕ → Draft → List Order → Screen
-screen_stored size draft orders = record {
-  cells = stored (stores size draft.address orders) draft.screen.cells;
-  cursor = cursor_after size draft.screen.cursor draft.address orders;
-  aid = draft.screen.aid;
+abbrev screen_stored : ℕ → WriteProgress → List Order → Screen
+screen_stored size write orders = record {
+  cells = stored (stores size write.address orders) write.screen.cells;
+  cursor = cursor_after size write.screen.cursor write.address orders;
+  aid = write.screen.aid;
 }
 
 -- the meaning of plain orders is what they store
-pub plain_orders : (size : ℕ) (orders : List Order) (nulls : Bool) (draft : Draft) → list_all is_plain_order orders ≡ true → length draft.screen.cells ≡ size
-    → (all_ordered orders nulls draft).screen ≡ screen_stored size draft orders
-plain_orders size [] nulls draft p whole = refl
-plain_orders size (Sba to ∷ orders) nulls draft p whole = plain_orders size orders false (record draft { address = to }) p whole
-plain_orders size (Ic ∷ orders) nulls draft p whole = plain_orders size orders false (ordered Ic nulls draft) p whole
-plain_orders size (Sf attr ∷ orders) nulls draft p whole =
-    plain_orders size orders false (ordered (Sf attr) nulls draft) p (length-set draft.screen.cells draft.address (Attr attr) ∙ whole)
-    ∙ ap (λ n. screen_stored size (record { screen = record draft.screen { cells = set draft.screen.cells draft.address (Attr attr) }; address = next_address n draft.address }) orders) whole
-plain_orders size (Data c ∷ orders) nulls draft p whole =
-    plain_orders size orders true (ordered (Data c) nulls draft) p (length-set draft.screen.cells draft.address (Char c) ∙ whole)
-    ∙ ap (λ n. screen_stored size (record { screen = record draft.screen { cells = set draft.screen.cells draft.address (Char c) }; address = next_address n draft.address }) orders) whole
-plain_orders size (Pt ∷ orders) nulls draft p whole = absurd (cc)
-plain_orders size (Ra stop c ∷ orders) nulls draft p whole = absurd (cc)
-plain_orders size (Eua stop ∷ orders) nulls draft p whole = absurd (cc)
+pub plain_orders : (size : ℕ) (orders : List Order) (write : WriteProgress) → list_all is_plain_order orders ≡ true → length write.screen.cells ≡ size
+    → (all_executed orders write).screen ≡ screen_stored size write orders
+plain_orders size [] write p whole = refl
+plain_orders size (Sba to ∷ orders) write p whole = plain_orders size orders (executed (Sba to) write) p whole
+plain_orders size (Ic ∷ orders) write p whole = plain_orders size orders (executed Ic write) p whole
+plain_orders size (Sf attr ∷ orders) write p whole =
+    plain_orders size orders (executed (Sf attr) write) p (length-set write.screen.cells write.address (Attr attr) ∙ whole)
+    ∙ ap (λ n. screen_stored size (record { screen = record write.screen { cells = set write.screen.cells write.address (Attr attr) }; address = next_address n write.address; after_data = false }) orders) whole
+plain_orders size (Data c ∷ orders) write p whole =
+    plain_orders size orders (executed (Data c) write) p (length-set write.screen.cells write.address (Char c) ∙ whole)
+    ∙ ap (λ n. screen_stored size (record { screen = record write.screen { cells = set write.screen.cells write.address (Char c) }; address = next_address n write.address; after_data = true }) orders) whole
+plain_orders size (Pt ∷ orders) write p whole = absurd (cc)
+plain_orders size (Ra stop c ∷ orders) write p whole = absurd (cc)
+plain_orders size (Eua stop ∷ orders) write p whole = absurd (cc)

@@ -11,7 +11,7 @@ use Rattle.codes3270.specs.declared.attention.Aid.TheVariants.{NoAid}
 use Rattle.codes3270.specs.declared.write_control.Wcc.{Wcc}
 use Rattle.datastream.specs.Grammar.{IsProper, is_write}
 use Rattle.datastream.specs.InboundFields.{IsStorableCell, IsSendable}
-use Rattle.datastream.specs.Meaning.{Draft, stored, ordered, nulls_after, all_ordered, cleared, prepared, written, filled, unmodified, after_open_attribute, after_code}
+use Rattle.datastream.specs.Meaning.{WriteProgress, stored, executed, all_executed, cleared, prepared, written, filled, unmodified, after_open_attribute, after_code}
 use Rattle.datastream.specs.Screen.{Screen, is_char, is_open_attribute}
 use Rattle.datastream.specs.Span.{distance}
 use Rattle.datastream.specs.Wanted.{WantedScreen}
@@ -33,9 +33,9 @@ use Rattle.world3270.specs.Terminal.{TermEnd, TermStep, is_bound, paint_came, no
 
 -- ---- orders
 
-record IsDraft (draft : Draft) : Type 0 where
-  screen : IsSendable draft.screen
-  address : draft.address < cell_count
+record IsInProgress (write : WriteProgress) : Type 0 where
+  screen : IsSendable write.screen
+  address : write.address < cell_count
 
 next_below : (size at : ℕ) → size ≡ cell_count → at % size < cell_count
 next_below size at same = subst (λ (n : ℕ). at % n < cell_count) (sym same) (mod-lt at {m = cell_count} (omega arith))
@@ -44,10 +44,10 @@ tab_below : (size at : ℕ) (found : Option ℕ) → size ≡ cell_count → aft
 tab_below size at None same = omega arith
 tab_below size at (Some away) same = next_below size (at + away + 1) same
 
-one_stored : (draft : Draft) (cell : Cell) → IsStorableCell cell → IsDraft draft → IsDraft (stored draft cell)
-one_stored draft cell p is = record {
-  screen = with_stored draft.screen draft.address cell p is.screen;
-  address = next_below (length draft.screen.cells) (draft.address + 1) is.screen.size;
+one_stored : (write : WriteProgress) (cell : Cell) → IsStorableCell cell → IsInProgress write → IsInProgress (stored write cell)
+one_stored write cell p is = record {
+  screen = with_stored write.screen write.address cell p is.screen;
+  address = next_below (length write.screen.cells) (write.address + 1) is.screen.size;
 }
 
 filled_if : (nulls : Bool) (screen : Screen) (from count : ℕ) → IsSendable screen
@@ -55,29 +55,29 @@ filled_if : (nulls : Bool) (screen : Screen) (from count : ℕ) → IsSendable s
 filled_if true screen from count is = with_filled screen from count (Char 0) refl is
 filled_if false screen from count is = is
 
-order_keeps : (order : Order) (nulls : Bool) (draft : Draft) → IsProper order → IsDraft draft → IsDraft (ordered order nulls draft)
-order_keeps (Data byte) nulls draft p is = one_stored draft (Char byte) p is
-order_keeps (Sf attribute) nulls draft p is = one_stored draft (Attr attribute) tt is
-order_keeps (Sba address) nulls draft p is = record { screen = is.screen; address = p }
-order_keeps Ic nulls draft p is = record { screen = with_cursor draft.screen draft.address is.address is.screen; address = is.address }
-order_keeps Pt nulls draft p is = record {
-  screen = filled_if nulls draft.screen draft.address (prefix_len is_char (drop draft.address draft.screen.cells)) is.screen;
-  address = tab_below (length draft.screen.cells) draft.address (position is_open_attribute (drop draft.address draft.screen.cells)) is.screen.size;
+order_keeps : (order : Order) (write : WriteProgress) → IsProper order → IsInProgress write → IsInProgress (executed order write)
+order_keeps (Data byte) write p is = one_stored write (Char byte) p is
+order_keeps (Sf attribute) write p is = one_stored write (Attr attribute) tt is
+order_keeps (Sba address) write p is = record { screen = is.screen; address = p }
+order_keeps Ic write p is = record { screen = with_cursor write.screen write.address is.address is.screen; address = is.address }
+order_keeps Pt write p is = record {
+  screen = filled_if write.after_data write.screen write.address (prefix_len is_char (drop write.address write.screen.cells)) is.screen;
+  address = tab_below (length write.screen.cells) write.address (position is_open_attribute (drop write.address write.screen.cells)) is.screen.size;
 }
-order_keeps (Ra stop byte) nulls draft p is = record {
-  screen = with_filled draft.screen draft.address (distance (length draft.screen.cells) draft.address stop) (Char byte) p.1 is.screen;
+order_keeps (Ra stop byte) write p is = record {
+  screen = with_filled write.screen write.address (distance (length write.screen.cells) write.address stop) (Char byte) p.1 is.screen;
   address = p.0;
 }
-order_keeps (Eua stop) nulls draft p is = record {
-  screen = with_opened draft.screen draft.address (distance (length draft.screen.cells) draft.address stop) is.screen;
+order_keeps (Eua stop) write p is = record {
+  screen = with_opened write.screen write.address (distance (length write.screen.cells) write.address stop) is.screen;
   address = p;
 }
 
-orders_keep : (orders : List Order) (nulls : Bool) (draft : Draft) → All IsProper orders → IsDraft draft → IsDraft (all_ordered orders nulls draft)
-orders_keep [] nulls draft all is = is
-orders_keep (order ∷ orders) nulls draft all is =
-    orders_keep orders (nulls_after order nulls draft) (ordered order nulls draft) (All-tail IsProper order orders all)
-    (order_keeps order nulls draft (All-head IsProper order orders all) is)
+orders_keep : (orders : List Order) (write : WriteProgress) → All IsProper orders → IsInProgress write → IsInProgress (all_executed orders write)
+orders_keep [] write all is = is
+orders_keep (order ∷ orders) write all is =
+    orders_keep orders (executed order write) (All-tail IsProper order orders all)
+    (order_keeps order write (All-head IsProper order orders all) is)
 
 -- ---- writes
 
@@ -93,7 +93,7 @@ write_keeps : (wcc : Option Wcc) (orders : List Order) (screen : Screen) → All
 write_keeps None orders screen all is = is
 write_keeps (Some wcc) orders screen all is =
     restored_if wcc.restore _
-    (orders_keep orders false (record { screen = prepared wcc screen; address = screen.cursor }) all
+    (orders_keep orders (record { screen = prepared wcc screen; address = screen.cursor; after_data = false }) all
     (record { screen = prepared_if wcc.reset screen is; address = is.cursor })).screen
 
 clear_keeps : (screen : Screen) → IsSendable screen → IsSendable (cleared screen)

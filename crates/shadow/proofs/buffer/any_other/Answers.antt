@@ -1,10 +1,21 @@
 use Rattle.std.proofs.Common.{◌≡◌, ◌∙◌, ◌+◌, ◌||◌, ap, sym, arith, drop, length, List, Bool, suc}
 use Rattle.codes3270.specs.declared.attribute.Cell.{Cell}
-use Rattle.datastream.proofs.FieldWalk.{fields_walked}
+use Rattle.datastream.proofs.FieldWalk.{fields_walked, fields_are_walked}
 use Rattle.shadow.specs.InPlace.{beliefs_held}
 use Rattle.shadow.specs.Seen.{others}
 use Rattle.shadow.proofs.Reading.{other_step}
 use Rattle.shadow.proofs.buffer.any_other.Goals as goal
+
+pub loop-place-init : goal.loop-place-init
+loop-place-init c =
+    let whole = c.args.places.now in
+    let screen = c.args.cells in
+    let long = ap length c.copy-rest.ensures ∙ c.requires.whole in
+    record {
+      others = ap (others (beliefs_held whole 0 whole)) (fields_are_walked screen)
+          ∙ ap (λ (cs : List Cell). others (beliefs_held whole 0 whole) (fields_walked screen 0 cs)) (sym c.copy-rest.ensures);
+      left = omega (arith, long);
+    }
 
 pub returns-in_default : goal.returns-in_default
 returns-in_default c =
