@@ -1,5 +1,5 @@
 -- Laws of the keys, for proofs in the crates above (our profile).
-use Rattle.std.specs.Prelude.{◌≡◌, ◌+◌, ◌-◌, ◌%◌, ◌<◌, ◌≤◌, ◌==◌, ◌++◌, ◌∷◌, [], ℕ, Bool, true, false, not, if◌then◌else◌, List, Some, None, length, drop, slice_index_or}
+use Rattle.std.specs.Prelude.{◌≡◌, ◌+◌, ◌-◌, ◌%◌, ◌<◌, ◌≤◌, ◌==◌, ◌++◌, ◌∷◌, [], ⊤, ℕ, Bool, true, false, not, if◌then◌else◌, List, Some, None, length, drop, slice_index_or}
 use Rattle.std.specs.List.{list_all}
 use Rattle.codes3270.specs.declared.attribute.Cell.{Cell}
 use Rattle.codes3270.specs.declared.attribute.Cell.TheVariants.{Char}
@@ -8,12 +8,14 @@ use Rattle.datastream.specs.Span.{is_within}
 use Rattle.datastream.specs.Held.{Held, erased_input}
 use Rattle.datastream.specs.HeldRound.{erased_round}
 use Rattle.keyboard.specs.declared.key.Key.{Key}
-use Rattle.keyboard.specs.declared.key.Key.TheVariants.{Reset}
+use Rattle.keyboard.specs.declared.key.Key.TheVariants.{Reset, Char as Letter}
 use Rattle.keyboard.specs.declared.key.Lock.TheVariants.{Free, Wait}
 use Rattle.keyboard.specs.declared.key.Pressed.TheVariants.{Refused}
 use Rattle.keyboard.specs.declared.key.Refusal.{Refusal}
 use Rattle.keyboard.specs.declared.key.Refusal.TheVariants.{Locked}
 use Rattle.keyboard.specs.State.{Keyboard}
+use Rattle.keyboard.specs.KeyNames.{key_named, key_name}
+use Rattle.keyboard.specs.Sendable.{IsKey}
 use Rattle.datastream.specs.Meaning.{home, modified}
 use Rattle.keyboard.specs.Places.{onward, backward, first_or_zero, next_start}
 use Rattle.keyboard.specs.Edits.{text_from, rewritten, with_room, deleted}
@@ -122,3 +124,18 @@ NoNullNoRoom = (text : List ℕ) → list_all (λ byte. not (byte == 0)) text �
 -- Delete takes out the first character and brings in a null at the end.
 abbrev pub DeleteBringsInANull : Type 0
 DeleteBringsInANull = (d : ℕ) (y : List ℕ) → deleted (d ∷ y) ≡ y ++ 0 ∷ []
+
+-- ---- names
+
+-- a key that isn't a character
+abbrev pub HasName : Key → Type 0
+HasName (Letter letter) = ⊥
+HasName _ = ⊤
+
+-- What is printed of a key that has a name is read back as that key.
+abbrev pub NamesReadBack : Type 0
+NamesReadBack = (key : Key) → IsKey key → HasName key → key_named (key_name key) ≡ Some key
+
+-- What is printed of a character is read as no key.
+abbrev pub CharactersHaveNoName : Type 0
+CharactersHaveNoName = (letter : ℕ) → key_named (key_name (Letter letter)) ≡ None

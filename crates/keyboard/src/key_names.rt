@@ -1,10 +1,31 @@
 //! The names of keys (our profile).
-ghost use Rattle.std.specs.Prelude.{◌≡◌, ◌≤◌, ◌<◌, length, map, position, bytes_eq, IfSome};
-ghost use Rattle.keyboard.specs.KeyNames.{number_among, numbered_key, working_key, key_named};
+ghost use Rattle.std.specs.Prelude.{◌≡◌, ◌<◌, ◌++◌, [], length, map, get_or, codes};
+ghost use Rattle.std.specs.Fmt.{decimal};
+ghost use Rattle.keyboard.specs.KeyNames.{name_of, plain_keys, pf_keys, pa_keys, named_among, key_named};
 
 use crate::key::Key;
 use codes3270::{PaNo, PfNo};
 use std::fmt;
+
+/// The keys that have names, but for those with numbers.
+const PLAIN_KEYS: [Key; 16] = [
+    Key::Tab,
+    Key::BackTab,
+    Key::NewLine,
+    Key::Home,
+    Key::CursorUp,
+    Key::CursorDown,
+    Key::CursorLeft,
+    Key::CursorRight,
+    Key::Backspace,
+    Key::Insert,
+    Key::Delete,
+    Key::EraseEof,
+    Key::EraseInput,
+    Key::Reset,
+    Key::Enter,
+    Key::Clear,
+];
 
 /// The names of PF1 to PF24.
 static PF_NAMES: [&str; 24] = [
@@ -15,55 +36,89 @@ static PF_NAMES: [&str; 24] = [
 /// The names of PA1 to PA3.
 static PA_NAMES: [&str; 3] = ["pa1", "pa2", "pa3"];
 
-/// The index of a name among names.
-fn index_among(names: &[&str], name: &str) -> Option<usize>
-    ensures index { result ≡ position (λ other. bytes_eq other.now name.now) names.now }
-    ensures in_range { IfSome result (λ index. index < length names.now) }
+/// The name at an index.
+fn name_at(names: &[&'static str], index: usize) -> &'static str
+    requires { index < length names.now }
+    ensures { result.now ≡ get_or (map (λ name. name.now) names.now) index [] }
 {
-    names.iter().position(|other| *other == name)
+    names[index]
 }
 
-/// Which of these names it is, from 1 on.
-#[tactic(auto, using(crate::proofs::KeyNames::position_mapped))]
-fn number_among(names: &[&str], name: &str) -> Option<u8>
-    requires { length names.now ≤ 24 }
-    ensures number { result ≡ number_among (map (λ other. other.now) names.now) name.now }
-    ensures in_range { IfSome result (λ number. (1 ≤ number) × (number ≤ length names.now)) }
+/// The name of a program function key.
+fn pf_name(key: PfNo) -> &'static str
+    ensures { result.now ≡ codes "pf" ++ decimal key }
 {
-    let index = index_among(names, name)?;
-    Some(index as u8 + 1)
+    name_at(&PF_NAMES, (key.get() - 1) as usize)
 }
 
-/// The key with a name that has a number: `pf1` to `pf24`, `pa1` to `pa3`.
-#[tactic(auto, unfolding(crate::specs::KeyNames::numbered_key))]
-fn numbered_key(name: &str) -> Option<Key>
-    ensures { result ≡ numbered_key name.now }
+/// The name of a program attention key.
+fn pa_name(key: PaNo) -> &'static str
+    ensures { result.now ≡ codes "pa" ++ decimal key }
 {
-    if let Some(number) = number_among(&PF_NAMES, name) {
-        return PfNo::new(number).map(Key::Pf);
+    name_at(&PA_NAMES, (key.get() - 1) as usize)
+}
+
+/// The key without a number that has a name.
+fn plain_named(name: &str) -> Option<Key>
+    ensures { result ≡ named_among plain_keys name.now }
+{
+    PLAIN_KEYS.iter().copied().find(|key| key.name() == name)
+}
+
+/// The program function key with a name.
+fn pf_named(name: &str) -> Option<Key>
+    ensures { result ≡ named_among pf_keys name.now }
+{
+    for number in 1..=24 {
+        let number = PfNo::new(number)?;
+        if pf_name(number) == name {
+            return Some(Key::Pf(number));
+        }
     }
-    let number = number_among(&PA_NAMES, name)?;
-    PaNo::new(number).map(Key::Pa)
+    None
 }
 
-/// The key with a name, but for those that do no more than move the cursor.
-fn working_key(name: &str) -> Option<Key>
-    ensures { result ≡ working_key name.now }
+/// The program attention key with a name.
+fn pa_named(name: &str) -> Option<Key>
+    ensures { result ≡ named_among pa_keys name.now }
 {
-    match name {
-        "backspace" => Some(Key::Backspace),
-        "insert" => Some(Key::Insert),
-        "delete" => Some(Key::Delete),
-        "eraseeof" => Some(Key::EraseEof),
-        "eraseinput" => Some(Key::EraseInput),
-        "reset" => Some(Key::Reset),
-        "enter" => Some(Key::Enter),
-        "clear" => Some(Key::Clear),
-        _ => numbered_key(name),
+    for number in 1..=3 {
+        let number = PaNo::new(number)?;
+        if pa_name(number) == name {
+            return Some(Key::Pa(number));
+        }
     }
+    None
 }
 
 impl Key {
+    /// The key's name; empty of a character, which has none.
+    fn name(self) -> &'static str
+        ensures { result.now ≡ name_of self }
+    {
+        match self {
+            Key::Char(_) => "",
+            Key::Tab => "tab",
+            Key::BackTab => "backtab",
+            Key::NewLine => "newline",
+            Key::Home => "home",
+            Key::CursorUp => "up",
+            Key::CursorDown => "down",
+            Key::CursorLeft => "left",
+            Key::CursorRight => "right",
+            Key::Backspace => "backspace",
+            Key::Insert => "insert",
+            Key::Delete => "delete",
+            Key::EraseEof => "eraseeof",
+            Key::EraseInput => "eraseinput",
+            Key::Reset => "reset",
+            Key::Enter => "enter",
+            Key::Clear => "clear",
+            Key::Pf(number) => pf_name(number),
+            Key::Pa(number) => pa_name(number),
+        }
+    }
+
     /// The key with a name: `tab`, `backtab`, `newline`, `home`, `up`, `down`, `left`, `right`,
     /// `backspace`, `insert`, `delete`, `eraseeof`, `eraseinput`, `reset`, `enter`, `clear`, `pf1` to
     /// `pf24` or `pa1` to `pa3`. None for any other text: a character has no name.
@@ -71,17 +126,9 @@ impl Key {
     pub fn named(name: &str) -> Option<Key>
         ensures { result ≡ key_named name.now }
     {
-        match name {
-            "tab" => Some(Key::Tab),
-            "backtab" => Some(Key::BackTab),
-            "newline" => Some(Key::NewLine),
-            "home" => Some(Key::Home),
-            "up" => Some(Key::CursorUp),
-            "down" => Some(Key::CursorDown),
-            "left" => Some(Key::CursorLeft),
-            "right" => Some(Key::CursorRight),
-            _ => working_key(name),
-        }
+        plain_named(name)
+            .or_else(|| pf_named(name))
+            .or_else(|| pa_named(name))
     }
 }
 
@@ -95,24 +142,7 @@ impl fmt::Display for Key {
     fn fmt<W: fmt::Write>(&self, f: &mut fmt::Formatter<W>) -> fmt::Result {
         match self {
             Key::Char(letter) => f.write_char(*letter),
-            Key::Tab => f.write_str("tab"),
-            Key::BackTab => f.write_str("backtab"),
-            Key::NewLine => f.write_str("newline"),
-            Key::Home => f.write_str("home"),
-            Key::CursorUp => f.write_str("up"),
-            Key::CursorDown => f.write_str("down"),
-            Key::CursorLeft => f.write_str("left"),
-            Key::CursorRight => f.write_str("right"),
-            Key::Backspace => f.write_str("backspace"),
-            Key::Insert => f.write_str("insert"),
-            Key::Delete => f.write_str("delete"),
-            Key::EraseEof => f.write_str("eraseeof"),
-            Key::EraseInput => f.write_str("eraseinput"),
-            Key::Reset => f.write_str("reset"),
-            Key::Enter => f.write_str("enter"),
-            Key::Clear => f.write_str("clear"),
-            Key::Pf(number) => write!(f, "pf{}", number.get()),
-            Key::Pa(number) => write!(f, "pa{}", number.get()),
+            _ => f.write_str(self.name()),
         }
     }
 }

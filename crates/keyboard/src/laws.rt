@@ -1,6 +1,6 @@
 //! Laws of keys: each is the contract of a function that does nothing. Proofs of
 //! other crates use them; no program calls them, and the root doesn't export them.
-ghost use Rattle.keyboard.specs.Laws.{KeysLeave, KeysKeep, EraseInputIsWalked, KeysStayOnTheScreen, RefusalsSetTheLockAlone, ResetAloneActsUnderALock, NoKeyEndsWait, NearestOnward, NearestBackward, NoneOnward, NoneBackward, HomeIsTabFromTheEnd, EditsMarkTheirField, EditsWithoutFieldsMarkNothing, EditsRewriteTheText, FirstNullMakesRoom, NoNullNoRoom, DeleteBringsInANull};
+ghost use Rattle.keyboard.specs.Laws.{KeysLeave, KeysKeep, EraseInputIsWalked, KeysStayOnTheScreen, RefusalsSetTheLockAlone, ResetAloneActsUnderALock, NoKeyEndsWait, NearestOnward, NearestBackward, NoneOnward, NoneBackward, HomeIsTabFromTheEnd, EditsMarkTheirField, EditsWithoutFieldsMarkNothing, EditsRewriteTheText, FirstNullMakesRoom, NoNullNoRoom, DeleteBringsInANull, NamesReadBack, CharactersHaveNoName};
 ghost use Rattle.keyboard.specs.Sendable.{IsKey, KeysKeepSendable};
 ghost use Rattle.keyboard.specs.Sending.{SendingWaits, ClearEmptiesTheScreen, SilentKeysKeepTheAid, SilentKeysBeginNoWait, NothingIsSentAtALock};
 
@@ -86,4 +86,11 @@ pub fn edits_rewrite_the_text()
     ensures inserted { FirstNullMakesRoom }
     ensures full { NoNullNoRoom }
     ensures deleted { DeleteBringsInANull }
+{}
+
+/// Law: what is printed of a key is read by [`Key::named`] as that key, and what is printed of a
+/// character, which has no name, as no key.
+pub fn names_read_back()
+    ensures keys { NamesReadBack }
+    ensures characters { CharactersHaveNoName }
 {}

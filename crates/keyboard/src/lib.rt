@@ -7,8 +7,8 @@
 //! `specs/` has the definitions: `Keys` says what each key makes of keyboard and screen, `Edits` what typing and erasing
 //! make of a field's text, `Places` where the cursor goes, `Leaves` what stays of the cells, and `Laws`, `Sending` and
 //! `Sendable` what joins these. The functions [`laws::keys_keep_what_was_left`], [`laws::what_keys_leave_can_be_sent`],
-//! [`laws::keys_are_real`], [`laws::locks_hold`], [`laws::sent_keys_wait`], [`laws::keys_go_to_the_nearest`] and [`laws::edits_rewrite_the_text`] have the
-//! laws as their contracts.
+//! [`laws::keys_are_real`], [`laws::locks_hold`], [`laws::sent_keys_wait`], [`laws::keys_go_to_the_nearest`],
+//! [`laws::edits_rewrite_the_text`] and [`laws::names_read_back`] have the laws as their contracts.
 #![tactic(auto)]
 
 mod edits;
