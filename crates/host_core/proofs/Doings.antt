@@ -1,6 +1,6 @@
 -- What is done is what there is to do.
 use Rattle.std.proofs.Common.{◌≡◌, ◌<◌, ◌+◌, ◌++◌, ◌∷◌, [], ℕ, Bool, true, false, List, Option, Some, None, refl, ap, sym, subst, ◌∙◌, Vec, if◌then◌else◌}
-use Rattle.std.specs.Prelude.{vec_len}
+use Rattle.std.specs.Prelude.{Result, Ok, Err, OnOk, OnErr, is_err, vec_len}
 use Rattle.std.specs.Vec.{vec_capacity}
 use Rattle.std.specs.declared.alloc.Global.{Global}
 use Rattle.codes3270.specs.declared.attention.Aid.{Aid}
@@ -13,7 +13,7 @@ use Rattle.host_core.specs.Acts.{Act, Sent, act_on, acted, after_key, done, firs
 use Rattle.host_core.specs.Application.{Application}
 use Rattle.host_core.specs.Does.{Grow}
 use Rattle.host_core.specs.Keeps.{DoesOn, IsSentOn, WantsMemory, act_of, reads, show_for, show_once, teaches, values_shown}
-use Rattle.host_core.specs.Rooms.{note_room, room_for}
+use Rattle.host_core.specs.Rooms.{command_room, note_room, room_for}
 use Rattle.host_core.specs.declared.acted.Acted.{Acted}
 use Rattle.host_core.specs.declared.acted.Acted.TheVariants.{Sent as IsSent, Memory as NoMemory}
 use Rattle.host_core.specs.declared.acting.Shown.{Shown}
@@ -42,11 +42,45 @@ notes text old new before roomy after may same on =
 
 -- ---- memory
 
+-- what is shown is a paint
+missing_paints : (app : Application) (old : Conn) (panel target : ℕ) (values : Values) (missing : Option ℕ) → command_room ≡ room_for (done app old (unless_missing panel target values missing)).message
+missing_paints app old panel target values None = refl
+missing_paints app old panel target values (Some field) = refl
+
+led_paints : (app : Application) (old conn : Conn) (values : Values) (aid : Aid) (next : Next) → command_room ≡ room_for (done app old (led app conn values aid next)).message
+led_paints app old conn values aid Again = refl
+led_paints app old conn values Enter (Go target) = missing_paints app old conn.panel target values (first_missing values (app.fields conn.panel))
+led_paints app old conn values NoAid (Go target) = refl
+led_paints app old conn values Clear (Go target) = refl
+led_paints app old conn values (Pf key) (Go target) = refl
+led_paints app old conn values (Pa key) (Go target) = refl
+
+show_paints : (app : Application) (old conn : Conn) (reason : TurnReason) → command_room ≡ room_for (done app old (show_for app conn reason)).message
+show_paints app old conn Agreement = refl
+show_paints app old conn (Key Clear buffered) = refl
+show_paints app old conn (Key NoAid buffered) = led_paints app old conn conn.values NoAid (app.next conn.panel NoAid)
+show_paints app old conn (Key Enter buffered) = led_paints app old conn conn.values Enter (app.next conn.panel Enter)
+show_paints app old conn (Key (Pf key) buffered) = led_paints app old conn conn.values (Pf key) (app.next conn.panel (Pf key))
+show_paints app old conn (Key (Pa key) buffered) = led_paints app old conn conn.values (Pa key) (app.next conn.panel (Pa key))
+show_paints app old conn Refusal = refl
+
+at_err : {T E : Type 0} (result : Result T E) (P : Type 0) → is_err result ≡ true → OnErr result P → P
+at_err (Ok value) P is holds = absurd (cc)
+at_err (Err error) P is holds = holds
+
+at_ok : {T E : Type 0} (result : Result T E) (P : Type 0) → is_err result ≡ false → OnOk result P → P
+at_ok (Ok value) P is holds = holds
+at_ok (Err error) P is holds = absurd (cc)
+
 -- the room didn't do
-pub sends_without_room : (sent : Sent) (old : Conn) (before after : Vec ℕ Global) (room : ℕ) → room ≡ room_for sent.message → vec_capacity before < vec_len before + room
-    → after.items ≡ before.items → DoesOn (Some sent) old before NoMemory old after
-sends_without_room sent old before after room size short same =
-    (refl, same, WantsMemory.room (subst (λ (n : ℕ). vec_capacity before < vec_len before + n) size short))
+pub shows_without_room : {T E : Type 0} (app : Application) (old : Conn) (before after : Vec ℕ Global) (result : Result T E) → is_err result ≡ true
+    → OnErr result (vec_capacity before < vec_len before + command_room) → after.items ≡ before.items → DoesOn (Some (done app old (show_once app old))) old before NoMemory old after
+shows_without_room app old before after result is full same =
+    let short = at_err result _ is full in (
+      refl,
+      same,
+      WantsMemory.room (subst (λ (n : ℕ). vec_capacity before < vec_len before + n) (show_paints app old (record old { values = values_shown app old }) old.turn_reason) short),
+    )
 
 missing_values : (app : Application) (old : Conn) (panel target : ℕ) (values : Values) (missing : Option ℕ) → (done app old (unless_missing panel target values missing)).conn.values ≡ values
 missing_values app old panel target values None = refl
@@ -70,10 +104,15 @@ show_values app old conn (Key (Pa key) buffered) = led_values app old conn conn.
 show_values app old conn Refusal = refl
 
 -- the value of some field had to grow
-pub shows_without_values : (app : Application) (old : Conn) (before after : Vec ℕ Global) → after.items ≡ before.items → Grow old.values (values_shown app old)
-    → DoesOn (Some (done app old (show_once app old))) old before NoMemory old after
-shows_without_values app old before after same grows =
-    (refl, same, WantsMemory.values (subst (λ (values : Values). Grow old.values values) (sym (show_values app old (record old { values = values_shown app old }) old.turn_reason)) grows))
+pub shows_without_values : {T E : Type 0} (app : Application) (old new : Conn) (before after : Vec ℕ Global) (result : Result T E) → is_err result ≡ true
+    → OnErr result (Grow old.values (values_shown app old)) → OnErr result (new ≡ old) → after.items ≡ before.items
+    → DoesOn (Some (done app old (show_once app old))) old before NoMemory new after
+shows_without_values app old new before after result is grow stays same =
+    let grows = at_err result _ is grow in (
+      at_err result _ is stays,
+      same,
+      WantsMemory.values (subst (λ (values : Values). Grow old.values values) (sym (show_values app old (record old { values = values_shown app old }) old.turn_reason)) grows),
+    )
 
 -- ---- what is shown, once the values of fields are set
 
@@ -135,10 +174,11 @@ pub acts_by_showing : (app : Application) (old new : Conn) (before after : Vec �
 acts_by_showing app old new before after answer may unread does = acts app (show_once app old) old new before after answer may (shown_for app old old.turn_reason unread) does
 
 -- a panel is shown, once the values of fields are set
-pub shows_once : (app : Application) (shown : Shown) (old mid new : Conn) (before roomy after : Vec ℕ Global) → mid ≡ record old { values = values_shown app old }
-    → act_of mid.values shown ≡ show_for app mid mid.turn_reason → roomy.items ≡ before.items → IsSentOn (done app mid (act_of mid.values shown)) roomy after new
+pub shows_once : {T E : Type 0} (app : Application) (shown : Shown) (old mid new : Conn) (before roomy after : Vec ℕ Global) (result : Result T E) → is_err result ≡ false
+    → OnOk result (mid ≡ record old { values = values_shown app old }) → act_of mid.values shown ≡ show_for app mid mid.turn_reason → roomy.items ≡ before.items → IsSentOn (done app mid (act_of mid.values shown)) roomy after new
     → DoesOn (Some (done app old (show_once app old))) old before IsSent new after
-shows_once app shown old mid new before roomy after set is same on =
+shows_once app shown old mid new before roomy after result went learned is same on =
+    let set = at_ok result _ went learned in
     let set_before : Conn = record old { values = values_shown app old } in
     let shown_is : act_of (values_shown app old) shown ≡ show_once app old = subst (λ (c : Conn). act_of c.values shown ≡ show_for app c c.turn_reason) set is in
     let sent : IsSentOn (done app set_before (act_of (values_shown app old) shown)) roomy after new = subst (λ (c : Conn). IsSentOn (done app c (act_of c.values shown)) roomy after new) set on in

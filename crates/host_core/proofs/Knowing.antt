@@ -1,5 +1,5 @@
 -- What is known of fields.
-use Rattle.std.proofs.Common.{◌≡◌, ℕ, ◌+◌, ◌-◌, ◌==◌, not, Bool, true, false, List, [], ◌∷◌, ◌++◌, drop, Option, Some, None, refl, ap, sym, ◌∙◌, inl, inr, if◌then◌else◌, append_assoc, append-nil, arith}
+use Rattle.std.proofs.Common.{◌≡◌, ℕ, ◌≤◌, length, length-append, subst, ◌+◌, ◌-◌, ◌==◌, not, Bool, true, false, List, [], ◌∷◌, ◌++◌, drop, Option, Some, None, refl, ap, sym, ◌∙◌, inl, inr, if◌then◌else◌, append_assoc, append-nil, arith}
 use Rattle.std.specs.Prelude.{All, slice_get, option_and_then}
 use Rattle.std.specs.Option.{option_map_or}
 use Rattle.std.proofs.lemmas.Bool.{and_parts}
@@ -50,6 +50,10 @@ read_more text new value index byte there read put =
     ∙ ap (λ (rest : List ℕ). text ++ rest) (sym (without_nulls-cons byte (drop (index + 1) value)))
     ∙ ap (λ (rest : List ℕ). text ++ without_nulls rest) (sym first)
     ∙ read
+
+pub read_few : (keeps : Bool) (text new : List ℕ) (byte index : ℕ) → length text ≤ index → new ≡ (if keeps then text ++ byte ∷ [] else text) → length new ≤ index + 1
+read_few true text new byte index few is = subst (λ (t : List ℕ). length t ≤ index + 1) (sym is) (omega (arith, length-append text (byte ∷ [])))
+read_few false text new byte index few is = subst (λ (t : List ℕ). length t ≤ index + 1) (sym is) (omega arith)
 
 -- ---- the text that is told
 

@@ -111,12 +111,16 @@ values_grow shadow fields values apart some =
 
 -- ---- one field after another
 
-front : (fields : List Field) (i : ℕ) (field : Field) → i < length fields → field ≡ get_or fields i field → drop i fields ≡ field ∷ drop (i + 1) fields
+pub front : (fields : List Field) (i : ℕ) (field : Field) → i < length fields → field ≡ get_or fields i field → drop i fields ≡ field ∷ drop (i + 1) fields
 front fields i field within is = drop_more fields i field within ∙ ap (λ (f : Field). f ∷ drop (i + 1) fields) (sym is)
 
 -- the fields that are left have the values that they had
 pub Untouched : Values → Values → List Field → ℕ → Type 0
 Untouched old now fields from = (k : ℕ) (one : Field) → from ≤ k → slice_get fields k ≡ Some one → value_of now one.number ≡ value_of old one.number
+
+pub untouched_first : (values : Values) (fields : List Field) → Untouched values values fields 0
+unfolding Untouched
+untouched_first values fields = λ k one later at_k. refl
 
 pub still_untouched : (shadow : Shadow) (old now : Values) (fields : List Field) (i : ℕ) (field : Field) → HaveNumbersApart fields → i < length fields → field ≡ get_or fields i field
     → Untouched old now fields i → Untouched old (set_if field.number (text_known shadow field) now) fields (i + 1)
@@ -133,5 +137,5 @@ needed_at_first shadow old now fields i field within is untouched needs =
     let here : slice_get fields i ≡ Some field = slice_get_read fields (length fields) i field refl within is in
     let same : value_of now field.number ≡ value_of old field.number = untouched i field (omega arith) here in
     let needed : needs_room shadow old field ≡ true =
-        ap (λ (v : Option (List ℕ)). option_map_or (is_longer v) (text_known shadow field) false) (sym same) ∙ needs in
+    ap (λ (v : Option (List ℕ)). option_map_or (is_longer v) (text_known shadow field) false) (sym same) ∙ needs in
     any_at (needs_room shadow old) fields i field here needed

@@ -36,20 +36,6 @@ pub(crate) struct Shown {
     pub(crate) keep: bool,
 }
 
-impl Shown {
-    /// A panel with nothing to tell about the last key.
-    fn fresh(panel: usize) -> Shown
-        ensures { (values : FieldValues) → act_of values result ≡ Doing.Show panel Fresh false values }
-        ensures can_be_done { (count : ℕ) → panel < count → CanBeShown count result }
-    {
-        Shown {
-            panel,
-            message: Message::Fresh,
-            keep: false,
-        }
-    }
-}
-
 /// Whether some field is in doubt.
 fn is_some_in_doubt(shadow: &Shadow, fields: &[Field]) -> bool
     ensures { result ≡ list_any (in_doubt shadow.now) fields.now }
@@ -74,7 +60,11 @@ fn unless_missing(panel: usize, target: usize, missing: Option<usize>) -> Shown
     ensures can_be_done { (count : ℕ) → panel < count → target < count → CanBeShown count result }
 {
     match missing {
-        None => Shown::fresh(target),
+        None => Shown {
+            panel: target,
+            message: Message::Fresh,
+            keep: false,
+        },
         Some(field) => Shown {
             panel,
             message: Message::Required(field),
@@ -173,9 +163,14 @@ impl Session {
         ensures act { act_of self.now.values result ≡ Doing.Show (target_or self.now.panel ((application_of panels.now).next self.now.panel Clear)) Fresh false self.now.values }
         ensures can_be_done { CanBeShown (length panels.now.panels) result }
     {
-        match next_of(panels, self.panel, &Aid::Clear) {
-            Next::Again => Shown::fresh(self.panel),
-            Next::Go(target) => Shown::fresh(target),
+        let target = match next_of(panels, self.panel, &Aid::Clear) {
+            Next::Again => self.panel,
+            Next::Go(target) => target,
+        };
+        Shown {
+            panel: target,
+            message: Message::Fresh,
+            keep: false,
         }
     }
 
@@ -200,7 +195,11 @@ impl Session {
         ensures can_be_done { CanBeShown (length panels.now.panels) result }
     {
         match self.turn_reason {
-            TurnReason::Agreement => Shown::fresh(panels.start()),
+            TurnReason::Agreement => Shown {
+                panel: panels.start(),
+                message: Message::Fresh,
+                keep: false,
+            },
             TurnReason::Key(aid, _) => self.after_key(panels, &aid),
             TurnReason::Refusal => Shown {
                 panel: self.panel,

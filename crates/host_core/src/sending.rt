@@ -22,7 +22,7 @@ use crate::session::Session;
 use crate::turn::Turn;
 use codes3270::Wcc;
 use datastream::{CommandCode, CommandWriter, Want, Wanted};
-use panels::{Panel, PanelSet};
+use panels::{Panel, PanelSet, Values};
 use shadow::laws::what_is_wanted_is_painted;
 use telnet_wire::put_record;
 use tn3270e_msg::{ALWAYS_RESPONSE, DataType, ERROR_RESPONSE, Header, header_bytes, next_seq};
@@ -87,6 +87,7 @@ impl Session {
     pub(crate) fn read(&mut self, out: &mut Vec<u8>)
         requires { HasRoomFor read_buffer_room out.old }
         ensures sent { (app : Application) → IsSentOn (done app self.old Doing.Read) out.old out.new self.new }
+        ensures panel { self.new.panel ≡ self.old.panel }
         ensures capacity { vec_capacity out.old ≤ vec_capacity out.new }
     {
         begin_record(&mut self.sent, ERROR_RESPONSE, self.next_seq);
@@ -97,37 +98,44 @@ impl Session {
     }
 
     /// Puts the screen that is wanted: one that keeps fields where that fits what is believed, else a whole one.
-    fn put_wanted(&self, wanted: &mut Wanted, panels: &PanelSet, shown: &Shown)
+    fn put_wanted(&self, wanted: &mut Wanted, panels: &PanelSet, shown: &Shown, values: &Values)
         requires { CanBeShown (length panels.now.panels) shown.now }
-        ensures { wanted.new ≡ wanted_by (application_of panels.now) self.now shown.now.panel shown.now.message shown.now.keep self.now.values }
+        ensures { wanted.new ≡ wanted_by (application_of panels.now) self.now shown.now.panel shown.now.message shown.now.keep values.now }
     {
         let panel = panel_in(panels, shown.panel);
         if !shown.keep {
-            panel.put_wanted(wanted, &self.values, shown.message, false);
+            panel.put_wanted(wanted, values, shown.message, false);
             return;
         }
-        panel.put_wanted(wanted, &self.values, shown.message, true);
+        panel.put_wanted(wanted, values, shown.message, true);
         if self.shadow.fits(wanted) {
             return;
         }
-        panel.put_wanted(wanted, &self.values, shown.message, false);
+        panel.put_wanted(wanted, values, shown.message, false);
     }
 
     /// The same. It fits what is believed, and is a screen of the profile.
-    fn put_fitting(&self, wanted: &mut Wanted, panels: &PanelSet, shown: &Shown)
+    fn put_fitting(&self, wanted: &mut Wanted, panels: &PanelSet, shown: &Shown, values: &Values)
         requires { CanBeShown (length panels.now.panels) shown.now }
-        ensures wanted { wanted.new ≡ wanted_by (application_of panels.now) self.now shown.now.panel shown.now.message shown.now.keep self.now.values }
+        ensures wanted { wanted.new ≡ wanted_by (application_of panels.now) self.now shown.now.panel shown.now.message shown.now.keep values.now }
         ensures fits { fits self.now.shadow wanted.new ≡ true }
         ensures screen { IsScreen wanted.new }
     {
         what_is_shown_fits();
         panels_are_shown();
         panels.panels_are_sound();
-        self.put_wanted(wanted, panels, shown);
+        self.put_wanted(wanted, panels, shown, values);
         // For the contract: there is a want for each cell.
         let _cells = wanted.cells();
         // For the contract: the cursor is on the screen.
         let _cursor = wanted.cursor();
+    }
+
+    /// The values of fields.
+    fn values(&self) -> &Values
+        ensures { result.now ≡ self.now.values }
+    {
+        &self.values
     }
 
     /// Shows a panel with a message and the values of fields.
@@ -139,7 +147,7 @@ impl Session {
     {
         what_is_wanted_is_painted();
         let mut wanted = Wanted::filled(Want::Keep);
-        self.put_fitting(&mut wanted, panels, &shown);
+        self.put_fitting(&mut wanted, panels, &shown, self.values());
         begin_record(&mut self.sent, ALWAYS_RESPONSE, self.next_seq);
         self.shadow.paint(&mut self.sent, &wanted).unwrap();
         send_record(self.sent.as_slice(), out);

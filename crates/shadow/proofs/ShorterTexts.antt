@@ -70,7 +70,7 @@ value_within whole p a m t within is =
     let behind = drop (p + 1) whole in
     let short : length round < length whole = ring_length whole p within in
     let few : length (value_of (fact_held t (round ++ Attr a m t ∷ behind))) ≤ length round =
-        fact_within t (round ++ Attr a m t ∷ behind) (length round) (chars_before round behind a m t) (told_before round behind a m t) in
+    fact_within t (round ++ Attr a m t ∷ behind) (length round) (chars_before round behind a m t) (told_before round behind a m t) in
     subst (λ (ahead : List CellBelief). length (value_of (fact_held t ahead)) < length whole) (sym (ring_at whole p (Attr a m t) within is)) (omega arith)
 
 -- an index at which there is a character

@@ -5,11 +5,11 @@ use Rattle.shadow.specs.Belief.{Belief}
 use Rattle.host_core.proofs.Knowing.{IsRead}
 use Rattle.host_core.proofs.learning.text_at.Given as goal
 
-abbrev pub measure-loop : goal.measure-loop
-measure-loop l = cell_count - l.index
+abbrev pub decreases-loop-byte : goal.decreases-loop-byte
+decreases-loop-byte l = cell_count - l.index
 
-abbrev pub invariant-loop : goal.invariant-loop
-invariant-loop l = record {
+abbrev pub invariant-loop-byte : goal.invariant-loop-byte
+invariant-loop-byte l = record {
   within : l.index ≤ cell_count;
   few : length l.text.items ≤ l.index;
   read : (belief : Belief) → field_at l.attr l.shadow ≡ Some belief → IsRead l.text.items (value_of belief.fact) l.index;

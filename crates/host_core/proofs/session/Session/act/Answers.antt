@@ -1,17 +1,14 @@
-use Rattle.std.proofs.Common.{length, ap, ◌∙◌, sym}
-use Rattle.host_core.proofs.Doings.{acts, panel_stays}
-use Rattle.host_core.specs.Acts.{Act}
+use Rattle.std.proofs.Common.{sym, ◌∙◌}
 use Rattle.host_core.specs.Application.{application_of}
-use Rattle.host_core.specs.Keeps.{act_of}
+use Rattle.host_core.proofs.Doings.{acts_by_reading, acts_by_showing}
 use Rattle.host_core.proofs.session.Session.act.Goals as goal
 
-pub returns-in-Read-clause-acted : goal.returns-in-Read-clause-acted
-returns-in-Read-clause-acted c =
-    acts (application_of c.args.panels.now) Act.Read c.args.self.now c.read.new.self c.args.out.now c.reserve.new.self c.read.new.out
-    (sym c.may_act.ensures ∙ c.if-not-may_act.false) (sym (ap (act_of c.args.self.now.values) c.in-Read.is) ∙ c.in-Ok.ensures.act) c.reserve.ensures.items
-    (c.read.ensures.sent (application_of c.args.panels.now))
+pub returns-then-reads_first-clause-acted : goal.returns-then-reads_first-clause-acted
+returns-then-reads_first-clause-acted c =
+    acts_by_reading (application_of c.args.panels.now) c.args.self.now c.read_in_turn.new.self c.args.out.now c.read_in_turn.new.out c.read_in_turn.result
+    (sym c.may_act.ensures ∙ c.if-not-may_act.false) (sym c.reads_first.ensures ∙ c.if-reads_first.true) (c.read_in_turn.ensures.acted (application_of c.args.panels.now))
 
-pub returns-in-Read-clause-panel : goal.returns-in-Read-clause-panel
-returns-in-Read-clause-panel c =
-    panel_stays (application_of c.args.panels.now) c.args.self.now c.read.new.self c.reserve.new.self c.read.new.out (length c.args.panels.now.panels)
-    c.requires.panel (c.read.ensures.sent (application_of c.args.panels.now))
+pub returns-clause-acted : goal.returns-clause-acted
+returns-clause-acted c =
+    acts_by_showing (application_of c.args.panels.now) c.args.self.now c.show_in_turn.new.self c.args.out.now c.show_in_turn.new.out c.show_in_turn.result
+    (sym c.may_act.ensures ∙ c.if-not-may_act.false) (sym c.reads_first.ensures ∙ c.if-reads_first.false) c.show_in_turn.ensures.acted

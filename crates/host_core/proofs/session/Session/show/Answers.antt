@@ -1,5 +1,4 @@
 use Rattle.std.proofs.Common.{◌≡◌, ◌++◌, ◌∷◌, [], ℕ, List, ap, refl, arith, ◌∙◌, length}
-use Rattle.std.specs.Prelude.{unwrap_or}
 use Rattle.std.specs.Vec.{vec_capacity}
 use Rattle.codes3270.specs.Size.{cell_count, cells_in}
 use Rattle.shadow.specs.Paint.{paint_bytes}
@@ -12,8 +11,8 @@ use Rattle.host_core.proofs.session.Session.show.Goals as goal
 
 pub unwrap-requires : goal.unwrap-requires
 unwrap-requires c =
-    let bounded = c.what_is_wanted_is_painted.ensures.bounded cell_count c.self.inside.shadow c.put_fitting.new.wanted in
     let size = c.put_fitting.ensures.screen.size in
+    let bounded = c.what_is_wanted_is_painted.ensures.bounded cell_count c.self.inside.shadow c.put_fitting.new.wanted (omega (arith, size)) in
     let begun = ap (λ (bytes : List ℕ). length bytes) c.begin_record.ensures.begun in
     let made = c.self.invariant.1 in
     let kept = c.begin_record.ensures.capacity in
@@ -37,10 +36,10 @@ returns-clause-sent c =
     let laws = c.what_is_wanted_is_painted.ensures in
     let begun = rw c.unwrap.ensures at c.paint.ensures.painted in
     let sized : cells_in c.args.self.now.shape ≡ cell_count = rw (← c.self.view_is) refl in
-    shows (application_of c.args.panels.now) c.args.self.now _ cell_count c.args.panel c.args.message c.args.keep (unwrap_or c.args.changed c.args.self.now.values) c.put_fitting.new.wanted c.paint.new.out.items c.args.out.now c.send_record.new.out
+    shows (application_of c.args.panels.now) c.args.self.now _ cell_count c.args.shown.panel c.args.shown.message c.args.shown.keep c.args.self.now.values c.put_fitting.new.wanted c.paint.new.out.items c.args.out.now c.send_record.new.out
     sized c.put_fitting.ensures.screen.size
-    (c.put_fitting.ensures.wanted ∙ ap (wanted_by (application_of c.args.panels.now) c.args.self.now c.args.panel c.args.message c.args.keep) c.values_once-values.ensures)
+    (c.put_fitting.ensures.wanted ∙ ap (wanted_by (application_of c.args.panels.now) c.args.self.now c.args.shown.panel c.args.shown.message c.args.shown.keep) c.values.ensures)
     (laws.spelt c.args.self.now.shadow c.put_fitting.new.wanted c.put_fitting.ensures.screen)
     (rw (← c.self.view_is) (begun ∙ ap (λ (bytes : List ℕ). bytes ++ paint_bytes cell_count c.self.inside.shadow c.put_fitting.new.wanted) c.begin_record.ensures.begun))
-    (rw (← c.self.view_is, c.next_seq-self-inside.ensures, c.set_if_changed.ensures) refl)
+    (rw (← c.self.view_is, c.next_seq-self-inside.ensures) refl)
     (c.send_record.ensures.sent ∙ ap (λ (bytes : List ℕ). c.args.out.now.items ++ sent_bytes (Record bytes ∷ [])) c.as_slice.ensures.value)
