@@ -2,10 +2,10 @@
 //! in turn.
 use crate::Tried;
 use crate::bytes::{Run, spelt};
+use crate::report::Report;
 use codes3270::{Addr, Attr, CELL_COUNT, Cell};
 use datastream::{Form, InboundFault, read_command, read_inbound};
 use shadow::{Fact, HeardFault, Shadow, plain};
-use std::alloc::Global;
 
 // ---- what is asked of a belief
 
@@ -32,27 +32,41 @@ fn hear(shadow: &mut Shadow, bytes: &[u8], form: Form) -> Option<Result<(), Hear
 }
 
 /// Whether data of this form is heard.
-fn hears(shadow: &mut Shadow, bytes: &[u8], form: Form) -> bool {
-    hear(shadow, bytes, form) == Some(Ok(()))
+fn hears(report: &mut Report, shadow: &mut Shadow, bytes: &[u8], form: Form) -> bool {
+    report.same(&Some(Ok(())), &hear(shadow, bytes, form))
 }
 
 /// Whether data of this form is refused for this fault.
-pub(crate) fn refuses(shadow: &mut Shadow, bytes: &[u8], form: Form, fault: HeardFault) -> bool {
-    hear(shadow, bytes, form) == Some(Err(fault))
+pub(crate) fn refuses(
+    report: &mut Report,
+    shadow: &mut Shadow,
+    bytes: &[u8],
+    form: Form,
+    fault: HeardFault,
+) -> bool {
+    report.same(&Some(Err(fault)), &hear(shadow, bytes, form))
 }
 
 /// Whether long data of this form, of `length` bytes, is heard.
-fn hears_runs(alloc: Global, shadow: &mut Shadow, runs: &[Run], form: Form, length: usize) -> bool {
-    match spelt(alloc, runs) {
-        Ok(bytes) => bytes.len() == length && hears(shadow, bytes.as_slice(), form),
+fn hears_runs(
+    report: &mut Report,
+    shadow: &mut Shadow,
+    runs: &[Run],
+    form: Form,
+    length: usize,
+) -> bool {
+    match spelt(report.alloc, runs) {
+        Ok(bytes) => report.same(&length, &bytes.len())
+            && hears(report, shadow, bytes.as_slice(), form),
         Err(_) => false,
     }
 }
 
 /// Whether long data can't be.
-fn refuses_runs(alloc: Global, shadow: &mut Shadow, runs: &[Run]) -> bool {
-    match spelt(alloc, runs) {
+fn refuses_runs(report: &mut Report, shadow: &mut Shadow, runs: &[Run]) -> bool {
+    match spelt(report.alloc, runs) {
         Ok(bytes) => refuses(
+            report,
             shadow,
             bytes.as_slice(),
             Form::Modified,
@@ -70,21 +84,21 @@ pub(crate) fn fact_at(shadow: &Shadow, place: u16) -> Option<Fact> {
 }
 
 /// Whether the fact of a field speaks of this text.
-fn has_value(shadow: &Shadow, place: u16, text: &[u8]) -> bool {
+fn has_value(report: &mut Report, shadow: &Shadow, place: u16, text: &[u8]) -> bool {
     let Some(addr) = Addr::new(place) else {
         return false;
     };
     for index in 0..text.len() {
-        if shadow.value(addr, index) != Some(text[index]) {
-            return false;
+        if !report.same(&Some(text[index]), &shadow.value(addr, index)) {
+            return report.differs_at("character", index);
         }
     }
-    shadow.value(addr, text.len()).is_none()
+    report.same(&None, &shadow.value(addr, text.len()))
 }
 
 /// Whether a field has this fact, which speaks of this text.
-fn believes(shadow: &Shadow, place: u16, fact: Fact, text: &[u8]) -> bool {
-    fact_at(shadow, place) == Some(fact) && has_value(shadow, place, text)
+fn believes(report: &mut Report, shadow: &Shadow, place: u16, fact: Fact, text: &[u8]) -> bool {
+    report.same(&Some(fact), &fact_at(shadow, place)) && has_value(report, shadow, place, text)
 }
 
 pub(crate) fn known_at(shadow: &Shadow, place: u16) -> Option<Cell> {
@@ -94,8 +108,8 @@ pub(crate) fn known_at(shadow: &Shadow, place: u16) -> Option<Cell> {
     }
 }
 
-fn knows(shadow: &Shadow, place: u16, cell: Cell) -> bool {
-    known_at(shadow, place) == Some(cell)
+fn knows(report: &mut Report, shadow: &Shadow, place: u16, cell: Cell) -> bool {
+    report.same(&Some(cell), &known_at(shadow, place))
 }
 
 // ---- steps
@@ -124,34 +138,36 @@ pub(crate) enum Step {
     Unknown(u16),
 }
 
-fn is_so(alloc: Global, shadow: &mut Shadow, step: &Step) -> bool {
+fn is_so(report: &mut Report, shadow: &mut Shadow, step: &Step) -> bool {
     match step {
-        Step::Take(command) => take(shadow, command),
-        Step::Hear(data) => hears(shadow, data, Form::Modified),
-        Step::HearRuns(runs, form, length) => hears_runs(alloc, shadow, runs, *form, *length),
-        Step::Refuse(data, form, fault) => refuses(shadow, data, *form, *fault),
-        Step::RefuseRuns(runs) => refuses_runs(alloc, shadow, runs),
-        Step::Field(place, fact) => fact_at(shadow, *place) == *fact,
-        Step::Text(place, fact, text) => believes(shadow, *place, *fact, text),
-        Step::Char(place, byte) => knows(shadow, *place, Cell::Char(*byte)),
-        Step::Attr(place, code) => knows(shadow, *place, Cell::Attr(Attr::from_code(*code))),
-        Step::Unknown(place) => known_at(shadow, *place).is_none(),
+        Step::Take(command) => report.holds("it is a plain write", take(shadow, command)),
+        Step::Hear(data) => hears(report, shadow, data, Form::Modified),
+        Step::HearRuns(runs, form, length) => hears_runs(report, shadow, runs, *form, *length),
+        Step::Refuse(data, form, fault) => refuses(report, shadow, data, *form, *fault),
+        Step::RefuseRuns(runs) => refuses_runs(report, shadow, runs),
+        Step::Field(place, fact) => report.same(fact, &fact_at(shadow, *place)),
+        Step::Text(place, fact, text) => believes(report, shadow, *place, *fact, text),
+        Step::Char(place, byte) => knows(report, shadow, *place, Cell::Char(*byte)),
+        Step::Attr(place, code) => {
+            knows(report, shadow, *place, Cell::Attr(Attr::from_code(*code)))
+        }
+        Step::Unknown(place) => report.same(&None, &known_at(shadow, *place)),
     }
 }
 
 /// Whether each step is so, in turn.
-pub(crate) fn follows(alloc: Global, shadow: &mut Shadow, steps: &[Step]) -> bool {
-    for step in steps {
-        if !is_so(alloc, shadow, step) {
-            return false;
+pub(crate) fn follows(report: &mut Report, shadow: &mut Shadow, steps: &[Step]) -> bool {
+    for (index, step) in steps.iter().enumerate() {
+        if !is_so(report, shadow, step) {
+            return report.differs_at("step", index);
         }
     }
     true
 }
 
 /// Whether each step is so of a host that knows nothing yet.
-fn begins_with(alloc: Global, steps: &[Step]) -> bool {
-    follows(alloc, &mut Shadow::blank(), steps)
+fn begins_with(report: &mut Report, steps: &[Step]) -> bool {
+    follows(report, &mut Shadow::blank(), steps)
 }
 
 /// A sign-on panel: fields at 166 and 246 that may be typed into, of 8 and 4 characters.
@@ -192,8 +208,8 @@ static ONE_FIELD_CAME_BACK: [Step; 4] = [
     Step::Text(3, Fact::Text, &[0xC4]),
 ];
 
-fn erased_input_is_heard_as_nulls(alloc: Global) -> bool {
-    begins_with(alloc, &NOTHING_CAME_BACK) && begins_with(alloc, &ONE_FIELD_CAME_BACK)
+fn erased_input_is_heard_as_nulls(report: &mut Report) -> bool {
+    begins_with(report, &NOTHING_CAME_BACK) && begins_with(report, &ONE_FIELD_CAME_BACK)
 }
 
 static TEXT_ANYWHERE: [Step; 4] = [
@@ -220,16 +236,17 @@ static ATTENTION_TELLS_NOTHING_AND_CLEAR_ALL: [Step; 7] = [
     Step::Char(166, 0),
 ];
 
-fn a_panel_answers(alloc: Global) -> bool {
-    begins_with(alloc, &ENTER_TELLS_TEXTS)
-        && begins_with(alloc, &ATTENTION_TELLS_NOTHING_AND_CLEAR_ALL)
+fn a_panel_answers(report: &mut Report) -> bool {
+    begins_with(report, &ENTER_TELLS_TEXTS)
+        && begins_with(report, &ATTENTION_TELLS_NOTHING_AND_CLEAR_ALL)
 }
 
 /// A cursor beyond the screen: no inbound data at all.
-fn a_cursor_beyond_is_no_data(shadow: &mut Shadow) -> bool {
+fn a_cursor_beyond_is_no_data(report: &mut Report, shadow: &mut Shadow) -> bool {
     let bytes = [0x7D, 0x5E, 0x40];
-    hear(shadow, &bytes, Form::Modified) == None
-        && read_inbound(&bytes, Form::Modified).err() == Some(InboundFault::BadAddress)
+    let fault = read_inbound(&bytes, Form::Modified).err();
+    report.same(&None, &hear(shadow, &bytes, Form::Modified))
+        && report.same(&Some(InboundFault::BadAddress), &fault)
 }
 
 static WHAT_CANNOT_BE: [Step; 7] = [
@@ -266,9 +283,9 @@ static WHAT_CANNOT_BE: [Step; 7] = [
     Step::Hear(b"\x60\x40\x40"),
 ];
 
-fn what_cannot_be_is_refused(alloc: Global) -> bool {
+fn what_cannot_be_is_refused(report: &mut Report) -> bool {
     let mut shadow = sign_on();
-    a_cursor_beyond_is_no_data(&mut shadow) && follows(alloc, &mut shadow, &WHAT_CANNOT_BE)
+    a_cursor_beyond_is_no_data(report, &mut shadow) && follows(report, &mut shadow, &WHAT_CANNOT_BE)
 }
 
 static ROUND_THE_END: [Step; 6] = [
@@ -437,19 +454,19 @@ pub(crate) static CHECKS: [(&str, Check); 11] = [
 ];
 
 impl Tried for Check {
-    fn is_so(&self, alloc: Global) -> bool {
+    fn is_so(&self, report: &mut Report) -> bool {
         match self {
-            Check::Unreturned => begins_with(alloc, &UNRETURNED),
-            Check::ErasedInput => erased_input_is_heard_as_nulls(alloc),
-            Check::ReturnedText => begins_with(alloc, &TEXT_ANYWHERE),
-            Check::Panel => a_panel_answers(alloc),
-            Check::CannotBe => what_cannot_be_is_refused(alloc),
-            Check::RoundTheEnd => begins_with(alloc, &ROUND_THE_END),
-            Check::ResetText => begins_with(alloc, &RESET_TEXT),
-            Check::KnowsNothing => begins_with(alloc, &NOTHING_IS_LEARNT),
-            Check::Cleared => begins_with(alloc, &CLEARED),
-            Check::Protected => begins_with(alloc, &PROTECTED),
-            Check::Stored => begins_with(alloc, &STORED),
+            Check::Unreturned => begins_with(report, &UNRETURNED),
+            Check::ErasedInput => erased_input_is_heard_as_nulls(report),
+            Check::ReturnedText => begins_with(report, &TEXT_ANYWHERE),
+            Check::Panel => a_panel_answers(report),
+            Check::CannotBe => what_cannot_be_is_refused(report),
+            Check::RoundTheEnd => begins_with(report, &ROUND_THE_END),
+            Check::ResetText => begins_with(report, &RESET_TEXT),
+            Check::KnowsNothing => begins_with(report, &NOTHING_IS_LEARNT),
+            Check::Cleared => begins_with(report, &CLEARED),
+            Check::Protected => begins_with(report, &PROTECTED),
+            Check::Stored => begins_with(report, &STORED),
         }
     }
 }

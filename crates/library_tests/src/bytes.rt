@@ -1,4 +1,5 @@
 //! Long sequences of bytes, as runs, and bytes added to vectors, some of them full.
+use crate::report::Report;
 use std::alloc::{AllocError, Global};
 
 /// Bytes, and how often they are repeated.
@@ -62,39 +63,53 @@ pub(crate) enum Room {
 }
 
 /// Whether these bytes are added after the present ones.
-fn is_added_to<A: Adds>(out: &mut Vec<u8>, value: &A, bytes: &[u8]) -> bool {
+fn is_added_to<A: Adds>(report: &mut Report, out: &mut Vec<u8>, value: &A, bytes: &[u8]) -> bool {
     let start = out.len();
-    value.add(out) && out.get(start..) == Some(bytes)
+    report.holds("it is added", value.add(out))
+        && report.same_bytes(bytes, out.get(start..).unwrap_or(&[]))
 }
 
 /// Whether these bytes are added after sevens; if a growth is refused, nothing at first and all of them then.
-fn is_added_at_last<A: Adds>(out: &mut Vec<u8>, value: &A, bytes: &[u8]) -> bool {
+fn is_added_at_last<A: Adds>(
+    report: &mut Report,
+    out: &mut Vec<u8>,
+    value: &A,
+    bytes: &[u8],
+) -> bool {
     if !fill_room(out) {
         return false;
     }
     let start = out.len();
     if !value.add(out) && !(are_all(out, 7, start) && value.add(out)) {
-        return false;
+        return report.holds(
+            "a refused growth changes nothing, and a second call adds",
+            false,
+        );
     }
-    out.get(start..) == Some(bytes)
+    report.same_bytes(bytes, out.get(start..).unwrap_or(&[]))
 }
 
 /// Whether these bytes are added, and the vector isn't moved.
-fn is_added_in_place<A: Adds>(out: &mut Vec<u8>, value: &A, bytes: &[u8]) -> bool {
+fn is_added_in_place<A: Adds>(
+    report: &mut Report,
+    out: &mut Vec<u8>,
+    value: &A,
+    bytes: &[u8],
+) -> bool {
     let room = out.capacity();
-    is_added_to(out, value, bytes) && out.capacity() == room
+    is_added_to(report, out, value, bytes) && report.same(&room, &out.capacity())
 }
 
 /// Whether these bytes, and no others, are added to a vector with this room, if there is memory for one. A refused growth changes nothing.
-pub(crate) fn is_added<A: Adds>(alloc: Global, value: &A, bytes: &[u8], room: &Room) -> bool {
+pub(crate) fn is_added<A: Adds>(report: &mut Report, value: &A, bytes: &[u8], room: &Room) -> bool {
     match room {
-        Room::New => is_added_to(&mut Vec::new(alloc), value, bytes),
-        Room::Full => match Vec::with_capacity(alloc, 2) {
-            Ok(mut out) => is_added_at_last(&mut out, value, bytes),
+        Room::New => is_added_to(report, &mut Vec::new(report.alloc), value, bytes),
+        Room::Full => match Vec::with_capacity(report.alloc, 2) {
+            Ok(mut out) => is_added_at_last(report, &mut out, value, bytes),
             Err(_) => true,
         },
-        Room::Enough => match Vec::with_capacity(alloc, bytes.len()) {
-            Ok(mut out) => is_added_in_place(&mut out, value, bytes),
+        Room::Enough => match Vec::with_capacity(report.alloc, bytes.len()) {
+            Ok(mut out) => is_added_in_place(report, &mut out, value, bytes),
             Err(_) => true,
         },
     }

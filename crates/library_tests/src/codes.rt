@@ -1,6 +1,7 @@
 //! The published tables of codes, byte by byte, and each call once on its happy path.
 //!
 //! A helper says of a table whether all of it is right.
+use crate::report::Report;
 use crate::{Tried, all_so, at, prints};
 use codes3270::laws::{code_laws, size_laws};
 use codes3270::{
@@ -8,7 +9,6 @@ use codes3270::{
     addr_from_bytes, addr_to_bytes, aid_byte, aid_from_byte, attr_code, from_latin1, storable,
     to_latin1,
 };
-use std::alloc::Global;
 
 // ---- rows
 
@@ -46,12 +46,15 @@ enum Row {
 }
 
 impl Tried for Row {
-    fn is_so(&self, _: Global) -> bool {
+    fn is_so(&self, report: &mut Report) -> bool {
         match self {
             Row::Address(number, bytes, is_written) => {
-                is_read_as(*bytes, *number) && is_written_as(*number, *bytes) == *is_written
+                is_read_as(report, *bytes, *number)
+                    && report.same(is_written, &is_written_as(*number, *bytes))
             }
-            Row::NoAddress(bytes) => addr_from_bytes(*bytes) == Err(AddrFault::TooLarge),
+            Row::NoAddress(bytes) => {
+                report.same(&Err(AddrFault::TooLarge), &number_read(*bytes))
+            }
             Row::Attribute(code, protected, numeric, display, mdt) => {
                 let attr = Attr {
                     protected: *protected,
@@ -59,25 +62,29 @@ impl Tried for Row {
                     display: *display,
                     mdt: *mdt,
                 };
-                attribute_agrees(*code, attr)
+                attribute_agrees(report, *code, attr)
             }
             Row::Mdt(code, mdt, written) => {
-                attr_code(Attr::from_code(*code).with_mdt(*mdt)) == *written
+                report.same(written, &attr_code(Attr::from_code(*code).with_mdt(*mdt)))
             }
-            Row::Bits(byte, written) => attr_code(Attr::from_code(*byte)) == *written,
+            Row::Bits(byte, written) => report.same(written, &attr_code(Attr::from_code(*byte))),
             Row::WriteControl(byte, alarm, restore, reset) => {
                 let wcc = Wcc {
                     alarm: *alarm,
                     restore: *restore,
                     reset: *reset,
                 };
-                write_control_agrees(*byte, wcc)
+                write_control_agrees(report, *byte, wcc)
             }
-            Row::ControlBits(byte, written) => Wcc::from_byte(*byte).byte() == *written,
-            Row::Identifier(byte, named, is_short) => key_agrees(*byte, named, *is_short),
-            Row::NoPf(number) => PfNo::new(*number).is_none(),
-            Row::NoPa(number) => PaNo::new(*number).is_none(),
-            Row::NoCode(character) => from_latin1(*character).is_none(),
+            Row::ControlBits(byte, written) => {
+                report.same(written, &Wcc::from_byte(*byte).byte())
+            }
+            Row::Identifier(byte, named, is_short) => {
+                key_agrees(report, *byte, named, *is_short)
+            }
+            Row::NoPf(number) => report.holds("there is no such key", PfNo::new(*number).is_none()),
+            Row::NoPa(number) => report.holds("there is no such key", PaNo::new(*number).is_none()),
+            Row::NoCode(character) => report.same(&None, &from_latin1(*character)),
         }
     }
 }
@@ -107,12 +114,21 @@ fn is_written_as(number: u16, bytes: [u8; 2]) -> bool {
     }
 }
 
-/// Whether the bytes are read as the address with this number.
-fn is_read_as(bytes: [u8; 2], number: u16) -> bool {
-    match (addr_from_bytes(bytes), Addr::new(number)) {
-        (Ok(read), Some(addr)) => read == addr && addr.get() == number,
-        _ => false,
+/// The number of the address that bytes are read as.
+fn number_read(bytes: [u8; 2]) -> Result<u16, AddrFault> {
+    match addr_from_bytes(bytes) {
+        Ok(addr) => Ok(addr.get()),
+        Err(fault) => Err(fault),
     }
+}
+
+/// Whether the bytes are read as the address with this number.
+fn is_read_as(report: &mut Report, bytes: [u8; 2], number: u16) -> bool {
+    report.same(&Ok(number), &number_read(bytes))
+        && match (addr_from_bytes(bytes), Addr::new(number)) {
+            (Ok(read), Some(addr)) => read == addr,
+            _ => false,
+        }
 }
 
 /// Whether the code is the value's, as the low six bits of an address, and as the high ones if there are any.
@@ -123,7 +139,7 @@ fn is_code_of(value: u8, code: u8) -> bool {
 }
 
 /// Whether the runs are the codes of the values from 0 to 63.
-fn each_six_bit_value_has_its_code() -> bool {
+fn each_six_bit_value_has_its_code(report: &mut Report) -> bool {
     let mut values = 0..64;
     for (first, last) in &SIX_BIT_RUNS {
         for code in *first..=*last {
@@ -131,7 +147,7 @@ fn each_six_bit_value_has_its_code() -> bool {
                 return false;
             };
             if !is_code_of(value, code) {
-                return false;
+                return report.differs_at("value", usize::from(value));
             }
         }
     }
@@ -156,52 +172,53 @@ static ADDRESSES: [Row; 14] = [
     Row::NoAddress([0x7F, 0x7F]),
 ];
 
-fn addresses_are_written_and_read(alloc: Global) -> bool {
-    all_so(alloc, &ADDRESSES)
+fn addresses_are_written_and_read(report: &mut Report) -> bool {
+    all_so(report, &ADDRESSES)
         && Addr::new(1920).is_none()
-        && prints(alloc, &AddrFault::TooLarge, "address beyond the screen")
+        && prints(report, &AddrFault::TooLarge, "address beyond the screen")
 }
 
-fn goes_round(last: Addr) -> bool {
-    Addr::first().get() == 0
-        && Addr::first().next().get() == 1
-        && last.next().get() == 0
-        && last.forward(80).get() == 79
-        && last.forward(1920).get() == 1919
-        && last.backward(80).get() == 1839
-        && Addr::first().backward(1).get() == 1919
-        && Addr::first().backward(1920).get() == 0
+fn goes_round(report: &mut Report, last: Addr) -> bool {
+    let places = [
+        Addr::first().get(),
+        Addr::first().next().get(),
+        last.next().get(),
+        last.forward(80).get(),
+        last.forward(1920).get(),
+        last.backward(80).get(),
+        Addr::first().backward(1).get(),
+        Addr::first().backward(1920).get(),
+    ];
+    report.same(&[0, 1, 0, 79, 1919, 1839, 1919, 0], &places)
 }
 
 /// Whether a walk over all addresses goes from the first to the last.
-fn all_are_in_order() -> bool {
+fn all_are_in_order(report: &mut Report) -> bool {
     let mut place = 0u16;
     for addr in Addr::all() {
-        if addr.get() != place {
+        if !report.same(&place, &addr.get()) {
             return false;
         }
         place = place.saturating_add(1);
     }
-    place == CELLS
+    report.same(&CELLS, &place)
 }
 
-fn addresses_go_round_the_screen() -> bool {
+fn addresses_go_round_the_screen(report: &mut Report) -> bool {
     size_laws();
     code_laws();
-    ROWS == 24
-        && COLUMNS == 80
-        && CELLS == 1920
-        && goes_round(at(1919))
-        && CELL_COUNT == 1920
-        && all_are_in_order()
+    report.same(&[24, 80, 1920], &[ROWS, COLUMNS, CELLS])
+        && goes_round(report, at(1919))
+        && report.same(&1920, &CELL_COUNT)
+        && all_are_in_order(report)
 }
 
 // ---- attributes and write control characters
 
 /// Whether the code is the attribute's, and each question is answered by the fields.
-fn attribute_agrees(code: u8, attr: Attr) -> bool {
-    attr_code(attr) == code
-        && Attr::from_code(code) == attr
+fn attribute_agrees(report: &mut Report, code: u8, attr: Attr) -> bool {
+    report.same(&code, &attr_code(attr))
+        && report.same(&attr, &Attr::from_code(code))
         && attr.with_mdt(attr.mdt) == attr
         && attr.protected() == attr.protected
         && attr.numeric() == attr.numeric
@@ -236,9 +253,9 @@ static OTHER_BITS: [Row; 7] = [
     Row::Bits(0xFF, 0x7D),
 ];
 
-fn write_control_agrees(byte: u8, wcc: Wcc) -> bool {
-    wcc.byte() == byte
-        && Wcc::from_byte(byte) == wcc
+fn write_control_agrees(report: &mut Report, byte: u8, wcc: Wcc) -> bool {
+    report.same(&byte, &wcc.byte())
+        && report.same(&wcc, &Wcc::from_byte(byte))
         && wcc.alarm() == wcc.alarm
         && wcc.restore() == wcc.restore
         && wcc.reset() == wcc.reset
@@ -258,24 +275,28 @@ static WRITE_CONTROLS: [Row; 9] = [
 
 // ---- attention identifiers
 
-fn aid_agrees(byte: u8, aid: &Aid, is_short: bool) -> bool {
+fn aid_agrees(report: &mut Report, byte: u8, aid: &Aid, is_short: bool) -> bool {
     match aid_from_byte(byte) {
-        Some(read) => read == *aid && aid_byte(*aid) == byte && (*aid).is_short() == is_short,
-        None => false,
+        Some(read) => report.same(aid, &read)
+            && report.same(&byte, &aid_byte(*aid))
+            && report.same(&is_short, &(*aid).is_short()),
+        None => report.holds("the byte is an identifier", false),
     }
 }
 
-fn key_agrees(byte: u8, named: &Named, is_short: bool) -> bool {
+fn key_agrees(report: &mut Report, byte: u8, named: &Named, is_short: bool) -> bool {
     match named {
-        Named::NoAid => aid_agrees(byte, &Aid::NoAid, is_short),
-        Named::Enter => aid_agrees(byte, &Aid::Enter, is_short),
-        Named::Clear => aid_agrees(byte, &Aid::Clear, is_short),
+        Named::NoAid => aid_agrees(report, byte, &Aid::NoAid, is_short),
+        Named::Enter => aid_agrees(report, byte, &Aid::Enter, is_short),
+        Named::Clear => aid_agrees(report, byte, &Aid::Clear, is_short),
         Named::Pf(number) => match PfNo::new(*number) {
-            Some(key) => key.get() == *number && aid_agrees(byte, &Aid::Pf(key), is_short),
+            Some(key) => report.same(number, &key.get())
+                && aid_agrees(report, byte, &Aid::Pf(key), is_short),
             None => false,
         },
         Named::Pa(number) => match PaNo::new(*number) {
-            Some(key) => key.get() == *number && aid_agrees(byte, &Aid::Pa(key), is_short),
+            Some(key) => report.same(number, &key.get())
+                && aid_agrees(report, byte, &Aid::Pa(key), is_short),
             None => false,
         },
     }
@@ -321,14 +342,14 @@ static IDENTIFIERS: [Row; 36] = [
 ];
 
 /// Whether exactly `count` bytes are identifiers.
-fn identifiers_number(count: u8) -> bool {
+fn identifiers_number(report: &mut Report, count: u8) -> bool {
     let mut numbers = 0..count;
     for byte in 0..=255 {
         if aid_from_byte(byte).is_some() && numbers.next().is_none() {
-            return false;
+            return report.differs_at("byte", usize::from(byte));
         }
     }
-    numbers.next().is_none()
+    report.same(&None, &numbers.next())
 }
 
 // ---- characters
@@ -337,15 +358,15 @@ fn identifiers_number(count: u8) -> bool {
 static STORED_CONTROLS: [u8; 9] = [0x00, 0x0C, 0x0D, 0x15, 0x19, 0x1C, 0x1E, 0x3F, 0xFF];
 
 /// Whether a cell can hold exactly the listed bytes, `count` in all.
-fn cells_hold_the_listed_bytes(count: u8) -> bool {
+fn cells_hold_the_listed_bytes(report: &mut Report, count: u8) -> bool {
     let mut numbers = 0..count;
     for byte in 0..=255 {
         let listed = STORED_CONTROLS.contains(&byte) || (0x40..=0xFE).contains(&byte);
         if storable(byte) != listed || listed && numbers.next().is_none() {
-            return false;
+            return report.differs_at("byte", usize::from(byte));
         }
     }
-    numbers.next().is_none()
+    report.same(&None, &numbers.next())
 }
 
 /// Code page 037 from 40 on, sixteen codes to a row. Python's codec cp037 has the same, and a control at FF.
@@ -365,19 +386,21 @@ static CODE_PAGE_037: [&str; 12] = [
 ];
 
 /// Whether the rows are the characters of the codes from 40 to FE.
-fn rows_agree() -> bool {
+fn rows_agree(report: &mut Report) -> bool {
     let mut codes = 0x40..=0xFE;
     for row in &CODE_PAGE_037 {
         for character in row.chars() {
             let Some(code) = codes.next() else {
                 return false;
             };
-            if to_latin1(code) != Some(character) || from_latin1(character) != Some(code) {
+            if !report.same(&Some(character), &to_latin1(code))
+                || !report.same(&Some(code), &from_latin1(character))
+            {
                 return false;
             }
         }
     }
-    codes.next().is_none()
+    report.same(&None, &codes.next())
 }
 
 static OTHER_CHARACTERS: [Row; 7] = [
@@ -390,28 +413,28 @@ static OTHER_CHARACTERS: [Row; 7] = [
     Row::NoCode('\u{20AC}'),
 ];
 
-fn controls_have_no_character() -> bool {
+fn controls_have_no_character(report: &mut Report) -> bool {
     for code in 0x00..0x40 {
-        if to_latin1(code).is_some() {
+        if !report.same(&None, &to_latin1(code)) {
             return false;
         }
     }
-    to_latin1(0xFF).is_none()
+    report.same(&None, &to_latin1(0xFF))
 }
 
 /// Whether a cell holds a character, or this attribute, which is of an unprotected field or not.
-fn cell_agrees(cell: Cell, attribute: Option<Attr>, is_open: bool) -> bool {
-    cell.is_character() == attribute.is_none()
-        && cell.is_unprotected_attribute() == is_open
-        && cell.attribute() == attribute
+fn cell_agrees(report: &mut Report, cell: Cell, attribute: Option<Attr>, is_open: bool) -> bool {
+    report.same(&attribute.is_none(), &cell.is_character())
+        && report.same(&is_open, &cell.is_unprotected_attribute())
+        && report.same(&attribute, &cell.attribute())
 }
 
-fn cells_hold_characters_or_attributes() -> bool {
+fn cells_hold_characters_or_attributes(report: &mut Report) -> bool {
     let open = Attr::from_code(0x40);
     let protected = Attr::from_code(0xF0);
-    cell_agrees(Cell::Char(0x00), None, false)
-        && cell_agrees(Cell::Attr(open), Some(open), true)
-        && cell_agrees(Cell::Attr(protected), Some(protected), false)
+    cell_agrees(report, Cell::Char(0x00), None, false)
+        && cell_agrees(report, Cell::Attr(open), Some(open), true)
+        && cell_agrees(report, Cell::Attr(protected), Some(protected), false)
 }
 
 /// What is tried here.
@@ -445,20 +468,20 @@ pub(crate) static CHECKS: [(&str, Check); 10] = [
 ];
 
 impl Tried for Check {
-    fn is_so(&self, alloc: Global) -> bool {
+    fn is_so(&self, report: &mut Report) -> bool {
         match self {
-            Check::SixBits => each_six_bit_value_has_its_code(),
-            Check::Addresses => addresses_are_written_and_read(alloc),
-            Check::RoundTheScreen => addresses_go_round_the_screen(),
-            Check::Attributes => all_so(alloc, &ATTRIBUTES),
-            Check::OtherBits => all_so(alloc, &OTHER_BITS),
-            Check::WriteControls => all_so(alloc, &WRITE_CONTROLS),
-            Check::Identifiers => all_so(alloc, &IDENTIFIERS) && identifiers_number(30),
-            Check::ListedBytes => cells_hold_the_listed_bytes(200),
-            Check::CodePage => rows_agree()
-                && controls_have_no_character()
-                && all_so(alloc, &OTHER_CHARACTERS),
-            Check::Cells => cells_hold_characters_or_attributes(),
+            Check::SixBits => each_six_bit_value_has_its_code(report),
+            Check::Addresses => addresses_are_written_and_read(report),
+            Check::RoundTheScreen => addresses_go_round_the_screen(report),
+            Check::Attributes => all_so(report, &ATTRIBUTES),
+            Check::OtherBits => all_so(report, &OTHER_BITS),
+            Check::WriteControls => all_so(report, &WRITE_CONTROLS),
+            Check::Identifiers => all_so(report, &IDENTIFIERS) && identifiers_number(report, 30),
+            Check::ListedBytes => cells_hold_the_listed_bytes(report, 200),
+            Check::CodePage => rows_agree(report)
+                && controls_have_no_character(report)
+                && all_so(report, &OTHER_CHARACTERS),
+            Check::Cells => cells_hold_characters_or_attributes(report),
         }
     }
 }

@@ -2,6 +2,7 @@
 //! it should be, so that a check has few ways out.
 
 use crate::bytes::{Adds, Room, is_added};
+use crate::report::Report;
 use crate::{Tried, all_so, at, prints};
 use codes3270::{Addr, Attr, CELL_COUNT, CELLS, COLUMNS, Wcc};
 use datastream::laws::{
@@ -11,7 +12,6 @@ use datastream::laws::{
 use datastream::{
     Command, CommandCode, CommandFault, CommandWriter, Memory, Order, Want, Wanted, read_command,
 };
-use std::alloc::Global;
 
 const CLEARED_WCC: Wcc = Wcc {
     alarm: false,
@@ -51,21 +51,29 @@ fn order_of(shown: &Shown) -> Order {
 }
 
 /// Whether a command gives these orders, and then no more.
-fn gives(command: &Command, wanted: &[Shown]) -> bool {
+fn gives(report: &mut Report, command: &Command, wanted: &[Shown]) -> bool {
     let mut orders = command.orders();
     for shown in wanted {
-        if orders.next() != Some(order_of(shown)) {
+        if !report.same(&Some(order_of(shown)), &orders.next()) {
             return false;
         }
     }
-    orders.next().is_none() && orders.next().is_none()
+    report.same(&None, &orders.next()) && orders.next().is_none()
 }
 
 /// Whether bytes are read as a command of this code, this write control character or none, and these orders.
-fn reads(bytes: &[u8], code: CommandCode, wcc: Option<Wcc>, orders: &[Shown]) -> bool {
+fn reads(
+    report: &mut Report,
+    bytes: &[u8],
+    code: CommandCode,
+    wcc: Option<Wcc>,
+    orders: &[Shown],
+) -> bool {
     match read_command(bytes) {
-        Ok(command) => command.code() == code && command.wcc() == wcc && gives(&command, orders),
-        Err(_) => false,
+        Ok(command) => report.same(&code, &command.code())
+            && report.same(&wcc, &command.wcc())
+            && gives(report, &command, orders),
+        Err(fault) => report.same(&None, &Some(fault)),
     }
 }
 
@@ -125,15 +133,17 @@ enum Row {
 }
 
 impl Tried for Row {
-    fn is_so(&self, alloc: Global) -> bool {
+    fn is_so(&self, report: &mut Report) -> bool {
         match self {
             Row::Write(bytes, code, orders) => {
-                (*code).has_orders() && reads(bytes, *code, Some(CLEARED_WCC), orders)
+                (*code).has_orders() && reads(report, bytes, *code, Some(CLEARED_WCC), orders)
             }
-            Row::Other(bytes, code) => !(*code).has_orders() && reads(bytes, *code, None, &[]),
-            Row::Written(bytes, calls) => is_added(alloc, calls, bytes, &Room::New),
-            Row::Fault(bytes, fault) => read_command(bytes).err() == Some(*fault),
-            Row::Text(fault, text) => prints(alloc, fault, text),
+            Row::Other(bytes, code) => {
+                !(*code).has_orders() && reads(report, bytes, *code, None, &[])
+            }
+            Row::Written(bytes, calls) => is_added(report, calls, bytes, &Room::New),
+            Row::Fault(bytes, fault) => report.same(&Some(*fault), &read_command(bytes).err()),
+            Row::Text(fault, text) => prints(report, fault, text),
         }
     }
 }
@@ -336,11 +346,11 @@ static TWO_FIELDS_CALLS: Calls = Calls(&[
 static FILLED_CALLS: Calls = Calls(&[Call::Begin(CommandCode::Write), Call::Sba, Call::Ra]);
 
 /// Whether one command is written, and then another one after it: the vector keeps what it had.
-fn commands_are_written(out: &mut Vec<u8>) -> bool {
+fn commands_are_written(report: &mut Report, out: &mut Vec<u8>) -> bool {
     TWO_FIELDS_CALLS.add(out)
-        && out.as_slice() == TWO_FIELDS
+        && report.same_bytes(TWO_FIELDS, out.as_slice())
         && FILLED_CALLS.add(out)
-        && out.strip_prefix(TWO_FIELDS) == Some(FILLED)
+        && report.same_bytes(FILLED, out.strip_prefix(TWO_FIELDS).unwrap_or(&[]))
 }
 
 static CALLS: [(Calls, &[u8]); 7] = [
@@ -354,12 +364,12 @@ static CALLS: [(Calls, &[u8]); 7] = [
 ];
 
 // Run it with each allocation failing in turn: a call is then refused at some time, and the vector stays as it was.
-fn a_call_appends_its_bytes_or_changes_nothing(alloc: Global) -> bool {
-    for (calls, bytes) in &CALLS {
-        if !is_added(alloc, calls, bytes, &Room::Full)
-            || !is_added(alloc, calls, bytes, &Room::Enough)
+fn a_call_appends_its_bytes_or_changes_nothing(report: &mut Report) -> bool {
+    for (index, (calls, bytes)) in CALLS.iter().enumerate() {
+        if !is_added(report, calls, bytes, &Room::Full)
+            || !is_added(report, calls, bytes, &Room::Enough)
         {
-            return false;
+            return report.differs_at("row", index);
         }
     }
     true
@@ -377,14 +387,14 @@ fn example(reset: bool) -> Wanted {
 }
 
 /// Whether each cell of the example is as it was wanted.
-fn names_each_cell(wanted: &Wanted) -> bool {
+fn names_each_cell(report: &mut Report, wanted: &Wanted) -> bool {
     let attr = Want::Attr(Attr::from_code(0x60));
-    wanted.want(at(0)) == attr
-        && wanted.want(at(1)) == Want::Keep
-        && wanted.want(at(CELLS - 1)) == Want::Char(0xC1)
-        && wanted.cells().next() == Some(attr)
-        && wanted.ahead(CELL_COUNT - 1).next() == Some(attr)
-        && wanted.cursor().get() == 7
+    report.same(&attr, &wanted.want(at(0)))
+        && report.same(&Want::Keep, &wanted.want(at(1)))
+        && report.same(&Want::Char(0xC1), &wanted.want(at(CELLS - 1)))
+        && report.same(&Some(attr), &wanted.cells().next())
+        && report.same(&Some(attr), &wanted.ahead(CELL_COUNT - 1).next())
+        && report.same(&7, &wanted.cursor().get())
         && wanted.reset()
 }
 
@@ -434,16 +444,16 @@ pub(crate) static CHECKS: [(&str, Check); 9] = [
 ];
 
 impl Tried for Check {
-    fn is_so(&self, alloc: Global) -> bool {
+    fn is_so(&self, report: &mut Report) -> bool {
         match self {
-            Check::Writes => all_so(alloc, &WRITES),
-            Check::OtherCommands => all_so(alloc, &OTHERS),
-            Check::FirstFault => all_so(alloc, &FAULTS),
-            Check::Orders => all_so(alloc, &COMMANDS),
-            Check::Written => commands_are_written(&mut Vec::new(alloc)),
-            Check::Appends => a_call_appends_its_bytes_or_changes_nothing(alloc),
-            Check::Wanted => names_each_cell(&example(true)) && !example(false).reset(),
-            Check::Texts => all_so(alloc, &TEXTS),
+            Check::Writes => all_so(report, &WRITES),
+            Check::OtherCommands => all_so(report, &OTHERS),
+            Check::FirstFault => all_so(report, &FAULTS),
+            Check::Orders => all_so(report, &COMMANDS),
+            Check::Written => commands_are_written(report, &mut Vec::new(report.alloc)),
+            Check::Appends => a_call_appends_its_bytes_or_changes_nothing(report),
+            Check::Wanted => names_each_cell(report, &example(true)) && !example(false).reset(),
+            Check::Texts => all_so(report, &TEXTS),
             Check::Laws => laws_do_nothing(),
         }
     }

@@ -1,28 +1,28 @@
 //! Inbound data as bytes: what a 3278 sends in worked dialogues, whole buffers, and what isn't inbound data.
 use crate::bytes::{Run, spelt};
+use crate::report::Report;
 use crate::{Tried, all_so, at, prints};
 use codes3270::{Addr, Attr, CELL_COUNT, Cell, aid_byte};
 use datastream::laws::{parts_are_fields, sent_is_read};
 use datastream::{Form, Inbound, InboundFault, Part, read_inbound};
-use std::alloc::Global;
 
 /// A returned field: its first address and its text.
 type Returned = (u16, &'static [u8]);
 
 /// Whether these are the returned fields.
-fn has_fields(inbound: &Inbound<'_>, wanted: &[Returned]) -> bool {
+fn has_fields(report: &mut Report, inbound: &Inbound<'_>, wanted: &[Returned]) -> bool {
     let mut fields = inbound.returned();
     for (first, text) in wanted {
         match fields.next() {
             Some(field) => {
-                if field.first.get() != *first || field.text != *text {
+                if !report.same(first, &field.first.get()) || !report.same_bytes(text, field.text) {
                     return false;
                 }
             }
-            None => return false,
+            None => return report.holds("there is another field", false),
         }
     }
-    fields.next().is_none()
+    report.holds("there is no other field", fields.next().is_none())
 }
 
 /// A part, its address as a number and its attribute as a code.
@@ -41,32 +41,32 @@ fn part_of(shown: &Shown) -> Part {
 }
 
 /// Whether these are the parts, each as often as is said.
-fn has_parts(inbound: &Inbound<'_>, wanted: &[(Shown, usize)]) -> bool {
+fn has_parts(report: &mut Report, inbound: &Inbound<'_>, wanted: &[(Shown, usize)]) -> bool {
     let mut parts = inbound.parts();
     for (shown, count) in wanted {
         for _ in 0..*count {
-            if parts.next() != Some(part_of(shown)) {
+            if !report.same(&Some(part_of(shown)), &parts.next()) {
                 return false;
             }
         }
     }
-    parts.next().is_none()
+    report.same(&None, &parts.next())
 }
 
 /// Whether these are the cells.
-fn has_cells(inbound: &Inbound<'_>, wanted: &[(Shown, usize)]) -> bool {
-    if inbound.form() != Form::Buffer {
+fn has_cells(report: &mut Report, inbound: &Inbound<'_>, wanted: &[(Shown, usize)]) -> bool {
+    if !report.same(&Form::Buffer, &inbound.form()) {
         return false;
     }
     let mut cells = inbound.cells();
     for (shown, count) in wanted {
         for _ in 0..*count {
-            if cells.next() != part_of(shown).cell() {
+            if !report.same(&part_of(shown).cell(), &cells.next()) {
                 return false;
             }
         }
     }
-    cells.next().is_none()
+    report.same(&None, &cells.next())
 }
 
 // ---- rows
@@ -83,35 +83,35 @@ enum Outcome {
     Fault(InboundFault),
 }
 
-fn has(inbound: &Inbound<'_>, form: Form, outcome: &Outcome) -> bool {
+fn has(report: &mut Report, inbound: &Inbound<'_>, form: Form, outcome: &Outcome) -> bool {
     let cursor = match inbound.cursor() {
         Some(addr) => Some(addr.get()),
         None => None,
     };
     let is_so = match outcome {
         Outcome::Fields(aid, place, lead, fields) => {
-            aid_byte(inbound.aid()) == *aid
-                && cursor == *place
-                && inbound.leading_text() == *lead
-                && has_fields(inbound, fields)
+            report.same(aid, &aid_byte(inbound.aid()))
+                && report.same(place, &cursor)
+                && report.same_bytes(lead, inbound.leading_text())
+                && has_fields(report, inbound, fields)
         }
-        Outcome::Parts(parts) => has_parts(inbound, parts),
+        Outcome::Parts(parts) => has_parts(report, inbound, parts),
         Outcome::Cells(place, cells) => {
-            cursor == Some(*place)
-                && has_parts(inbound, cells)
-                && has_cells(inbound, cells)
-                && has_fields(inbound, &[])
+            report.same(&Some(*place), &cursor)
+                && has_parts(report, inbound, cells)
+                && has_cells(report, inbound, cells)
+                && has_fields(report, inbound, &[])
         }
-        Outcome::Fault(_) => false,
+        Outcome::Fault(fault) => report.same(&Some(*fault), &None),
     };
-    is_so && inbound.form() == form
+    is_so && report.same(&form, &inbound.form())
 }
 
-fn comes_to(bytes: &[u8], form: Form, outcome: &Outcome) -> bool {
+fn comes_to(report: &mut Report, bytes: &[u8], form: Form, outcome: &Outcome) -> bool {
     match (read_inbound(bytes, form), outcome) {
-        (Ok(inbound), _) => has(&inbound, form, outcome),
-        (Err(fault), Outcome::Fault(wanted)) => fault == *wanted,
-        (Err(_), _) => false,
+        (Ok(inbound), _) => has(report, &inbound, form, outcome),
+        (Err(fault), Outcome::Fault(wanted)) => report.same(wanted, &fault),
+        (Err(fault), _) => report.same(&None, &Some(fault)),
     }
 }
 
@@ -126,14 +126,14 @@ enum Row {
 }
 
 impl Tried for Row {
-    fn is_so(&self, alloc: Global) -> bool {
+    fn is_so(&self, report: &mut Report) -> bool {
         match self {
-            Row::Data(bytes, form, outcome) => comes_to(bytes, *form, outcome),
-            Row::Buffer(runs, outcome) => match spelt(alloc, runs) {
-                Ok(bytes) => comes_to(bytes.as_slice(), Form::Buffer, outcome),
+            Row::Data(bytes, form, outcome) => comes_to(report, bytes, *form, outcome),
+            Row::Buffer(runs, outcome) => match spelt(report.alloc, runs) {
+                Ok(bytes) => comes_to(report, bytes.as_slice(), Form::Buffer, outcome),
                 Err(_) => false,
             },
-            Row::Text(fault, text) => prints(alloc, fault, text),
+            Row::Text(fault, text) => prints(report, fault, text),
         }
     }
 }
@@ -367,11 +367,11 @@ static TEXTS: [Row; 4] = [
     ),
 ];
 
-fn an_address_is_no_cell() -> bool {
+fn an_address_is_no_cell(report: &mut Report) -> bool {
     let attr = Attr::from_code(0xF0);
-    Part::Attr(attr).cell() == Some(Cell::Attr(attr))
-        && Part::Char(0xC1).cell() == Some(Cell::Char(0xC1))
-        && Part::At(Addr::first()).cell().is_none()
+    report.same(&Some(Cell::Attr(attr)), &Part::Attr(attr).cell())
+        && report.same(&Some(Cell::Char(0xC1)), &Part::Char(0xC1).cell())
+        && report.same(&None, &Part::At(Addr::first()).cell())
 }
 
 /// What is tried here.
@@ -405,22 +405,22 @@ pub(crate) static CHECKS: [(&str, Check); 10] = [
 ];
 
 impl Tried for Check {
-    fn is_so(&self, alloc: Global) -> bool {
+    fn is_so(&self, report: &mut Report) -> bool {
         match self {
-            Check::Fields => all_so(alloc, &ENTERED),
-            Check::Wrapped => all_so(alloc, &WRAPPED),
-            Check::InOrder => all_so(alloc, &IN_ORDER),
-            Check::ShortAids => all_so(alloc, &SHORT_AIDS),
-            Check::FirstFault => all_so(alloc, &FAULTS),
-            Check::EveryCell => all_so(alloc, &WHOLE_BUFFER),
-            Check::OtherBuffers => all_so(alloc, &OTHER_BUFFERS),
-            Check::NoCell => an_address_is_no_cell(),
+            Check::Fields => all_so(report, &ENTERED),
+            Check::Wrapped => all_so(report, &WRAPPED),
+            Check::InOrder => all_so(report, &IN_ORDER),
+            Check::ShortAids => all_so(report, &SHORT_AIDS),
+            Check::FirstFault => all_so(report, &FAULTS),
+            Check::EveryCell => all_so(report, &WHOLE_BUFFER),
+            Check::OtherBuffers => all_so(report, &OTHER_BUFFERS),
+            Check::NoCell => an_address_is_no_cell(report),
             Check::Laws => {
                 parts_are_fields();
                 sent_is_read();
                 true
             }
-            Check::Texts => all_so(alloc, &TEXTS),
+            Check::Texts => all_so(report, &TEXTS),
         }
     }
 }

@@ -3,19 +3,22 @@
 mod by_search;
 
 use crate::Tried;
+use crate::report::Report;
 use keyboard::laws::{
     edits_rewrite_the_text, keys_are_real, keys_go_to_the_nearest, keys_keep_what_was_left,
     locks_hold, sent_keys_wait, what_keys_leave_can_be_sent,
 };
 use keyboard::{Key, Refusal};
-use std::alloc::Global;
 
-fn refusals_have_numbers() -> bool {
-    Refusal::Locked.number() == 1
-        && Refusal::Protected.number() == 2
-        && Refusal::NotNumeric.number() == 3
-        && Refusal::NoRoom.number() == 4
-        && Refusal::NoCode.number() == 5
+fn refusals_have_numbers(report: &mut Report) -> bool {
+    let numbers = [
+        Refusal::Locked.number(),
+        Refusal::Protected.number(),
+        Refusal::NotNumeric.number(),
+        Refusal::NoRoom.number(),
+        Refusal::NoCode.number(),
+    ];
+    report.same(&[1, 2, 3, 4, 5], &numbers)
 }
 
 fn laws_do_nothing() -> bool {
@@ -43,11 +46,11 @@ pub(crate) static CHECKS: [(&str, Check); 3] = [
 ];
 
 impl Tried for Check {
-    fn is_so(&self, _: Global) -> bool {
+    fn is_so(&self, report: &mut Report) -> bool {
         match self {
-            Check::Numbers => refusals_have_numbers(),
+            Check::Numbers => refusals_have_numbers(report),
             Check::Laws => laws_do_nothing(),
-            Check::NewLine => by_search::new_line_goes_as_searched(),
+            Check::NewLine => by_search::new_line_goes_as_searched(report),
         }
     }
 }

@@ -1,5 +1,5 @@
 //! Trials of the libraries up to terminal, belief and panels, over their public calls: tables, worked commands and screens as bytes, printed texts, and
-//! growths refused. A line is printed for each: ok, or that it fails. `former` compares a belief and a screen with what they were.
+//! growths refused. A line is printed for each: ok, or that it fails, what was wanted and what came. `former` compares a belief and a screen with what they were.
 //!
 //! They are a library that a program runs, and no tests: a crate with tests is proved as a program, which loads all that it stands on.
 #![tactic(auto)]
@@ -15,6 +15,7 @@ mod messages;
 mod paints;
 mod panel_texts;
 mod pools;
+mod report;
 mod screens;
 mod talks;
 mod terminals;
@@ -22,14 +23,14 @@ mod wire;
 
 use codes3270::Addr;
 pub use former::{compare, compare_speed};
-use std::alloc::Global;
+use report::Report;
 use std::fmt::Display;
 use std::io;
 
 /// What is tried of a library.
 trait Tried {
-    /// Whether it is so.
-    fn is_so(&self, alloc: Global) -> bool;
+    /// Whether it is so. If it isn't, what differs is reported.
+    fn is_so(&self, report: &mut Report) -> bool;
 }
 
 /// The address of a place on the screen. The checks ask for no place beyond.
@@ -41,40 +42,54 @@ fn at(place: u16) -> Addr {
 }
 
 /// Whether a value is printed so.
-fn prints<D: Display>(alloc: Global, value: &D, text: &str) -> bool {
-    match format!(in alloc; "{value}") {
-        Ok(printed) => printed.as_str() == text,
+fn prints<D: Display>(report: &mut Report, value: &D, text: &str) -> bool {
+    match format!(in report.alloc; "{value}") {
+        Ok(printed) => report.same(&text, &printed.as_str()),
         Err(_) => false,
     }
 }
 
 /// Whether each row of a table is so.
-fn all_so<T: Tried>(alloc: Global, rows: &[T]) -> bool {
-    for row in rows {
-        if !row.is_so(alloc) {
-            return false;
+fn all_so<T: Tried>(report: &mut Report, rows: &[T]) -> bool {
+    for (index, row) in rows.iter().enumerate() {
+        if !row.is_so(report) {
+            return report.differs_at("row", index);
         }
     }
     true
 }
 
-/// Prints whether a check is so.
-fn tell(rt: &impl Print, library: &str, what: &str, is_so: bool) -> io::Result<()> {
-    let word = if is_so { "ok" } else { "fails" };
-    println!(rt; "{library}: {what}: {word}")
+/// Prints whether a check is so, and if it isn't, what differs. Whether it is.
+fn tell(rt: &impl Print, library: &str, what: &str, is_so: bool, text: &str) -> io::Result<bool> {
+    if is_so {
+        println!(rt; "{library}: {what}: ok")?;
+    } else {
+        println!(rt; "{library}: {what}: fails{text}")?;
+    }
+    Ok(is_so)
+}
+
+/// Tries a check, and prints it. Whether it is so.
+fn try_check<T: Tried, R: Print + AllocGlobal>(
+    rt: &R,
+    library: &str,
+    what: &str,
+    check: &T,
+) -> io::Result<bool> {
+    let mut report = Report::new(rt.alloc());
+    let is_so = check.is_so(&mut report);
+    tell(rt, library, what, is_so, report.text())
 }
 
 /// Tries a library's checks, which have names, and prints each. Whether all hold.
-fn try_all<T: Tried>(
-    rt: &(impl Print + AllocGlobal),
+fn try_all<T: Tried, R: Print + AllocGlobal>(
+    rt: &R,
     library: &str,
     checks: &[(&str, T)],
 ) -> io::Result<bool> {
     let mut all = true;
     for (what, check) in checks {
-        let is_so = check.is_so(rt.alloc());
-        tell(rt, library, what, is_so)?;
-        all = all && is_so;
+        all = try_check(rt, library, what, check)? && all;
     }
     Ok(all)
 }

@@ -1,7 +1,7 @@
 //! Headers, names and messages as bytes, which no contract gives as such, and refused memory.
 use crate::bytes::{Adds, Room, is_added};
+use crate::report::Report;
 use crate::{Tried, all_so, prints};
-use std::alloc::Global;
 use telnet_wire::put_record;
 use tn3270e_msg::laws::{flag_laws, one_reading};
 use tn3270e_msg::{
@@ -38,53 +38,55 @@ enum Row {
 }
 
 impl Tried for Row {
-    fn is_so(&self, alloc: Global) -> bool {
+    fn is_so(&self, report: &mut Report) -> bool {
         match self {
-            Row::Read(bytes, header, body) => is_read_as(bytes, *header, body),
-            Row::Spelt(record, bytes) => is_spelt(&mut Vec::new(alloc), record, bytes),
-            Row::Type(code, kind) => is_code_of(*code, *kind),
-            Row::NoHeader(bytes, fault) => read_header(bytes).err() == *fault,
-            Row::Next(seq, next) => next_seq(*seq) == *next,
-            Row::Name(bytes, name) => is_kept_as(bytes, *name),
-            Row::Device(text, device) => Device::read(text) == *device,
-            Row::DeviceText(device, text) => (*device).text() == *text,
-            Row::NoMessage(bytes, fault) => read_sub(bytes).err() == Some(*fault),
-            Row::HeadText(fault, text) => prints(alloc, fault, text),
-            Row::SubText(fault, text) => prints(alloc, fault, text),
+            Row::Read(bytes, header, body) => is_read_as(report, bytes, *header, body),
+            Row::Spelt(record, bytes) => {
+                is_spelt(report, &mut Vec::new(report.alloc), record, bytes)
+            }
+            Row::Type(code, kind) => is_code_of(report, *code, *kind),
+            Row::NoHeader(bytes, fault) => report.same(fault, &read_header(bytes).err()),
+            Row::Next(seq, next) => report.same(next, &next_seq(*seq)),
+            Row::Name(bytes, name) => is_kept_as(report, bytes, *name),
+            Row::Device(text, device) => report.same(device, &Device::read(text)),
+            Row::DeviceText(device, text) => report.same_bytes(text, (*device).text()),
+            Row::NoMessage(bytes, fault) => report.same(&Some(*fault), &read_sub(bytes).err()),
+            Row::HeadText(fault, text) => prints(report, fault, text),
+            Row::SubText(fault, text) => prints(report, fault, text),
         }
     }
 }
 
-fn is_read_as(bytes: &[u8], header: Header, body: &[u8]) -> bool {
+fn is_read_as(report: &mut Report, bytes: &[u8], header: Header, body: &[u8]) -> bool {
     match read_header(bytes) {
         Ok((read, rest)) => {
-            read == header
-                && rest == body
+            report.same(&header, &read)
+                && report.same_bytes(body, rest)
                 && bytes.strip_prefix(header_bytes(&read).as_slice()) == Some(body)
         }
-        Err(_) => false,
+        Err(fault) => report.same(&None, &Some(fault)),
     }
 }
 
-fn is_spelt(out: &mut Vec<u8>, record: &[u8], bytes: &[u8]) -> bool {
-    put_record(out, record).is_ok() && out.as_slice() == bytes
+fn is_spelt(report: &mut Report, out: &mut Vec<u8>, record: &[u8], bytes: &[u8]) -> bool {
+    put_record(out, record).is_ok() && report.same_bytes(bytes, out.as_slice())
 }
 
 /// Whether a header of this code is one of this type.
-fn is_code_of(code: u8, kind: DataType) -> bool {
+fn is_code_of(report: &mut Report, code: u8, kind: DataType) -> bool {
     let header = Header {
         kind,
         request: 9,
         flag: 1,
         seq: 32767,
     };
-    is_read_as(&[code, 9, 1, 0x7f, 0xff], header, b"")
+    is_read_as(report, &[code, 9, 1, 0x7f, 0xff], header, b"")
 }
 
-fn is_kept_as(bytes: &[u8], name: Option<&[u8]>) -> bool {
+fn is_kept_as(report: &mut Report, bytes: &[u8], name: Option<&[u8]>) -> bool {
     match Lu::read(bytes) {
-        Some(lu) => Some(lu.as_bytes()) == name,
-        None => name.is_none(),
+        Some(lu) => report.same(&name, &Some(lu.as_bytes())),
+        None => report.same(&name, &None),
     }
 }
 
@@ -137,11 +139,11 @@ static TYPES: [Row; 10] = [
     Row::Type(255, DataType::Unnamed(255)),
 ];
 
-fn each_type_has_its_code(alloc: Global) -> bool {
+fn each_type_has_its_code(report: &mut Report) -> bool {
     flag_laws();
-    [NO_RESPONSE, ERROR_RESPONSE, ALWAYS_RESPONSE] == [0, 1, 2]
-        && [POSITIVE, NEGATIVE] == [0, 1]
-        && all_so(alloc, &TYPES)
+    report.same(&[0, 1, 2], &[NO_RESPONSE, ERROR_RESPONSE, ALWAYS_RESPONSE])
+        && report.same(&[0, 1], &[POSITIVE, NEGATIVE])
+        && all_so(report, &TYPES)
 }
 
 static FAULT_TEXTS: [Row; 4] = [
@@ -204,9 +206,9 @@ static NO_MESSAGES: [Row; 13] = [
     Row::NoMessage(b"\x28\x03\x08\x02", SubFault::Malformed),
 ];
 
-fn payloads_that_are_no_message(alloc: Global) -> bool {
+fn payloads_that_are_no_message(report: &mut Report) -> bool {
     one_reading();
-    all_so(alloc, &NO_MESSAGES)
+    all_so(report, &NO_MESSAGES)
 }
 
 // ---- messages that are written
@@ -259,10 +261,10 @@ static MESSAGES: [(Payload, &[u8]); 9] = [
 
 // In an ordinary run no growth is refused. `rt try --fail-alloc N -- libraries` in crates/trials3270 refuses the Nth one:
 // of vectors without room, and of those with as much as is wanted, this is so at every N, whichever growth it meets.
-fn are_written(alloc: Global, room: &Room) -> bool {
-    for (payload, spelling) in &MESSAGES {
-        if !is_added(alloc, payload, spelling, room) {
-            return false;
+fn are_written(report: &mut Report, room: &Room) -> bool {
+    for (index, (payload, spelling)) in MESSAGES.iter().enumerate() {
+        if !is_added(report, payload, spelling, room) {
+            return report.differs_at("row", index);
         }
     }
     true
@@ -298,19 +300,19 @@ pub(crate) static CHECKS: [(&str, Check); 11] = [
 ];
 
 impl Tried for Check {
-    fn is_so(&self, alloc: Global) -> bool {
+    fn is_so(&self, report: &mut Report) -> bool {
         match self {
-            Check::Number255 => all_so(alloc, &NUMBER_255),
-            Check::NoHeaders => all_so(alloc, &FLAGS),
-            Check::Types => each_type_has_its_code(alloc),
-            Check::Texts => all_so(alloc, &FAULT_TEXTS),
-            Check::NextNumbers => all_so(alloc, &NEXT_NUMBERS),
-            Check::Names => all_so(alloc, &NAMES),
-            Check::Devices => all_so(alloc, &DEVICES),
-            Check::NoMessages => payloads_that_are_no_message(alloc),
-            Check::WrittenAsRead => are_written(alloc, &Room::New),
-            Check::RefusedGrowth => are_written(alloc, &Room::Full),
-            Check::Room => are_written(alloc, &Room::Enough),
+            Check::Number255 => all_so(report, &NUMBER_255),
+            Check::NoHeaders => all_so(report, &FLAGS),
+            Check::Types => each_type_has_its_code(report),
+            Check::Texts => all_so(report, &FAULT_TEXTS),
+            Check::NextNumbers => all_so(report, &NEXT_NUMBERS),
+            Check::Names => all_so(report, &NAMES),
+            Check::Devices => all_so(report, &DEVICES),
+            Check::NoMessages => payloads_that_are_no_message(report),
+            Check::WrittenAsRead => are_written(report, &Room::New),
+            Check::RefusedGrowth => are_written(report, &Room::Full),
+            Check::Room => are_written(report, &Room::Enough),
         }
     }
 }

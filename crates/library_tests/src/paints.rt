@@ -5,11 +5,11 @@ use crate::beliefs::{
     SECOND_FIELD, SIGN_ON, Step, fact_at, follows, known_at, refuses, sign_on, take,
 };
 use crate::bytes::{Run, spelt};
+use crate::report::Report;
 use crate::{Tried, at};
 use codes3270::{Addr, Attr, CELL_COUNT, CELLS, Cell, storable};
 use datastream::{Form, Want, Wanted};
 use shadow::{Fact, HeardFault, Shadow};
-use std::alloc::Global;
 
 // ---- what is wanted
 
@@ -93,9 +93,10 @@ fn is_painted(shadow: &Shadow, out: &mut Vec<u8>, wanted: &Wanted) -> bool {
 }
 
 /// Whether these bytes paint a wanted screen.
-fn paints(alloc: Global, shadow: &Shadow, wanted: &Wanted, bytes: &[u8]) -> bool {
-    let mut out = Vec::new(alloc);
-    is_painted(shadow, &mut out, wanted) && out.as_slice() == bytes
+fn paints(report: &mut Report, shadow: &Shadow, wanted: &Wanted, bytes: &[u8]) -> bool {
+    let mut out = Vec::new(report.alloc);
+    report.holds("it can be painted", is_painted(shadow, &mut out, wanted))
+        && report.same_bytes(bytes, out.as_slice())
 }
 
 static ATTRIBUTES_ALONE: [Step; 3] = [
@@ -108,10 +109,15 @@ static ATTRIBUTES_ALONE: [Step; 3] = [
     Step::Text(1919, Fact::Exact, &[]),
 ];
 
-fn a_screen_of_attributes_is_read(alloc: Global) -> bool {
+fn a_screen_of_attributes_is_read(report: &mut Report) -> bool {
     let mut shadow = Shadow::blank();
-    follows(alloc, &mut shadow, &ATTRIBUTES_ALONE)
-        && paints(alloc, &shadow, &again(&shadow), b"\xF1\xC2\x11\x40\x40\x13")
+    follows(report, &mut shadow, &ATTRIBUTES_ALONE)
+        && paints(
+            report,
+            &shadow,
+            &again(&shadow),
+            b"\xF1\xC2\x11\x40\x40\x13",
+        )
 }
 
 static CHARACTERS_ALONE: [Step; 4] = [
@@ -132,16 +138,16 @@ static ERASED_AND_REPEATED: [Run; 3] = [
     (b"\x11\x40\x40\x13", 1),
 ];
 
-fn characters_are_painted_anew(alloc: Global, shadow: &Shadow) -> bool {
-    match spelt(alloc, &ERASED_AND_REPEATED) {
-        Ok(expected) => paints(alloc, shadow, &again(shadow), expected.as_slice()),
+fn characters_are_painted_anew(report: &mut Report, shadow: &Shadow) -> bool {
+    match spelt(report.alloc, &ERASED_AND_REPEATED) {
+        Ok(expected) => paints(report, shadow, &again(shadow), expected.as_slice()),
         Err(_) => false,
     }
 }
 
-fn a_screen_of_characters_is_read(alloc: Global) -> bool {
+fn a_screen_of_characters_is_read(report: &mut Report) -> bool {
     let mut shadow = Shadow::blank();
-    follows(alloc, &mut shadow, &CHARACTERS_ALONE) && characters_are_painted_anew(alloc, &shadow)
+    follows(report, &mut shadow, &CHARACTERS_ALONE) && characters_are_painted_anew(report, &shadow)
 }
 
 static TOLD_A_TEXT: [Step; 2] = [
@@ -150,12 +156,12 @@ static TOLD_A_TEXT: [Step; 2] = [
 ];
 
 /// The whole field is painted.
-fn a_text_with_a_gap_is_painted_anew(alloc: Global) -> bool {
+fn a_text_with_a_gap_is_painted_anew(report: &mut Report) -> bool {
     let mut shadow = Shadow::blank();
-    let is_told = follows(alloc, &mut shadow, &TOLD_A_TEXT);
+    let is_told = follows(report, &mut shadow, &TOLD_A_TEXT);
     let wanted = with_text(&shadow, 1, &[0xC1, 0xC2], 1, true);
     let bytes = b"\xF1\xC3\x11\x40\xC1\xC1\xC2\x00\x00\x11\x40\xC1\x13";
-    is_told && paints(alloc, &shadow, &wanted, bytes)
+    is_told && paints(report, &shadow, &wanted, bytes)
 }
 
 /// What paints the cursor alone.
@@ -164,19 +170,19 @@ const CURSOR_ALONE: &[u8] = b"\xF1\xC2\x11\xC2\xE7\x13";
 static USER_IS_A: [Step; 1] = [Step::Hear(b"\x7D\xC2\xE8\x11\xC2\xE7\xC1")];
 
 /// The operator's fields are kept, whatever they hold; a field of another length isn't one that is believed to be there.
-fn what_is_right_is_not_painted(alloc: Global) -> bool {
+fn what_is_right_is_not_painted(report: &mut Report) -> bool {
     let mut shadow = sign_on();
-    paints(alloc, &shadow, &keeping(167), CURSOR_ALONE)
-        && follows(alloc, &mut shadow, &USER_IS_A)
-        && paints(alloc, &shadow, &keeping(175), CURSOR_ALONE)
+    paints(report, &shadow, &keeping(167), CURSOR_ALONE)
+        && follows(report, &mut shadow, &USER_IS_A)
+        && paints(report, &shadow, &keeping(175), CURSOR_ALONE)
         && !shadow.fits(&keeping(176))
 }
 
-fn a_blank_shadow_is_painted_over(alloc: Global) -> bool {
+fn a_blank_shadow_is_painted_over(report: &mut Report) -> bool {
     let shadow = Shadow::blank();
     let wanted = with_text(&shadow, 1919, &[0xC1], 0, false);
     let bytes = b"\xF5\xC2\x11\x5D\x7F\xC1\x11\x40\x40\x13";
-    paints(alloc, &shadow, &wanted, bytes)
+    paints(report, &shadow, &wanted, bytes)
 }
 
 // ---- what was read before
@@ -219,31 +225,32 @@ static NOT_ACTIVE_PAINTED: &[u8] =
     b"\xF1\xC2\x11\x5C\xF1\xD2\xC5\xE8\x40\xD5\xD6\xE3\x40\xC1\xC3\xE3\xC9\xE5\xC5\x11\xC2\xE7\x13";
 
 /// A protected character that is another, or an attribute in another place, can't be.
-fn another_text_cannot_be(alloc: Global, shadow: &mut Shadow) -> bool {
-    let Ok(mut other) = spelt(alloc, SIGN_ON_READ) else {
+fn another_text_cannot_be(report: &mut Report, shadow: &mut Shadow) -> bool {
+    let Ok(mut other) = spelt(report.alloc, SIGN_ON_READ) else {
         return false;
     };
     if let Some(byte) = other.get_mut(5) {
         *byte = 0xC1;
     }
     refuses(
+        report,
         shadow,
         other.as_slice(),
         Form::Buffer,
         HeardFault::Contradiction,
-    ) && fact_at(shadow, 166) == Some(Fact::Exact)
+    ) && report.same(&Some(Fact::Exact), &fact_at(shadow, 166))
 }
 
-fn a_screen_that_was_read_is_known(alloc: Global) -> bool {
+fn a_screen_that_was_read_is_known(report: &mut Report) -> bool {
     let mut shadow = Shadow::blank();
-    follows(alloc, &mut shadow, &SIGN_ON_IS_READ)
+    follows(report, &mut shadow, &SIGN_ON_IS_READ)
         && paints(
-            alloc,
+            report,
             &shadow,
             &sign_on_again(NOT_ACTIVE),
             NOT_ACTIVE_PAINTED,
         )
-        && another_text_cannot_be(alloc, &mut shadow)
+        && another_text_cannot_be(report, &mut shadow)
 }
 
 /// The message that a field is required.
@@ -256,9 +263,9 @@ const REQUIRED_PAINTED: &[u8] =
 static ANSWERED_IN_PART: [Step; 2] = [Step::Take(SIGN_ON), Step::Hear(SECOND_FIELD)];
 
 /// Whether, after these steps, these bytes paint the sign-on panel once more, which asks for a field.
-fn asks_again(alloc: Global, steps: &[Step], bytes: &[u8]) -> bool {
+fn asks_again(report: &mut Report, steps: &[Step], bytes: &[u8]) -> bool {
     let mut shadow = Shadow::blank();
-    follows(alloc, &mut shadow, steps) && paints(alloc, &shadow, &sign_on_again(REQUIRED), bytes)
+    follows(report, &mut shadow, steps) && paints(report, &shadow, &sign_on_again(REQUIRED), bytes)
 }
 
 static ERASED_INPUT: [Step; 7] = [
@@ -300,9 +307,10 @@ static ANSWERED_IN_FULL: [Step; 4] = [
     Step::Hear(b"\x7D\xC2\x6A\x11\xC2\xE7\xC1\xD5\xD5\x11\xC3\xF7\xC4\xF7"),
 ];
 
-fn another_panel_is_painted_over(alloc: Global) -> bool {
+fn another_panel_is_painted_over(report: &mut Report) -> bool {
     let mut shadow = Shadow::blank();
-    follows(alloc, &mut shadow, &ANSWERED_IN_FULL) && paints(alloc, &shadow, &greeting(), GREETING)
+    follows(report, &mut shadow, &ANSWERED_IN_FULL)
+        && paints(report, &shadow, &greeting(), GREETING)
 }
 
 // ---- a field that may be null
@@ -339,42 +347,43 @@ fn typed_again(shadow: &Shadow) -> Wanted {
 }
 
 /// The message is painted beside it.
-fn a_field_that_may_be_null_is_read_first(alloc: Global) -> bool {
+fn a_field_that_may_be_null_is_read_first(report: &mut Report) -> bool {
     let mut shadow = Shadow::blank();
     let is_taken = take(&mut shadow, TYPED);
     let wanted = typed_again(&shadow);
     let bytes =
         b"\xF1\xC2\x11\x5C\xF1\xD2\xC5\xE8\x40\xD5\xD6\xE3\x40\xC1\xC3\xE3\xC9\xE5\xC5\x11\x40\xC1\x13";
-    is_taken && follows(alloc, &mut shadow, &READ_FIRST) && paints(alloc, &shadow, &wanted, bytes)
+    is_taken && follows(report, &mut shadow, &READ_FIRST) && paints(report, &shadow, &wanted, bytes)
 }
 
 // ---- memory
 
 /// Whether a paint appends its bytes, or leaves what was there.
-fn appends_or_leaves(out: &mut Vec<u8>, wanted: &Wanted) -> bool {
+fn appends_or_leaves(report: &mut Report, out: &mut Vec<u8>, wanted: &Wanted) -> bool {
     let appended = if is_painted(&Shadow::blank(), out, wanted) {
         SIGN_ON
     } else {
         &[]
     };
     match out.as_slice() {
-        [before, bytes @ ..] => *before == 0x5C && bytes == appended,
+        [before, bytes @ ..] => *before == 0x5C && report.same_bytes(appended, bytes),
         [] => false,
     }
 }
 
-fn a_full_vector_grows_or_stays(alloc: Global, wanted: &Wanted) -> bool {
-    match Vec::with_capacity(alloc, 1) {
-        Ok(mut out) => out.push(0x5C).is_ok() && appends_or_leaves(&mut out, wanted),
+fn a_full_vector_grows_or_stays(report: &mut Report, wanted: &Wanted) -> bool {
+    match Vec::with_capacity(report.alloc, 1) {
+        Ok(mut out) => out.push(0x5C).is_ok() && appends_or_leaves(report, &mut out, wanted),
         Err(_) => true,
     }
 }
 
 /// If there is room, no memory is requested.
-fn a_roomy_vector_takes_it(alloc: Global, wanted: &Wanted) -> bool {
-    match Vec::with_capacity(alloc, 61) {
+fn a_roomy_vector_takes_it(report: &mut Report, wanted: &Wanted) -> bool {
+    match Vec::with_capacity(report.alloc, 61) {
         Ok(mut out) => {
-            is_painted(&Shadow::blank(), &mut out, wanted) && out.as_slice() == SIGN_ON
+            is_painted(&Shadow::blank(), &mut out, wanted)
+                && report.same_bytes(SIGN_ON, out.as_slice())
         }
         Err(_) => true,
     }
@@ -382,9 +391,9 @@ fn a_roomy_vector_takes_it(alloc: Global, wanted: &Wanted) -> bool {
 
 // Run it with each allocation failing in turn: a growth is then refused in the midst of the paint, and the vector stays as
 // it was.
-fn a_paint_appends_its_bytes_or_changes_nothing(alloc: Global) -> bool {
+fn a_paint_appends_its_bytes_or_changes_nothing(report: &mut Report) -> bool {
     let wanted = with_text(&sign_on(), 0, &[], 167, true);
-    a_full_vector_grows_or_stays(alloc, &wanted) && a_roomy_vector_takes_it(alloc, &wanted)
+    a_full_vector_grows_or_stays(report, &wanted) && a_roomy_vector_takes_it(report, &wanted)
 }
 
 static MDT_IS_OPEN: [Step; 6] = [
@@ -397,17 +406,16 @@ static MDT_IS_OPEN: [Step; 6] = [
 ];
 
 /// It may be on or off, so the attribute is written again.
-fn its_attribute_is_painted(alloc: Global, shadow: &Shadow) -> bool {
-    let mut out = Vec::new(alloc);
+fn its_attribute_is_painted(report: &mut Report, shadow: &Shadow) -> bool {
+    let mut out = Vec::new(report.alloc);
+    let begun = [0xF1, 0xC2, 0x11, 0x40, 0x40, 0x1D, 0x40, 0x00];
     is_painted(shadow, &mut out, &again(shadow))
-        && out
-            .as_slice()
-            .starts_with(&[0xF1, 0xC2, 0x11, 0x40, 0x40, 0x1D, 0x40, 0x00])
+        && report.same_bytes(&begun, out.get(..begun.len()).unwrap_or(&[]))
 }
 
-fn after_an_attention_mdt_is_open(alloc: Global) -> bool {
+fn after_an_attention_mdt_is_open(report: &mut Report) -> bool {
     let mut shadow = Shadow::blank();
-    follows(alloc, &mut shadow, &MDT_IS_OPEN) && its_attribute_is_painted(alloc, &shadow)
+    follows(report, &mut shadow, &MDT_IS_OPEN) && its_attribute_is_painted(report, &shadow)
 }
 
 /// What is tried here.
@@ -445,20 +453,20 @@ pub(crate) static CHECKS: [(&str, Check); 12] = [
 ];
 
 impl Tried for Check {
-    fn is_so(&self, alloc: Global) -> bool {
+    fn is_so(&self, report: &mut Report) -> bool {
         match self {
-            Check::Attributes => a_screen_of_attributes_is_read(alloc),
-            Check::Characters => a_screen_of_characters_is_read(alloc),
-            Check::Gap => a_text_with_a_gap_is_painted_anew(alloc),
-            Check::RightAlready => what_is_right_is_not_painted(alloc),
-            Check::Blank => a_blank_shadow_is_painted_over(alloc),
-            Check::Read => a_screen_that_was_read_is_known(alloc),
-            Check::MessageAlone => asks_again(alloc, &ANSWERED_IN_PART, REQUIRED_PAINTED),
-            Check::ErasedInput => asks_again(alloc, &ERASED_INPUT, CURSOR_ALONE),
-            Check::AnotherPanel => another_panel_is_painted_over(alloc),
-            Check::MaybeNull => a_field_that_may_be_null_is_read_first(alloc),
-            Check::Appends => a_paint_appends_its_bytes_or_changes_nothing(alloc),
-            Check::OpenMdt => after_an_attention_mdt_is_open(alloc),
+            Check::Attributes => a_screen_of_attributes_is_read(report),
+            Check::Characters => a_screen_of_characters_is_read(report),
+            Check::Gap => a_text_with_a_gap_is_painted_anew(report),
+            Check::RightAlready => what_is_right_is_not_painted(report),
+            Check::Blank => a_blank_shadow_is_painted_over(report),
+            Check::Read => a_screen_that_was_read_is_known(report),
+            Check::MessageAlone => asks_again(report, &ANSWERED_IN_PART, REQUIRED_PAINTED),
+            Check::ErasedInput => asks_again(report, &ERASED_INPUT, CURSOR_ALONE),
+            Check::AnotherPanel => another_panel_is_painted_over(report),
+            Check::MaybeNull => a_field_that_may_be_null_is_read_first(report),
+            Check::Appends => a_paint_appends_its_bytes_or_changes_nothing(report),
+            Check::OpenMdt => after_an_attention_mdt_is_open(report),
         }
     }
 }

@@ -5,6 +5,7 @@ mod screens;
 mod texts;
 
 use crate::Tried;
+use crate::report::Report;
 use panels::{At, PanelFault, PanelSet, TreeFault, Values};
 use std::alloc::Global;
 use texts::SIGN_ON;
@@ -12,10 +13,15 @@ use texts::SIGN_ON;
 const OVERLAP: &str =
     "start = \"A\"\nlus = []\npanel = [{name = \"A\", field = [{name = \"f\", row = 1, col = 2, length = 3}, {name = \"g\", row = 1, col = 5, length = 1}]}]";
 
-fn a_fault_has_its_place(alloc: Global) -> bool {
-    match PanelSet::read(alloc, OVERLAP) {
-        Ok(_) => false,
-        Err(fault) => fault == PanelFault::Tree(TreeFault::Overlap, At::Field(0, 1)),
+fn a_fault_has_its_place(report: &mut Report) -> bool {
+    match PanelSet::read(report.alloc, OVERLAP) {
+        Ok(_) => report.holds("the text has a fault", false),
+        Err(fault) => {
+            report.same(
+                &PanelFault::Tree(TreeFault::Overlap, At::Field(0, 1)),
+                &fault,
+            )
+        }
     }
 }
 
@@ -133,22 +139,22 @@ pub(crate) static CHECKS: [(&str, Check); 14] = [
 ];
 
 impl Tried for Check {
-    fn is_so(&self, alloc: Global) -> bool {
+    fn is_so(&self, report: &mut Report) -> bool {
         match self {
-            Check::Place => a_fault_has_its_place(alloc),
-            Check::Kept => values_are_kept(alloc),
-            Check::Copy => a_copy_learns_alone(alloc),
-            Check::ToldGrowth => a_refused_growth_is_told(alloc),
-            Check::RefusedGrowth => a_value_without_room_changes_nothing(alloc),
-            Check::Large => many::a_large_text_is_read(alloc),
-            Check::Examples => many::the_examples_are_read(alloc),
-            Check::SignOn => screens::SIGN_ON_SHOWN.is_so(alloc),
-            Check::Again => screens::SHOWN_AGAIN.is_so(alloc),
-            Check::Keys => screens::TABLE_OF_KEYS.is_so(alloc),
-            Check::KindsOfKey => screens::KINDS_OF_KEY.is_so(alloc),
-            Check::Attributes => screens::FIELDS_SHOWN.is_so(alloc),
-            Check::LastCells => screens::LAST_CELLS_SHOWN.is_so(alloc),
-            Check::Values => screens::VALUES_SHOWN.is_so(alloc),
+            Check::Place => a_fault_has_its_place(report),
+            Check::Kept => values_are_kept(report.alloc),
+            Check::Copy => a_copy_learns_alone(report.alloc),
+            Check::ToldGrowth => a_refused_growth_is_told(report.alloc),
+            Check::RefusedGrowth => a_value_without_room_changes_nothing(report.alloc),
+            Check::Large => many::a_large_text_is_read(report.alloc),
+            Check::Examples => many::the_examples_are_read(report.alloc),
+            Check::SignOn => screens::SIGN_ON_SHOWN.is_so(report),
+            Check::Again => screens::SHOWN_AGAIN.is_so(report),
+            Check::Keys => screens::TABLE_OF_KEYS.is_so(report),
+            Check::KindsOfKey => screens::KINDS_OF_KEY.is_so(report),
+            Check::Attributes => screens::FIELDS_SHOWN.is_so(report),
+            Check::LastCells => screens::LAST_CELLS_SHOWN.is_so(report),
+            Check::Values => screens::VALUES_SHOWN.is_so(report),
         }
     }
 }

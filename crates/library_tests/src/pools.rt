@@ -1,5 +1,6 @@
 //! Pools of few LUs: who holds one, and refused memory. trials3270's dialogues have the talk of a host that asks its
 //! pool.
+use crate::report::Report;
 use crate::{Tried, prints};
 use lu_pool::{Pool, PoolFault};
 use std::alloc::{AllocError, Global};
@@ -37,56 +38,59 @@ fn ask(pool: &mut Pool, conn: usize, name: Option<&[u8]>) -> Result<Lu, Reason> 
     }
 }
 
-fn grants(pool: &mut Pool, conn: usize, name: Option<&[u8]>, lu: Lu) -> bool {
-    ask(pool, conn, name) == Ok(lu)
-}
-
-fn refuses(pool: &mut Pool, conn: usize, name: Option<&[u8]>, reason: Reason) -> bool {
-    ask(pool, conn, name) == Err(reason)
+// Whether the pool answers so.
+fn answers(
+    report: &mut Report,
+    pool: &mut Pool,
+    conn: usize,
+    name: Option<&[u8]>,
+    answer: Result<Lu, Reason>,
+) -> bool {
+    report.same(&answer, &ask(pool, conn, name))
 }
 
 // Whether a connection is granted the first LU, which it asks for by name, and another is refused it, and what isn't
 // in the pool, but granted the second; a third is granted none.
-fn grants_each_once(pool: &mut Pool, first: Lu, second: Lu) -> bool {
-    pool.lu_held_by(0).is_none()
-        && grants(pool, 0, Some(b"pnl01"), first)
-        && pool.lu_held_by(0) == Some(first)
-        && refuses(pool, 7, Some(b"PNL01"), Reason::DEVICE_IN_USE)
-        && refuses(pool, 7, Some(b"PNL09"), Reason::INV_NAME)
-        && refuses(pool, 7, Some(b"9"), Reason::INV_NAME)
-        && grants(pool, 7, None, second)
-        && refuses(pool, 8, None, Reason::DEVICE_IN_USE)
+fn grants_each_once(report: &mut Report, pool: &mut Pool, first: Lu, second: Lu) -> bool {
+    report.same(&None, &pool.lu_held_by(0))
+        && answers(report, pool, 0, Some(b"pnl01"), Ok(first))
+        && report.same(&Some(first), &pool.lu_held_by(0))
+        && answers(report, pool, 7, Some(b"PNL01"), Err(Reason::DEVICE_IN_USE))
+        && answers(report, pool, 7, Some(b"PNL09"), Err(Reason::INV_NAME))
+        && answers(report, pool, 7, Some(b"9"), Err(Reason::INV_NAME))
+        && answers(report, pool, 7, None, Ok(second))
+        && answers(report, pool, 8, None, Err(Reason::DEVICE_IN_USE))
 }
 
 // Whether the first is free once it is given back, twice at that, and the second is held still.
-fn frees_one(pool: &mut Pool, first: Lu, second: Lu) -> bool {
+fn frees_one(report: &mut Report, pool: &mut Pool, first: Lu, second: Lu) -> bool {
     pool.give_back(0);
     pool.give_back(0);
-    pool.lu_held_by(0).is_none()
-        && pool.lu_held_by(7) == Some(second)
-        && grants(pool, 8, None, first)
+    report.same(&None, &pool.lu_held_by(0))
+        && report.same(&Some(second), &pool.lu_held_by(7))
+        && answers(report, pool, 8, None, Ok(first))
 }
 
 // Whether both are free once all are.
-fn frees_all(pool: &mut Pool, first: Lu) -> bool {
+fn frees_all(report: &mut Report, pool: &mut Pool, first: Lu) -> bool {
     pool.free_all();
-    pool.lu_held_by(7).is_none() && grants(pool, 9, None, first)
+    report.same(&None, &pool.lu_held_by(7)) && answers(report, pool, 9, None, Ok(first))
 }
 
 // Whether all of this is so of such a pool.
-fn has_one_holder_each(pool: &mut Pool, first: Lu, second: Lu) -> bool {
-    grants_each_once(pool, first, second)
-        && frees_one(pool, first, second)
-        && frees_all(pool, first)
+fn has_one_holder_each(report: &mut Report, pool: &mut Pool, first: Lu, second: Lu) -> bool {
+    grants_each_once(report, pool, first, second)
+        && frees_one(report, pool, first, second)
+        && frees_all(report, pool, first)
 }
 
 // Whether it is so of a pool of PNL01 and PNL02.
-fn an_lu_has_one_holder(alloc: Global) -> bool {
+fn an_lu_has_one_holder(report: &mut Report) -> bool {
     let (Some(first), Some(second)) = (Lu::read(b"PNL01"), Lu::read(b"PNL02")) else {
         return false;
     };
-    match pool_of(alloc, &["PNL01", "pnl02"]) {
-        Ok(mut pool) => has_one_holder_each(&mut pool, first, second),
+    match pool_of(report.alloc, &["PNL01", "pnl02"]) {
+        Ok(mut pool) => has_one_holder_each(report, &mut pool, first, second),
         Err(_) => false,
     }
 }
@@ -129,11 +133,11 @@ pub(crate) static CHECKS: [(&str, Check); 3] = [
 ];
 
 impl Tried for Check {
-    fn is_so(&self, alloc: Global) -> bool {
+    fn is_so(&self, report: &mut Report) -> bool {
         match self {
-            Check::Text => prints(alloc, &PoolFault::Memory, "no memory"),
-            Check::OneHolder => an_lu_has_one_holder(alloc),
-            Check::RefusedGrowth => a_refused_growth_makes_no_pool(alloc),
+            Check::Text => prints(report, &PoolFault::Memory, "no memory"),
+            Check::OneHolder => an_lu_has_one_holder(report),
+            Check::RefusedGrowth => a_refused_growth_makes_no_pool(report.alloc),
         }
     }
 }

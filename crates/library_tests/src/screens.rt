@@ -6,12 +6,12 @@ mod by_search;
 
 use crate::beliefs::SIGN_ON;
 use crate::bytes::{Adds, Room, is_added};
+use crate::report::Report;
 use crate::{Tried, at};
 use by_search::is_as_searched;
 use codes3270::{CELL_COUNT, storable};
 use datastream::read_command;
 use presentation::{Applied, Field, Screen};
-use std::alloc::Global;
 
 // ---- what is asked of a screen
 
@@ -59,14 +59,14 @@ fn field(extent: &Extent) -> Field {
 }
 
 /// Whether these are its fields.
-fn lists(screen: &Screen, extents: &[Extent]) -> bool {
+fn lists(report: &mut Report, screen: &Screen, extents: &[Extent]) -> bool {
     let mut fields = screen.fields();
     for extent in extents {
-        if fields.next() != Some(field(extent)) {
+        if !report.same(&Some(field(extent)), &fields.next()) {
             return false;
         }
     }
-    fields.next().is_none()
+    report.same(&None, &fields.next())
 }
 
 /// Whether a copy, if there is memory for one, is the same as the screen.
@@ -85,12 +85,12 @@ impl Adds for Screen {
 }
 
 /// Whether Read Buffer appends `count` bytes to the vector, or nothing if memory is refused.
-fn appends_cells(screen: &Screen, out: &mut Vec<u8>, count: usize) -> bool {
+fn appends_cells(report: &mut Report, screen: &Screen, out: &mut Vec<u8>, count: usize) -> bool {
     let _ = screen.add(out);
     let start = out.len();
     let is_written = screen.put_read_buffer(out).is_ok();
     let wanted = if is_written { count } else { 0 };
-    out.len().checked_sub(start) == Some(wanted)
+    report.same(&Some(wanted), &out.len().checked_sub(start))
 }
 
 // ---- steps
@@ -124,11 +124,11 @@ enum Step {
     Buffer(usize),
 }
 
-fn is_so(alloc: Global, screen: &mut Screen, step: &Step) -> bool {
+fn is_so(report: &mut Report, screen: &mut Screen, step: &Step) -> bool {
     match step {
-        Step::Obey(command) => obey(screen, command).is_some(),
+        Step::Obey(command) => report.holds("it is a command", obey(screen, command).is_some()),
         Step::ObeyTimes(command, count) => obeys(screen, command, *count),
-        Step::Ask(command, asked) => obey(screen, command) == Some(*asked),
+        Step::Ask(command, asked) => report.same(&Some(*asked), &obey(screen, command)),
         Step::Type(place, codes) => {
             type_at(screen, *place, codes);
             true
@@ -141,34 +141,36 @@ fn is_so(alloc: Global, screen: &mut Screen, step: &Step) -> bool {
             screen.clear();
             true
         }
-        Step::Fields(extents) => lists(screen, extents),
-        Step::Field(place, extent) => screen.field_at(at(*place)) == Some(field(extent)),
-        Step::NoField(place) => screen.field_at(at(*place)).is_none(),
-        Step::Searched => is_as_searched(screen),
-        Step::Copied => is_copied(screen),
-        Step::Modified(bytes) => {
-            is_added(alloc, screen, bytes, &Room::Full)
-                && is_added(alloc, screen, bytes, &Room::Enough)
+        Step::Fields(extents) => lists(report, screen, extents),
+        Step::Field(place, extent) => {
+            report.same(&Some(field(extent)), &screen.field_at(at(*place)))
         }
-        Step::Buffer(count) => appends_cells(screen, &mut Vec::new(alloc), *count),
+        Step::NoField(place) => report.same(&None, &screen.field_at(at(*place))),
+        Step::Searched => is_as_searched(report, screen),
+        Step::Copied => report.holds("a copy is the same", is_copied(screen)),
+        Step::Modified(bytes) => {
+            is_added(report, screen, bytes, &Room::Full)
+                && is_added(report, screen, bytes, &Room::Enough)
+        }
+        Step::Buffer(count) => appends_cells(report, screen, &mut Vec::new(report.alloc), *count),
     }
 }
 
 /// Whether each step is so, in turn.
-fn follows(alloc: Global, screen: &mut Screen, steps: &[Step]) -> bool {
-    for step in steps {
-        if !is_so(alloc, screen, step) {
-            return false;
+fn follows(report: &mut Report, screen: &mut Screen, steps: &[Step]) -> bool {
+    for (index, step) in steps.iter().enumerate() {
+        if !is_so(report, screen, step) {
+            return report.differs_at("step", index);
         }
     }
     true
 }
 
 /// Whether each dialogue is so, with a blank screen.
-fn begin(alloc: Global, dialogues: &[&[Step]]) -> bool {
-    for steps in dialogues {
-        if !follows(alloc, &mut Screen::blank(), steps) {
-            return false;
+fn begin(report: &mut Report, dialogues: &[&[Step]]) -> bool {
+    for (index, steps) in dialogues.iter().enumerate() {
+        if !follows(report, &mut Screen::blank(), steps) {
+            return report.differs_at("dialogue", index);
         }
     }
     true
@@ -377,14 +379,14 @@ pub(crate) static CHECKS: [(&str, Check); 6] = [
 ];
 
 impl Tried for Check {
-    fn is_so(&self, alloc: Global) -> bool {
+    fn is_so(&self, report: &mut Report) -> bool {
         match self {
-            Check::Asked => begin(alloc, &ASKED),
-            Check::Copy => begin(alloc, &COPIED),
-            Check::Fields => begin(alloc, &LISTED),
-            Check::Appends => begin(alloc, &APPENDED),
-            Check::Shown => begin(alloc, &SHOWN),
-            Check::Any => begin(alloc, &ANY),
+            Check::Asked => begin(report, &ASKED),
+            Check::Copy => begin(report, &COPIED),
+            Check::Fields => begin(report, &LISTED),
+            Check::Appends => begin(report, &APPENDED),
+            Check::Shown => begin(report, &SHOWN),
+            Check::Any => begin(report, &ANY),
         }
     }
 }

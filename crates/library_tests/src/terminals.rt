@@ -4,6 +4,7 @@
 //! ask again, and the checks hold for each N.
 
 use crate::Tried;
+use crate::report::Report;
 use codes3270::Aid;
 use keyboard::{Key, Pressed};
 use std::alloc::Global;
@@ -99,125 +100,145 @@ fn press(terminal: &mut Terminal, key: Key) -> Result<Pressed, Memory> {
 }
 
 /// Whether two terminals look the same. Hidden state, such as the number of the next record, shows when they go on.
-fn same(one: &Terminal, other: &Terminal) -> bool {
-    one.phase() == other.phase()
-        && one.lock() == other.lock()
-        && one.took_write() == other.took_write()
-        && one.out() == other.out()
-        && one.screen() == other.screen()
+fn same(report: &mut Report, one: &Terminal, other: &Terminal) -> bool {
+    report.same(&other.phase(), &one.phase())
+        && report.same(&other.lock(), &one.lock())
+        && report.same(&other.took_write(), &one.took_write())
+        && report.same_bytes(other.out(), one.out())
+        && report.holds(
+            "screens of twins are the same",
+            one.screen() == other.screen(),
+        )
 }
 
 /// Feeds bytes to a terminal, and to its twin those that it took; then the rest to both. Whether they look the same at
 /// both stops, the first of which is for want of memory if bytes are left.
-fn feeds_twins(terminal: &mut Terminal, twin: &mut Terminal, bytes: &[u8]) -> bool {
+fn feeds_twins(
+    report: &mut Report,
+    terminal: &mut Terminal,
+    twin: &mut Terminal,
+    bytes: &[u8],
+) -> bool {
     let fed = terminal.feed(bytes);
     let (taken, rest) = bytes.split_at(fed.taken);
     feed(twin, taken);
-    let stopped_alike = (fed.stop == Stop::Memory) != rest.is_empty() && same(terminal, twin);
+    let stopped_alike = (fed.stop == Stop::Memory) != rest.is_empty()
+        && same(report, terminal, twin);
     feed(terminal, rest);
     feed(twin, rest);
-    stopped_alike && same(terminal, twin)
+    stopped_alike && same(report, terminal, twin)
 }
 
 /// Presses a key at a terminal, and again if memory is refused. Whether the terminal was unchanged then, like its twin.
-fn is_unchanged_when_refused(terminal: &mut Terminal, twin: &Terminal, key: Key) -> bool {
+fn is_unchanged_when_refused(
+    report: &mut Report,
+    terminal: &mut Terminal,
+    twin: &Terminal,
+    key: Key,
+) -> bool {
     let again = key;
     match terminal.press(key) {
         Ok(Pressed::Done | Pressed::Refused(_) | Pressed::Send(Aid::Enter | _)) => true,
-        Err(_) => same(terminal, twin) && terminal.press(again).is_ok(),
+        Err(_) => same(report, terminal, twin) && terminal.press(again).is_ok(),
     }
 }
 
 /// Presses a key at a terminal, and then at its twin. Whether a refusal changed nothing, and both look the same then.
-fn presses_twins(terminal: &mut Terminal, twin: &mut Terminal, key: Key) -> bool {
+fn presses_twins(
+    report: &mut Report,
+    terminal: &mut Terminal,
+    twin: &mut Terminal,
+    key: Key,
+) -> bool {
     let at_the_twin = key;
-    is_unchanged_when_refused(terminal, twin, key)
+    is_unchanged_when_refused(report, terminal, twin, key)
         && press(twin, at_the_twin).is_ok()
-        && same(terminal, twin)
+        && same(report, terminal, twin)
 }
 
 /// Whether the twins are the same through a key before the talk, and through the talk.
-fn talk_alike(terminal: &mut Terminal, twin: &mut Terminal) -> bool {
+fn talk_alike(report: &mut Report, terminal: &mut Terminal, twin: &mut Terminal) -> bool {
     connect(terminal);
     connect(twin);
-    let mut alike = presses_twins(terminal, twin, Key::Enter);
+    let mut alike = presses_twins(report, terminal, twin, Key::Enter);
     for said in HOST_TALK {
-        alike = feeds_twins(terminal, twin, said) && alike;
+        alike = feeds_twins(report, terminal, twin, said) && alike;
     }
     alike
 }
 
 /// Whether the twins are the same through a write, a read, a character and Enter.
-fn answer_alike(terminal: &mut Terminal, twin: &mut Terminal) -> bool {
-    feeds_twins(terminal, twin, SHOW_HI)
-        && feeds_twins(terminal, twin, READ_BUFFER)
-        && presses_twins(terminal, twin, Key::Char('A'))
-        && presses_twins(terminal, twin, Key::Enter)
+fn answer_alike(report: &mut Report, terminal: &mut Terminal, twin: &mut Terminal) -> bool {
+    feeds_twins(report, terminal, twin, SHOW_HI)
+        && feeds_twins(report, terminal, twin, READ_BUFFER)
+        && presses_twins(report, terminal, twin, Key::Char('A'))
+        && presses_twins(report, terminal, twin, Key::Enter)
 }
 
 /// Says whether the twins are the same in all of it. What there is to send stays, so that room runs out: at a key, and
 /// between two records.
-fn stay_alike(terminal: &mut Terminal, twin: &mut Terminal) -> bool {
-    let mut alike = talk_alike(terminal, twin);
+fn stay_alike(report: &mut Report, terminal: &mut Terminal, twin: &mut Terminal) -> bool {
+    let mut alike = talk_alike(report, terminal, twin);
     for _ in 0..8 {
-        alike = answer_alike(terminal, twin) && alike;
+        alike = answer_alike(report, terminal, twin) && alike;
     }
     for _ in 0..20 {
-        alike = feeds_twins(terminal, twin, READ_AND_SHOW_HI) && alike;
+        alike = feeds_twins(report, terminal, twin, READ_AND_SHOW_HI) && alike;
     }
     alike
 }
 
-fn has_a_twin(alloc: Global, terminal: &mut Terminal) -> bool {
-    match new_terminal(alloc) {
-        Ok(mut twin) => stay_alike(terminal, &mut twin),
+fn has_a_twin(report: &mut Report, terminal: &mut Terminal) -> bool {
+    match new_terminal(report.alloc) {
+        Ok(mut twin) => stay_alike(report, terminal, &mut twin),
         Err(_) => false,
     }
 }
 
-fn a_refused_growth_changes_nothing(alloc: Global) -> bool {
-    match new_terminal(alloc) {
-        Ok(mut terminal) => has_a_twin(alloc, &mut terminal),
+fn a_refused_growth_changes_nothing(report: &mut Report) -> bool {
+    match new_terminal(report.alloc) {
+        Ok(mut terminal) => has_a_twin(report, &mut terminal),
         Err(_) => false,
     }
 }
 
 /// Says whether a write behind a read is taken whole and done. The buffer's data stays to be sent, so that room runs out
 /// before the write.
-fn shows_behind_a_read(terminal: &mut Terminal) -> bool {
+fn shows_behind_a_read(report: &mut Report, terminal: &mut Terminal) -> bool {
     feed(terminal, READ_BUFFER);
     let start = terminal.out().len();
     let fed = feed(terminal, SHOW_HI);
-    fed.taken == SHOW_HI.len() && terminal.out().get(start..) == Some(DONE)
+    report.same(&SHOW_HI.len(), &fed.taken)
+        && report.same_bytes(DONE, terminal.out().get(start..).unwrap_or(&[]))
 }
 
 /// Says whether each of twenty such writes is.
-fn shows_each_time(terminal: &mut Terminal) -> bool {
+fn shows_each_time(report: &mut Report, terminal: &mut Terminal) -> bool {
     connect(terminal);
     for said in HOST_TALK {
         feed(terminal, said);
     }
     let mut done = true;
     for _ in 0..20 {
-        done = shows_behind_a_read(terminal) && done;
+        done = shows_behind_a_read(report, terminal) && done;
     }
     done
 }
 
 /// Whether it shows `HI`; if memory is refused the call is repeated.
-fn shows_hi(alloc: Global, terminal: &Terminal) -> bool {
-    match terminal.screen_text(alloc) {
-        Ok(text) => text.as_str() == HI_SHOWN,
-        Err(_) => match terminal.screen_text(alloc) {
-            Ok(text) => text.as_str() == HI_SHOWN,
+fn shows_hi(report: &mut Report, terminal: &Terminal) -> bool {
+    match terminal.screen_text(report.alloc) {
+        Ok(text) => report.same(&HI_SHOWN, &text.as_str()),
+        Err(_) => match terminal.screen_text(report.alloc) {
+            Ok(text) => report.same(&HI_SHOWN, &text.as_str()),
             Err(_) => false,
         },
     }
 }
 
-fn bytes_are_fed_again_after_a_refused_growth(alloc: Global) -> bool {
-    match new_terminal(alloc) {
-        Ok(mut terminal) => shows_each_time(&mut terminal) && shows_hi(alloc, &terminal),
+fn bytes_are_fed_again_after_a_refused_growth(report: &mut Report) -> bool {
+    match new_terminal(report.alloc) {
+        Ok(mut terminal) => shows_each_time(report, &mut terminal) && shows_hi(report, &terminal),
         Err(_) => false,
     }
 }
@@ -237,10 +258,10 @@ pub(crate) static CHECKS: [(&str, Check); 2] = [
 ];
 
 impl Tried for Check {
-    fn is_so(&self, alloc: Global) -> bool {
+    fn is_so(&self, report: &mut Report) -> bool {
         match self {
-            Check::RefusedGrowth => a_refused_growth_changes_nothing(alloc),
-            Check::FedAgain => bytes_are_fed_again_after_a_refused_growth(alloc),
+            Check::RefusedGrowth => a_refused_growth_changes_nothing(report),
+            Check::FedAgain => bytes_are_fed_again_after_a_refused_growth(report),
         }
     }
 }

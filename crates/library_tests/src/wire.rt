@@ -4,7 +4,7 @@
 //! proof for what the function owns.
 use crate::Tried;
 use crate::bytes::{Adds, Room, Run, are_all, is_added, spelt};
-use std::alloc::Global;
+use crate::report::Report;
 use telnet_wire::laws::one_reading;
 use telnet_wire::{
     Decoder, Item, Step, Verb, WireFault, put_option, put_record, put_sub, put_sub_parts,
@@ -19,62 +19,78 @@ const RECORD_LIMIT: usize = 16_384;
 const MORE: Result<Step, WireFault> = Ok(Step::More);
 
 /// Pushes the bytes. Whether each has this answer.
-fn all_answer(decoder: &mut Decoder, bytes: &[u8], answer: Result<Step, WireFault>) -> bool {
-    for byte in bytes {
-        if decoder.push(*byte) != answer {
-            return false;
+fn all_answer(
+    report: &mut Report,
+    decoder: &mut Decoder,
+    bytes: &[u8],
+    answer: Result<Step, WireFault>,
+) -> bool {
+    for (index, byte) in bytes.iter().enumerate() {
+        if !report.same(&answer, &decoder.push(*byte)) {
+            return report.differs_at("byte", index);
         }
     }
     true
 }
 
 /// Pushes the bytes. Whether the last of them, and no other, completed this item.
-fn completes(decoder: &mut Decoder, bytes: &[u8], item: Item) -> bool {
+fn completes(report: &mut Report, decoder: &mut Decoder, bytes: &[u8], item: Item) -> bool {
     let Some((last, before)) = bytes.split_last() else {
         return false;
     };
-    all_answer(decoder, before, MORE)
-        && decoder.push(*last) == Ok(Step::Ready)
-        && decoder.item() == item
+    all_answer(report, decoder, before, MORE)
+        && report.same(&Ok(Step::Ready), &decoder.push(*last))
+        && report.same(&item, &decoder.item())
 }
 
 /// Whether the bytes complete the item at any cut, and nothing before their end.
-fn is_read_from_any_cut(decoder: &mut Decoder, bytes: &[u8], item: Item) -> bool {
+fn is_read_from_any_cut(
+    report: &mut Report,
+    decoder: &mut Decoder,
+    bytes: &[u8],
+    item: Item,
+) -> bool {
     for cut in 1..bytes.len() {
         // The last cut leaves out the end alone: there is no record before it.
         let (first, rest) = bytes.split_at(cut);
-        if !(all_answer(decoder, first, MORE) && completes(decoder, rest, item)) {
-            return false;
+        if !(all_answer(report, decoder, first, MORE) && completes(report, decoder, rest, item)) {
+            return report.differs_at("cut", cut);
         }
     }
     true
 }
 
 /// Whether a record is read after a reset, with nothing from before it.
-fn is_as_new_after_reset(decoder: &mut Decoder) -> bool {
+fn is_as_new_after_reset(report: &mut Report, decoder: &mut Decoder) -> bool {
     decoder.reset();
-    completes(decoder, b"\x07\xff\xef", Item::Record(b"\x07"))
+    completes(report, decoder, b"\x07\xff\xef", Item::Record(b"\x07"))
 }
 
 /// Pushes the bytes. Says whether the last of them is refused for this fault, the others complete nothing, and each byte behind them is
 /// refused until a reset.
-fn refuses(decoder: &mut Decoder, bytes: &[u8], fault: WireFault) -> bool {
+fn refuses(report: &mut Report, decoder: &mut Decoder, bytes: &[u8], fault: WireFault) -> bool {
     let Some((last, before)) = bytes.split_last() else {
         return false;
     };
-    all_answer(decoder, before, MORE)
-        && decoder.push(*last) == Err(fault)
-        && all_answer(decoder, &[0, 239, 240, 255], Err(WireFault::Failed))
-        && is_as_new_after_reset(decoder)
+    all_answer(report, decoder, before, MORE)
+        && report.same(&Err(fault), &decoder.push(*last))
+        && all_answer(report, decoder, &[0, 239, 240, 255], Err(WireFault::Failed))
+        && is_as_new_after_reset(report, decoder)
 }
 
 /// Pushes the beginning, and then these bytes `count` times. Whether none of them completed an item.
-fn goes_on(decoder: &mut Decoder, begun: &[u8], bytes: &[u8], count: usize) -> bool {
-    if !all_answer(decoder, begun, MORE) {
+fn goes_on(
+    report: &mut Report,
+    decoder: &mut Decoder,
+    begun: &[u8],
+    bytes: &[u8],
+    count: usize,
+) -> bool {
+    if !all_answer(report, decoder, begun, MORE) {
         return false;
     }
     for _ in 0..count {
-        if !all_answer(decoder, bytes, MORE) {
+        if !all_answer(report, decoder, bytes, MORE) {
             return false;
         }
     }
@@ -104,13 +120,16 @@ struct Limit {
 
 /// Says whether the beginning and these spellings of one byte are an item once IAC and this code end it, and in place of
 /// the end one byte more is refused where its spelling is complete.
-fn is_limited(decoder: &mut Decoder, limit: &Limit) -> bool {
-    goes_on(decoder, limit.begun, limit.spelling, limit.count)
-        && all_answer(decoder, &[255], MORE)
-        && decoder.push(limit.end) == Ok(Step::Ready)
-        && is_longest(decoder.item(), limit.end, limit.byte)
-        && goes_on(decoder, limit.begun, limit.spelling, limit.count)
-        && refuses(decoder, limit.spelling, WireFault::TooLong)
+fn is_limited(report: &mut Report, decoder: &mut Decoder, limit: &Limit) -> bool {
+    goes_on(report, decoder, limit.begun, limit.spelling, limit.count)
+        && all_answer(report, decoder, &[255], MORE)
+        && report.same(&Ok(Step::Ready), &decoder.push(limit.end))
+        && report.holds(
+            "it is the longest item",
+            is_longest(decoder.item(), limit.end, limit.byte),
+        )
+        && goes_on(report, decoder, limit.begun, limit.spelling, limit.count)
+        && refuses(report, decoder, limit.spelling, WireFault::TooLong)
 }
 
 // ---- what is written
@@ -155,38 +174,38 @@ enum Turn {
     Forgotten(&'static [u8]),
 }
 
-fn is_so(alloc: Global, decoder: &mut Decoder, turn: &Turn) -> bool {
+fn is_so(report: &mut Report, decoder: &mut Decoder, turn: &Turn) -> bool {
     match turn {
-        Turn::Read(bytes, item) => completes(decoder, bytes, *item),
+        Turn::Read(bytes, item) => completes(report, decoder, bytes, *item),
         Turn::Both(bytes, item) => {
-            completes(decoder, bytes, *item)
-                && is_added(alloc, &Written::Item(*item), bytes, &Room::New)
+            completes(report, decoder, bytes, *item)
+                && is_added(report, &Written::Item(*item), bytes, &Room::New)
         }
-        Turn::Cut(bytes, item) => is_read_from_any_cut(decoder, bytes, *item),
-        Turn::Parts(parts, bytes) => is_added(alloc, &Written::Parts(parts), bytes, &Room::New),
-        Turn::Refused(bytes, fault) => refuses(decoder, bytes, *fault),
-        Turn::Limited(limit) => is_limited(decoder, limit),
+        Turn::Cut(bytes, item) => is_read_from_any_cut(report, decoder, bytes, *item),
+        Turn::Parts(parts, bytes) => is_added(report, &Written::Parts(parts), bytes, &Room::New),
+        Turn::Refused(bytes, fault) => refuses(report, decoder, bytes, *fault),
+        Turn::Limited(limit) => is_limited(report, decoder, limit),
         Turn::Forgotten(begun) => {
-            all_answer(decoder, begun, MORE) && is_as_new_after_reset(decoder)
+            all_answer(report, decoder, begun, MORE) && is_as_new_after_reset(report, decoder)
         }
     }
 }
 
 /// Whether each step holds, in turn.
-fn follows(alloc: Global, decoder: &mut Decoder, turns: &[Turn]) -> bool {
-    for turn in turns {
-        if !is_so(alloc, decoder, turn) {
-            return false;
+fn follows(report: &mut Report, decoder: &mut Decoder, turns: &[Turn]) -> bool {
+    for (index, turn) in turns.iter().enumerate() {
+        if !is_so(report, decoder, turn) {
+            return report.differs_at("step", index);
         }
     }
     true
 }
 
 /// Whether each step holds for a new decoder.
-fn begins_with(alloc: Global, turns: &[Turn]) -> bool {
+fn begins_with(report: &mut Report, turns: &[Turn]) -> bool {
     one_reading();
-    match Decoder::new(alloc, RECORD_LIMIT) {
-        Ok(mut decoder) => follows(alloc, &mut decoder, turns),
+    match Decoder::new(report.alloc, RECORD_LIMIT) {
+        Ok(mut decoder) => follows(report, &mut decoder, turns),
         Err(_) => false,
     }
 }
@@ -384,37 +403,37 @@ static LONG_ONES: [(Written, &[Run]); 4] = [
 ];
 
 /// Whether this is written as these bytes, if there is memory for them.
-fn is_written(alloc: Global, written: &Written, runs: &[Run], room: &Room) -> bool {
-    match spelt(alloc, runs) {
-        Ok(bytes) => is_added(alloc, written, bytes.as_slice(), room),
+fn is_written(report: &mut Report, written: &Written, runs: &[Run], room: &Room) -> bool {
+    match spelt(report.alloc, runs) {
+        Ok(bytes) => is_added(report, written, bytes.as_slice(), room),
         Err(_) => true,
     }
 }
 
 // In an ordinary run no growth is refused, and each call succeeds. `rt try --fail-alloc N -- libraries` in
 // crates/trials3270 refuses the Nth one: this and the next are so at every N, whichever growth it meets.
-fn long_ones_are_written(alloc: Global, room: &Room) -> bool {
-    for (written, runs) in &LONG_ONES {
-        if !is_written(alloc, written, runs, room) {
-            return false;
+fn long_ones_are_written(report: &mut Report, room: &Room) -> bool {
+    for (index, (written, runs)) in LONG_ONES.iter().enumerate() {
+        if !is_written(report, written, runs, room) {
+            return report.differs_at("row", index);
         }
     }
     true
 }
 
 /// Whether a decoder of this limit is made, or memory is refused.
-fn is_made_or_refused(alloc: Global, limit: usize) -> bool {
-    match Decoder::new(alloc, limit) {
-        Ok(_) => limit == RECORD_LIMIT,
-        Err(fault) => fault == WireFault::Memory,
+fn is_made_or_refused(report: &mut Report, limit: usize) -> bool {
+    match Decoder::new(report.alloc, limit) {
+        Ok(_) => report.same(&RECORD_LIMIT, &limit),
+        Err(fault) => report.same(&WireFault::Memory, &fault),
     }
 }
 
-fn a_refused_growth_changes_nothing(alloc: Global) -> bool {
+fn a_refused_growth_changes_nothing(report: &mut Report) -> bool {
     // There is no memory for the highest limit.
-    long_ones_are_written(alloc, &Room::Full)
-        && is_made_or_refused(alloc, RECORD_LIMIT)
-        && is_made_or_refused(alloc, usize::MAX)
+    long_ones_are_written(report, &Room::Full)
+        && is_made_or_refused(report, RECORD_LIMIT)
+        && is_made_or_refused(report, usize::MAX)
 }
 
 /// What is tried here.
@@ -433,12 +452,12 @@ pub(crate) static CHECKS: [(&str, Check); 4] = [
 ];
 
 impl Tried for Check {
-    fn is_so(&self, alloc: Global) -> bool {
+    fn is_so(&self, report: &mut Report) -> bool {
         match self {
-            Check::Items => begins_with(alloc, &ITEMS),
-            Check::Stream => begins_with(alloc, &STREAM),
-            Check::RefusedGrowth => a_refused_growth_changes_nothing(alloc),
-            Check::Room => long_ones_are_written(alloc, &Room::Enough),
+            Check::Items => begins_with(report, &ITEMS),
+            Check::Stream => begins_with(report, &STREAM),
+            Check::RefusedGrowth => a_refused_growth_changes_nothing(report),
+            Check::Room => long_ones_are_written(report, &Room::Enough),
         }
     }
 }

@@ -4,7 +4,7 @@
 //! `script` says how a script is read, `terminal` which lines a dialogue with a terminal has, and `host` which one with a
 //! host. What the script expects is taken from the standards, and never from what the program printed.
 //!
-//! Run with each allocation refused in turn (in crates/trials3270, `rt try --fail-alloc N -- dialogues`) it prints the same. A refused
+//! Run with each allocation refused in turn (in crates/trials3270, `rt try --fail-alloc N -- dialogues FILE..`) it prints the same. A refused
 //! call of a terminal or a host is repeated in its dialogue, so its state must be the one before the refusal; and a dialogue for which
 //! the program has no memory is repeated. Only memory for the script itself is requested once: if that is refused, it is an error.
 
@@ -14,7 +14,7 @@ mod subject;
 mod terminal;
 
 use crate::case_file::CaseFile;
-use crate::fault::Failure;
+use crate::fault::print_result;
 use host::Switchboard;
 pub(crate) use host::View;
 use script::{Kind, Line, With, body_of, put_files};
@@ -22,21 +22,7 @@ use std::io;
 use subject::hold;
 use terminal::Desk;
 
-/// Prints how a dialogue came out, and answers whether all of it came as expected.
-fn tell(rt: &impl Print, name: &str, outcome: Result<(), Failure<'_>>) -> io::Result<bool> {
-    match outcome {
-        Ok(()) => {
-            println!(rt; "{name}: ok")?;
-            Ok(true)
-        }
-        Err(failure) => {
-            println!(rt; "{name}: {failure}")?;
-            Ok(false)
-        }
-    }
-}
-
-/// Holds a dialogue with its subject, and prints how it came out. Answers whether all of it came as expected.
+/// Holds a dialogue with its subject, and prints the result. Whether it is ok.
 fn hold_told(
     rt: &(impl Print + AllocGlobal),
     heading: &Line<'_>,
@@ -46,7 +32,7 @@ fn hold_told(
         With::Terminal => hold::<Desk>(rt.alloc(), body),
         With::Host => hold::<Switchboard>(rt.alloc(), body),
     };
-    tell(rt, heading.text, outcome)
+    print_result(rt, heading.text, &outcome)
 }
 
 /// Holds the dialogues of a script one after another, and prints how many there were where all came as expected. Answers whether they did.

@@ -1,5 +1,6 @@
 //! What is wrong with a line of a case, or with a result.
 use std::alloc::{AllocError, Global};
+use std::fmt::Display;
 use std::io::{self, ErrorKind};
 use thiserror::Error;
 
@@ -42,6 +43,19 @@ pub struct Failure<'a> {
     pub file: &'a str,
     pub line: usize,
     pub fault: Fault,
+}
+
+/// Prints the result of a case. Whether it is ok.
+pub fn print_result<R: Print, E: Display>(
+    rt: &R,
+    name: &str,
+    outcome: &Result<(), E>,
+) -> io::Result<bool> {
+    match outcome {
+        Ok(()) => println!(rt; "{name}: ok")?,
+        Err(fault) => println!(rt; "{name}: {fault}")?,
+    }
+    Ok(outcome.is_ok())
 }
 
 /// Expects a text, which is the result `of` something.

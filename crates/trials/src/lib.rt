@@ -13,12 +13,14 @@ mod likeness;
 mod named;
 mod readers;
 mod serving;
+mod sign_on;
 mod speed;
 mod stops;
 mod worlds;
 
 pub use case_file::CaseFile;
 pub use dialogue::run_dialogues;
+pub use fault::{Fault, expect, expect_bytes_of, expect_number, expect_of, print_result};
 pub use fuzz::run_fuzz;
 pub use growths::try_growth;
 pub use serving::{Range, run_serving};

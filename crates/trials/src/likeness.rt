@@ -2,10 +2,13 @@
 ghost use Rattle.std.specs.Prelude.{◌<◌};
 ghost use Rattle.host_core.specs.State.{most_connections};
 
+use crate::dialogue::View;
+use crate::fault::Fault;
 use codes3270::{Addr, CELL_COUNT};
 use host_core::Host;
 use presentation::Screen;
 use shadow::{Fact, Shadow};
+use std::alloc::Global;
 use term_core::Terminal;
 
 /// Whether the same characters are believed of the field whose attribute is at an address, if one is.
@@ -44,6 +47,23 @@ pub fn hosts_look_same(one: &Host, other: &Host, conn: usize) -> bool
         && one.pending(conn) == other.pending(conn)
         && one.out(conn) == other.out(conn)
         && believe_same(one.shadow(conn), other.shadow(conn))
+}
+
+/// Expects a connection to look the same at two hosts. If it doesn't, the fault is what is first seen of that, or `wrong`.
+pub fn expect_hosts_alike(
+    alloc: Global,
+    wanted: &Host,
+    came: &Host,
+    conn: usize,
+    wrong: &'static str,
+) -> Result<(), Fault>
+    requires { conn < most_connections }
+{
+    if hosts_look_same(wanted, came, conn) {
+        return Ok(());
+    }
+    View::of(alloc, wanted, conn)?.expect(alloc, &View::of(alloc, came, conn)?)?;
+    Err(Fault::Wrong(wrong))
 }
 
 /// Whether two screens have the same cells, cursor and AID.

@@ -6,9 +6,9 @@
 //! For each kind of case a line is printed: that all results are as expected, or the first case that differs.
 //! The expected bytes are taken from the standards and the panels, and never from what the program printed.
 //!
-//! Run with each allocation refused in turn (in crates/trials3270, `rt try --fail-alloc N -- serving last`) it prints the same, but for
+//! Run with each allocation refused in turn (in crates/trials3270, `rt try --fail-alloc N -- serving-last`) it prints the same, but for
 //! numbers of reads and writes: a call that is refused memory leaves the host unchanged and is repeated, serving goes on with the next
-//! turn, and the program repeats what it has no memory for. With `last`, as here, only the last case of each kind is tried, since an
+//! turn, and the program repeats what it has no memory for. With `serving-last` only the last case of each kind is tried, since an
 //! interpreter runs it.
 
 mod cases;
@@ -20,12 +20,12 @@ mod seat;
 mod story;
 
 use crate::fault::Fault;
-use cases::{is_broken_off, tell_whole};
+use cases::{break_off, tell_whole};
 use client::{Extent, Pace, Place, Trouble, Way};
 use fixture::ServingFixture;
 use refusals::stay_alike;
 use seat::Seat;
-use std::alloc::{AllocError, Global};
+use std::alloc::Global;
 use std::io;
 
 /// As many bytes at once as there are.
@@ -120,100 +120,89 @@ impl Range {
     }
 }
 
-/// The first case of a kind, of those from one number to another, whose result differs from the expected one.
-fn first_otherwise(
+/// Runs the cases of a kind from one number to another, and prints that all are as expected, or the first that fails. Whether none does.
+fn try_kind(
+    rt: &(impl Print + AllocGlobal),
     fixture: &mut ServingFixture,
     twin: &mut ServingFixture,
     seat: Seat,
     kind: Kind,
     from: usize,
     to: usize,
-) -> Option<usize> {
+) -> io::Result<bool> {
+    let (seat_name, name) = (seat.guest().place, kind.name);
     for number in from..=to {
         let trouble = Trouble {
             place: kind.place,
             number,
             way: kind.way,
         };
-        if !is_broken_off(fixture, twin, WHOLE, seat, trouble) {
-            return Some(number);
+        if let Err(fault) = break_off(rt.alloc(), fixture, twin, WHOLE, seat, trouble) {
+            println!(rt; "{seat_name}: {name}, {number}: {fault}")?;
+            return Ok(false);
         }
     }
-    None
+    println!(rt; "{seat_name}: {name}, {from} to {to}: as expected")?;
+    Ok(true)
 }
 
-/// Prints how cases of a kind came. Says whether all came as expected.
-fn tell_kind(
-    rt: &impl Print,
-    place: &str,
-    what: &str,
-    from: usize,
-    to: usize,
-    otherwise: Option<usize>,
-) -> io::Result<bool> {
-    match otherwise {
-        None => println!(rt; "{place}: {what}, {from} to {to}: as expected")?,
-        Some(number) => println!(rt; "{place}: {what}, {number}: otherwise")?,
-    }
-    Ok(otherwise.is_none())
-}
-
-/// Breaks stories off on a connection, in each kind of case. Says whether all came as expected.
+/// Breaks stories off on a connection, in each kind of case. Whether all are as expected.
 fn try_kinds(
-    rt: &impl Print,
+    rt: &(impl Print + AllocGlobal),
     fixture: &mut ServingFixture,
     twin: &mut ServingFixture,
     range: Range,
     seat: Seat,
 ) -> io::Result<bool> {
-    let Some(extent) = tell_whole(fixture, WHOLE) else {
-        return Ok(false);
+    let extent = match tell_whole(rt.alloc(), fixture, WHOLE) {
+        Ok(extent) => extent,
+        Err(fault) => {
+            println!(rt; "told again: {fault}")?;
+            return Ok(false);
+        }
     };
-    let place = seat.guest().place;
     let mut all = true;
     for kind in KINDS {
         let to = extent.count(kind.place);
-        let from = range.first(to);
-        let otherwise = first_otherwise(fixture, twin, seat, kind, from, to);
-        all = tell_kind(rt, place, kind.name, from, to, otherwise)? && all;
+        all = try_kind(rt, fixture, twin, seat, kind, range.first(to), to)? && all;
     }
     Ok(all)
 }
 
-/// Prints how long a story is that was told at a pace. Says whether it came as expected.
-fn tell_pace(rt: &impl Print, name: &str, told: Option<Extent>) -> io::Result<bool> {
+/// Prints how long a story is that was told at a pace, or why it failed. Whether it didn't.
+fn print_told(rt: &impl Print, name: &str, told: &Result<Extent, Fault>) -> io::Result<bool> {
     match told {
-        Some(
+        Ok(
             Extent {
                 reads,
                 writes,
                 said,
             },
         ) => println!(rt; "told {name}: {reads} reads, {writes} writes, {said} bytes said")?,
-        None => println!(rt; "told {name}: otherwise")?,
+        Err(fault) => println!(rt; "told {name}: {fault}")?,
     }
-    Ok(told.is_some())
+    Ok(told.is_ok())
 }
 
-/// Tells the story at each pace, up to one at which it comes otherwise.
-fn try_paces(rt: &impl Print, fixture: &mut ServingFixture) -> io::Result<bool> {
+/// Tells the story at each pace, up to one at which it fails. Whether none does.
+fn try_paces(rt: &(impl Print + AllocGlobal), fixture: &mut ServingFixture) -> io::Result<bool> {
     for (name, pace) in PACES {
-        if !tell_pace(rt, name, tell_whole(fixture, pace))? {
+        if !print_told(rt, name, &tell_whole(rt.alloc(), fixture, pace))? {
             return Ok(false);
         }
     }
     Ok(true)
 }
 
-/// Whether a host that is refused memory stays as its twin; once more, where the program has none for that.
-fn stays_alike(
+/// A host that is refused memory stays as its twin; once more, if the program has none for that.
+fn try_twins(
     alloc: Global,
     fixture: &mut ServingFixture,
     twin: &mut ServingFixture,
-) -> Result<bool, AllocError> {
+) -> Result<(), Fault> {
     match stay_alike(alloc, &mut fixture.host, &mut twin.host) {
-        Ok(is_alike) => Ok(is_alike),
-        Err(_) => stay_alike(alloc, &mut fixture.host, &mut twin.host),
+        Err(Fault::NoMemory(_)) => stay_alike(alloc, &mut fixture.host, &mut twin.host),
+        outcome => outcome,
     }
 }
 
@@ -222,10 +211,17 @@ fn try_refusals(
     fixture: &mut ServingFixture,
     twin: &mut ServingFixture,
 ) -> io::Result<bool> {
-    let is_alike = stays_alike(rt.alloc(), fixture, twin)?;
-    let came = if is_alike { "as expected" } else { "otherwise" };
-    println!(rt; "calls that may be refused memory: {came}")?;
-    Ok(is_alike)
+    let name = "calls that may be refused memory";
+    match try_twins(rt.alloc(), fixture, twin) {
+        Ok(()) => {
+            println!(rt; "{name}: as expected")?;
+            Ok(true)
+        }
+        Err(fault) => {
+            println!(rt; "{name}: {fault}")?;
+            Ok(false)
+        }
+    }
 }
 
 /// Tells the story at each pace, and breaks it off beside a twin. Says whether all came as expected.

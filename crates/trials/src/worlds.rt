@@ -22,7 +22,7 @@ mod watch;
 
 use crate::bytes::first_of;
 use crate::case_file::CaseFile;
-use crate::fault::{Failure, Fault};
+use crate::fault::{Failure, Fault, print_result};
 use case::run_case;
 pub(crate) use case_run::step;
 use command::Word;
@@ -44,19 +44,6 @@ fn run_again<'a>(alloc: Global, panels: &[Line<'_>], body: &[Line<'a>]) -> Resul
         ) => run_case(alloc, panels, body),
         outcome => outcome,
     }
-}
-
-/// Prints the result of a case. Whether it is ok.
-fn print_result(
-    rt: &impl Print,
-    name: &str,
-    outcome: &Result<(), Failure<'_>>,
-) -> io::Result<bool> {
-    match outcome {
-        Ok(()) => println!(rt; "{name}: ok")?,
-        Err(failure) => println!(rt; "{name}: {failure}")?,
-    }
-    Ok(outcome.is_ok())
 }
 
 /// Runs the cases one after another. Whether all are ok.

@@ -2,10 +2,10 @@
 //! takes in turn.
 use super::texts::SIGN_ON;
 use crate::Tried;
+use crate::report::Report;
 use codes3270::{Aid, Attr, PfNo, aid_from_byte};
 use datastream::{Want, Wants};
 use panels::{Field, Message, Next, Panel, PanelSet, Values};
-use std::alloc::Global;
 
 /// An item of a screen: the address of the attribute, its code, and the codes of the characters.
 type Item = (usize, u8, &'static [u8]);
@@ -39,35 +39,42 @@ fn is_kept(kept: &[Kept], position: usize) -> bool {
 }
 
 /// Whether a wanted screen keeps these cells, and has these items and nothing else elsewhere.
-fn keeps(cells: Wants<'_>, kept: &[Kept], items: &[Item]) -> bool {
+fn keeps(report: &mut Report, cells: Wants<'_>, kept: &[Kept], items: &[Item]) -> bool {
     for (position, cell) in cells.enumerate() {
         let wanted = if is_kept(kept, position) {
             Want::Keep
         } else {
             cell_at(items, position)
         };
-        if cell != wanted {
-            return false;
+        if !report.same(&wanted, &cell) {
+            return report.differs_at("cell", position);
         }
     }
     true
 }
 
 /// Whether a panel asks for a screen with these items and a cursor.
-fn asks_for(panel: &Panel, values: &Values, message: Message, items: &[Item], cursor: u16) -> bool {
+fn asks_for(
+    report: &mut Report,
+    panel: &Panel,
+    values: &Values,
+    message: Message,
+    items: &[Item],
+    cursor: u16,
+) -> bool {
     let screen = panel.wanted(values, message, false);
-    keeps(screen.cells(), &[], items)
-        && screen.cursor().get() == cursor
-        && screen.reset() == (message == Message::Fresh)
+    keeps(report, screen.cells(), &[], items)
+        && report.same(&cursor, &screen.cursor().get())
+        && report.same(&(message == Message::Fresh), &screen.reset())
 }
 
 /// Whether keys, by the bytes of their identifiers, lead from a panel as is said.
-fn lead(panel: &Panel, keys: &[u8], next: Next) -> bool {
+fn lead(report: &mut Report, panel: &Panel, keys: &[u8], next: Next) -> bool {
     for key in keys {
         match aid_from_byte(*key) {
             Some(aid) => {
-                if panel.next(aid) != next {
-                    return false;
+                if !report.same(&next, &panel.next(aid)) {
+                    return report.differs_at("key", usize::from(*key));
                 }
             }
             None => return false,
@@ -79,17 +86,17 @@ fn lead(panel: &Panel, keys: &[u8], next: Next) -> bool {
 /// A field: its number, the address of its attribute, its length, and whether it is required.
 type Extent = (usize, u16, u16, bool);
 
-fn has_fields(fields: &[Field], extents: &[Extent]) -> bool {
+fn has_fields(report: &mut Report, fields: &[Field], extents: &[Extent]) -> bool {
     for (field, (number, attr, length, required)) in fields.iter().zip(extents) {
-        if field.number != *number
-            || field.extent.attr().get() != *attr
-            || field.extent.length != *length
-            || field.required != *required
+        if !report.same(number, &field.number)
+            || !report.same(attr, &field.extent.attr().get())
+            || !report.same(length, &field.extent.length)
+            || !report.same(required, &field.required)
         {
             return false;
         }
     }
-    fields.len() == extents.len()
+    report.same(&extents.len(), &fields.len())
 }
 
 // ---- steps
@@ -108,24 +115,27 @@ enum Asked {
     Fields(&'static [Extent]),
 }
 
-fn is_asked(panel: &Panel, values: &Values, asked: &Asked) -> bool {
+fn is_asked(report: &mut Report, panel: &Panel, values: &Values, asked: &Asked) -> bool {
     match asked {
         Asked::Shown(message, items, cursor) => {
-            asks_for(panel, values, *message, items, *cursor)
+            asks_for(report, panel, values, *message, items, *cursor)
         }
         Asked::Cursor(message, cursor) => {
-            panel.wanted(values, *message, false).cursor().get() == *cursor
+            report.same(
+                cursor,
+                &panel.wanted(values, *message, false).cursor().get(),
+            )
         }
         Asked::Kept(kept, items) => {
             let screen = panel.wanted(values, Message::Plain, true);
-            keeps(screen.cells(), kept, items)
+            keeps(report, screen.cells(), kept, items)
         }
         Asked::KeptNotActive(kept, items) => {
             let screen = panel.wanted(values, Message::KeyNotActive, true);
-            keeps(screen.cells(), kept, items)
+            keeps(report, screen.cells(), kept, items)
         }
-        Asked::Leads(keys, next) => lead(panel, keys, *next),
-        Asked::Fields(extents) => has_fields(panel.fields(), extents),
+        Asked::Leads(keys, next) => lead(report, panel, keys, *next),
+        Asked::Fields(extents) => has_fields(report, panel.fields(), extents),
     }
 }
 
@@ -142,7 +152,7 @@ enum Step {
     Has(usize, usize, usize),
 }
 
-fn is_so(set: &PanelSet, values: &mut Values, step: &Step) -> bool {
+fn is_so(report: &mut Report, set: &PanelSet, values: &mut Values, step: &Step) -> bool {
     match step {
         Step::User => values.set(0, &[0xC1, 0xD5, 0xD5]).is_ok(),
         Step::Department => values.set(1, &[0xC4, 0xF7]).is_ok(),
@@ -150,23 +160,23 @@ fn is_so(set: &PanelSet, values: &mut Values, step: &Step) -> bool {
             values.set(0, &[0xC1, 0xC2, 0xC3, 0xC4]).is_ok() && values.set(1, &[]).is_ok()
         }
         Step::Panel(index, asked) => match set.panel(*index) {
-            Some(panel) => is_asked(panel, values, asked),
+            Some(panel) => is_asked(report, panel, values, asked),
             None => false,
         },
         Step::Has(start, count, lus) => {
-            set.start() == *start
-                && set.len() == *count
-                && set.lus().len() == *lus
+            report.same(start, &set.start())
+                && report.same(count, &set.len())
+                && report.same(lus, &set.lus().len())
                 && set.panel(*count).is_none()
         }
     }
 }
 
 /// Whether each step is so, in turn.
-fn follows(set: &PanelSet, values: &mut Values, steps: &[Step]) -> bool {
-    for step in steps {
-        if !is_so(set, values, step) {
-            return false;
+fn follows(report: &mut Report, set: &PanelSet, values: &mut Values, steps: &[Step]) -> bool {
+    for (index, step) in steps.iter().enumerate() {
+        if !is_so(report, set, values, step) {
+            return report.differs_at("step", index);
         }
     }
     true
@@ -179,10 +189,10 @@ pub(super) struct Dialogue {
 }
 
 impl Tried for Dialogue {
-    fn is_so(&self, alloc: Global) -> bool {
-        match PanelSet::read(alloc, self.text) {
-            Ok(set) => follows(&set, &mut Values::new(alloc), self.steps),
-            Err(_) => false,
+    fn is_so(&self, report: &mut Report) -> bool {
+        match PanelSet::read(report.alloc, self.text) {
+            Ok(set) => follows(report, &set, &mut Values::new(report.alloc), self.steps),
+            Err(fault) => report.same(&None, &Some(fault)),
         }
     }
 }

@@ -1,5 +1,6 @@
 //! What is looked up by the index of attributes, beside what a search from cell to cell finds.
 use crate::at;
+use crate::report::Report;
 use codes3270::{Addr, CELLS};
 use presentation::{Field, Screen};
 
@@ -33,52 +34,55 @@ fn searched_field(screen: &Screen, at: Addr) -> Option<Field> {
 }
 
 /// Whether a cell is found to lie in the same field, under the same attribute.
-fn finds_the_same(screen: &Screen, here: Addr) -> bool {
+fn finds_the_same(report: &mut Report, screen: &Screen, here: Addr) -> bool {
     let over = match searched_place(screen, here) {
         Some(place) => screen.cell(place).attribute(),
         None => None,
     };
-    screen.field_at(here) == searched_field(screen, here) && screen.attribute_over(here) == over
+    report.same(&searched_field(screen, here), &screen.field_at(here))
+        && report.same(&over, &screen.attribute_over(here))
 }
 
 /// The distance between the cells that are looked at; those beside attributes are too.
 const STRIDE: u16 = 97;
 
-fn finds_the_same_here_and_there(screen: &Screen) -> bool {
+fn finds_the_same_here_and_there(report: &mut Report, screen: &Screen) -> bool {
     for number in 0..CELLS / STRIDE {
-        if !finds_the_same(screen, at(number * STRIDE)) {
-            return false;
+        if !finds_the_same(report, screen, at(number * STRIDE)) {
+            return report.differs_at("cell", usize::from(number * STRIDE));
         }
     }
-    finds_the_same(screen, at(CELLS - 1))
+    finds_the_same(report, screen, at(CELLS - 1))
 }
 
 /// Whether the fields are those of all attributes, by address, and are found from the cell before on.
-fn lists_the_same(screen: &Screen) -> bool {
+fn lists_the_same(report: &mut Report, screen: &Screen) -> bool {
     let mut fields = screen.fields();
     for here in Addr::all() {
         if screen.cell(here).attribute().is_some()
-            && (fields.next() != searched_field(screen, here)
-                || !finds_the_same(screen, here)
-                || !finds_the_same(screen, here.backward(1)))
+            && (!report.same(&searched_field(screen, here), &fields.next())
+                || !finds_the_same(report, screen, here)
+                || !finds_the_same(report, screen, here.backward(1)))
         {
-            return false;
+            return report.differs_at("attribute at", usize::from(here.get()));
         }
     }
-    fields.next().is_none()
+    report.same(&None, &fields.next())
 }
 
 /// Whether the same is printed in one walk as cell by cell.
-fn prints_the_same(screen: &Screen) -> bool {
+fn prints_the_same(report: &mut Report, screen: &Screen) -> bool {
     let mut glyphs = screen.glyphs();
     for here in Addr::all() {
-        if glyphs.next() != Some(screen.glyph_at(here)) {
-            return false;
+        if !report.same(&Some(screen.glyph_at(here)), &glyphs.next()) {
+            return report.differs_at("cell", usize::from(here.get()));
         }
     }
-    glyphs.next().is_none()
+    report.same(&None, &glyphs.next())
 }
 
-pub(super) fn is_as_searched(screen: &Screen) -> bool {
-    finds_the_same_here_and_there(screen) && lists_the_same(screen) && prints_the_same(screen)
+pub(super) fn is_as_searched(report: &mut Report, screen: &Screen) -> bool {
+    finds_the_same_here_and_there(report, screen)
+        && lists_the_same(report, screen)
+        && prints_the_same(report, screen)
 }

@@ -3,23 +3,20 @@ ghost use Rattle.std.specs.Prelude.{◌<◌};
 ghost use Rattle.host_core.specs.State.{most_connections};
 
 use crate::calls::open;
-use crate::dialogue::View;
 use crate::fault::{Fault, expect};
 use crate::fuzz::cutting::{Cutting, End, Input, feed_in_pieces};
 use crate::fuzz::role::Role;
 use crate::fuzz::script::{Script, Speech};
 use crate::fuzz::tally::Tally;
-use crate::likeness::hosts_look_same;
+use crate::likeness::expect_hosts_alike;
 use crate::readers::read_host;
+use crate::sign_on::NOTE;
 use crate::stops::expect_stop;
 use codes3270::Addr;
 use host_core::{Acted, Host, Phase};
 use std::alloc::{AllocError, Global};
 use std::array;
 use tn3270e_msg::{Fed, Stop};
-
-/// `NOTE` in code page 037.
-const NOTE: [u8; 4] = [0xD5, 0xD6, 0xE3, 0xC5];
 
 /// The commands and notes of a host on a connection.
 #[derive(Clone, Copy)]
@@ -152,36 +149,20 @@ fn begin(host: &mut Host, script: &Script) -> Result<(), Fault> {
     open(host, Role::Struck.number())
 }
 
-/// Expects a connection to be at one host as it is at another: `of` says when. If they differ, what is first seen of that is the fault.
-fn expect_alike(
-    alloc: Global,
-    wanted: &Host,
-    came: &Host,
-    role: Role,
-    of: &'static str,
-) -> Result<(), Fault> {
-    let conn = role.number();
-    if hosts_look_same(wanted, came, conn) {
-        return Ok(());
-    }
-    View::of(alloc, wanted, conn)?.expect(alloc, &View::of(alloc, came, conn)?)?;
-    Err(Fault::Wrong(of))
-}
-
 /// Expects the two connections beside the one with the hostile bytes to be as they are at a host without such a connection.
 fn expect_unstruck(alloc: Global, host: &Host, calm: &Host) -> Result<(), Fault> {
-    expect_alike(
+    expect_hosts_alike(
         alloc,
         calm,
         host,
-        Role::First,
+        Role::First.number(),
         "connection 1 isn't as before",
     )?;
-    expect_alike(
+    expect_hosts_alike(
         alloc,
         calm,
         host,
-        Role::Second,
+        Role::Second.number(),
         "connection 2 isn't as before",
     )
 }
@@ -250,11 +231,11 @@ impl Hosts {
         let came = run(&mut self.cut, script, cutting, input)?;
         expect_unstruck(self.alloc, &self.cut, &self.calm)?;
         expect_stop(self.alloc, cutting.name(), fed, came.fed)?;
-        expect_alike(
+        expect_hosts_alike(
             self.alloc,
             &self.whole,
             &self.cut,
-            Role::Struck,
+            Role::Struck.number(),
             cutting.name(),
         )
     }

@@ -1,6 +1,7 @@
 //! Calls that append to a vector: refused memory, they leave it as it was.
 
-use crate::growths::story::{FIELDS, MIXED, NOTE};
+use crate::growths::story::{FIELDS, MIXED};
+use crate::sign_on::NOTE;
 use codes3270::{Addr, Attr, Wcc};
 use datastream::{CommandCode, CommandWriter, Want, Wanted, read_command};
 use presentation::Screen;

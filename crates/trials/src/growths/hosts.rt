@@ -2,13 +2,12 @@
 ghost use Rattle.std.specs.Prelude.{◌<◌};
 ghost use Rattle.host_core.specs.State.{most_connections};
 
-use crate::growths::story::{
-    DO_OTHER, DONE_0, ENTER, MANY, PANELS, WANTS_LU, WANTS_RESPONSES, WILL_TN3270E, with_options,
-};
+use crate::growths::story::{ENTER, MANY, with_options};
 use crate::growths::trial::{Answer, Trial};
 use crate::growths::wire::Wire;
 use crate::likeness::hosts_look_same;
 use crate::readers::read_host;
+use crate::sign_on::{DO_OTHER, DONE_0, PANELS, WANTS_LU, WANTS_RESPONSES, WILL_TN3270E};
 use host_core::{Acted, Host, OUT_ROOM, Phase, Served, serve_turn};
 use std::alloc::Global;
 use std::io;

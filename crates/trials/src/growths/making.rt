@@ -1,9 +1,9 @@
 //! Calls that make something, set a value, or append: refused memory, they make nothing, and leave all that they were handed as it was.
 use crate::fault::Fault;
 use crate::growths::appending::{Appended, Appends};
-use crate::growths::story::{NOTE, PANELS};
 use crate::growths::trial::{Answer, Trial, made};
 use crate::readers::{read_panels, read_parts, read_pool};
+use crate::sign_on::{NOTE, PANELS};
 use host_core::Host;
 use lu_pool::Pool;
 use panels::{Characters, Message, PanelSet, Values};

@@ -1,76 +1,13 @@
 //! What is fed, appended and read in the trials.
+use crate::bytes::put_often;
+use crate::sign_on::DO_OTHER;
 use std::alloc::{AllocError, Global};
-
-/// A panel to sign on with, and one that greets.
-pub(crate) const PANELS: &str = r#"
-start = "SIGNON"
-lus = ["PNL01", "PNL02"]
-[[panel]]
-name = "SIGNON"
-[[panel.text]]
-row = 3
-col = 2
-text = "USER"
-[[panel.text]]
-row = 4
-col = 2
-text = "DEPT"
-[[panel.field]]
-name = "user"
-row = 3
-col = 8
-length = 8
-required = true
-[[panel.field]]
-name = "dept"
-row = 4
-col = 8
-length = 4
-[panel.keys]
-enter = "HELLO"
-[[panel]]
-name = "HELLO"
-[[panel.text]]
-row = 1
-col = 2
-text = "HELLO"
-[[panel.text]]
-row = 1
-col = 9
-show = "user"
-length = 8
-[panel.keys]
-pf3 = "SIGNON"
-"#;
-
-/// DO TN3270E, and WILL TN3270E (RFC 1647, section 4).
-pub(crate) const DO_TN3270E: &[u8] = b"\xff\xfd\x28";
-
-pub(crate) const WILL_TN3270E: &[u8] = b"\xff\xfb\x28";
-
-/// DO 24, which both ends refuse by WON'T 24.
-pub(crate) const DO_OTHER: &[u8] = b"\xff\xfd\x18";
-
-/// SEND DEVICE-TYPE, and the request and grant of an LU (RFC 1647, section 7.1).
-pub(crate) const SEND_TYPE: &[u8] = b"\xff\xfa\x28\x08\x02\xff\xf0";
-
-pub(crate) const WANTS_LU: &[u8] = b"\xff\xfa\x28\x02\x07IBM-3278-2\x01PNL01\xff\xf0";
-
-pub(crate) const IS_LU: &[u8] = b"\xff\xfa\x28\x02\x04IBM-3278-2\x01PNL01\xff\xf0";
-
-/// FUNCTIONS REQUEST and IS of RESPONSES (RFC 1647, section 7.2).
-pub(crate) const WANTS_RESPONSES: &[u8] = b"\xff\xfa\x28\x03\x07\x02\xff\xf0";
-
-pub(crate) const IS_RESPONSES: &[u8] = b"\xff\xfa\x28\x03\x04\x02\xff\xf0";
 
 /// Record 0, with ALWAYS-RESPONSE: an Erase/Write that frees the keyboard, of one unprotected field at 0, the cursor in it.
 pub(crate) const PAINT: &[u8] = b"\x00\x00\x02\x00\x00\xf5\xc3\x11\x40\x40\x1d\x40\x13\xff\xef";
 
 /// Record 1, with ALWAYS-RESPONSE: Read Buffer.
 pub(crate) const READ_BUFFER: &[u8] = b"\x00\x00\x02\x00\x01\xf2\xff\xef";
-
-/// A positive response to record 0.
-pub(crate) const DONE_0: &[u8] = b"\x02\x00\x00\x00\x00\x00\xff\xef";
 
 /// Enter, the cursor at 170, `ANN` in the field behind 166 and `D7` in the one behind 246.
 pub(crate) const ENTER: &[u8] = b"\x00\x00\x00\x00\x00\x7d\xc2\x6a\
@@ -79,9 +16,6 @@ pub(crate) const ENTER: &[u8] = b"\x00\x00\x00\x00\x00\x7d\xc2\x6a\
 
 /// Clear, which is sent alone.
 pub(crate) const CLEAR: &[u8] = b"\x00\x00\x00\x00\x00\x6d\xff\xef";
-
-/// `NOTE` in code page 037.
-pub(crate) const NOTE: [u8; 4] = [0xD5, 0xD6, 0xE3, 0xC5];
 
 /// A command for the screen that is read: an Erase/Write of modified fields at 0 and 80, `ABC` in one and `DEF` in the other.
 pub(crate) const FIELDS: &[u8] =
@@ -101,8 +35,6 @@ pub(crate) fn with_options(alloc: Global, lines: &[&'static [u8]]) -> Result<Vec
     for line in lines {
         bytes.extend_from_slice(line)?;
     }
-    for _ in 0..MANY {
-        bytes.extend_from_slice(DO_OTHER)?;
-    }
+    put_often(&mut bytes, DO_OTHER, MANY)?;
     Ok(bytes)
 }

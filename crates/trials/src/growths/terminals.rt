@@ -1,9 +1,8 @@
 //! A terminal: refused memory it stands as before, or as after the bytes that it took.
-use crate::growths::story::{
-    DO_TN3270E, IS_LU, IS_RESPONSES, PAINT, READ_BUFFER, SEND_TYPE, with_options,
-};
+use crate::growths::story::{PAINT, READ_BUFFER, with_options};
 use crate::growths::trial::{Answer, Trial};
 use crate::likeness::terminals_look_same;
+use crate::sign_on::{DO_TN3270E, IS_LU, IS_RESPONSES, SEND_TYPE};
 use keyboard::{Key, Pressed};
 use std::alloc::Global;
 use std::io;

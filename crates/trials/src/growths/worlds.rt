@@ -1,7 +1,7 @@
 //! A world, at one of whose terminals something happens: refused memory it stands as before, or as after the events that happened.
 use crate::fault::Fault;
-use crate::growths::story::PANELS;
 use crate::growths::trial::{Answer, Trial};
+use crate::sign_on::PANELS;
 use crate::worlds::{ScriptedEvent, WorldFixture, look_same_on, step};
 use keyboard::Key;
 use std::alloc::Global;

@@ -2,9 +2,11 @@
 ghost use Rattle.std.specs.Prelude.{◌≤◌, length};
 ghost use Rattle.host_core.specs.Serves.{GotWithin, TookWithin};
 
+use crate::fault::{Fault, expect_bytes_of, expect_number};
 use crate::serving::seat::Seat;
 use crate::serving::story::Line;
 use host_core::{LinkRead, LinkWrite};
+use std::alloc::Global;
 
 /// How bytes cross.
 #[derive(Clone, Copy)]
@@ -74,8 +76,8 @@ pub(crate) struct Client {
     /// How many lines of the story are done, and how many bytes of the next one.
     told: usize,
     crossed: usize,
-    /// It received other bytes than its story has.
-    is_astray: bool,
+    /// The first byte that it received in place of the story's next one.
+    astray: Option<u8>,
     pub(crate) extent: Extent,
 }
 
@@ -88,7 +90,7 @@ impl Client {
             trouble: NOWHERE,
             told: 0,
             crossed: 0,
-            is_astray: false,
+            astray: None,
             extent: Extent {
                 reads: 0,
                 writes: 0,
@@ -99,7 +101,23 @@ impl Client {
 
     /// Whether the whole story has run, and nothing else.
     pub(crate) fn is_done(&self) -> bool {
-        self.told == self.story.len() && !self.is_astray
+        self.told == self.story.len() && self.astray.is_none()
+    }
+
+    /// Expects that.
+    pub(crate) fn expect_done(&self, alloc: Global) -> Result<(), Fault> {
+        if let Some(byte) = self.astray {
+            return expect_bytes_of(alloc, "the host: ", self.awaited(), &[byte]);
+        }
+        expect_number(alloc, "lines of the story: ", self.story.len(), self.told)
+    }
+
+    /// The bytes of a line of the host that the client waits for.
+    fn awaited(&self) -> &'static [u8] {
+        match self.line() {
+            Some(Line::Host(line)) => line.get(self.crossed..).unwrap_or(&[]),
+            _ => &[],
+        }
     }
 
     /// The next line of the story, unless it is at its end.
@@ -117,13 +135,16 @@ impl Client {
     }
 
     fn hear(&mut self, byte: u8) {
+        if self.astray.is_some() {
+            return;
+        }
         if let Some(Line::Host(line)) = self.line() {
             if line.get(self.crossed) == Some(&byte) {
                 self.pass(1, line.len());
                 return;
             }
         }
-        self.is_astray = true;
+        self.astray = Some(byte);
     }
 
     /// Puts the next bytes of a line of the client into the buffer, and returns their number.

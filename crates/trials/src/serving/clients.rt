@@ -3,9 +3,11 @@ ghost use Rattle.std.specs.Prelude.{◌≡◌, ⊤, length};
 ghost use Rattle.host_core.specs.Serves.{GotWithin, TookWithin, ReadCounts, WriteCounts};
 ghost use Rattle.trials.specs.Counts.{Raises, count_at};
 
+use crate::fault::{Fault, expect_number};
 use crate::serving::client::{Client, Pace};
 use crate::serving::seat::Seat;
 use host_core::{LinkRead, LinkWrite, Links};
+use std::alloc::Global;
 
 /// Two clients, and how often the connection of each ended and failed.
 #[derive(Clone, Copy)]
@@ -40,9 +42,15 @@ impl Clients {
         }
     }
 
-    /// How often a connection ended or failed.
-    pub(crate) fn losses(&self, seat: Seat) -> u64 {
-        self.ends[seat.number()].saturating_add(self.failures[seat.number()])
+    /// Expects a connection to have ended or failed this number of times.
+    pub(crate) fn expect_losses(
+        &self,
+        alloc: Global,
+        seat: Seat,
+        wanted: usize,
+    ) -> Result<(), Fault> {
+        let losses = self.ends[seat.number()].saturating_add(self.failures[seat.number()]);
+        expect_number(alloc, "losses: ", wanted, losses as usize)
     }
 }
 

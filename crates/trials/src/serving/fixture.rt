@@ -1,13 +1,13 @@
 //! A host, and its two clients in memory.
 use crate::calls::open;
-use crate::fault::Fault;
+use crate::fault::{Fault, expect_of};
 use crate::readers::read_host;
 use crate::serving::client::{Client, Pace};
 use crate::serving::clients::Clients;
 use crate::serving::seat::Seat;
-use crate::serving::story::PANELS;
+use crate::sign_on::PANELS;
 use host_core::{Host, Phase, Served, serve_turn};
-use std::alloc::Global;
+use std::alloc::{AllocError, Global};
 
 /// A host, and the clients before it.
 #[derive(Drop)]
@@ -25,12 +25,12 @@ impl ServingFixture {
         })
     }
 
-    /// Restarts the host, with two new clients. Whether their connections begin.
-    pub(crate) fn begin(&mut self, pace: Pace) -> bool {
+    /// Restarts the host, and begins the connections of two new clients.
+    pub(crate) fn begin(&mut self, pace: Pace) -> Result<(), Fault> {
         self.host.restart();
         self.clients = Clients::new(pace);
-        open(&mut self.host, Seat::First.number()).is_ok()
-            && open(&mut self.host, Seat::Second.number()).is_ok()
+        open(&mut self.host, Seat::First.number())?;
+        open(&mut self.host, Seat::Second.number())
     }
 
     /// Serves a connection a turn; and once more, where memory is refused.
@@ -41,21 +41,49 @@ impl ServingFixture {
         }
     }
 
+    /// Serves a connection a turn, in which it isn't lost.
+    pub(crate) fn serve_on(&mut self, seat: Seat) -> Result<(), Fault> {
+        match self.serve(seat) {
+            Served::Going => Ok(()),
+            Served::Lost => Err(Fault::Wrong(seat.guest().loss)),
+            Served::Memory => Err(Fault::NoMemory(AllocError)),
+        }
+    }
+
     /// Whether the client of a connection told its whole story, and is bound to the LU that it wanted.
     pub(crate) fn is_content(&self, seat: Seat) -> bool {
         let number = seat.number();
         match self.host.phase(number) {
             Phase::Bound(lu) => {
-                lu.as_bytes() == seat.guest().lu && self.clients.each[number].is_done()
+                lu.as_bytes() == seat.guest().lu.as_bytes() && self.clients.each[number].is_done()
             }
             Phase::Free | Phase::Talking | Phase::Closed(_) => false,
         }
     }
 
-    /// Gives a connection up, and begins one for another client. Says whether its number was free in between.
-    pub(crate) fn begin_again(&mut self, seat: Seat, pace: Pace) -> bool {
+    /// Expects that.
+    pub(crate) fn expect_content(&self, alloc: Global, seat: Seat) -> Result<(), Fault> {
+        let number = seat.number();
+        self.clients.each[number].expect_done(alloc)?;
+        match self.host.phase(number) {
+            Phase::Bound(lu) => {
+                expect_of(
+                    alloc,
+                    "LU: ",
+                    seat.guest().lu,
+                    lu.to_string(alloc)?.as_str(),
+                )
+            }
+            Phase::Free | Phase::Talking | Phase::Closed(_) => {
+                Err(Fault::Wrong("a client told its story and isn't bound"))
+            }
+        }
+    }
+
+    /// Gives a connection up, so that its number is free, and begins one for another client.
+    pub(crate) fn begin_again(&mut self, seat: Seat, pace: Pace) -> Result<(), Fault> {
         self.host.closed(seat.number());
         self.clients.each[seat.number()] = Client::new(seat, pace);
-        open(&mut self.host, seat.number()).is_ok()
+        open(&mut self.host, seat.number())
     }
 }

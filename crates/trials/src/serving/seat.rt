@@ -16,8 +16,10 @@ pub(crate) enum Seat {
 pub(crate) struct Guest {
     /// The connection's name.
     pub(crate) place: &'static str,
+    /// What is wrong if it is lost.
+    pub(crate) loss: &'static str,
     /// The LU that the client wants.
-    pub(crate) lu: &'static [u8],
+    pub(crate) lu: &'static str,
     /// What is said there.
     pub(crate) story: &'static [Line<'static>],
 }
@@ -49,12 +51,14 @@ impl Seat {
         match self {
             Seat::First => Guest {
                 place: "the first",
-                lu: b"PNL01",
+                loss: "the first is lost",
+                lu: "PNL01",
                 story: &FIRST,
             },
             Seat::Second => Guest {
                 place: "the second",
-                lu: b"PNL02",
+                loss: "the second is lost",
+                lu: "PNL02",
                 story: &SECOND,
             },
         }

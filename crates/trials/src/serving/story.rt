@@ -1,4 +1,7 @@
 //! What a host and its clients say, line by line.
+use crate::sign_on::{
+    DO_TN3270E, DONE_0, IS_LU, SEND_TYPE, WANTS_LU, WANTS_RESPONSES, WILL_TN3270E,
+};
 
 /// A line of a story: who says it, and in which bytes.
 #[derive(Clone, Copy)]
@@ -7,70 +10,10 @@ pub(crate) enum Line<'a> {
     Client(&'a [u8]),
 }
 
-/// A panel to sign on with, and one that greets.
-pub(crate) const PANELS: &str = r#"
-start = "SIGNON"
-lus = ["PNL01", "PNL02"]
-[[panel]]
-name = "SIGNON"
-[[panel.text]]
-row = 1
-col = 2
-text = "SIGN ON"
-[[panel.text]]
-row = 3
-col = 2
-text = "USER"
-[[panel.text]]
-row = 4
-col = 2
-text = "DEPT"
-[[panel.field]]
-name = "user"
-row = 3
-col = 8
-length = 8
-required = true
-[[panel.field]]
-name = "dept"
-row = 4
-col = 8
-length = 4
-[panel.keys]
-enter = "HELLO"
-[[panel]]
-name = "HELLO"
-[[panel.text]]
-row = 1
-col = 2
-text = "HELLO"
-[[panel.text]]
-row = 1
-col = 9
-show = "user"
-length = 8
-[panel.keys]
-pf3 = "SIGNON"
-"#;
-
-/// DO TN3270E, WILL TN3270E, SEND DEVICE-TYPE.
-const OFFER: &[u8] = b"\xff\xfd\x28";
-
-const ACCEPTED: &[u8] = b"\xff\xfb\x28";
-
-const SEND_TYPE: &[u8] = b"\xff\xfa\x28\x08\x02\xff\xf0";
-
-/// DEVICE-TYPE REQUEST and IS, for each client's LU.
-const WANTS_FIRST: &[u8] = b"\xff\xfa\x28\x02\x07IBM-3278-2\x01PNL01\xff\xf0";
-
-const IS_FIRST: &[u8] = b"\xff\xfa\x28\x02\x04IBM-3278-2\x01PNL01\xff\xf0";
-
+/// DEVICE-TYPE REQUEST and IS for the second client's LU.
 const WANTS_SECOND: &[u8] = b"\xff\xfa\x28\x02\x07IBM-3278-2\x01PNL02\xff\xf0";
 
 const IS_SECOND: &[u8] = b"\xff\xfa\x28\x02\x04IBM-3278-2\x01PNL02\xff\xf0";
-
-/// FUNCTIONS REQUEST of RESPONSES.
-const WANTS_RESPONSES: &[u8] = b"\xff\xfa\x28\x03\x07\x02\xff\xf0";
 
 /// FUNCTIONS IS, and after it the first record, number 0 and ALWAYS-RESPONSE: an Erase/Write of the sign-on panel.
 const SIGN_ON: &[u8] = b"\xff\xfa\x28\x03\x04\x02\xff\xf0\
@@ -85,9 +28,7 @@ const SIGN_ON: &[u8] = b"\xff\xfa\x28\x03\x04\x02\xff\xf0\
 \x11\x5c\xf0\x1d\xf8\
 \x11\xc2\xe7\x13\xff\xef";
 
-/// Positive responses to the records 0, 1 and 2.
-const DONE_0: &[u8] = b"\x02\x00\x00\x00\x00\x00\xff\xef";
-
+/// Positive responses to the records 1 and 2.
 const DONE_1: &[u8] = b"\x02\x00\x00\x00\x01\x00\xff\xef";
 
 const DONE_2: &[u8] = b"\x02\x00\x00\x00\x02\x00\xff\xef";
@@ -117,11 +58,11 @@ const HELLO: &[u8] = b"\x00\x00\x02\x00\x02\xf1\xc3\
 
 /// The talk; the panel to sign on with; Enter without a user, and once more with one; the panel that greets.
 pub(crate) static FIRST: [Line; 14] = [
-    Line::Host(OFFER),
-    Line::Client(ACCEPTED),
+    Line::Host(DO_TN3270E),
+    Line::Client(WILL_TN3270E),
     Line::Host(SEND_TYPE),
-    Line::Client(WANTS_FIRST),
-    Line::Host(IS_FIRST),
+    Line::Client(WANTS_LU),
+    Line::Host(IS_LU),
     Line::Client(WANTS_RESPONSES),
     Line::Host(SIGN_ON),
     Line::Client(DONE_0),
@@ -135,8 +76,8 @@ pub(crate) static FIRST: [Line; 14] = [
 
 /// The same with the other LU.
 pub(crate) static SECOND: [Line; 14] = [
-    Line::Host(OFFER),
-    Line::Client(ACCEPTED),
+    Line::Host(DO_TN3270E),
+    Line::Client(WILL_TN3270E),
     Line::Host(SEND_TYPE),
     Line::Client(WANTS_SECOND),
     Line::Host(IS_SECOND),

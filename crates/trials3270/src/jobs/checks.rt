@@ -7,6 +7,7 @@ use crate::jobs::terminals::{an_operator_signs_on, runs_end_early, waits_end};
 use jobs3270::typed_text;
 use std::alloc::Global;
 use std::io;
+use trials::{Fault, expect_of, print_result};
 
 #[derive(Clone, Copy)]
 enum Check {
@@ -54,7 +55,7 @@ static CHECKS: [(Check, &str); 8] = [
 ];
 
 impl Check {
-    fn holds(self, alloc: Global) -> bool {
+    fn run(self, alloc: Global) -> Result<(), Fault> {
         match self {
             Check::BrokenInput => broken_input_is_refused(alloc),
             Check::LongInput => input_is_limited(alloc),
@@ -63,18 +64,16 @@ impl Check {
             Check::Session => an_operator_signs_on(alloc),
             Check::Waits => waits_end(alloc),
             Check::EarlyEnds => runs_end_early(alloc),
-            Check::NoText => typed_text("type").is_empty(),
+            Check::NoText => expect_of(alloc, "", "", typed_text("type")),
         }
     }
 }
 
-/// Makes the checks, and prints a line for each. Whether all hold.
+/// Makes the checks, and prints the result of each. Whether all are ok.
 pub fn try_jobs(rt: &(impl Print + AllocGlobal)) -> io::Result<bool> {
     let mut all = true;
     for (check, shows) in &CHECKS {
-        let holds = check.holds(rt.alloc());
-        println!(rt; "{shows}: {}", if holds { "ok" } else { "fails" })?;
-        all = all && holds;
+        all = print_result(rt, shows, &check.run(rt.alloc()))? && all;
     }
     Ok(all)
 }

@@ -2,6 +2,8 @@
 use jobs3270::CountedWriter;
 use std::alloc::Global;
 use std::io::{self, ErrorKind, Read, Write};
+use std::str;
+use trials::{Fault, expect_of};
 
 /// Lends its bytes in pieces, and fails at a read if it is to.
 #[derive(Drop)]
@@ -79,4 +81,17 @@ pub(crate) fn paper_with(alloc: Global, room: usize) -> CountedWriter<Paper> {
         text: Vec::new(alloc),
         room,
     })
+}
+
+/// Expects a text to be written, which is the result `of` something.
+pub(crate) fn expect_written(
+    alloc: Global,
+    of: &'static str,
+    wanted: &str,
+    came: &[u8],
+) -> Result<(), Fault> {
+    match str::from_utf8(came) {
+        Ok(came) => expect_of(alloc, of, wanted, came),
+        Err(_) => Err(Fault::Wrong("what is written isn't UTF-8")),
+    }
 }

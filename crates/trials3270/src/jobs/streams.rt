@@ -1,7 +1,8 @@
-//! Runs of show and script whose input breaks off or is long, or whose output fails. A helper owns one run, and answers whether it ended so.
-use crate::jobs::memory::{Paper, Pieces, paper_with};
+//! Runs of show and script whose input breaks off or is long, or whose output fails. A helper owns one run, and compares how it ended.
+use crate::jobs::memory::{Paper, Pieces, expect_written, paper_with};
 use jobs3270::{CountedReader, CountedWriter, MOST_BYTES, MOST_READS, run_script, run_show};
 use std::alloc::{AllocError, Global};
+use trials::{Fault, expect_number};
 
 #[derive(Drop)]
 struct Outcome {
@@ -37,18 +38,28 @@ fn played(alloc: Global, input: Pieces<'_>, room: usize) -> Outcome {
     outcome_of(status, out, faults)
 }
 
-/// Whether an input isn't read: nothing is printed, and one fault is reported.
-fn is_not_read(alloc: Global, input: Pieces<'_>) -> bool {
+/// Expects a run to end with this status and these faults.
+fn expect_end(alloc: Global, outcome: &Outcome, status: u8, faults: &str) -> Result<(), Fault> {
+    expect_number(
+        alloc,
+        "status: ",
+        usize::from(status),
+        usize::from(outcome.status),
+    )?;
+    expect_written(alloc, "faults: ", faults, outcome.faults.as_slice())
+}
+
+/// Expects an input not to be read: nothing is printed, and one fault is reported.
+fn expect_unread(alloc: Global, input: Pieces<'_>) -> Result<(), Fault> {
     let outcome = shown(alloc, input, usize::MAX);
-    outcome.status == 1
-        && outcome.out.is_empty()
-        && outcome.faults.as_slice() == b"input not read\n".as_slice()
+    expect_written(alloc, "output: ", "", outcome.out.as_slice())?;
+    expect_end(alloc, &outcome, 1, "input not read\n")
 }
 
 /// A line of hexadecimal whose reader fails in its midst.
-pub(crate) fn broken_input_is_refused(alloc: Global) -> bool {
+pub(crate) fn broken_input_is_refused(alloc: Global) -> Result<(), Fault> {
     let line = b"F5 C3 11 40 40 1D 60 C8 C9 1D 40 13\n";
-    is_not_read(alloc, Pieces::breaking(line, 7, 3))
+    expect_unread(alloc, Pieces::breaking(line, 7, 3))
 }
 
 fn front(bytes: &[u8], count: usize) -> &[u8] {
@@ -56,17 +67,26 @@ fn front(bytes: &[u8], count: usize) -> &[u8] {
     front
 }
 
-fn status_of(alloc: Global, input: Pieces<'_>) -> u8 {
-    shown(alloc, input, usize::MAX).status
+/// Expects a run to end with this status, if there is room for `room` bytes of output.
+fn expect_status(
+    alloc: Global,
+    input: Pieces<'_>,
+    room: usize,
+    status: usize,
+) -> Result<(), Fault> {
+    let came = shown(alloc, input, room).status;
+    expect_number(alloc, "status: ", status, usize::from(came))
 }
 
 /// One byte more than may be read isn't; and of one byte a read, the last read that is allowed finds the end.
-fn limits_hold(alloc: Global, blanks: &[u8]) -> bool {
+fn limits_hold(alloc: Global, blanks: &[u8]) -> Result<(), Fault> {
     let reads = MOST_READS as usize;
-    status_of(alloc, Pieces::whole(front(blanks, MOST_BYTES))) == 0
-        && is_not_read(alloc, Pieces::whole(front(blanks, MOST_BYTES + 1)))
-        && status_of(alloc, Pieces::of_size(front(blanks, reads), 1)) == 1
-        && status_of(alloc, Pieces::of_size(front(blanks, reads - 1), 1)) == 0
+    let (all, bytewise) = (front(blanks, MOST_BYTES), front(blanks, reads));
+    expect_status(alloc, Pieces::whole(all), usize::MAX, 0)?;
+    expect_unread(alloc, Pieces::whole(front(blanks, MOST_BYTES + 1)))?;
+    expect_status(alloc, Pieces::of_size(bytewise, 1), usize::MAX, 1)?;
+    let fewer = front(blanks, reads - 1);
+    expect_status(alloc, Pieces::of_size(fewer, 1), usize::MAX, 0)
 }
 
 fn push_blanks(text: &mut Vec<u8>, count: usize) -> Result<(), AllocError> {
@@ -76,44 +96,43 @@ fn push_blanks(text: &mut Vec<u8>, count: usize) -> Result<(), AllocError> {
     Ok(())
 }
 
-pub(crate) fn input_is_limited(alloc: Global) -> bool {
+pub(crate) fn input_is_limited(alloc: Global) -> Result<(), Fault> {
     let mut blanks = Vec::new(alloc);
-    push_blanks(&mut blanks, MOST_BYTES + 1).is_ok() && limits_hold(alloc, blanks.as_slice())
+    push_blanks(&mut blanks, MOST_BYTES + 1)?;
+    limits_hold(alloc, blanks.as_slice())
 }
 
 const REFUSED_AND_SHOWN: &[u8; 39] = b"F5\nF5 C3 11 40 40 1D 60 C8 C9 1D 40 13\n";
 
-/// Whether a run ends by its writer, which has room for so much.
-fn fails_with_room(alloc: Global, room: usize) -> bool {
+/// Expects a run to end by its writer, which has room for so much.
+fn fails_with_room(alloc: Global, room: usize) -> Result<(), Fault> {
     let outcome = shown(alloc, Pieces::whole(REFUSED_AND_SHOWN), room);
-    outcome.status == 6 && outcome.faults.as_slice() == b"output failed\n".as_slice()
+    expect_end(alloc, &outcome, 6, "output failed\n")
 }
 
 /// Whatever room there is, a run ends by its writer, but where the whole page has room.
-pub(crate) fn output_that_fails_is_told(alloc: Global) -> bool {
+pub(crate) fn output_that_fails_is_told(alloc: Global) -> Result<(), Fault> {
     let whole = shown(alloc, Pieces::whole(REFUSED_AND_SHOWN), usize::MAX)
         .out
         .len();
     for room in 0..whole {
-        if !fails_with_room(alloc, room) {
-            return false;
-        }
+        fails_with_room(alloc, room)?;
     }
-    shown(alloc, Pieces::whole(REFUSED_AND_SHOWN), whole).status == 0
+    expect_status(alloc, Pieces::whole(REFUSED_AND_SHOWN), whole, 0)
 }
 
 /// Two lines of a script, of which the first prints `idle`, and the second isn't understood.
 const TELLS_AND_STOPS: &[u8] =
     b"panel = [{name = 'P'}]\nstart = 'P'\nlus = ['A']\n%%\nstatus 0\nshow\n";
 
-/// Whether it ends so where its writer has room for so much.
-fn script_ends(alloc: Global, room: usize, status: u8, faults: &[u8]) -> bool {
+/// Expects it to end so where its writer has room for so much.
+fn script_ends(alloc: Global, room: usize, status: u8, faults: &str) -> Result<(), Fault> {
     let outcome = played(alloc, Pieces::whole(TELLS_AND_STOPS), room);
-    outcome.status == status && outcome.faults.as_slice() == faults
+    expect_end(alloc, &outcome, status, faults)
 }
 
 /// What can't be written is reported, instead of a line that isn't understood.
-pub(crate) fn a_script_tells_of_its_writer(alloc: Global) -> bool {
-    script_ends(alloc, 4, 6, b"output failed\n")
-        && script_ends(alloc, 5, 1, b"line 2: not understood\n")
+pub(crate) fn a_script_tells_of_its_writer(alloc: Global) -> Result<(), Fault> {
+    script_ends(alloc, 4, 6, "output failed\n")?;
+    script_ends(alloc, 5, 1, "line 2: not understood\n")
 }

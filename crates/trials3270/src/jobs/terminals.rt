@@ -1,15 +1,16 @@
 //! A terminal on a wire in memory, which gives a byte at a time: what is printed, and what is sent.
-use crate::jobs::memory::{Pieces, paper_with};
-use jobs3270::{CountedReader, Fault, Wire, operate};
+use crate::jobs::memory::{Pieces, expect_written, paper_with};
+use jobs3270::{CountedReader, Wire, operate};
 use std::alloc::{AllocError, Global};
 use tn3270e_msg::Lu;
+use trials::{Fault, expect_bytes_of, expect_of};
 
 // ---- a wire in memory
 
 /// What a run printed and sent, and how it ended.
 #[derive(Drop)]
 struct Outcome {
-    ending: Result<(), Fault>,
+    ending: Result<(), jobs3270::Fault>,
     out: Vec<u8>,
     sent: Vec<u8>,
 }
@@ -40,10 +41,19 @@ fn operated(alloc: Global, script: &str, came: Pieces<'_>, room: Room) -> Outcom
     }
 }
 
-/// Whether a script ends well where these bytes come, a byte at a time, and prints this.
-fn prints(alloc: Global, script: &str, came: &[u8], out: &str) -> bool {
+/// Expects a run to print this, and to end well, or by this fault.
+fn expect_end(alloc: Global, outcome: &Outcome, out: &str, fault: &str) -> Result<(), Fault> {
+    expect_written(alloc, "output: ", out, outcome.out.as_slice())?;
+    match &outcome.ending {
+        Ok(()) => expect_of(alloc, "fault: ", fault, ""),
+        Err(came) => expect_of(alloc, "fault: ", fault, came.to_string(alloc)?.as_str()),
+    }
+}
+
+/// Expects a script to end well where these bytes come, a byte at a time, and to print this.
+fn prints(alloc: Global, script: &str, came: &[u8], out: &str) -> Result<(), Fault> {
     let outcome = operated(alloc, script, Pieces::of_size(came, 1), ROOM);
-    outcome.ending == Ok(()) && outcome.out.as_slice() == out.as_bytes()
+    expect_end(alloc, &outcome, out, "")
 }
 
 /// TN3270E is offered, the device type asked for, PNL01 granted, and RESPONSES.
@@ -85,12 +95,11 @@ const ERASED: &str =
     " HI\n\n\n\n\n\n\n\n\n\n\n\n\n\n\n\n\n\n\n\n\n\n\n\ncursor 4 lock free aid 60\n";
 
 /// A wait ends with the write that frees the keyboard, and bytes after that write are left for the next wait.
-fn waits_for_each_write(alloc: Global, came: &[u8], sent: &[u8]) -> bool {
+fn waits_for_each_write(alloc: Global, came: &[u8], sent: &[u8]) -> Result<(), Fault> {
     let script = "wait\ntype A\nkey enter\nwait\nshow\n";
     let outcome = operated(alloc, script, Pieces::of_size(came, 1), ROOM);
-    outcome.ending == Ok(())
-        && outcome.out.as_slice() == ERASED.as_bytes()
-        && outcome.sent.as_slice() == sent
+    expect_end(alloc, &outcome, ERASED, "")?;
+    expect_bytes_of(alloc, "sent: ", sent, outcome.sent.as_slice())
 }
 
 /// Behind three refusals, and a character that is typed.
@@ -100,19 +109,17 @@ const TYPED: &str =
 /// At a lock that waits one character is tried; on an attribute one.
 const TYPES: &str = "type AB\nwait\nkey left\ntype AB\nkey tab\nkey reset\nkey tab\ntype A\nshow\n";
 
-fn sessions_go_so(alloc: Global) -> Result<bool, AllocError> {
+fn sessions_go_so(alloc: Global, shown: &[u8], erased: &[u8], sent: &[u8]) -> Result<(), Fault> {
+    prints(alloc, SHOWS, shown, SHOWN)?;
+    waits_for_each_write(alloc, erased, sent)?;
+    prints(alloc, TYPES, shown, TYPED)
+}
+
+pub(crate) fn an_operator_signs_on(alloc: Global) -> Result<(), Fault> {
     let shown = joined(alloc, &[GRANTS, HI])?;
     let erased = joined(alloc, &[GRANTS, HI, ERASE])?;
     let sent = joined(alloc, &[ASKS, ENTERS])?;
-    Ok(
-        prints(alloc, SHOWS, shown.as_slice(), SHOWN)
-            && waits_for_each_write(alloc, erased.as_slice(), sent.as_slice())
-            && prints(alloc, TYPES, shown.as_slice(), TYPED),
-    )
-}
-
-pub(crate) fn an_operator_signs_on(alloc: Global) -> bool {
-    sessions_go_so(alloc) == Ok(true)
+    sessions_go_so(alloc, shown.as_slice(), erased.as_slice(), sent.as_slice())
 }
 
 // ---- ends of waits
@@ -129,44 +136,49 @@ fn idling(alloc: Global, count: usize) -> Result<Vec<u8>, AllocError> {
 }
 
 /// After 1,000 reads a wait gives up; the next goes on from there, and finds the end.
-fn gives_up(alloc: Global) -> Result<bool, AllocError> {
+fn gives_up(alloc: Global) -> Result<(), Fault> {
     let bytes = idling(alloc, 1000)?;
     let script = "wait\nstatus\nwait\nstatus\n";
-    Ok(prints(alloc, script, bytes.as_slice(), "talking\nidle\n"))
+    prints(alloc, script, bytes.as_slice(), "talking\nidle\n")
 }
 
 /// The host rejects the device type (DEVICE-IN-USE), takes back its offer, or ends the connection.
-fn hosts_end_waits(alloc: Global) -> bool {
+fn hosts_end_waits(alloc: Global) -> Result<(), Fault> {
     let rejected = b"\xff\xfd\x28\xff\xfa\x28\x08\x02\xff\xf0\xff\xfa\x28\x02\x06\x05\x01\xff\xf0";
-    prints(alloc, WAIT, rejected, "refused 1\n")
-        && prints(alloc, WAIT, b"\xff\xfe\x28", "closed 1\n")
-        && prints(alloc, WAIT, b"\xff\xfd\x28", "idle\n")
+    prints(alloc, WAIT, rejected, "refused 1\n")?;
+    prints(alloc, WAIT, b"\xff\xfe\x28", "closed 1\n")?;
+    prints(alloc, WAIT, b"\xff\xfd\x28", "idle\n")
+}
+
+/// Expects the connection to be at its end after a wait for these bytes.
+fn is_idle(alloc: Global, came: Pieces<'_>, room: Room) -> Result<(), Fault> {
+    let outcome = operated(alloc, WAIT, came, room);
+    expect_written(alloc, "output: ", "idle\n", outcome.out.as_slice())
 }
 
 /// A read or a write that fails is the end of the connection.
-fn failures_end_waits(alloc: Global) -> bool {
-    let breaks = Pieces::breaking(GRANTS, 1, 5);
-    let unread = operated(alloc, WAIT, breaks, ROOM);
-    let unsent = operated(alloc, WAIT, Pieces::of_size(GRANTS, 1), NO_WIRE);
-    unread.out.as_slice() == b"idle\n".as_slice() && unsent.out.as_slice() == b"idle\n".as_slice()
+fn failures_end_waits(alloc: Global) -> Result<(), Fault> {
+    is_idle(alloc, Pieces::breaking(GRANTS, 1, 5), ROOM)?;
+    is_idle(alloc, Pieces::of_size(GRANTS, 1), NO_WIRE)
 }
 
-pub(crate) fn waits_end(alloc: Global) -> bool {
-    gives_up(alloc) == Ok(true) && hosts_end_waits(alloc) && failures_end_waits(alloc)
+pub(crate) fn waits_end(alloc: Global) -> Result<(), Fault> {
+    gives_up(alloc)?;
+    hosts_end_waits(alloc)?;
+    failures_end_waits(alloc)
 }
 
 // ---- ends of runs
 
+/// Expects a script without a host to print this, and to end by this fault.
+fn ends(alloc: Global, script: &str, room: Room, out: &str, fault: &str) -> Result<(), Fault> {
+    let outcome = operated(alloc, script, Pieces::whole(b""), room);
+    expect_end(alloc, &outcome, out, fault)
+}
+
 /// The lines before one that isn't understood are done; and a run ends if nothing can be printed.
-pub(crate) fn runs_end_early(alloc: Global) -> bool {
-    let stopped = operated(
-        alloc,
-        "status\n\nwait 0\nstatus\n",
-        Pieces::whole(b""),
-        ROOM,
-    );
-    let unprinted = operated(alloc, "status\n", Pieces::whole(b""), NO_PAPER);
-    stopped.ending == Err(Fault::NotUnderstood(3))
-        && stopped.out.as_slice() == b"talking\n".as_slice()
-        && unprinted.ending == Err(Fault::OutputFailed)
+pub(crate) fn runs_end_early(alloc: Global) -> Result<(), Fault> {
+    let script = "status\n\nwait 0\nstatus\n";
+    ends(alloc, script, ROOM, "talking\n", "line 3: not understood")?;
+    ends(alloc, "status\n", NO_PAPER, "", "output failed")
 }
