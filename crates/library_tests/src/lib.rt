@@ -1,5 +1,6 @@
 //! Trials of the libraries up to terminal, belief and panels, over their public calls: tables, worked commands and screens as bytes, printed texts, and
-//! growths refused. A line is printed for each: ok, or that it fails, what was wanted and what came. `former` compares a belief and a screen with what they were.
+//! growths refused. A line is printed for each: ok, or that it fails, with the wanted and the actual result. `former` compares a belief and a screen with
+//! what they were.
 //!
 //! They are a library that a program runs, and no tests: a crate with tests is proved as a program, which loads all that it stands on.
 #![tactic(auto)]
