@@ -1,5 +1,5 @@
 -- One connection as the host has it (our profile).
-use Rattle.std.specs.Prelude.{ℕ, List, []}
+use Rattle.std.specs.Prelude.{ℕ, []}
 use Rattle.codes3270.specs.Size.{Shape}
 use Rattle.datastream.specs.Grammar.{CommandParts}
 use Rattle.shadow.specs.Belief.{Shadow}

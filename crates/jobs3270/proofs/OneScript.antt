@@ -1,6 +1,5 @@
 -- A panel text and a script have no two pages.
 use Rattle.std.proofs.Common.{◌≡◌, ◌∙◌, ◌+◌, ℕ, zero, suc, Bool, true, false, List, [], ◌∷◌, ◌++◌, Option, None, Some, chars, length, map, refl, sym, ap, subst}
-use Rattle.host_core.specs.State.{most_connections}
 use Rattle.lu_pool.specs.Pool.{entry}
 use Rattle.lu_pool.specs.Reading.{IsReadFrom as IsPoolReadFrom}
 use Rattle.lu_pool.specs.declared.entry.Entry.{Entry}
@@ -12,11 +11,11 @@ use Rattle.world3270.specs.ByteWorld.{ByteWorld, new_byte_world}
 use Rattle.world3270.specs.OneOutcome.{StepsAreOne}
 use Rattle.world3270.specs.declared.event.Event.{Event}
 use Rattle.world3270.specs.declared.event.Stepped.{Stepped}
-use Rattle.jobs3270.specs.Happenings.{AreRounds, AreTyped, Happening, OthersIf, TakePlace, all_skipped, events_of, is_refused, most_rounds, round_below}
+use Rattle.jobs3270.specs.Happenings.{AreRounds, AreTyped, Happening, OthersIf, TakePlace, all_skipped, events_of, is_refused, most_rounds}
 use Rattle.jobs3270.specs.HexLines.{lines_of}
 use Rattle.jobs3270.specs.Plays.{AreHappeningsOf, Plays, PlaysLine, PlaysNext, playable_command, said_of, terminal_count}
 use Rattle.jobs3270.specs.ScriptLines.{typed_text}
-use Rattle.jobs3270.specs.Scripts.{IsScriptPage, IsWorldOf, ScriptsHaveOnePage, lus_of, panel_text, script_text}
+use Rattle.jobs3270.specs.Scripts.{IsWorldOf, ScriptsHaveOnePage, lus_of, panel_text, script_text}
 use Rattle.jobs3270.specs.declared.script_line.ScriptCommand.{ScriptCommand}
 use Rattle.jobs3270.specs.declared.script_line.ScriptCommand.TheVariants as command
 

@@ -1,5 +1,5 @@
 -- One read more.
-use Rattle.std.proofs.Common.{◌≡◌, ◌<◌, ◌≤◌, ◌+◌, ℕ, suc, List, [], ◌++◌, Result, Ok, Err, IfOk, OnErr, refl, sym, subst, arith}
+use Rattle.std.proofs.Common.{◌≡◌, ◌<◌, ◌+◌, ℕ, suc, List, [], ◌++◌, Result, Ok, Err, IfOk, OnErr, sym, subst, arith}
 use Rattle.std.proofs.lemmas.List.{append-nil}
 use Rattle.jobs3270.specs.Counting.{Reads, chunk_size}
 use Rattle.jobs3270.specs.Runs.{InPieces, most_reads}

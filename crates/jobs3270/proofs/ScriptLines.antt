@@ -1,5 +1,5 @@
 -- Lines of scripts: the numbers that a parse gives, codes one character more at a time, and words.
-use Rattle.std.proofs.Common.{◌≡◌, refl, sym, ap, subst, ◌∙◌, arith, ℕ, suc, ◌+◌, ◌^◌, ◌<◌, ◌≤◌, ◌==◌, ◌&&◌, ◌++◌, Bool, true, false, not, min, ◌⊎◌, inl, inr, cond, if◌then◌else◌, List, [], ◌∷◌, length, append_assoc, append-nil, length-append, Option, None, Some, option_and_then, Result, Ok, Err, lt-ltb, ltb-true, tests, chars}
+use Rattle.std.proofs.Common.{◌≡◌, refl, sym, ap, subst, ◌∙◌, arith, ℕ, suc, ◌+◌, ◌^◌, ◌<◌, ◌≤◌, ◌==◌, ◌&&◌, ◌++◌, Bool, true, false, not, min, ◌⊎◌, inl, inr, cond, if◌then◌else◌, List, [], ◌∷◌, length, append_assoc, append-nil, length-append, Option, None, Some, option_and_then, Result, Ok, Err, lt-ltb, chars}
 use Rattle.std.specs.List.{position_or_len, before_first, onto_first, list_all}
 use Rattle.std.specs.Result.{result_unwrap_or}
 use Rattle.std.specs.Str.{all_ascii_digits}

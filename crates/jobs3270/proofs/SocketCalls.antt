@@ -1,10 +1,10 @@
 -- A read and a write of the numbers, from those of one number.
-use Rattle.std.proofs.Common.{◌≡◌, ◌<◌, ◌≤◌, ◌+◌, ◌∙◌, ◌||◌, ℕ, Bool, true, false, List, [], length, Result, get_or, slice_index_or, slice_set, ◌≢◌, ◌⊎◌, inl, inr, ⊎_elim, refl, sym, ap, subst}
+use Rattle.std.proofs.Common.{◌≡◌, ◌<◌, ◌≤◌, ◌+◌, ◌∙◌, ◌||◌, ℕ, List, [], length, Result, get_or, slice_index_or, slice_set, ◌≢◌, ◌⊎◌, ⊎_elim, refl, sym, ap, subst}
 use Rattle.std.proofs.Math.Bool.{or-false}
 use Rattle.std.proofs.lemmas.Bool.{cases_eq}
 use Rattle.std.proofs.lemmas.List.{get_or-set_same, get_or-set_other, get_or_past, get_or_read_under, set-get_or}
 use Rattle.std.specs.declared.io.Error.{Error}
-use Rattle.host_core.specs.Serves.{ReadCounts, Rises, Stays, WriteCounts}
+use Rattle.host_core.specs.Serves.{ReadCounts, WriteCounts}
 use Rattle.host_core.specs.declared.links.LinkRead.{LinkRead}
 use Rattle.host_core.specs.declared.links.LinkRead.TheVariants as read
 use Rattle.host_core.specs.declared.links.LinkWrite.{LinkWrite}

@@ -1,6 +1,5 @@
 -- Lines of a terminal's script: their words.
-use Rattle.std.proofs.Common.{◌≡◌, ◌∙◌, ap, sym, ℕ, List, [], ◌∷◌}
-use Rattle.jobs3270.specs.HexLines.{words_of}
+use Rattle.std.proofs.Common.{◌≡◌, ◌∙◌, ap, sym, ℕ, List, ◌∷◌}
 use Rattle.jobs3270.specs.ScriptLines.{behind}
 use Rattle.jobs3270.specs.TermLines.{command_of_verb, command_of_words, command_of_text, terminal_command}
 use Rattle.jobs3270.proofs.ScriptLines.{IsWhole, IsCut, one_word, some_words, word_more}

@@ -9,15 +9,15 @@ use Rattle.tn3270e_msg.specs.declared.cause.Stop.{Stop}
 use Rattle.tn3270e_msg.specs.declared.cause.Stop.TheVariants.{Going, Memory, Closed as ClosedStop}
 use Rattle.telnet_wire.specs.Items.{sent_bytes}
 use Rattle.term_core.specs.Bytes.{TakesByte, TakesBytes, goes_on, completes, breaks, link_after}
-use Rattle.term_core.specs.Feeds.{Feeds, IsAttached, StopsFor}
+use Rattle.term_core.specs.Feeds.{IsAttached, StopsFor}
 use Rattle.term_core.specs.State.{Link, Terminal, Detached, Attached, Closed, lost, phase_of}
-use Rattle.jobs3270.specs.Counting.{CutShort, Output, Reads, Written, bytes_given, chunk_size, more}
+use Rattle.jobs3270.specs.Counting.{CutShort, Output, Written, bytes_given, chunk_size}
 use Rattle.jobs3270.specs.Operating.{IsWaitOver, is_wait_over}
 use Rattle.jobs3270.specs.Waits.{Exchanges, GaveOn, GoesOn, HasClosed, HasExchanged, HasWaited, IsFed, SendsAll, SendsLast, ended, is_memory, most_waits, sound, unsent}
 use Rattle.jobs3270.specs.declared.operator.Exchanged.{Exchanged}
 use Rattle.jobs3270.specs.declared.operator.Exchanged.TheVariants.{Over, ReadsUsedUp}
 use Rattle.jobs3270.specs.declared.streams.Answer.{Answer}
-use Rattle.jobs3270.specs.declared.streams.Answer.TheVariants.{Gave, Ended, Interrupted, Failed}
+use Rattle.jobs3270.specs.declared.streams.Answer.TheVariants.{Ended, Failed}
 use Rattle.jobs3270.proofs.ReadsOn.{reads_nothing, reads_on}
 
 -- ---- a terminal, and what it had to send before

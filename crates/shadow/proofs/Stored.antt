@@ -1,5 +1,5 @@
 -- What plain orders make of a screen: the cells that they store, and the cursor.
-use Rattle.std.proofs.Common.{◌≡◌, ℕ, Bool, true, false, List, [], ◌∷◌, length, set, refl, ap, ◌∙◌}
+use Rattle.std.proofs.Common.{◌≡◌, ℕ, true, false, List, [], ◌∷◌, length, set, refl, ap, ◌∙◌}
 use Rattle.std.specs.List.{list_all}
 use Rattle.std.proofs.lemmas.List.{length-set}
 use Rattle.codes3270.specs.declared.attribute.Cell.{Cell}

@@ -1,4 +1,4 @@
-use Rattle.std.proofs.Common.{◌≡◌, ◌≤◌, ◌-◌, ℕ, length, Some}
+use Rattle.std.proofs.Common.{◌≡◌, ◌≤◌, ◌-◌, length, Some}
 use Rattle.codes3270.specs.Size.{cell_count}
 use Rattle.shadow.specs.Asked.{field_at, value_of}
 use Rattle.shadow.specs.Belief.{Belief}

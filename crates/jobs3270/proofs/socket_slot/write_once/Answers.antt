@@ -1,4 +1,4 @@
-use Rattle.std.proofs.Common.{length, refl, sym, subst}
+use Rattle.std.proofs.Common.{length, sym, subst}
 use Rattle.jobs3270.specs.Sockets.{TookSome}
 use Rattle.jobs3270.proofs.RawCalls.{took_some}
 use Rattle.jobs3270.proofs.socket_slot.write_once.Goals as goal

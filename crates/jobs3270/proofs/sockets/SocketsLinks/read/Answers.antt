@@ -1,4 +1,4 @@
-use Rattle.std.proofs.Common.{rules, ◌≡◌, ◌<◌, ◌≤◌, List, ℕ, length, subst, slice_index_or, slice_set}
+use Rattle.std.proofs.Common.{rules, length, slice_set}
 use Rattle.host_core.specs.Serves.{bytes_got}
 use Rattle.jobs3270.proofs.SocketCalls.{gives_at, gives_nothing, read_counts}
 use Rattle.jobs3270.proofs.sockets.SocketsLinks.read.Goals as goal

@@ -1,5 +1,4 @@
-use Rattle.std.proofs.Common.{rules, ◌≡◌, ◌<◌, ◌≤◌, List, ℕ, length, subst, slice_index_or, slice_set}
-use Rattle.host_core.specs.Serves.{bytes_got}
+use Rattle.std.proofs.Common.{rules, slice_set}
 use Rattle.jobs3270.proofs.SocketCalls.{takes_at, takes_nothing, write_counts}
 use Rattle.jobs3270.proofs.sockets.SocketsLinks.write.Goals as goal
 
