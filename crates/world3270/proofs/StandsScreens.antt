@@ -56,7 +56,7 @@ filled_if true screen from count is = with_filled screen from count (Char 0) ref
 filled_if false screen from count is = is
 
 order_keeps : (order : Order) (write : WriteProgress) → IsProper order → IsInProgress write → IsInProgress (executed order write)
-order_keeps (Data byte) write p is = one_stored write (Char byte) p is
+order_keeps (Data byte) write p is = let kept = one_stored write (Char byte) p is in record { screen = kept.screen; address = kept.address }
 order_keeps (Sf attribute) write p is = one_stored write (Attr attribute) tt is
 order_keeps (Sba address) write p is = record { screen = is.screen; address = p }
 order_keeps Ic write p is = record { screen = with_cursor write.screen write.address is.address is.screen; address = is.address }
