@@ -55,8 +55,8 @@ fn has_parts(report: &mut Report, inbound: &Inbound<'_>, wanted: &[(Shown, usize
 
 /// Whether these are the cells.
 fn has_cells(report: &mut Report, inbound: &Inbound<'_>, wanted: &[(Shown, usize)]) -> bool {
-    if !report.same(&Form::Buffer, &inbound.form()) {
-        return false;
+    if inbound.form() != Form::Buffer {
+        return report.holds("it is a whole buffer", false);
     }
     let mut cells = inbound.cells();
     for (shown, count) in wanted {

@@ -17,8 +17,8 @@ fn has_device_and_lu(report: &mut Report, host: &mut HostTalk, lu: Lu) -> bool {
     let _ = host.take(&tn3270e(Verb::Will));
     let _ = host.take(&Item::Sub(b"\x28\x02\x07IBM-3278-2\x01PNL01"));
     let has_none = host.device().is_none();
-    if !report.holds("the host asks its pool", host.asking()) {
-        return false;
+    if !host.asking() {
+        return report.holds("the host asks its pool", false);
     }
     let _ = host.answered(Ok(lu));
     let _ = host.take(&Item::Sub(b"\x28\x03\x07\x02"));

@@ -39,7 +39,7 @@ fn completes(report: &mut Report, decoder: &mut Decoder, bytes: &[u8], item: Ite
         return false;
     };
     all_answer(report, decoder, before, MORE)
-        && report.same(&Ok(Step::Ready), &decoder.push(*last))
+        && decoder.push(*last) == Ok(Step::Ready)
         && report.same(&item, &decoder.item())
 }
 
@@ -123,7 +123,7 @@ struct Limit {
 fn is_limited(report: &mut Report, decoder: &mut Decoder, limit: &Limit) -> bool {
     goes_on(report, decoder, limit.begun, limit.spelling, limit.count)
         && all_answer(report, decoder, &[255], MORE)
-        && report.same(&Ok(Step::Ready), &decoder.push(limit.end))
+        && decoder.push(limit.end) == Ok(Step::Ready)
         && report.holds(
             "it is the longest item",
             is_longest(decoder.item(), limit.end, limit.byte),
