@@ -23,7 +23,7 @@ pub(crate) enum Call {
 }
 
 /// Each with its name: the crate's, the call's, and in some cases on what.
-pub(crate) static CALLS: [(&str, Call); 41] = [
+pub(crate) static CALLS: [(&str, Call); 40] = [
     ("telnet_wire:Decoder::new", Call::Make(Makes::Decoder)),
     ("telnet_wire:put_record", Call::Append(Appends::Record)),
     ("telnet_wire:put_option", Call::Append(Appends::Option)),
