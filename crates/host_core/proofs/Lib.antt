@@ -7,10 +7,12 @@ pub mod MessageRows
 pub mod KeptWhole
 pub mod Hosts
 pub mod ConnectionActs
+pub mod KeepingAlive
 pub mod Turns
 pub mod Commands
 pub mod Wanting
 pub mod Paintings
+pub mod Measured
 pub mod Knowing
 pub mod Doings
 pub mod NoteBytes

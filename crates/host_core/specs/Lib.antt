@@ -12,11 +12,13 @@ pub mod Items
 pub mod Bytes
 pub mod Feeds
 pub mod Does
+pub mod KeepAlive
 pub mod Machine
 pub mod Sound
 pub mod Serves
 pub mod NoteLaws
 pub mod Laws
+pub mod Measuring
 pub mod Rooms
 pub mod Keeps
 pub mod Parts

@@ -1,4 +1,4 @@
-/// What became of an act, or of a note.
+/// What became of an act, of a note, or of keeping a connection alive.
 #[derive(Clone, Copy, Debug, PartialEq, Eq)]
 pub enum Acted {
     /// A command was sent.

@@ -1,21 +1,25 @@
 //! A connection number, as the host keeps it.
-ghost use Rattle.std.specs.Prelude.{◌≡◌, ◌≤◌, ◌<◌, ℕ, length, drop, None, OnOk, OnErr};
+ghost use Rattle.std.specs.Prelude.{◌≡◌, ◌≤◌, ◌<◌, ◌∷◌, ◌++◌, [], ℕ, length, drop, None, OnOk, OnErr};
 ghost use Rattle.std.specs.Vec.{vec_capacity};
+ghost use Rattle.telnet_wire.specs.Items.{sent_bytes};
 ghost use Rattle.host_core.specs.Application.{application_of};
 ghost use Rattle.tn3270e_msg.specs.HostTable.{granted};
 ghost use Rattle.host_core.specs.Does.{Does, acted_by, noted_by};
 ghost use Rattle.host_core.specs.Feeds.{Feeds};
+ghost use Rattle.host_core.specs.KeepAlive.{kept_alive, kept_alive_answer, may_keep_alive, no_operation};
 ghost use Rattle.host_core.specs.Keeps.{IsRunning, IsLeft, OthersHold, counter_of, cause_of, claim};
 ghost use Rattle.host_core.specs.Connections.{StaysShown, ShadowIf};
+ghost use Rattle.host_core.specs.Measuring.{whole_length};
 ghost use Rattle.host_core.specs.Notes.{IsNoteText};
 ghost use Rattle.host_core.specs.Rejections.{oldest, without_oldest};
-ghost use Rattle.host_core.specs.Rooms.{out_room};
+ghost use Rattle.host_core.specs.Rooms.{HasRoomFor, out_room};
 ghost use Rattle.host_core.specs.Sound.{HoldsJust, IsShown};
 ghost use Rattle.host_core.specs.State.Service.{Free};
 ghost use Rattle.host_core.specs.State.{opened, unused, lu_of, phase_of, turn_of, pending_of};
 
 use crate::acted::Acted;
 use crate::feeding::feed_open;
+use crate::measuring::ScreenMeasure;
 use crate::phase::Phase;
 use crate::rejection::{MOST_REJECTIONS, Rejection};
 use crate::room::OUT_ROOM;
@@ -83,6 +87,18 @@ fn make_out_room(out: &mut Vec<u8>) -> Result<(), Memory>
     ensures room { OnOk result (out_room ≤ vec_capacity out.new) }
 {
     out.reserve(OUT_ROOM)
+}
+
+/// The Telnet command NOP, "no operation", behind its IAC (RFC 854, "TELNET Command Structure").
+const IAC_NOP: [u8; 2] = [255, 241];
+
+/// Appends IAC NOP.
+fn put_nop(out: &mut Vec<u8>)
+    requires { HasRoomFor 2 out.old }
+    ensures appended { out.new.items ≡ out.old.items ++ sent_bytes (no_operation ∷ []) }
+    ensures capacity { vec_capacity out.old ≤ vec_capacity out.new }
+{
+    out.extend_from_slice(&IAC_NOP).unwrap();
 }
 
 /// A connection number, with what is still to be sent there, and the rejections that weren't reported yet.
@@ -196,6 +212,28 @@ impl Connection {
         }
     }
 
+    /// Whether NOP may be sent: the session is agreed, and nothing is to be sent.
+    fn may_keep_alive(&self) -> bool
+        ensures { result ≡ may_keep_alive self.now }
+    {
+        match &self.service {
+            Service::Free | Service::Closed(_) => false,
+            Service::Open(end) => end.session.agreed() && self.out.is_empty(),
+        }
+    }
+
+    /// Sends NOP, as the host does.
+    pub(crate) fn keep_alive(&mut self) -> Acted
+        ensures answer { result ≡ kept_alive_answer self.old }
+        ensures kept_alive { self.new ≡ kept_alive self.old }
+    {
+        if !self.may_keep_alive() {
+            return Acted::Nothing;
+        }
+        put_nop(&mut self.out);
+        Acted::Sent
+    }
+
     /// What is to be sent.
     pub(crate) fn out(&self) -> &[u8]
         ensures { result.now ≡ self.now.out }
@@ -269,6 +307,21 @@ impl Connection {
         match &self.service {
             Service::Free | Service::Closed(_) => None,
             Service::Open(end) => end.session.pending.number(),
+        }
+    }
+
+    /// The bytes of the paint that waits for its answer, had nothing been known of the screen.
+    pub(crate) fn whole_length(
+        &self,
+        panels: &PanelSet,
+        measure: &mut ScreenMeasure,
+    ) -> Option<usize>
+        requires { IsShown (length panels.now.panels) self.now.service }
+        ensures { result ≡ whole_length (application_of panels.now) self.now.service }
+    {
+        match &self.service {
+            Service::Free | Service::Closed(_) => None,
+            Service::Open(end) => end.session.whole_length(panels, measure),
         }
     }
 

@@ -3,6 +3,8 @@ ghost use Rattle.std.specs.Prelude.{◌≡◌, ◌≤◌, ◌<◌, length, drop,
 ghost use Rattle.host_core.specs.Application.{application_of};
 ghost use Rattle.host_core.specs.Does.{Does, acted_by, noted_by};
 ghost use Rattle.host_core.specs.Feeds.{Feeds, counter_at, with_counter};
+ghost use Rattle.host_core.specs.KeepAlive.{kept_alive, kept_alive_answer};
+ghost use Rattle.host_core.specs.Measuring.{whole_length};
 ghost use Rattle.host_core.specs.Notes.{IsNoteText};
 ghost use Rattle.host_core.specs.Rejections.{oldest, without_oldest};
 ghost use Rattle.host_core.specs.Sound.{IsSound, NobodyShares};
@@ -11,6 +13,7 @@ ghost use Rattle.host_core.specs.declared.phase.Phase.TheVariants as phase;
 
 use crate::acted::Acted;
 use crate::connection::Connection;
+use crate::measuring::ScreenMeasure;
 use crate::phase::Phase;
 use crate::rejection::Rejection;
 use crate::turn::Turn;
@@ -142,6 +145,18 @@ impl Host {
         self.connections[conn].note(text)
     }
 
+    /// Sends IAC NOP, which has no effect at the terminal (RFC 854, "no operation"), on a bound connection that has nothing to send.
+    /// TCP notices only by what is sent that a peer is gone. Nothing if the number isn't bound, or if output waits to be sent.
+    ///
+    /// It needs no memory, since a connection keeps its room for output, so the answer is never Memory.
+    pub fn keep_alive(&mut self, conn: usize) -> Acted
+        requires number { conn < most_connections }
+        ensures answer { result ≡ kept_alive_answer (connection_at conn self.old) }
+        ensures kept_alive { self.new ≡ with_connection conn (kept_alive (connection_at conn self.old)) self.old }
+    {
+        self.connections[conn].keep_alive()
+    }
+
     /// What there is to send on a connection.
     pub fn out(&self, conn: usize) -> &[u8]
         requires number { conn < most_connections }
@@ -212,6 +227,15 @@ impl Host {
             Some(shadow) => shadow,
             None => &self.nothing_known,
         }
+    }
+
+    /// How many bytes the paint that waits for its answer on a connection would have taken on the wire, had nothing been known of
+    /// what the terminal shows: the connection's panel with its message and values, whole. None if no paint waits.
+    pub fn whole_length(&self, conn: usize, measure: &mut ScreenMeasure) -> Option<usize>
+        requires number { conn < most_connections }
+        ensures { result ≡ whole_length (application_of self.now.panels) (service_at conn self.now) }
+    {
+        self.connections[conn].whole_length(&self.panels, measure)
     }
 
     /// Starts again: all numbers and all LUs are free.

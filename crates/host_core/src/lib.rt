@@ -32,9 +32,9 @@
 //! [`serve_turn`] does a turn of this on connections of any kind, by the trait [`Links`]: a read, an
 //! act, and a write. `specs/State` says what a host is, and `Rejections` which requests for an LU it
 //! rejected; `Feeds`, `Bytes`, `Items` and `Takes` say what bytes make of it, `Does` and `Acts` what
-//! it does in its turn, `Notes` what a note is, and `Serves` what a turn of serving is. What follows
-//! from these is the contract of [`laws::one_machine`] and of the other laws. The `data` of the
-//! repository's `trials3270` has whole dialogues, byte for byte.
+//! it does in its turn, `Notes` what a note is, `KeepAlive` when NOP is sent, and `Serves` what a
+//! turn of serving is. What follows from these is the contract of [`laws::one_machine`] and of the
+//! other laws. The `data` of the repository's `trials3270` has whole dialogues, byte for byte.
 #![tactic(auto)]
 
 mod acted;
@@ -45,6 +45,7 @@ mod host;
 pub mod laws;
 mod learning;
 mod links;
+mod measuring;
 mod noting;
 mod pending;
 mod phase;
@@ -63,6 +64,7 @@ pub use datastream::Memory;
 pub use host::{Host, MOST_CONNECTIONS};
 pub use links::{LinkRead, LinkWrite, Links};
 pub use lu_pool::{Pool, PoolFault};
+pub use measuring::ScreenMeasure;
 pub use panels::{PanelFault, PanelSet};
 pub use phase::Phase;
 pub use rejection::Rejection;

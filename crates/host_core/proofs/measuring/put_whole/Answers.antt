@@ -1,0 +1,16 @@
+use Rattle.std.proofs.Common.{false}
+use Rattle.codes3270.specs.Size.{model_2}
+use Rattle.host_core.specs.Acts.{Act}
+use Rattle.host_core.specs.Application.{application_of}
+use Rattle.host_core.specs.Session.{new_conn}
+use Rattle.host_core.proofs.Wanting.{screen_asked}
+use Rattle.host_core.proofs.measuring.put_whole.Goals as goal
+
+pub returns-clause-wanted : goal.returns-clause-wanted
+returns-clause-wanted c =
+    screen_asked c.args.panels.now c.args.panel c.panel_in.result.now c.args.values.now c.args.message false c.put_wanted.new.wanted c.panel_in.ensures.panel c.put_wanted.ensures.screen
+
+pub returns-clause-fits : goal.returns-clause-fits
+returns-clause-fits c =
+    let app = c.panels_are_shown.ensures.application c.args.panels.now c.panels_are_sound.ensures.cursors c.panels_are_sound.ensures.apart in
+    rw (returns-clause-wanted c) (c.what_is_shown_fits.ensures (application_of c.args.panels.now) (new_conn model_2) (Act.Show c.args.panel c.args.message false c.args.values.now) app).0.fits
