@@ -1,9 +1,9 @@
 -- What the host sends in its turn, and notes that it sends, over bytes: they stand for the messages that it sends.
-use Rattle.std.proofs.Common.{◌≡◌, ◌<◌, ℕ, Bool, true, false, Option, Some, None, is_some, List, [], ◌∷◌, ◌++◌, length, refl, ap, sym, subst, ◌∙◌, IfSome, if◌then◌else◌}
+use Rattle.std.proofs.Common.{◌≡◌, ◌<◌, ◌==◌, ℕ, Bool, true, false, Option, Some, None, is_some, List, [], ◌∷◌, ◌++◌, length, refl, ap, sym, subst, ◌∙◌, IfSome, if◌then◌else◌}
 use Rattle.std.specs.Prelude.{All}
 use Rattle.std.proofs.lemmas.Bool.{and_parts, ltb-true}
 use Rattle.std.proofs.lemmas.List.{length-set, set-get_or}
-use Rattle.std.proofs.lemmas.List.Elements.{All-head, All-tail}
+use Rattle.std.proofs.lemmas.List.Elements.{All-head, All-nil, All-tail}
 use Rattle.codes3270.specs.Size.{Shape, model_2}
 use Rattle.shadow.specs.Belief.{Shadow}
 use Rattle.shadow.specs.Fits.{fits}
@@ -13,6 +13,7 @@ use Rattle.host_core.specs.Acts.{Sent, acted, act_on, done as done_act, may_act}
 use Rattle.host_core.specs.Answering.{number_in}
 use Rattle.host_core.specs.Application.{Application, application_of}
 use Rattle.host_core.specs.Does.{Does as HostDoes, acted_by, noted_by, with_conn, sent_on}
+use Rattle.host_core.specs.KeepAlive.{is_bound, may_keep_alive, no_operation, with_nop}
 use Rattle.host_core.specs.Laws.{PaintsWhatFits}
 use Rattle.host_core.specs.Messages.{ToTerminal}
 use Rattle.host_core.specs.NoteLaws.{IsNoteOf}
@@ -38,13 +39,13 @@ use Rattle.world3270.specs.Sendable.{IsTyped, PaintsAScreen, IsSpelt}
 use Rattle.world3270.specs.Standing.{WorldStands, IsFlow, AreTransits, IsNotClosed, IsSettled, conn_of, tracked_of, link_with}
 use Rattle.world3270.specs.Stands.{ByteLink, LinkStands}
 use Rattle.world3270.specs.StandsEnds.{PaintStands}
-use Rattle.world3270.specs.StandsLinks.{said_down, sent_down, HostSends}
+use Rattle.world3270.specs.StandsLinks.{said_down, sent_down, HostSends, NopStands}
 use Rattle.world3270.specs.World.{World, Event, IsEvent, with_link, new_world}
 use Rattle.world3270.specs.declared.event.Event.TheVariants as event
 use Rattle.world3270.specs.declared.event.Stepped.{Stepped}
 use Rattle.world3270.proofs.Frames.{beyond_is_alone, changed_stands, flow_there, connection_other, connection_same, connection_within, link_there, sits_same, there_settled, with_parts}
 use Rattle.world3270.proofs.ItemsSpelt.{Spells, Suits, spells}
-use Rattle.world3270.proofs.Known.{Facts, Goes, facts_now, facts_once, is_application, reached_one, reached_still}
+use Rattle.world3270.proofs.Known.{Facts, Goes, facts_now, facts_once, is_application, reached_more, reached_one, reached_still}
 use Rattle.world3270.proofs.OneOfMany.{with_other, with_same}
 use Rattle.world3270.proofs.UnderWay.{lost_says, more_flows, more_under_way}
 use Rattle.world3270.proofs.Worlds.{run_good, new_good}
@@ -173,6 +174,95 @@ module _ (sends : HostSends) (number : ℕ) (old : ByteWorld) (world : World) (s
         place = stands.places (length old.slots);
       })
       agree stands agrees
+
+-- ---- NOP
+
+-- NOP is behind what the host has to send
+abbrev nop_told : ℕ → ByteWorld → ByteWorld
+nop_told number old = with_host (with_connection number (with_nop (connection_at number old.host)) old.host) old
+
+bound_there : (service : Service) → is_bound service ≡ true → is_there service ≡ true
+bound_there Service.Free is = absurd (cc)
+bound_there (Service.Open rest conn) is = refl
+bound_there (Service.Closed cause) is = absurd (cc)
+
+if_may : (may : Bool) (one other : Connection) → may ≡ true → (if may then one else other) ≡ one
+if_may may one other is = rw is refl
+
+module _ (nop : NopStands) (number : ℕ) (old : ByteWorld) (world : World) (stands : WorldStands old world)
+    (below : number < most_connections) (there : host_there number old ≡ true) where
+  connection_is : connection_at number (nop_told number old).host ≡ with_nop (connection_at number old.host)
+  connection_is = connection_same number (with_nop (connection_at number old.host)) old.host (connection_within number old world stands below)
+
+  nop_goes_down : IsFlow true (host_out number old) (transits_at number old).down
+  nop_goes_down = subst (λ (b : Bool). IsFlow b (host_out number old) (transits_at number old).down) there (stands.flows number).down
+
+  nop_link : (here : Option ℕ) → link_with here number (nop_told number old) ≡ said_down (conn_of (service_at number old.host)) (no_operation ∷ []) (link_with here number old)
+  nop_link here =
+      let transits : Transits = transits_at number old in
+      let service : Service = service_at number old.host in
+      let new : ByteWorld = nop_told number old in
+      let out : List ℕ = host_out number old ++ sent_bytes (no_operation ∷ []) in
+      ap (λ (l : Connection). with_this here transits (out_of here new) (tracked_of here new) l.service l.out) connection_is
+      ∙ ap (λ (up : List ℕ). with_this here transits up (tracked_of here new) service out) (sits_same here old new refl).0
+      ∙ ap (λ (s : TrackedTerminal). with_this here transits (out_of here old) s service out) (sits_same here old new refl).1
+      ∙ ap (λ (down : List ℕ). record (with_this here transits (out_of here old) (tracked_of here old) service (host_out number old)) { down = down })
+      (more_under_way (host_out number old) (sent_bytes (no_operation ∷ [])) transits.down nop_goes_down)
+
+  nop_flow : (here : Option ℕ) → AreTransits here number old → AreTransits here number (nop_told number old)
+  nop_flow here are = record {
+    together = are.together;
+    down = subst (λ (l : Connection). IsFlow (is_there l.service) l.out (transits_at number old).down) (sym connection_is)
+        (subst (λ (b : Bool). IsFlow b (host_out number old ++ sent_bytes (no_operation ∷ [])) (transits_at number old).down) (sym there)
+        (more_flows (host_out number old) (sent_bytes (no_operation ∷ [])) (transits_at number old).down nop_goes_down));
+    up = subst (λ (out : List ℕ). IsFlow (is_some here) out (transits_at number old).up) (sym (sits_same here old (nop_told number old) refl).0) are.up;
+  }
+
+  nop_stands_here : (here : Option ℕ) → LinkStands (link_with here number old) (world.link number) → LinkStands (link_with here number (nop_told number old)) (world.link number)
+  nop_stands_here here stood =
+      subst (λ (b : ByteLink). LinkStands b (world.link number)) (sym (nop_link here)) (nop (link_with here number old) (world.link number) stood)
+
+  nop_told_stands : EndsAgree world → WorldStands (nop_told number old) world
+  nop_told_stands agree =
+      changed_stands number (length old.slots) old (nop_told number old) world world
+      (record {
+        connections = λ other differs. connection_other number other (with_nop (connection_at number old.host)) old.host differs;
+        transits = λ other differs. refl;
+        slots = λ other differs. refl;
+        links = λ other differs. refl;
+        places = λ other differs. refl;
+        connection_count = length-set old.host.connections number (with_nop (connection_at number old.host));
+        way_count = refl;
+        slot_count = refl;
+        terminals = refl;
+        pool = stands.pool;
+        before = beyond_is_alone number old world stands;
+        behind = beyond_is_alone number old world stands;
+        none_closed = subst (λ (l : Connection). IsNotClosed l.service) (sym connection_is) (stands.none_closed number);
+        settled = subst (λ (l : Connection). IsSettled l) (sym connection_is) (there_settled (with_nop (connection_at number old.host)) there);
+        flow = nop_flow (world.link number).term_here (flow_there number old world agree stands);
+        link = nop_stands_here (world.link number).term_here (link_there number old world agree stands);
+        place = stands.places (length old.slots);
+      })
+      agree stands agree
+
+-- Keeping a connection alive is nothing over messages.
+pub keep_alive_goes : Known → (number : ℕ) → Goes (event.KeepAlive number)
+keep_alive_goes known number begin events old answer new is reached real place happens =
+    let parts = and_parts (is_link number) (may_keep_alive (connection_at number old.host)) place in
+    let bound = and_parts (is_bound (service_at number old.host)) (length (host_out number old) == 0) parts.1 in
+    let made : new ≡ nop_told number old =
+    happens.1
+    ∙ ap (λ (c : Connection). with_host (with_connection number c old.host) old)
+    (if_may (may_keep_alive (connection_at number old.host)) (with_nop (connection_at number old.host)) (connection_at number old.host) parts.1) in
+    record {
+      more = [];
+      comes_to = refl;
+      reached = reached_more begin events [] old new reached tt (All-nil IsTyped) (ap (λ (w : ByteWorld). w.host.panels) made)
+          (subst (λ (w : ByteWorld). WorldStands w (after begin events)) (sym made)
+          (nop_told_stands known.links.nop number old (after begin events) reached.stands (ltb-true number most_connections parts.0)
+          (bound_there (service_at number old.host) bound.0) (facts_now known.worlds begin events old is reached).agree));
+    }
 
 -- ---- what the host does
 

@@ -33,7 +33,7 @@ use Rattle.world3270.specs.Refines.{Begin, IsBegin, Reached, GoesOn, after}
 use Rattle.world3270.specs.TrackedTerminals.{TrackedTerminal, TrackedTakes}
 use Rattle.world3270.specs.Sendable.{IsTyped, display_at}
 use Rattle.world3270.specs.Standing.{WorldStands, with_out}
-use Rattle.world3270.specs.Stands.{BytesDown, ByteLink, LinkStands, StandsDown, StandsUp}
+use Rattle.world3270.specs.Stands.{BytesDown, ByteLink, LinkStands, StandsUp, without_nops}
 use Rattle.world3270.specs.StandsLinks.{IsReady, NoneCloses, took_down}
 use Rattle.world3270.specs.Terminal.{TermEnd, TermStep, took as term_took}
 use Rattle.world3270.specs.Unbroken.{SaysNoRefusal, TerminalsRefuseNothing}
@@ -190,6 +190,9 @@ all_came app number terminal linked (message ∷ taken) others world here place 
 are_deliveries : (number count : ℕ) → AreEvents (replicate count (MessageEvent.Down number))
 are_deliveries number zero = tt
 are_deliveries number (suc count) = (tt, are_deliveries number count)
+
+as_many_deliveries : (number count taken : ℕ) → count ≡ taken → replicate taken (MessageEvent.Down number) ≡ replicate count (MessageEvent.Down number)
+as_many_deliveries number count taken same = ap (λ (n : ℕ). replicate n (MessageEvent.Down number)) (sym same)
 
 -- ---- bytes come down, over bytes
 
@@ -359,8 +362,8 @@ module _ (known : Known) (begin : Begin) (events : List MessageEvent) (number co
       let term = stood.term terminal here in
       let to : Rest = (down.stands.term terminal went.here).rest in
       let read = seat_reads known front slot.tracked comes.tracked term.rest to term.holds.talk holds.talk term.down.is_rest term.holds.attached holds.attached comes.feeds.takes in
-      let as_many : length read.0 ≡ length down.taken =
-      counted known StandsDown term.rest to front bytes_behind read.0 link.down down.taken down.others read.1
+      let as_many : length (without_nops read.0) ≡ length down.taken =
+      counted known term.rest to front bytes_behind read.0 link.down down.taken down.others read.1
       (subst (λ (b : List ℕ). BytesDown term.rest b link.down) in_two term.down)
       (subst (λ (m : List ToTerminal). BytesDown to bytes_behind m) (left_down down.taken down.others link down.whole) (down.stands.term terminal went.here).down)
       down.whole in
@@ -403,7 +406,7 @@ module _ (known : Known) (begin : Begin) (events : List MessageEvent) (number co
             behind = to;
             delivers = subst (λ (r : Rest). Delivers record_limit r (taken_by answer bytes_brought) read.0 to) (sym held)
                 (subst (λ (b : List ℕ). Delivers record_limit term.rest b read.0 to) (sym took_them) read.1);
-            one_each = ap (λ (n : ℕ). replicate n (MessageEvent.Down number)) (sym as_many);
+            one_each = as_many_deliveries number (length (without_nops read.0)) (length down.taken) as_many;
           };
           reached = reached_more begin events more old new reached (are_deliveries number (length down.taken)) typed
               (ap (λ (w : ByteWorld). w.host.panels) made ∙ went_bytes.panels) (subst (λ (w : ByteWorld). WorldStands w now) (sym made) stands);

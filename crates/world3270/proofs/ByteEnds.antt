@@ -9,15 +9,15 @@ use Rattle.world3270.specs.Known.{Known}
 use Rattle.world3270.specs.ByteSteps.{Connects, ConnectsIf, has_place, is_link, is_terminal, is_lost, is_up, sees_loss, may_connect, free_number, lost_transits, host_gone, saw_loss, terminal_anew, host_anew, host_gone_below}
 use Rattle.world3270.specs.ByteWorld.{ByteWorld, TerminalSlot, alone, new_slot, host_there, slot_at, with_transits}
 use Rattle.world3270.specs.Happens.{done, left_alone, joined, term_saw, term_anew}
-use Rattle.world3270.specs.Placed.{free_number as free_over_messages}
+use Rattle.world3270.specs.Placed.{free_number as free_over_messages, has_place as has_place_over_messages}
 use Rattle.world3270.specs.Places.{EndsAgree, UpIsHeld}
-use Rattle.world3270.specs.Refines.{Begin, IsBegin, Reached, IsReal, IsCounted, GoesOn, ComesTo, SkipsAreThose, BeginIsReached, message_event, once, after}
+use Rattle.world3270.specs.Refines.{Begin, IsBegin, Reached, GoesOn, ComesTo, SkipsAreThose, BeginIsReached, once, after}
 use Rattle.world3270.specs.Sendable.{IsTyped}
 use Rattle.world3270.specs.Standing.{WorldStands, IsAt}
-use Rattle.world3270.specs.Stands.{StandsUp}
+use Rattle.world3270.specs.Stands.{StandsUp, all_items}
 use Rattle.world3270.specs.StandsLinks.{TermLeaves}
 use Rattle.world3270.specs.Terminal.{new_display}
-use Rattle.world3270.specs.World.{Place, World, Event as MessageEvent}
+use Rattle.world3270.specs.World.{Place, World, Event as MessageEvent, IsEvent}
 use Rattle.world3270.specs.declared.event.Event.{Event}
 use Rattle.world3270.specs.declared.event.Event.TheVariants as event
 use Rattle.world3270.specs.declared.event.Stepped.{Stepped}
@@ -99,26 +99,26 @@ begin_is_reached known begin is = record {
   are_events = tt;
   typed = All-nil IsTyped;
   panels = refl;
-  stands = begin_stands (nothing_stands StandsUp known.links.no_bytes known.links.start) begin.panels begin.pool begin.terminals;
+  stands = begin_stands (nothing_stands all_items StandsUp refl known.links.no_bytes known.links.start) begin.panels begin.pool begin.terminals;
 }
 
 -- ---- one event
 
 module _ (known : Known) (skips : SkipsAreThose) where
   -- it happens once, over bytes as over messages
-  goes_once : (it : Event) (begin : Begin) (events : List MessageEvent) (old : ByteWorld) (answer : Stepped) (new : ByteWorld)
-      → IsBegin begin → Reached begin events old → IsReal it → IsCounted it → has_place it old ≡ true
-      → ComesTo it old answer (message_event it ∷ []) → new.host.panels ≡ old.host.panels
-      → (EndsAgree (done (application_of begin.panels) (message_event it) (after begin events))
-      → WorldStands new (done (application_of begin.panels) (message_event it) (after begin events)))
+  goes_once : (it : Event) (message : MessageEvent) (begin : Begin) (events : List MessageEvent) (old : ByteWorld) (answer : Stepped) (new : ByteWorld)
+      → IsBegin begin → Reached begin events old → IsEvent message × IsTyped message
+      → has_place it old ≡ has_place_over_messages (application_of begin.panels) message (after begin events) → has_place it old ≡ true
+      → ComesTo it old answer (message ∷ []) → new.host.panels ≡ old.host.panels
+      → (EndsAgree (done (application_of begin.panels) message (after begin events)) → WorldStands new (done (application_of begin.panels) message (after begin events)))
       → GoesOn begin events it old answer new
-  goes_once it begin events old answer new is reached real counted place comes panels stands =
-      let there = sym (skips begin events it old is reached counted) ∙ place in
+  goes_once it message begin events old answer new is reached real alike place comes panels stands =
+      let there = sym alike ∙ place in
       record {
-        more = message_event it ∷ [];
+        more = message ∷ [];
         comes_to = comes;
-        reached = reached_one begin events (message_event it) old new reached real.0 real.1 there panels
-            (stands (facts_once known.worlds begin events (message_event it) old is reached real.0 real.1 there).agree);
+        reached = reached_one begin events message old new reached real.0 real.1 there panels
+            (stands (facts_once known.worlds begin events message old is reached real.0 real.1 there).agree);
       }
 
   -- ---- a connection is lost
@@ -133,7 +133,7 @@ module _ (known : Known) (skips : SkipsAreThose) where
       let below = within number (is_up number old) old (after begin events) reached.stands place in
       let made : ByteWorld = with_transits number (lost_transits number old) old in
       subst (λ (w : ByteWorld). GoesOn begin events (event.Lose number) old answer w) (sym happens.1)
-      (goes_once (event.Lose number) begin events old answer made is reached real tt place
+      (goes_once (event.Lose number) (MessageEvent.Lose number) begin events old answer made is reached real (skips begin events (event.Lose number) old is reached tt) place
       (ap (λ (a : Stepped). once (MessageEvent.Lose number) a) (sym happens.0)) refl
       (lost_stands number old (after begin events) f.agree reached.stands f.up_held known.links.loss below))
 
@@ -144,7 +144,7 @@ module _ (known : Known) (skips : SkipsAreThose) where
       let f = facts_now known.worlds begin events old is reached in
       let below = within number (is_lost number old && host_there number old) old (after begin events) reached.stands place in
       subst (λ (w : ByteWorld). GoesOn begin events (event.HostSees number) old answer w) (sym happens.1)
-      (goes_once (event.HostSees number) begin events old answer (host_gone number old) is reached real tt place
+      (goes_once (event.HostSees number) (MessageEvent.HostSees number) begin events old answer (host_gone number old) is reached real (skips begin events (event.HostSees number) old is reached tt) place
       (ap (λ (a : Stepped). once (MessageEvent.HostSees number) a) (sym happens.0)) refl
       (host_gone_stands number old (after begin events) f.agree reached.stands f.up_held known.links.host_leaves below))
 
@@ -154,7 +154,7 @@ module _ (known : Known) (skips : SkipsAreThose) where
       let at : Option ℕ = (slot_at terminal old).at in
       let there = ltb-true terminal (length old.slots) (and_parts (is_terminal terminal old) (sees_loss at old) place).0 in
       subst (λ (w : ByteWorld). GoesOn begin events (event.TermSees terminal) old answer w) (sym happens.1)
-      (goes_once (event.TermSees terminal) begin events old answer (saw_loss terminal at old) is reached real tt place
+      (goes_once (event.TermSees terminal) (MessageEvent.TermSees terminal) begin events old answer (saw_loss terminal at old) is reached real (skips begin events (event.TermSees terminal) old is reached tt) place
       (ap (λ (a : Stepped). once (MessageEvent.TermSees terminal) a) (sym happens.0)) (saw_panels terminal at old)
       (saw_stands known.links.term_leaves terminal old (after begin events) f.agree f.up_held reached.stands there at ((after begin events).place terminal) refl refl))
 
@@ -165,7 +165,7 @@ module _ (known : Known) (skips : SkipsAreThose) where
       let f = facts_now known.worlds begin events old is reached in
       let at : Option ℕ = (slot_at terminal old).at in
       subst (λ (w : ByteWorld). GoesOn begin events (event.RestartTerm terminal) old answer w) (sym happens.1)
-      (goes_once (event.RestartTerm terminal) begin events old answer (terminal_anew terminal at old) is reached real tt place
+      (goes_once (event.RestartTerm terminal) (MessageEvent.RestartTerm terminal) begin events old answer (terminal_anew terminal at old) is reached real (skips begin events (event.RestartTerm terminal) old is reached tt) place
       (ap (λ (a : Stepped). once (MessageEvent.RestartTerm terminal) a) (sym happens.0)) (anew_panels terminal at old)
       (anew_stands known.links.term_leaves terminal old (after begin events) f.agree f.up_held reached.stands (ltb-true terminal (length old.slots) place) at
       ((after begin events).place terminal) refl refl begin))
@@ -175,7 +175,7 @@ module _ (known : Known) (skips : SkipsAreThose) where
       let f = facts_now known.worlds begin events old is reached in
       let made : ByteWorld = host_anew (host_gone_below most_connections old) in
       subst (λ (w : ByteWorld). GoesOn begin events event.RestartHost old answer w) (sym happens.1)
-      (goes_once event.RestartHost begin events old answer made is reached real tt place
+      (goes_once event.RestartHost MessageEvent.RestartHost begin events old answer made is reached real (skips begin events event.RestartHost old is reached tt) place
       (ap (λ (a : Stepped). once MessageEvent.RestartHost a) (sym happens.0))
       (panels_stay known.links.host_leaves old (after begin events) f.agree f.up_held reached.stands)
       (λ agrees. host_anew_stands known.links.host_leaves old (after begin events) f.agree f.up_held reached.stands))
@@ -201,7 +201,7 @@ module _ (known : Known) (skips : SkipsAreThose) where
           let below = way_within number old (after begin events) reached.stands (found_below most_connections 0 number old free) in
           let same : free_over_messages (after begin events).link ≡ Some number = sym (same_free old (after begin events) reached.stands) ∙ free in
           subst (λ (w : ByteWorld). GoesOn begin events (event.Connect terminal wanted) old answer w) (sym made)
-          (goes_once (event.Connect terminal wanted) begin events old answer (connected number terminal wanted old) is reached real tt place
+          (goes_once (event.Connect terminal wanted) (MessageEvent.Connect terminal wanted) begin events old answer (connected number terminal wanted old) is reached real (skips begin events (event.Connect terminal wanted) old is reached tt) place
           (ap (λ (a : Stepped). once (MessageEvent.Connect terminal wanted) a) (sym answers)) refl
           (λ agrees. subst (λ (n : Option ℕ). WorldStands (connected number terminal wanted old) (joined app terminal wanted n (after begin events))) (sym same)
           (connected_stands number terminal wanted old (after begin events) known.links.begin f.agree reached.stands below there lonely

@@ -1,5 +1,5 @@
 -- An event has a place over bytes exactly where it has over messages.
-use Rattle.std.proofs.Common.{◌≡◌, ◌<◌, ◌+◌, ◌&&◌, ◌||◌, not, nat_lt, ℕ, zero, suc, Bool, true, false, Option, Some, None, is_some, List, [], ◌∷◌, ◌++◌, take, refl, ap, sym, ◌∙◌, arith, if◌then◌else◌}
+use Rattle.std.proofs.Common.{◌≡◌, ◌<◌, ◌+◌, ◌&&◌, ◌||◌, not, nat_lt, ℕ, zero, suc, Bool, true, false, Option, Some, None, is_some, List, [], ◌∷◌, ◌++◌, take, refl, ap, sym, subst, ◌∙◌, arith, if◌then◌else◌}
 use Rattle.std.specs.Prelude.{find}
 use Rattle.std.specs.List.{range_with_len}
 use Rattle.std.proofs.lemmas.List.{append-nil}
@@ -17,12 +17,13 @@ use Rattle.telnet_wire.specs.Reading.{Rest, nothing, Delivers}
 use Rattle.telnet_wire.specs.Token.{Token, Data, End, Opt as OptToken, Sub as SubToken, Other as OtherToken, text}
 use Rattle.tn3270e_msg.specs.Header.{record_limit}
 use Rattle.world3270.specs.ByteSteps.{is_link, is_terminal, is_lost, is_held, is_up, sees_loss, free_from, free_number, may_connect}
-use Rattle.world3270.specs.ByteWorld.{ByteWorld, is_there, is_live, transits_at, slot_at, host_there, terminal_there, up_of, down_of}
+use Rattle.world3270.specs.ByteWorld.{ByteWorld, is_there, is_live, transits_at, slot_at, host_there, terminal_at, terminal_there, up_of, down_of}
+use Rattle.world3270.specs.Deliveries.{BringAMessage, rest_at, rest_of_terminal, terminal_rest}
 use Rattle.world3270.specs.Link.{Link, is_free, is_up as is_link_up}
 use Rattle.world3270.specs.Placed.{is_queued, comes_up, comes_down, host_acts, host_notes, host_sees, terminal_sees, free_number as free_link, may_connect as may_join}
 use Rattle.world3270.specs.Refines.{SkipsAreThose, after}
-use Rattle.world3270.specs.Standing.{WorldStands, IsAt, IsNotClosed, conn_of}
-use Rattle.world3270.specs.Stands.{StandsDown, StandsUp, BytesStand}
+use Rattle.world3270.specs.Standing.{WorldStands, IsAt, IsNotClosed, conn_of, link_with}
+use Rattle.world3270.specs.Stands.{StandsDown, StandsUp, BytesStand, LinkStands, all_items, without_nops}
 use Rattle.world3270.specs.World.{Place, World}
 use Rattle.world3270.specs.declared.event.Event.TheVariants as event
 use Rattle.world3270.proofs.Queues.{not_empty}
@@ -154,29 +155,34 @@ some_taken zero bytes above = absurd (omega arith)
 some_taken (suc count) [] above = refl
 some_taken (suc count) (byte ∷ bytes) above = refl
 
+none_spoken : {X : Type 0} (Stands : WireItem → X → Type 0) (items : List WireItem) → Pairwise Stands items [] → items ≡ []
+none_spoken Stands [] each = refl
+none_spoken Stands (item ∷ items) each = absurd each
+
 module _ (one : OneDelivery) (no_bytes : ReadingNothing) where
-  -- Some bytes are under way exactly where some message is.
-  queued_alike : {X : Type 0} (Stands : WireItem → X → Type 0) (rest : Rest) (bytes : List ℕ) (messages : List X) → BytesStand Stands rest bytes messages
+  -- Some bytes are under way exactly where some message is, unless all that they say represents none.
+  queued_alike : {X : Type 0} (spoken : List WireItem → List WireItem) (Stands : WireItem → X → Type 0) (rest : Rest) (bytes : List ℕ) (messages : List X) → spoken [] ≡ []
+      → ((items : List WireItem) → Delivers record_limit rest bytes items nothing → spoken items ≡ [] → items ≡ []) → BytesStand spoken Stands rest bytes messages
       → is_queued bytes ≡ is_queued messages
-  queued_alike Stands rest [] [] stands = refl
-  queued_alike Stands rest (byte ∷ bytes) (message ∷ messages) stands = refl
-  queued_alike {X} Stands rest [] (message ∷ messages) stands = by_items stands.items stands.delivers stands.each
+  queued_alike spoken Stands rest [] [] none bring stands = refl
+  queued_alike spoken Stands rest (byte ∷ bytes) (message ∷ messages) none bring stands = refl
+  queued_alike {X} spoken Stands rest [] (message ∷ messages) none bring stands = by_items stands.items stands.delivers stands.each
     where
-      by_items : (items : List WireItem) → Delivers record_limit rest [] items nothing → Pairwise Stands items (message ∷ messages) → false ≡ true
-      by_items [] delivers each = absurd each
+      by_items : (items : List WireItem) → Delivers record_limit rest [] items nothing → Pairwise Stands (spoken items) (message ∷ messages) → false ≡ true
+      by_items [] delivers each = absurd (subst (λ (l : List WireItem). Pairwise Stands l (message ∷ messages)) none each)
       by_items (item ∷ items) delivers each =
           let stays : Delivers record_limit rest [] [] rest = record { tokens = []; reads = no_bytes record_limit rest; is_rest = stands.is_rest; said = refl } in
           let same : item ∷ items ≡ [] = (one record_limit rest [] (item ∷ items) [] nothing rest delivers stays).0 in
           absurd (cc)
-  queued_alike {X} Stands rest (byte ∷ bytes) [] stands = by_items stands.items stands.delivers stands.each
-    where
-      by_items : (items : List WireItem) → Delivers record_limit rest (byte ∷ bytes) items nothing → Pairwise Stands items [] → true ≡ false
-      by_items [] delivers each = absurd (some_items rest byte bytes delivers)
-      by_items (item ∷ items) delivers each = absurd each
+  queued_alike {X} spoken Stands rest (byte ∷ bytes) [] none bring stands =
+      let nothing_said : stands.items ≡ [] = bring stands.items stands.delivers (none_spoken Stands (spoken stands.items) stands.each) in
+      absurd (some_items rest byte bytes (subst (λ (l : List WireItem). Delivers record_limit rest (byte ∷ bytes) l nothing) nothing_said stands.delivers))
 
-  taken_alike : {X : Type 0} (Stands : WireItem → X → Type 0) (rest : Rest) (count : ℕ) (bytes : List ℕ) (messages : List X) → 0 < count
-      → BytesStand Stands rest bytes messages → is_queued (take count bytes) ≡ is_queued messages
-  taken_alike Stands rest count bytes messages above stands = some_taken count bytes above ∙ queued_alike Stands rest bytes messages stands
+  taken_alike : {X : Type 0} (spoken : List WireItem → List WireItem) (Stands : WireItem → X → Type 0) (rest : Rest) (count : ℕ) (bytes : List ℕ) (messages : List X) → 0 < count
+      → spoken [] ≡ [] → ((items : List WireItem) → Delivers record_limit rest bytes items nothing → spoken items ≡ [] → items ≡ [])
+      → BytesStand spoken Stands rest bytes messages → is_queued (take count bytes) ≡ is_queued messages
+  taken_alike spoken Stands rest count bytes messages above none bring stands =
+      some_taken count bytes above ∙ queued_alike spoken Stands rest bytes messages none bring stands
 
   -- something comes up, or down, to an end that is there
   up_alike : (number count : ℕ) (bytes : ByteWorld) (world : World) → WorldStands bytes world → 0 < count
@@ -184,11 +190,11 @@ module _ (one : OneDelivery) (no_bytes : ReadingNothing) where
   up_alike number count bytes world stands above =
       let link = stands.links number in
       both_alike (host_there number bytes) (world.link number).host_here _ _ link.host_here
-      (λ here. taken_alike StandsUp link.read count (up_of number bytes) (world.link number).up above link.up)
+      (λ here. taken_alike all_items StandsUp link.read count (up_of number bytes) (world.link number).up above refl (λ items delivers none. none) link.up)
 
-  down_alike : (number count : ℕ) (bytes : ByteWorld) (world : World) → WorldStands bytes world → 0 < count
+  down_alike : (number count : ℕ) (bytes : ByteWorld) (world : World) → WorldStands bytes world → 0 < count → BringAMessage number bytes
       → (terminal_there number bytes && is_queued (take count (down_of number bytes))) ≡ comes_down (world.link number)
-  down_alike number count bytes world stands above =
+  down_alike number count bytes world stands above bring =
       let link = stands.links number in
       both_alike (terminal_there number bytes) (is_some (world.link number).term_here) _ _ (ap (λ (here : Option ℕ). is_some here) link.term_here)
       (λ here. by_here (world.link number).term_here refl here)
@@ -197,8 +203,13 @@ module _ (one : OneDelivery) (no_bytes : ReadingNothing) where
           → is_queued (take count (down_of number bytes)) ≡ is_queued (world.link number).down
       by_here None held is = absurd (cc)
       by_here (Some terminal) held is =
-          let term = (stands.links number).term terminal held in
-          taken_alike StandsDown term.rest count (down_of number bytes) (world.link number).down above term.down
+          let found : terminal_at number bytes.slots ≡ Some terminal = (stands.links number).term_here ∙ held in
+          let link : LinkStands (link_with (Some terminal) number bytes) (world.link number) =
+          subst (λ (h : Option ℕ). LinkStands (link_with h number bytes) (world.link number)) found (stands.links number) in
+          let term = link.term terminal held in
+          let at : terminal_rest number bytes ≡ term.rest = ap (λ (h : Option ℕ). rest_of_terminal h bytes) found ∙ ap rest_at term.holds.attached in
+          taken_alike without_nops StandsDown term.rest count (down_of number bytes) (world.link number).down above refl
+          (λ items delivers. bring items (subst (λ (r : Rest). Delivers record_limit r (down_of number bytes) items nothing) (sym at) delivers)) term.down
 
   -- An event has a place over bytes exactly where it has over messages.
   pub skips_are_those : SkipsAreThose
@@ -206,13 +217,14 @@ module _ (one : OneDelivery) (no_bytes : ReadingNothing) where
   skips_are_those begin events (event.Up number count) bytes is reached counted =
       ap (λ (b : Bool). is_link number && b) (up_alike number count bytes (after begin events) reached.stands counted)
   skips_are_those begin events (event.Down number count) bytes is reached counted =
-      ap (λ (b : Bool). is_link number && b) (down_alike number count bytes (after begin events) reached.stands counted)
+      ap (λ (b : Bool). is_link number && b) (down_alike number count bytes (after begin events) reached.stands counted.0 counted.1)
   skips_are_those begin events (event.Act number) bytes is reached counted =
       ap (λ (b : Bool). is_link number && b)
       (ap (λ (panels : Panels). is_some (acted_by (application_of panels) (service_at number bytes.host))) reached.panels
       ∙ acts_alike (application_of begin.panels) number bytes (after begin events) reached.stands)
   skips_are_those begin events (event.Note number text) bytes is reached counted =
       ap (λ (b : Bool). is_link number && b) (notes_alike text number bytes (after begin events) reached.stands)
+  skips_are_those begin events (event.KeepAlive number) bytes is reached counted = tt
   skips_are_those begin events (event.Lose number) bytes is reached counted =
       ap (λ (b : Bool). is_link number && b) (up_and_held number bytes (after begin events) reached.stands)
   skips_are_those begin events (event.HostSees number) bytes is reached counted =

@@ -37,7 +37,7 @@ use Rattle.world3270.specs.Places.{EndsAgree}
 use Rattle.world3270.specs.Refines.{Begin, IsBegin, Reached, after}
 use Rattle.world3270.specs.Sendable.{IsTyped}
 use Rattle.world3270.specs.Standing.{WorldStands, IsNotClosed, conn_of, rest_of, link_of}
-use Rattle.world3270.specs.Stands.{StandsDown, StandsUp, BytesUp, ByteLink, LinkStands}
+use Rattle.world3270.specs.Stands.{StandsDown, StandsUp, BytesUp, ByteLink, LinkStands, all_items}
 use Rattle.world3270.specs.StandsEnds.{IsSaid}
 use Rattle.world3270.specs.StandsLinks.{MayComeAll, WhatComesMayCome, HostSends, said_down, sent_down}
 use Rattle.world3270.specs.Terminal.{TermEnd, took as term_took}
@@ -71,12 +71,12 @@ saying_comes (Saying.Sub sending) is = payload_fits sending is
 talk_comes : (talk : List Saying) (end : TermEnd) → MayComeAll end (map ToTerminal.TalksDown talk)
     → AllByRecursion (CanCome record_limit) (map item_sent (map ToTerminal.TalksDown talk))
 talk_comes [] end may = tt
-talk_comes (saying ∷ talk) end may = (saying_comes saying may.0.0, talk_comes talk (term_took end (ToTerminal.TalksDown saying)).end may.1)
+talk_comes (saying ∷ talk) end may = (saying_comes saying may.1.0, talk_comes talk (term_took end (ToTerminal.TalksDown saying)).end may.2)
 
 -- what may come behind others may come once these came
 may_behind : (front back : List ToTerminal) (end : TermEnd) → MayComeAll end (front ++ back) → (other : TermEnd) × MayComeAll other back
 may_behind [] back end may = (end, may)
-may_behind (message ∷ front) back end may = may_behind front back (term_took end message).end may.1
+may_behind (message ∷ front) back end may = may_behind front back (term_took end message).end may.2
 
 sends_stand : HostSends → (bytes : ByteLink) (link : Link) (conn : Conn) (sends : List ToTerminal) (talk : List Saying) → sends ≡ map ToTerminal.TalksDown talk
     → LinkStands bytes link → MayComeAll link.term (sent link.lost link.down sends)
@@ -124,7 +124,7 @@ all_three one two three a b c = ap (λ (x : Bool). x && (two && three)) a ∙ ap
 -- the world over bytes stands for the one behind a delivery, or none; the host goes on, and the bytes behind are under way
 record OneByte (begin : Begin) (events : List MessageEvent) (number byte : ℕ) (counter : Counter) (old : ByteWorld) : Type 0 where
   some : List MessageEvent
-  completed : AreDeliveries (host_rest number old) (byte ∷ []) (MessageEvent.Up number) some
+  completed : AreDeliveries all_items (host_rest number old) (byte ∷ []) (MessageEvent.Up number) some
   behind : rest_of counter.connection.service ≡ completed.behind
   reached : Reached begin (events ++ some) (took_up 1 number counter old)
   is_open : IsOpen counter.connection.service
@@ -352,7 +352,7 @@ module _ (known : Known) (begin : Begin) (is : IsBegin begin) (events : List Mes
 
 record ManyBytes (begin : Begin) (events : List MessageEvent) (number : ℕ) (front : List ℕ) (counter : Counter) (old : ByteWorld) : Type 0 where
   more : List MessageEvent
-  completed : AreDeliveries (host_rest number old) front (MessageEvent.Up number) more
+  completed : AreDeliveries all_items (host_rest number old) front (MessageEvent.Up number) more
   reached : Reached begin (events ++ more) (took_up (length front) number counter old)
   is_open : IsOpen counter.connection.service
 
@@ -371,7 +371,7 @@ many_bytes : Known → (begin : Begin) → IsBegin begin → (number : ℕ) → 
     → TakesBytes number (counter_at number old.host) front counter → ManyBytes begin events number front counter old
 many_bytes known begin is number below [] behind events old counter reached there queue same = record {
   more = [];
-  completed = none_delivered known (host_rest number old) (MessageEvent.Up number) (host_rest_is known number old (after begin events) reached.stands);
+  completed = none_delivered known all_items (host_rest number old) (MessageEvent.Up number) refl (host_rest_is known number old (after begin events) reached.stands);
   reached = reached_still begin events old (took_up 0 number counter old) reached
       (ap (λ (c : Counter). took_up 0 number c old) same ∙ took_none number old);
   is_open = subst (λ (c : Counter). IsOpen c.connection.service) (sym same) (there_open (service_at number old.host) (reached.stands.none_closed number) there);
@@ -390,7 +390,7 @@ many_bytes known begin is number below (byte ∷ front) behind events old counte
     record {
       more = one.some ++ others.more;
       completed = more_delivered known (host_rest number old) (byte ∷ []) front (MessageEvent.Up number) one.some others.more one.completed
-          (subst (λ (r : Rest). AreDeliveries r front (MessageEvent.Up number) others.more) (ap (λ (c : Counter). rest_of c.connection.service) counter_mid ∙ one.behind) others.completed);
+          (subst (λ (r : Rest). AreDeliveries all_items r front (MessageEvent.Up number) others.more) (ap (λ (c : Counter). rest_of c.connection.service) counter_mid ∙ one.behind) others.completed);
       reached = subst (λ (m : List MessageEvent). Reached begin m (took_up (suc (length front)) number counter old)) (append_assoc events one.some others.more)
           (subst (λ (w : ByteWorld). Reached begin ((events ++ one.some) ++ others.more) w) (took_next number first old linked lined (length front) counter one.there)
           others.reached);
@@ -436,7 +436,7 @@ module _ (known : Known) where
       ∙ taken_is happens.fed.stop taken bytes (taken_up happens.fed.stop (counter_at number old.host) happens.counter bytes taken happens.feeds.stops there many.is_open) in
       record {
         more = many.more;
-        comes_to = subst (λ (b : List ℕ). AreDeliveries (host_rest number old) b (MessageEvent.Up number) many.more) (sym took_them) many.completed;
+        comes_to = subst (λ (b : List ℕ). AreDeliveries all_items (host_rest number old) b (MessageEvent.Up number) many.more) (sym took_them) many.completed;
         reached = subst (λ (w : ByteWorld). Reached begin (events ++ many.more) w)
             (sym (happens.leaves ∙ stops_open happens.fed.stop (counter_at number old.host) bytes taken number happens.counter world many.is_open happens.feeds.stops))
             (subst (λ (n : ℕ). Reached begin (events ++ many.more) (took_up n number happens.counter old)) (length-take-le taken bytes happens.feeds.few) many.reached);

@@ -25,10 +25,11 @@ use Rattle.world3270.specs.Known.{Known}
 use Rattle.world3270.specs.Link.{Link, sent, term_left_if, term_stepped}
 use Rattle.world3270.specs.TrackedTerminals.{TrackedTerminal, TrackedTakes}
 use Rattle.world3270.specs.Standing.{WorldStands, IsNotClosed, link_of, link_with, rest_of}
-use Rattle.world3270.specs.Stands.{BytesStand, LinkStands, TermStands}
+use Rattle.world3270.specs.Stands.{BytesDown, LinkStands, StandsDown, TermStands, all_items, without_nops}
 use Rattle.world3270.specs.StandsLinks.{took_down}
 use Rattle.world3270.specs.Terminal.{TermStep, took as term_took}
 use Rattle.world3270.specs.World.{World, Event as MessageEvent}
+use Rattle.world3270.proofs.Stands.{nops_piecewise}
 use Rattle.world3270.proofs.StandsLinks.{up_behind_rest}
 
 -- ---- the bytes that were taken
@@ -61,11 +62,14 @@ module _ (known : Known) where
   no_items rest is = record { tokens = []; reads = known.links.no_bytes record_limit rest; is_rest = is; said = refl }
 
   -- no bytes are no deliveries
-  pub none_delivered : (rest : Rest) (delivery : MessageEvent) → IsRest record_limit rest → AreDeliveries rest [] delivery []
-  none_delivered rest delivery is = record { completed = []; behind = rest; delivers = no_items rest is; one_each = refl }
+  pub none_delivered : (spoken : List WireItem → List WireItem) (rest : Rest) (delivery : MessageEvent) → spoken [] ≡ [] → IsRest record_limit rest
+      → AreDeliveries spoken rest [] delivery []
+  none_delivered spoken rest delivery none is =
+      record { completed = []; behind = rest; delivers = no_items rest is; one_each = ap (λ (l : List WireItem). replicate (length l) delivery) (sym none) }
 
   pub more_delivered : (rest : Rest) (front back : List ℕ) (delivery : MessageEvent) (some others : List MessageEvent)
-      → (first : AreDeliveries rest front delivery some) → AreDeliveries first.behind back delivery others → AreDeliveries rest (front ++ back) delivery (some ++ others)
+      → (first : AreDeliveries all_items rest front delivery some) → AreDeliveries all_items first.behind back delivery others
+      → AreDeliveries all_items rest (front ++ back) delivery (some ++ others)
   more_delivered rest front back delivery some others first second = record {
     completed = first.completed ++ second.completed;
     behind = second.behind;
@@ -177,15 +181,18 @@ module _ (known : Known) where
   one_sum : (some taken others : ℕ) → some + others ≡ taken + others → some ≡ taken
   one_sum some taken others e = omega arith
 
-  pub counted : {X : Type 0} (Stands : WireItem → X → Type 0) (rest to : Rest) (front behind : List ℕ) (items : List WireItem) (messages taken others : List X)
-      → Delivers record_limit rest front items to → BytesStand Stands rest (front ++ behind) messages → BytesStand Stands to behind others → messages ≡ taken ++ others
-      → length items ≡ length taken
-  counted Stands rest to front behind items messages taken others delivers all left whole =
+  pub counted : (rest to : Rest) (front behind : List ℕ) (items : List WireItem) (messages taken others : List ToTerminal)
+      → Delivers record_limit rest front items to → BytesDown rest (front ++ behind) messages → BytesDown to behind others → messages ≡ taken ++ others
+      → length (without_nops items) ≡ length taken
+  counted rest to front behind items messages taken others delivers all left whole =
       let on = known.links.delivery_goes_on record_limit rest to nothing front behind items all.items delivers all.delivers in
       let same = known.links.one_delivery record_limit to behind on.0 left.items nothing nothing on.2 left.delivers in
-      one_sum (length items) (length taken) (length others)
-      (ap (λ (n : ℕ). length items + n) (sym (ap length same.0 ∙ pairs_alike Stands left.items others left.each))
-      ∙ sym (length-append items on.0) ∙ ap length (sym on.1) ∙ pairs_alike Stands all.items messages all.each ∙ ap length whole ∙ length-append taken others)
+      one_sum (length (without_nops items)) (length taken) (length others)
+      (ap (λ (n : ℕ). length (without_nops items) + n)
+      (sym (ap (λ (l : List WireItem). length (without_nops l)) same.0 ∙ pairs_alike StandsDown (without_nops left.items) others left.each))
+      ∙ sym (length-append (without_nops items) (without_nops on.0)) ∙ ap length (sym (nops_piecewise items on.0))
+      ∙ ap (λ (l : List WireItem). length (without_nops l)) (sym on.1)
+      ∙ pairs_alike StandsDown (without_nops all.items) messages all.each ∙ ap length whole ∙ length-append taken others)
 
 -- what is behind the messages that came down
 stepped_down : (closes : Option Cause) (link : Link) → (term_left_if closes link).down ≡ link.down

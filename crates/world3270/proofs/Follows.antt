@@ -4,6 +4,7 @@ use Rattle.std.proofs.Math.Seq.{drop-length, take-length}
 use Rattle.std.proofs.lemmas.List.{append-nil, at_drop_more, take_all, take_more}
 use Rattle.std.proofs.lemmas.List.Elements.{All-cons, All-nil}
 use Rattle.keyboard.specs.declared.key.Key.{Key}
+use Rattle.telnet_wire.specs.Items.{WireItem}
 use Rattle.telnet_wire.specs.Reading.{Rest, IsRest}
 use Rattle.tn3270e_msg.specs.Header.{record_limit}
 use Rattle.host_core.specs.Application.{application_of}
@@ -14,10 +15,11 @@ use Rattle.world3270.specs.Deliveries.{AreDeliveries, host_rest, taken_by, termi
 use Rattle.world3270.specs.Happens.{done, happens}
 use Rattle.world3270.specs.Known.{Known}
 use Rattle.world3270.specs.Placed.{has_place as has_place_over_messages}
-use Rattle.world3270.specs.Refines.{Begin, IsBegin, Reached, IsReached, IsReal, IsCounted, GoesOn, ComesTo, StepsGoOn, SkipsAreThose, ComeTo, NextComesTo, RunGoesOn, RunsGoOn, StepOverMessages, RunOverMessages, AreReal, after, message_event, once}
+use Rattle.world3270.specs.Refines.{Begin, IsBegin, Reached, IsReached, IsReal, GoesOn, ComesTo, StepsGoOn, SkipsAreThose, ComeTo, NextComesTo, RunGoesOn, RunsGoOn, StepOverMessages, RunOverMessages, AreReal, after, once}
 use Rattle.world3270.specs.Sendable.{IsTyped}
 use Rattle.world3270.specs.Standing.{WorldStands}
-use Rattle.world3270.specs.World.{World, Event as MessageEvent}
+use Rattle.world3270.specs.Stands.{all_items, without_nops}
+use Rattle.world3270.specs.World.{World, Event as MessageEvent, IsEvent}
 use Rattle.world3270.specs.declared.event.Event.{Event}
 use Rattle.world3270.specs.declared.event.Event.TheVariants as event
 use Rattle.world3270.specs.declared.event.Ran.{Ran}
@@ -33,6 +35,7 @@ pub record EventsGo : Type 0 where
   pub down : (number count : ℕ) → Goes (event.Down number count)
   pub act : (number : ℕ) → Goes (event.Act number)
   pub note : (number : ℕ) (text : List ℕ) → Goes (event.Note number text)
+  pub keep_alive : (number : ℕ) → Goes (event.KeepAlive number)
   pub lose : (number : ℕ) → Goes (event.Lose number)
   pub host_sees : (number : ℕ) → Goes (event.HostSees number)
   pub term_sees : (terminal : ℕ) → Goes (event.TermSees terminal)
@@ -46,6 +49,7 @@ goes go (event.Up number count) = go.up number count
 goes go (event.Down number count) = go.down number count
 goes go (event.Act number) = go.act number
 goes go (event.Note number text) = go.note number text
+goes go (event.KeepAlive number) = go.keep_alive number
 goes go (event.Lose number) = go.lose number
 goes go (event.HostSees number) = go.host_sees number
 goes go (event.TermSees terminal) = go.term_sees terminal
@@ -57,14 +61,14 @@ goes go event.RestartHost = go.restart_host
 
 module _ (begin : Begin) (events : List MessageEvent) (old new : ByteWorld) (reached : Reached begin events old) (same : new ≡ old) where
   -- what happens over messages is skipped too
-  skipped : (event : Event) → IsReal event → has_place_over_messages (application_of begin.panels) (message_event event) (after begin events) ≡ false
-      → Reached begin (events ++ message_event event ∷ []) new
-  skipped event real place =
+  skipped : (message : MessageEvent) → IsEvent message × IsTyped message → has_place_over_messages (application_of begin.panels) message (after begin events) ≡ false
+      → Reached begin (events ++ message ∷ []) new
+  skipped message real place =
       let app = application_of begin.panels in
       let world : World = after begin events in
-      let stays : happens app (message_event event) world ≡ world =
-      ap (λ (b : Bool). if b then done app (message_event event) world else world) place in
-      reached_more begin events (message_event event ∷ []) old new reached (real.0, tt) (All-cons IsTyped (message_event event) [] real.1 (All-nil IsTyped))
+      let stays : happens app message world ≡ world =
+      ap (λ (b : Bool). if b then done app message world else world) place in
+      reached_more begin events (message ∷ []) old new reached (real.0, tt) (All-cons IsTyped message [] real.1 (All-nil IsTyped))
       (ap (λ (b : ByteWorld). b.host.panels) same)
       (subst (λ (w : World). WorldStands new w) (sym stays) (subst (λ (b : ByteWorld). WorldStands b world) (sym same) reached.stands))
 
@@ -73,38 +77,41 @@ module _ (known : Known) (skips : SkipsAreThose) (begin : Begin) (events : List 
   is_once : (event : MessageEvent) → event ∷ [] ≡ once event answer
   is_once event = sym (ap (once event) skip)
 
-  skips_once : (event : Event) → IsReal event → IsCounted event → has_place event old ≡ false → ComesTo event old answer (message_event event ∷ []) → GoesOn begin events event old answer new
-  skips_once event real counted place comes = record {
-    more = message_event event ∷ [];
+  skips_once : (event : Event) (message : MessageEvent) → IsEvent message × IsTyped message → has_place event old ≡ has_place_over_messages (application_of begin.panels) message (after begin events)
+      → has_place event old ≡ false → ComesTo event old answer (message ∷ []) → GoesOn begin events event old answer new
+  skips_once event message real alike place comes = record {
+    more = message ∷ [];
     comes_to = comes;
-    reached = skipped begin events old new reached same event real (sym (skips begin events event old is reached counted) ∙ place);
+    reached = skipped begin events old new reached same message real (sym alike ∙ place);
   }
 
   -- nothing was taken of bytes that come
-  none_taken : (rest : Rest) (bytes : List ℕ) (delivery : MessageEvent) → IsRest record_limit rest → AreDeliveries rest (taken_by answer bytes) delivery []
-  none_taken rest bytes delivery held =
-      subst (λ (a : Stepped). AreDeliveries rest (taken_by a bytes) delivery []) (sym skip) (none_delivered known rest delivery held)
+  none_taken : (spoken : List WireItem → List WireItem) (rest : Rest) (bytes : List ℕ) (delivery : MessageEvent) → spoken [] ≡ [] → IsRest record_limit rest
+      → AreDeliveries spoken rest (taken_by answer bytes) delivery []
+  none_taken spoken rest bytes delivery none held =
+      subst (λ (a : Stepped). AreDeliveries spoken rest (taken_by a bytes) delivery []) (sym skip) (none_delivered known spoken rest delivery none held)
 
   skips_go : (event : Event) → IsReal event → has_place event old ≡ false → GoesOn begin events event old answer new
   skips_go (event.Up number count) real place = record {
     more = [];
-    comes_to = none_taken (host_rest number old) (take count (up_of number old)) (MessageEvent.Up number) (host_rest_is known number old (after begin events) reached.stands);
+    comes_to = none_taken all_items (host_rest number old) (take count (up_of number old)) (MessageEvent.Up number) refl (host_rest_is known number old (after begin events) reached.stands);
     reached = reached_still begin events old new reached same;
   }
   skips_go (event.Down number count) real place = record {
     more = [];
-    comes_to = none_taken (terminal_rest number old) (take count (down_of number old)) (MessageEvent.Down number)
+    comes_to = none_taken without_nops (terminal_rest number old) (take count (down_of number old)) (MessageEvent.Down number) refl
         (terminal_rest_is known number old (after begin events) reached.stands);
     reached = reached_still begin events old new reached same;
   }
-  skips_go (event.Key terminal key) real place = skips_once (event.Key terminal key) real tt place (is_once (MessageEvent.Press terminal key))
-  skips_go (event.Act number) real place = skips_once (event.Act number) real tt place (is_once (MessageEvent.Act number))
-  skips_go (event.Note number text) real place = skips_once (event.Note number text) real tt place (is_once (MessageEvent.Note number text))
-  skips_go (event.Lose number) real place = skips_once (event.Lose number) real tt place (is_once (MessageEvent.Lose number))
-  skips_go (event.HostSees number) real place = skips_once (event.HostSees number) real tt place (is_once (MessageEvent.HostSees number))
-  skips_go (event.TermSees terminal) real place = skips_once (event.TermSees terminal) real tt place (is_once (MessageEvent.TermSees terminal))
-  skips_go (event.Connect terminal wanted) real place = skips_once (event.Connect terminal wanted) real tt place (is_once (MessageEvent.Connect terminal wanted))
-  skips_go (event.RestartTerm terminal) real place = skips_once (event.RestartTerm terminal) real tt place (is_once (MessageEvent.RestartTerm terminal))
+  skips_go (event.Key terminal key) real place = skips_once (event.Key terminal key) (MessageEvent.Press terminal key) real (skips begin events (event.Key terminal key) old is reached tt) place (is_once (MessageEvent.Press terminal key))
+  skips_go (event.Act number) real place = skips_once (event.Act number) (MessageEvent.Act number) real (skips begin events (event.Act number) old is reached tt) place (is_once (MessageEvent.Act number))
+  skips_go (event.Note number text) real place = skips_once (event.Note number text) (MessageEvent.Note number text) real (skips begin events (event.Note number text) old is reached tt) place (is_once (MessageEvent.Note number text))
+  skips_go (event.Lose number) real place = skips_once (event.Lose number) (MessageEvent.Lose number) real (skips begin events (event.Lose number) old is reached tt) place (is_once (MessageEvent.Lose number))
+  skips_go (event.HostSees number) real place = skips_once (event.HostSees number) (MessageEvent.HostSees number) real (skips begin events (event.HostSees number) old is reached tt) place (is_once (MessageEvent.HostSees number))
+  skips_go (event.TermSees terminal) real place = skips_once (event.TermSees terminal) (MessageEvent.TermSees terminal) real (skips begin events (event.TermSees terminal) old is reached tt) place (is_once (MessageEvent.TermSees terminal))
+  skips_go (event.Connect terminal wanted) real place = skips_once (event.Connect terminal wanted) (MessageEvent.Connect terminal wanted) real (skips begin events (event.Connect terminal wanted) old is reached tt) place (is_once (MessageEvent.Connect terminal wanted))
+  skips_go (event.RestartTerm terminal) real place = skips_once (event.RestartTerm terminal) (MessageEvent.RestartTerm terminal) real (skips begin events (event.RestartTerm terminal) old is reached tt) place (is_once (MessageEvent.RestartTerm terminal))
+  skips_go (event.KeepAlive number) real place = record { more = []; comes_to = refl; reached = reached_still begin events old new reached same }
   skips_go event.RestartHost real place = absurd (cc)
 
 -- ---- each event

@@ -15,7 +15,7 @@ use Rattle.world3270.specs.ByteWorld.{ByteWorld, Transits, TerminalSlot, under_w
 use Rattle.world3270.specs.Link.{Link, begun, unused as unused_link}
 use Rattle.world3270.specs.Places.{EndsAgree}
 use Rattle.world3270.specs.Standing.{WorldStands, IsFlow, IsAt, IsNotClosed, IsSettled, AreTransits, conn_of, rest_of, with_out, link_with}
-use Rattle.world3270.specs.Stands.{StandsUp, BytesUp, LinkStands}
+use Rattle.world3270.specs.Stands.{StandsUp, BytesUp, LinkStands, all_items}
 use Rattle.world3270.specs.StandsLinks.{NothingStands, BeginStands, begun_bytes}
 use Rattle.world3270.specs.Terminal.{new_display}
 use Rattle.world3270.specs.World.{Place, World, new_world, with_at}
@@ -120,7 +120,7 @@ none_from : (number count start : ℕ) → position_from (λ slot. is_attached_t
 none_from number zero start = refl
 none_from number (suc count) start = none_from number count (start + 1)
 
-module _ (empty : NothingStands StandsUp) (panels : Panels) (pool : List Entry) (terminals : ℕ) where
+module _ (empty : NothingStands all_items StandsUp) (panels : Panels) (pool : List Entry) (terminals : ℕ) where
   abbrev begins : ByteWorld
   begins = new_byte_world panels pool terminals
 

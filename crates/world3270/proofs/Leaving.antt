@@ -1,6 +1,7 @@
 -- An end leaves its connection by the events that make it leave, and by no other: first over messages, then over bytes.
-use Rattle.std.proofs.Common.{◌≡◌, ◌==◌, ℕ, Bool, true, false, Option, None, Some, List, ◌++◌, refl, sym, subst, ◌∙◌, if◌then◌else◌}
+use Rattle.std.proofs.Common.{◌≡◌, ◌==◌, ℕ, Bool, true, false, Option, None, Some, List, ◌++◌, refl, ap, sym, subst, ◌∙◌, if◌then◌else◌}
 use Rattle.std.proofs.lemmas.Bool.{and_parts, eqb-true}
+use Rattle.std.proofs.lemmas.List.{append-nil}
 use Rattle.keyboard.specs.declared.key.Key.{Key}
 use Rattle.host_core.specs.Acts.{Sent, acted}
 use Rattle.host_core.specs.Application.{Application, application_of}
@@ -233,6 +234,13 @@ module _ (known : KnownWorlds) (begin : Begin) (events : List Event) (old : Byte
     terminal = λ terminal number none. terminal_still (Event.Note at text) goes.more terminal number
         (same_places app (Event.Note at text) terminal number (λ world same. same)) goes.comes_to goes.reached;
   }
+  -- nothing happens over messages
+  ends_stay (event.KeepAlive at) goes =
+      let same = subst (λ (es : List Event). Reached begin es new) (ap (λ (m : List Event). events ++ m) goes.comes_to ∙ append-nil events) goes.reached in
+      record {
+        host = λ number none there. (same.stands.links number).host_here ∙ sym (reached.stands.links number).host_here ∙ there;
+        terminal = λ terminal number none there. (same.stands.links number).term_here ∙ sym (reached.stands.links number).term_here ∙ there;
+      }
   ends_stay (event.Lose at) goes = record {
     host = λ number none. host_still (Event.Lose at) goes.more number (lose_host app at number) goes.comes_to goes.reached;
     terminal = λ terminal number none. terminal_still (Event.Lose at) goes.more terminal number

@@ -327,6 +327,7 @@ module _ (one_host : OneHost) (one_terminal : OneTerminal) where
       one_act (acted_by (application_of old.host.panels) (service_at number old.host)) number old new other answer reply is none also other_none
   one_happening (event.Note number text) old new other answer reply is none also other_none =
       one_act (noted_by text (service_at number old.host)) number old new other answer reply is none also other_none
+  one_happening (event.KeepAlive number) old new other answer reply is none also other_none = one_made _ new other answer reply is also
   one_happening (event.Lose number) old new other answer reply is none also other_none = one_made _ new other answer reply is also
   one_happening (event.HostSees number) old new other answer reply is none also other_none = one_made _ new other answer reply is also
   one_happening (event.TermSees terminal) old new other answer reply is none also other_none = one_made _ new other answer reply is also

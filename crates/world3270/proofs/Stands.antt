@@ -1,7 +1,8 @@
 -- Bytes that stand for messages: each end makes of them what it makes of the messages.
-use Rattle.std.proofs.Common.{◌≡◌, ◌&&◌, ◌||◌, if◌then◌else◌, ℕ, Bool, true, false, Option, None, List, [], ◌∷◌, ◌++◌, length, map, refl, ap, sym, subst, ◌∙◌, arith}
+use Rattle.std.proofs.Common.{◌≡◌, ◌&&◌, ◌||◌, not, cond, if◌then◌else◌, ℕ, Bool, true, false, Option, None, List, [], ◌∷◌, ◌++◌, length, map, refl, ap, sym, subst, ◌∙◌, arith}
 use Rattle.std.proofs.lemmas.Grind.{flat_map-append}
-use Rattle.std.proofs.lemmas.Bool.{and_parts}
+use Rattle.std.proofs.lemmas.Bool.{and_parts, eqb-true}
+use Rattle.std.proofs.lemmas.List.Elements.{filter-append}
 use Rattle.std.specs.List.{flat_map, AllByRecursion}
 use Rattle.codes3270.specs.Size.{Shape, model_2}
 use Rattle.datastream.specs.Grammar.{CommandParts, IsCommand, IsNoCommand, is_write}
@@ -51,13 +52,14 @@ use Rattle.term_core.specs.Presses.{key_outcome, data_pressed, says_of_key}
 use Rattle.term_core.specs.Records.{TakesRecord, is_restoring_write, data_read, data_sent, done_response, freed_if, answer_of, obeyed}
 use Rattle.term_core.specs.State.{Station, phase_of, talk_phase, is_bound as core_is_bound}
 use Rattle.term_core.specs.declared.outcome.Outcome.TheVariants.{DeviceEnd}
+use Rattle.host_core.specs.KeepAlive.{no_operation}
 use Rattle.host_core.specs.Messages.{ToTerminal, ToHost, Verdict}
 use Rattle.term_core.proofs.Lengths.{read_buffer_fits, read_modified_fits}
 use Rattle.world3270.proofs.StandsFits.{talk_comes}
 use Rattle.host_core.specs.Says.{command_header, read_buffer_command}
-use Rattle.world3270.specs.Stands.{IsPaint, IsRead, IsNoted, StandsUp, IsEnd}
+use Rattle.world3270.specs.Stands.{IsPaint, IsRead, IsNoted, StandsDown, StandsUp, IsEnd, all_items, is_nop, without_nops}
 use Rattle.world3270.specs.TrackedTerminals.{History, ByteEnd, ByteStep, restored_by}
-use Rattle.world3270.specs.StandsEnds.{PaintStands, IsSaid, NamesWanted, IsOpen, IsBelieved, ItemComes, TermTakes, is_painted, WritesAreMarked, TermPresses}
+use Rattle.world3270.specs.StandsEnds.{PaintStands, IsSaid, NamesWanted, IsOpen, IsBelieved, ItemComes, TermTakes, is_painted, NopHasNoEffect, WritesAreMarked, TermPresses}
 use Rattle.world3270.specs.StandsLinks.{NothingStands, StandsCompose, StandsGoOn, BeginStands}
 use Rattle.world3270.specs.Terminal.{Display, TermEnd, TermStep, bound_to, is_bound, quiet, replied, paint_came, note_came, read_came, once_bound, took, erases_if, outcome_of, data_of}
 use Rattle.std.specs.Prelude.{is_some}
@@ -167,14 +169,15 @@ takes_talk saying talk next old new end sent closes h wish is unmarked taken =
 
 -- ---- records
 
--- before it is bound a terminal drops a record
-dropped : (talk next : Term) (old new : Station) (bytes : List ℕ) (end : TermEnd) (sent : List WireItem) (closes : Option Cause)
-    → IsSide talk old end → old.took_write ≡ false → term_transition talk.wanted talk.talk.state NoTalk ≡ Stays reply.Nothing → TalksOn talk old (Record bytes) sent closes next new
+-- what says nothing to the talk leaves it as it is
+dropped : (talk next : Term) (old new : Station) (item : WireItem) (end : TermEnd) (sent : List WireItem) (closes : Option Cause)
+    → IsSide talk old end → old.took_write ≡ false → ((comes : Comes) → Hears item comes → comes ≡ NoTalk)
+    → term_transition talk.wanted talk.talk.state NoTalk ≡ Stays reply.Nothing → TalksOn talk old item sent closes next new
     → SameItem next new sent closes false (quiet end)
-dropped talk next old new bytes end sent closes is unmarked stays talks =
+dropped talk next old new item end sent closes is unmarked no_talk stays talks =
     let gives : (next.talk, talks.0.reply) ≡ (talk.talk, reply.Nothing) =
     talks.0.takes.gives
-    ∙ ap (λ comes. follow at.Closed talk.talk (term_transition talk.wanted talk.talk.state comes)) talks.0.takes.hears
+    ∙ ap (λ comes. follow at.Closed talk.talk (term_transition talk.wanted talk.talk.state comes)) (no_talk talks.0.takes.comes talks.0.takes.hears)
     ∙ ap (λ (transition : Transition TermState). follow at.Closed talk.talk transition) stays in
     let answer : talks.0.reply ≡ reply.Nothing = ap (λ (q : Talk TermState × Reply). q.1) gives in
     record {
@@ -190,6 +193,7 @@ dropped talk next old new bytes end sent closes is unmarked stays talks =
       wrote = ap (λ (s : Station). s.took_write) talks.1 ∙ unmarked;
     }
 
+-- before it is bound a terminal drops a record
 -- `marks`: whether the record marks a write where the terminal is bound
 record_came : (state : TermState) (talk next : Term) (old new : Station) (bytes : List ℕ) (end : TermEnd) (sent : List WireItem) (closes : Option Cause) (step : TermStep) (marks : Bool)
     → talk.talk.state ≡ state → IsOpen state → IsSide talk old end → old.took_write ≡ false
@@ -197,15 +201,15 @@ record_came : (state : TermState) (talk next : Term) (old new : Station) (bytes 
     → TakesItemIn state talk old (Record bytes) sent closes next new
     → SameItem next new sent closes (is_some (bound_to state) && marks) (once_bound (is_some (bound_to state)) step end)
 record_came at.Waiting talk next old new bytes end sent closes step marks e o is unmarked bound taken =
-    dropped talk next old new bytes end sent closes is unmarked (ap (λ (s : TermState). term_transition talk.wanted s NoTalk) e) taken
+    dropped talk next old new (Record bytes) end sent closes is unmarked (λ comes heard. heard) (ap (λ (s : TermState). term_transition talk.wanted s NoTalk) e) taken
 record_came at.Willing talk next old new bytes end sent closes step marks e o is unmarked bound taken =
-    dropped talk next old new bytes end sent closes is unmarked (ap (λ (s : TermState). term_transition talk.wanted s NoTalk) e) taken
+    dropped talk next old new (Record bytes) end sent closes is unmarked (λ comes heard. heard) (ap (λ (s : TermState). term_transition talk.wanted s NoTalk) e) taken
 record_came at.TypeAsked talk next old new bytes end sent closes step marks e o is unmarked bound taken =
-    dropped talk next old new bytes end sent closes is unmarked (ap (λ (s : TermState). term_transition talk.wanted s NoTalk) e) taken
+    dropped talk next old new (Record bytes) end sent closes is unmarked (λ comes heard. heard) (ap (λ (s : TermState). term_transition talk.wanted s NoTalk) e) taken
 record_came (at.FunctionsAsked lu) talk next old new bytes end sent closes step marks e o is unmarked bound taken =
-    dropped talk next old new bytes end sent closes is unmarked (ap (λ (s : TermState). term_transition talk.wanted s NoTalk) e) taken
+    dropped talk next old new (Record bytes) end sent closes is unmarked (λ comes heard. heard) (ap (λ (s : TermState). term_transition talk.wanted s NoTalk) e) taken
 record_came (at.Refused reason) talk next old new bytes end sent closes step marks e o is unmarked bound taken =
-    dropped talk next old new bytes end sent closes is unmarked (ap (λ (s : TermState). term_transition talk.wanted s NoTalk) e) taken
+    dropped talk next old new (Record bytes) end sent closes is unmarked (λ comes heard. heard) (ap (λ (s : TermState). term_transition talk.wanted s NoTalk) e) taken
 record_came (at.Agreed lu) talk next old new bytes end sent closes step marks e o is unmarked bound taken = bound taken.0 taken.1
 record_came (at.Closed cause) talk next old new bytes end sent closes step marks e o is unmarked bound taken = absurd o
 
@@ -429,6 +433,60 @@ module _ (one_header : OneHeader) (fault_or_header : FaultIsNoHeader) where
         closed = same.closed;
       }
 
+-- ---- NOP
+
+-- it is for the talk, however far that is
+nop_talks : (state : TermState) (talk next : Term) (old new : Station) (sent : List WireItem) (closes : Option Cause)
+    → TakesItemIn state talk old no_operation sent closes next new → TalksOn talk old no_operation sent closes next new
+nop_talks at.Waiting talk next old new sent closes taken = taken
+nop_talks at.Willing talk next old new sent closes taken = taken
+nop_talks at.TypeAsked talk next old new sent closes taken = taken
+nop_talks (at.FunctionsAsked lu) talk next old new sent closes taken = taken
+nop_talks (at.Agreed lu) talk next old new sent closes taken = taken
+nop_talks (at.Refused reason) talk next old new sent closes taken = taken
+nop_talks (at.Closed cause) talk next old new sent closes taken = taken
+
+-- and says nothing to it
+no_talk_stays : (wanted : Option (List ℕ)) (state : TermState) → IsOpen state → term_transition wanted state NoTalk ≡ Stays reply.Nothing
+no_talk_stays wanted at.Waiting is_open = refl
+no_talk_stays wanted at.Willing is_open = refl
+no_talk_stays wanted at.TypeAsked is_open = refl
+no_talk_stays wanted (at.FunctionsAsked lu) is_open = refl
+no_talk_stays wanted (at.Agreed lu) is_open = refl
+no_talk_stays wanted (at.Refused reason) is_open = refl
+no_talk_stays wanted (at.Closed cause) is_open = absurd is_open
+
+pub nop_has_no_effect : NopHasNoEffect
+nop_has_no_effect old end step is_open is taken =
+    let state : old.talk.talk.state ≡ end.talk.talk.state = ap (λ (t : Term). t.talk.state) is.talk_is in
+    let talks = nop_talks old.talk.talk.state old.talk step.end.talk (before_byte old.station) step.end.station step.says step.closes taken.takes in
+    let same =
+    dropped old.talk step.end.talk (before_byte old.station) step.end.station no_operation end step.says step.closes (side_of old end is) refl (λ comes heard. heard)
+    (no_talk_stays old.talk.wanted old.talk.talk.state (subst IsOpen (sym state) is_open)) talks in
+    let history : step.end.history ≡ old.history = taken.history ∙ ap (λ (w : Bool). restored_by w step.end.station.screen old.history) same.wrote in
+    record {
+      same = record {
+        is_end = record {
+          shape_is = same.is_end.shape_is;
+          talk_is = same.is_end.talk_is;
+          screen_is = same.is_end.screen_is;
+          keyboard_is = same.is_end.keyboard_is;
+          last_restored_is = ap (λ (h : History). h.last_restored) history ∙ is.last_restored_is;
+          erased_is = ap (λ (h : History). h.erased) history ∙ is.erased_is;
+        };
+        said = same.said;
+        fit = same.fit;
+        closed = same.closed;
+      };
+      unmarked = same.wrote;
+    }
+
+pub nop_is : (item : WireItem) → is_nop item ≡ true → item ≡ no_operation
+nop_is (WireItem.Other code) e = ap (λ (n : ℕ). WireItem.Other n) (eqb-true code 241 e)
+nop_is (Record bytes) e = absurd (cc)
+nop_is (OptItem verb code) e = absurd (cc)
+nop_is (WireItem.Sub bytes) e = absurd (cc)
+
 -- ---- keys
 
 same_bound : (state : TermState) → core_is_bound (talk_phase state) ≡ is_some (bound_to state)
@@ -491,14 +549,42 @@ term_presses ascend listed whole reads key old rest end holds sendable =
       closed = refl;
     }
 
+-- ---- which items represent messages
+
+-- an item that represents a message isn't NOP
+is_spoken : (item : WireItem) (message : ToTerminal) → StandsDown item message → is_nop item ≡ false
+is_spoken item (ToTerminal.TalksDown (Saying.Opt verb code)) stands = ap is_nop stands
+is_spoken item (ToTerminal.TalksDown (Saying.Sub sending)) stands = ap is_nop stands
+is_spoken item (ToTerminal.Paint number wanted believed) stands = ap is_nop stands.is_record
+is_spoken item (ToTerminal.ReadBuffer number) stands = ap is_nop stands.is_record
+is_spoken item (ToTerminal.Note number command) stands = ap is_nop stands.is_record
+
+pub all_spoken : (items : List WireItem) (messages : List ToTerminal) → Pairwise StandsDown items messages → without_nops items ≡ items
+all_spoken [] messages pairs = refl
+all_spoken (item ∷ items) [] pairs = absurd pairs
+all_spoken (item ∷ items) (message ∷ messages) pairs =
+    ap (λ (b : Bool). cond (not b) (item ∷ without_nops items) (without_nops items)) (is_spoken item message pairs.0)
+    ∙ ap (λ (l : List WireItem). item ∷ l) (all_spoken items messages pairs.1)
+
+-- of two lists, one behind the other
+abbrev pub IsPiecewise : (List WireItem → List WireItem) → Type 0
+IsPiecewise spoken = (front back : List WireItem) → spoken (front ++ back) ≡ spoken front ++ spoken back
+
+pub all_piecewise : IsPiecewise all_items
+all_piecewise front back = refl
+
+pub nops_piecewise : IsPiecewise without_nops
+nops_piecewise front back = filter-append (λ (item : WireItem). not (is_nop item)) front back
+
 -- ---- queues
 
-pub nothing_stands : {X : Type 0} (Stands : WireItem → X → Type 0) → ReadingNothing → NothingIsRest → NothingStands Stands
-nothing_stands Stands reads is_rest = record {
+pub nothing_stands : {X : Type 0} (spoken : List WireItem → List WireItem) (Stands : WireItem → X → Type 0) → spoken [] ≡ [] → ReadingNothing → NothingIsRest
+    → NothingStands spoken Stands
+nothing_stands spoken Stands none reads is_rest = record {
   is_rest = is_rest record_limit;
   items = [];
   delivers = record { tokens = []; reads = reads record_limit nothing; is_rest = is_rest record_limit; said = refl };
-  each = tt;
+  each = subst (λ (items : List WireItem). Pairwise Stands items []) (sym none) tt;
 }
 
 sent_text : (items : List WireItem) → text (flat_map item_tokens items) ≡ sent_bytes items
@@ -512,13 +598,15 @@ pairs_more R [] us (y ∷ ys) vs h k = absurd h
 pairs_more R (x ∷ xs) us [] vs h k = absurd h
 pairs_more R (x ∷ xs) us (y ∷ ys) vs h k = (h.0, pairs_more R xs us ys vs h.1 k)
 
-pub stands_compose : {X : Type 0} (Stands : WireItem → X → Type 0) → DeliveriesCompose → ItemsAreRead → StandsCompose Stands
-stands_compose Stands compose written rest bytes messages more items stands can each = record {
+pub stands_compose : {X : Type 0} (spoken : List WireItem → List WireItem) (Stands : WireItem → X → Type 0) → IsPiecewise spoken → DeliveriesCompose → ItemsAreRead
+    → StandsCompose spoken Stands
+stands_compose spoken Stands piecewise compose written rest bytes messages more items stands can each = record {
   is_rest = stands.is_rest;
   items = stands.items ++ items;
   delivers = compose record_limit rest nothing nothing bytes (sent_bytes items) stands.items items stands.delivers
       (subst (λ (b : List ℕ). Delivers record_limit nothing b items nothing) (sent_text items) (written record_limit items can));
-  each = pairs_more Stands stands.items items messages more stands.each each;
+  each = subst (λ (l : List WireItem). Pairwise Stands l (messages ++ more)) (sym (piecewise stands.items items))
+      (pairs_more Stands (spoken stands.items) (spoken items) messages more stands.each each);
 }
 
 -- the items behind these stand for the messages behind
@@ -536,10 +624,11 @@ pairs_part R (x ∷ xs) us (y ∷ ys) h =
     let p = pairs_part R xs us ys h.1 in
     record { taken = y ∷ p.taken; others = p.others; whole = ap (λ l. y ∷ l) p.whole; first = (h.0, p.first); second = p.second }
 
-pub stands_go_on : {X : Type 0} (Stands : WireItem → X → Type 0) → DeliveryGoesOn → StandsGoOn Stands
-stands_go_on Stands goes_on rest mid bytes behind items messages stands delivers =
+pub stands_go_on : {X : Type 0} (spoken : List WireItem → List WireItem) (Stands : WireItem → X → Type 0) → IsPiecewise spoken → DeliveryGoesOn → StandsGoOn spoken Stands
+stands_go_on spoken Stands piecewise goes_on rest mid bytes behind items messages stands delivers =
     let more = goes_on record_limit rest mid nothing bytes behind items stands.items delivers stands.delivers in
-    let parts = pairs_part Stands items more.0 messages (subst (λ l. Pairwise Stands l messages) more.1 stands.each) in
+    let parts = pairs_part Stands (spoken items) (spoken more.0) messages
+    (subst (λ l. Pairwise Stands l messages) (ap spoken more.1 ∙ piecewise items more.0) stands.each) in
     record {
       taken = parts.taken;
       others = parts.others;
@@ -550,7 +639,7 @@ stands_go_on Stands goes_on rest mid bytes behind items messages stands delivers
 
 -- ---- a connection at its begin
 
-pub begin_stands : ItemIsRead → NothingIsRest → NothingStands StandsUp → BeginStands
+pub begin_stands : ItemIsRead → NothingIsRest → NothingStands all_items StandsUp → BeginStands
 begin_stands written is_rest empty terminal wanted = record {
   lost = refl;
   host_here = refl;

@@ -13,7 +13,7 @@ use Rattle.world3270.specs.Always.{Always}
 use Rattle.world3270.specs.Given.{Given}
 use Rattle.world3270.specs.Happens.{run}
 use Rattle.world3270.specs.Link.{Link}
-use Rattle.world3270.specs.Moments.{UnderWay, Talking, Serving, Moment, IsAt, term_state_at, down_at}
+use Rattle.world3270.specs.Moments.{UnderWay, Talking, Serving, Moment, IsAt, term_in_talk, term_state_at, down_at}
 use Rattle.world3270.specs.Stages.{scene_of, Fact, Kept}
 use Rattle.world3270.specs.StandsEnds.{IsSaid, IsOpen, NamesWanted, MayCome}
 use Rattle.world3270.specs.StandsLinks.{MayComeAll, NoneCloses, WhatComesMayCome}
@@ -92,13 +92,33 @@ module _ (given : Given) (app : Application) (is : IsApplication app) (link : Li
   may_come : MayCome link.term message
   may_come = moment_may k.moment k.at k.fact
 
+-- the talk goes on at each moment
+open_in_talk : (talking : Talking) → IsOpen (term_in_talk talking)
+open_in_talk Talking.Offering = tt
+open_in_talk Talking.AskingType = tt
+open_in_talk (Talking.Granting lu) = tt
+open_in_talk (Talking.Agreeing lu) = tt
+open_in_talk (Talking.Rejecting reason) = tt
+open_in_talk Talking.Accepting = tt
+open_in_talk Talking.NamingType = tt
+open_in_talk (Talking.AskingFunctions lu) = tt
+open_in_talk (Talking.Rejected reason) = tt
+
+open_at : (moment : Moment) → IsOpen (term_state_at moment)
+open_at (Moment.Talks talking) = open_in_talk talking
+open_at (Moment.Begins lu number command wanted over) = tt
+open_at (Moment.Serves lu serving) = tt
+
+is_open : (app : Application) (link : Link) → Kept app (view_of link) → IsOpen link.term.talk.talk.state
+is_open app link k = subst (λ (t : Term). IsOpen t.talk.state) (sym k.at.term_talk) (open_at k.moment)
+
 all_may : Given → (app : Application) → IsApplication app → (messages : List ToTerminal) (link : Link) → link.down ≡ messages → Kept app (view_of link)
     → MayComeAll link.term messages × NoneCloses link.term messages
-all_may given app is [] link e k = (tt, tt)
+all_may given app is [] link e k = (is_open app link k, tt)
 all_may given app is (message ∷ messages) link e k =
     let first = obeys given app is link message messages e k in
     let others = all_may given app is messages (term_view (took link.term message) messages link) refl first.kept in
-    ((may_come given app is link message messages e k, others.0), (first.open_end, others.1))
+    ((is_open app link k, may_come given app is link message messages e k, others.0), (first.open_end, others.1))
 
 pub what_comes_may_come : Given → Always WhatComesMayCome
 what_comes_may_come given app pool terminals events is lists few are number =

@@ -1,5 +1,5 @@
 -- A connection over bytes stands for one over messages, whatever happens on it.
-use Rattle.std.proofs.Common.{◌≡◌, ◌||◌, ℕ, Bool, true, false, Option, None, Some, List, [], ◌∷◌, ◌++◌, map, refl, ap, sym, subst, ◌∙◌, append_assoc}
+use Rattle.std.proofs.Common.{◌≡◌, ◌||◌, not, cond, ℕ, Bool, true, false, Option, None, Some, List, [], ◌∷◌, ◌++◌, map, refl, ap, sym, subst, ◌∙◌, append_assoc, arith}
 use Rattle.std.proofs.lemmas.Grind.{flat_map-append}
 use Rattle.std.proofs.lemmas.List.{append-nil}
 use Rattle.std.specs.List.{AllByRecursion, list_any}
@@ -18,15 +18,16 @@ use Rattle.term_core.specs.Bytes.{TakesByte, before_byte, link_after}
 use Rattle.term_core.specs.Items.{TakesItem}
 use Rattle.tn3270e_msg.specs.Header.{record_limit}
 use Rattle.term_core.specs.State.{Station, Terminal, Attached}
+use Rattle.host_core.specs.KeepAlive.{no_operation}
 use Rattle.host_core.specs.Messages.{ToTerminal, ToHost}
 use Rattle.world3270.specs.Always.{is_refusal}
 use Rattle.world3270.specs.Link.{Link, sent, term_left_if, term_stepped}
 use Rattle.world3270.specs.TrackedTerminals.{History, TrackedTerminal, marked, TrackedTakes, HistoryFollows, tracked_after_key, ByteStep, end_at, EndTakes}
-use Rattle.world3270.specs.Stands.{StandsDown, StandsUp, BytesUp, BytesDown, ByteLink, IsEnd, Holds, HostStands, TermStands, LinkStands}
-use Rattle.world3270.specs.StandsEnds.{TakesKeepSendable, TermTakes, is_painted, WritesAreMarked, TermPresses}
-use Rattle.world3270.specs.StandsLinks.{StandsCompose, StandsGoOn, PressStands, MayComeAll, NoneCloses, took_down, fed, DownStands, DownIsNotRefused, any_painted, BytesAreMarked, HostSends, UpStands, LossStands, HostLeaves, TermLeaves}
+use Rattle.world3270.specs.Stands.{StandsDown, StandsUp, BytesUp, BytesDown, ByteLink, IsEnd, Holds, HostStands, TermStands, LinkStands, all_items, is_nop, without_nops}
+use Rattle.world3270.specs.StandsEnds.{IsOpen, TakesKeepSendable, TermTakes, is_painted, NopHasNoEffect, WritesAreMarked, TermPresses}
+use Rattle.world3270.specs.StandsLinks.{StandsCompose, StandsGoOn, PressStands, MayComeAll, NoneCloses, took_down, fed, DownStands, DownIsNotRefused, any_painted, BytesAreMarked, HostSends, NopStands, UpStands, LossStands, HostLeaves, TermLeaves}
 use Rattle.world3270.specs.Terminal.{TermEnd, TermStep, is_bound, note_came, once_bound, paint_came, read_came, took, key_came}
-use Rattle.world3270.proofs.Stands.{pairs_more}
+use Rattle.world3270.proofs.Stands.{all_spoken, nop_is, pairs_more}
 
 -- ---- history
 
@@ -40,7 +41,7 @@ history_follows old (byte ∷ bytes) new taken =
 
 -- ---- what is said goes up
 
-said_goes_up : StandsCompose StandsUp → (lost : Bool) (rest : Rest) (bytes out : List ℕ) (messages more : List ToHost) (items : List WireItem)
+said_goes_up : StandsCompose all_items StandsUp → (lost : Bool) (rest : Rest) (bytes out : List ℕ) (messages more : List ToHost) (items : List WireItem)
     → BytesUp rest bytes messages → out ≡ sent_bytes items → AllByRecursion (CanCome record_limit) items → Pairwise StandsUp items more
     → BytesUp rest (sent lost bytes out) (sent lost messages more)
 said_goes_up compose true rest bytes out messages more items stands is fit said = stands
@@ -61,7 +62,7 @@ sent_twice false queue some others = append_assoc queue some others
 silenced : (rest : Rest) (tracked : TrackedTerminal) (end : TermEnd) → Holds rest tracked end → Holds rest (record tracked { terminal = record tracked.terminal { out = [] } }) end
 silenced rest tracked end holds = record { talk = holds.talk; attached = holds.attached; is_end = holds.is_end }
 
-pub press_stands : TermPresses → StandsCompose StandsUp → PressStands
+pub press_stands : TermPresses → StandsCompose all_items StandsUp → PressStands
 press_stands presses compose key bytes link terminal stands here sendable =
     let term = stands.term terminal here in
     let at_key = presses key bytes.tracked term.rest link.term term.holds sendable in
@@ -233,30 +234,62 @@ pub none_for_none : {X : Type 0} (Stands : WireItem → X → Type 0) (taken : L
 none_for_none Stands [] stand = refl
 none_for_none Stands (message ∷ messages) stand = absurd stand
 
+no_items : {X : Type 0} (Stands : WireItem → X → Type 0) (items : List WireItem) → Pairwise Stands items [] → items ≡ []
+no_items Stands [] stand = refl
+no_items Stands (item ∷ items) stand = absurd stand
+
+-- the talk goes on
+open_now : (end : TermEnd) (messages : List ToTerminal) → MayComeAll end messages → IsOpen end.talk.talk.state
+open_now end [] may = may
+open_now end (message ∷ messages) may = may.0
+
 -- what is to be shown of some bytes, wherever they are taken
 abbrev Comes : List ℕ → List ℕ → TrackedTerminal → Type 0
 Comes front behind new = (old : TrackedTerminal) (rest : Rest) (link : Link)
     → Holds rest old link.term → BytesDown rest (front ++ behind) link.down → MayComeAll link.term link.down → NoneCloses link.term link.down
     → IsSendable link.term.display.screen → TrackedTakes old front new → CameSome link old new behind
 
-module _ (takes : TermTakes) (keeps : TakesKeepSendable) (goes_on : StandsGoOn StandsDown) (final : WrongIsFinal) where
-  -- an item that stands for the first message
-  item_comes : (item : WireItem) (taken others : List ToTerminal) (link : Link) (talk after : Term) (old mid new : TrackedTerminal) (to : Rest) (front behind : List ℕ) (says : List WireItem) (closes : Option Cause)
-      → Comes front behind new → link.down ≡ taken ++ others → Pairwise StandsDown (item ∷ []) taken → BytesDown to (front ++ behind) others
+module _ (takes : TermTakes) (keeps : TakesKeepSendable) (nop : NopHasNoEffect) (goes_on : StandsGoOn without_nops StandsDown) (final : WrongIsFinal) where
+  -- NOP: the messages under way stay
+  nop_comes : (item : WireItem) (others : List ToTerminal) (link : Link) (talk after : Term) (old mid new : TrackedTerminal) (to : Rest) (front behind : List ℕ) (says : List WireItem) (closes : Option Cause)
+      → Comes front behind new → is_nop item ≡ true → link.down ≡ others → BytesDown to (front ++ behind) others
       → MayComeAll link.term link.down → NoneCloses link.term link.down → IsSendable link.term.display.screen → IsEnd (end_at talk old) link.term
       → EndTakes (end_at talk old) item (record { end = end_at after mid; says = says; closes = closes })
       → mid.terminal.link ≡ link_after to after closes → mid.terminal.out ≡ old.terminal.out ++ sent_bytes says → TrackedTakes mid front new → CameSome link old new behind
-  item_comes item [] others link talk after old mid new to front behind says closes comes whole each down may none can is taken at out more = absurd each
-  item_comes item (message ∷ []) others link talk after old mid new to front behind says closes comes whole each down may none can is taken at out more =
+  nop_comes item others link talk after old mid new to front behind says closes comes is_it whole down may none can is taken at out more =
+      let step : ByteStep = record { end = end_at after mid; says = says; closes = closes } in
+      let unmoved = nop (end_at talk old) link.term step (open_now link.term link.down may) is (subst (λ (i : WireItem). EndTakes (end_at talk old) i step) (nop_is item is_it) taken) in
+      let same_out : mid.terminal.out ≡ old.terminal.out =
+      out ∙ ap (λ (s : List WireItem). old.terminal.out ++ sent_bytes s) (no_items StandsUp says unmoved.same.said) ∙ append-nil old.terminal.out in
+      let came = comes mid to link (record { talk = after; attached = at ∙ ap (link_after to after) unmoved.same.closed; is_end = unmoved.same.is_end })
+      (subst (λ (m : List ToTerminal). BytesDown to (front ++ behind) m) (sym whole) down) may none can more in
+      record {
+        taken = came.taken;
+        others = came.others;
+        whole = came.whole;
+        ran = ran_since link (took_down came.taken came.others link) old mid new behind same_out came.ran;
+      }
+
+  -- an item that stands for the first message, or NOP
+  item_comes : (nops : Bool) (item : WireItem) (taken others : List ToTerminal) (link : Link) (talk after : Term) (old mid new : TrackedTerminal) (to : Rest) (front behind : List ℕ) (says : List WireItem) (closes : Option Cause)
+      → Comes front behind new → is_nop item ≡ nops → link.down ≡ taken ++ others → Pairwise StandsDown (cond (not nops) (item ∷ []) []) taken → BytesDown to (front ++ behind) others
+      → MayComeAll link.term link.down → NoneCloses link.term link.down → IsSendable link.term.display.screen → IsEnd (end_at talk old) link.term
+      → EndTakes (end_at talk old) item (record { end = end_at after mid; says = says; closes = closes })
+      → mid.terminal.link ≡ link_after to after closes → mid.terminal.out ≡ old.terminal.out ++ sent_bytes says → TrackedTakes mid front new → CameSome link old new behind
+  item_comes true item [] others link talk after old mid new to front behind says closes comes is_it whole each down may none can is taken at out more =
+      nop_comes item others link talk after old mid new to front behind says closes comes is_it whole down may none can is taken at out more
+  item_comes true item (message ∷ rest) others link talk after old mid new to front behind says closes comes is_it whole each down may none can is taken at out more = absurd each
+  item_comes false item [] others link talk after old mid new to front behind says closes comes is_it whole each down may none can is taken at out more = absurd each
+  item_comes false item (message ∷ []) others link talk after old mid new to front behind says closes comes is_it whole each down may none can is taken at out more =
       let all = subst (λ (m : List ToTerminal). MayComeAll link.term m) whole may in
       let opened = subst (λ (m : List ToTerminal). NoneCloses link.term m) whole none in
       let step : ByteStep = record { end = end_at after mid; says = says; closes = closes } in
-      let same = takes message item (end_at talk old) link.term step (record { stands = each.0; may = all.0; sendable = can; is_end = is; takes = taken }) in
+      let same = takes message item (end_at talk old) link.term step (record { stands = each.0; may = all.1; sendable = can; is_end = is; takes = taken }) in
       let next : Link = stayed (took link.term message) others link in
       came_more message others link old mid new behind says whole opened.0 same.said same.fit out
       (comes mid to next (record { talk = after; attached = at ∙ ap (link_after to after) (same.closed ∙ opened.0); is_end = same.is_end })
-      down all.1 opened.1 (keeps message item link.term each.0 all.0 can) more)
-  item_comes item (message ∷ other ∷ more) others link talk after old mid new to front behind says closes comes whole each down may none can is taken at out rest = absurd each.1
+      down all.2 opened.1 (keeps message item link.term each.0 all.1 can) more)
+  item_comes false item (message ∷ other ∷ more) others link talk after old mid new to front behind says closes comes is_it whole each down may none can is taken at out rest = absurd each.1
 
   -- what the terminal takes with a byte, as the end takes it
   end_takes : (item : WireItem) (talk same after : Term) (old mid : TrackedTerminal) (says : List WireItem) (closes : Option Cause) (station : Station) → same ≡ talk → station ≡ mid.terminal.station
@@ -301,7 +334,7 @@ module _ (takes : TermTakes) (keeps : TakesKeepSendable) (goes_on : StandsGoOn S
   byte_comes byte front behind old mid new rest link comes holds down may none can history (TakesByte.completes rest' to talk' after item says closes station at' delivers item_taken is_mid) more =
       let parts = link_parts rest rest' holds.talk talk' (sym holds.attached ∙ at') in
       let some = goes_on rest to (byte ∷ []) (front ++ behind) (item ∷ []) link.down down (subst (λ (r : Rest). Delivers record_limit r (byte ∷ []) (item ∷ []) to) (sym parts.0) delivers) in
-      item_comes item some.taken some.others link holds.talk after old mid new to front behind says closes comes some.whole some.each some.stands may none can holds.is_end
+      item_comes (is_nop item) item some.taken some.others link holds.talk after old mid new to front behind says closes comes refl some.whole some.each some.stands may none can holds.is_end
       (end_takes item holds.talk talk' after old mid says closes station (sym parts.1) (ap (λ (t : Terminal). t.station) (sym is_mid)) item_taken history)
       (ap (λ (t : Terminal). t.link) is_mid) (ap (λ (t : Terminal). t.out) is_mid) more
   byte_comes byte front behind old mid new rest link comes holds down may none can history (TakesByte.breaks rest' talk' fault at' wrong is_mid) more =
@@ -320,20 +353,24 @@ module _ (takes : TermTakes) (keeps : TakesKeepSendable) (goes_on : StandsGoOn S
   or_false true = refl
   or_false false = refl
 
-  item_marks : WritesAreMarked → (item : WireItem) (taken others : List ToTerminal) (link : Link) (talk after : Term) (old mid : TrackedTerminal) (to : Rest) (behind : List ℕ) (says : List WireItem) (closes : Option Cause)
-      (whole : link.down ≡ taken ++ others) (each : Pairwise StandsDown (item ∷ []) taken) (down : BytesDown to behind others)
+  item_marks : WritesAreMarked → (nops : Bool) (item : WireItem) (taken others : List ToTerminal) (link : Link) (talk after : Term) (old mid : TrackedTerminal) (to : Rest) (behind : List ℕ) (says : List WireItem) (closes : Option Cause)
+      (is_it : is_nop item ≡ nops) (whole : link.down ≡ taken ++ others) (each : Pairwise StandsDown (cond (not nops) (item ∷ []) []) taken) (down : BytesDown to behind others)
       (may : MayComeAll link.term link.down) (none : NoneCloses link.term link.down) (can : IsSendable link.term.display.screen) (is : IsEnd (end_at talk old) link.term)
       (takes_it : EndTakes (end_at talk old) item (record { end = end_at after mid; says = says; closes = closes }))
       (at : mid.terminal.link ≡ link_after to after closes) (out : mid.terminal.out ≡ old.terminal.out ++ sent_bytes says)
       → mid.terminal.station.took_write
-      ≡ any_painted link.term (item_comes item taken others link talk after old mid mid to [] behind says closes (bytes_come [] behind mid) whole each down may none can is takes_it at out refl).taken
-  unfolding item_comes came_more bytes_come
-  item_marks marks item [] others link talk after old mid to behind says closes whole each down may none can is takes_it at out = absurd each
-  item_marks marks item (message ∷ []) others link talk after old mid to behind says closes whole each down may none can is takes_it at out =
+      ≡ any_painted link.term (item_comes nops item taken others link talk after old mid mid to [] behind says closes (bytes_come [] behind mid) is_it whole each down may none can is takes_it at out refl).taken
+  unfolding item_comes nop_comes came_more bytes_come
+  item_marks marks true item [] others link talk after old mid to behind says closes is_it whole each down may none can is takes_it at out =
+      let step : ByteStep = record { end = end_at after mid; says = says; closes = closes } in
+      (nop (end_at talk old) link.term step (open_now link.term link.down may) is (subst (λ (i : WireItem). EndTakes (end_at talk old) i step) (nop_is item is_it) takes_it)).unmarked
+  item_marks marks true item (message ∷ rest) others link talk after old mid to behind says closes is_it whole each down may none can is takes_it at out = absurd each
+  item_marks marks false item [] others link talk after old mid to behind says closes is_it whole each down may none can is takes_it at out = absurd each
+  item_marks marks false item (message ∷ []) others link talk after old mid to behind says closes is_it whole each down may none can is takes_it at out =
       let all = subst (λ (m : List ToTerminal). MayComeAll link.term m) whole may in
       marks message item (end_at talk old) link.term (record { end = end_at after mid; says = says; closes = closes })
-      (record { stands = each.0; may = all.0; sendable = can; is_end = is; takes = takes_it }) ∙ or_false (is_painted link.term message)
-  item_marks marks item (message ∷ other ∷ more) others link talk after old mid to behind says closes whole each down may none can is takes_it at out = absurd each.1
+      (record { stands = each.0; may = all.1; sendable = can; is_end = is; takes = takes_it }) ∙ or_false (is_painted link.term message)
+  item_marks marks false item (message ∷ other ∷ more) others link talk after old mid to behind says closes is_it whole each down may none can is takes_it at out = absurd each.1
 
   byte_marks : WritesAreMarked → (byte : ℕ) (behind : List ℕ) (old new : TrackedTerminal) (rest : Rest) (link : Link)
       (holds : Holds rest old link.term) (down : BytesDown rest (byte ∷ behind) link.down) (may : MayComeAll link.term link.down) (none : NoneCloses link.term link.down)
@@ -345,7 +382,7 @@ module _ (takes : TermTakes) (keeps : TakesKeepSendable) (goes_on : StandsGoOn S
   byte_marks marks byte behind old new rest link holds down may none can history (TakesByte.completes rest' to talk' after item says closes station at' delivers item_taken is_mid) =
       let parts = link_parts rest rest' holds.talk talk' (sym holds.attached ∙ at') in
       let some = goes_on rest to (byte ∷ []) behind (item ∷ []) link.down down (subst (λ (r : Rest). Delivers record_limit r (byte ∷ []) (item ∷ []) to) (sym parts.0) delivers) in
-      item_marks marks item some.taken some.others link holds.talk after old new to behind says closes some.whole some.each some.stands may none can holds.is_end
+      item_marks marks (is_nop item) item some.taken some.others link holds.talk after old new to behind says closes refl some.whole some.each some.stands may none can holds.is_end
       (end_takes item holds.talk talk' after old new says closes station (sym parts.1) (ap (λ (t : Terminal). t.station) (sym is_mid)) item_taken history)
       (ap (λ (t : Terminal). t.link) is_mid) (ap (λ (t : Terminal). t.out) is_mid)
   byte_marks marks byte behind old new rest link holds down may none can history (TakesByte.breaks rest' talk' fault at' wrong is_mid) =
@@ -353,7 +390,7 @@ module _ (takes : TermTakes) (keeps : TakesKeepSendable) (goes_on : StandsGoOn S
       absurd (not_wrong final rest byte behind fault link.down down (subst (λ (r : Rest). GoesWrong record_limit r (byte ∷ []) fault) (sym parts.0) wrong))
 
 -- what both ends have once the terminal took what came
-ran_stands : StandsCompose StandsUp → (bytes : ByteLink) (link now : Link) (behind : List ℕ) (new : TrackedTerminal)
+ran_stands : StandsCompose all_items StandsUp → (bytes : ByteLink) (link now : Link) (behind : List ℕ) (new : TrackedTerminal)
     → LinkStands bytes link → bytes.tracked.terminal.out ≡ [] → Ran link now bytes.tracked new behind → LinkStands (fed new behind bytes) now
 ran_stands compose bytes link now behind new stands silent ran =
     let out : new.terminal.out ≡ sent_bytes ran.says = ran.out ∙ ap (λ (b : List ℕ). b ++ sent_bytes ran.says) silent in
@@ -369,11 +406,11 @@ ran_stands compose bytes link now behind new stands silent ran =
       term = λ which is. record { rest = ran.rest; holds = silenced ran.rest new now.term ran.holds; silent = refl; down = ran.down };
     }
 
-pub down_stands : TermTakes → TakesKeepSendable → StandsCompose StandsUp → StandsGoOn StandsDown → WrongIsFinal → DownStands
-down_stands takes keeps compose goes_on final bytes link front behind new ready queue taken =
+pub down_stands : TermTakes → TakesKeepSendable → NopHasNoEffect → StandsCompose all_items StandsUp → StandsGoOn without_nops StandsDown → WrongIsFinal → DownStands
+down_stands takes keeps nop compose goes_on final bytes link front behind new ready queue taken =
     let term = ready.stands.term ready.terminal ready.here in
     let down : BytesDown term.rest (front ++ behind) link.down = subst (λ (b : List ℕ). BytesDown term.rest b link.down) queue term.down in
-    let came = bytes_come takes keeps goes_on final front behind new bytes.tracked term.rest link term.holds down ready.may ready.none ready.sendable taken in
+    let came = bytes_come takes keeps nop goes_on final front behind new bytes.tracked term.rest link term.holds down ready.may ready.none ready.sendable taken in
     record {
       taken = came.taken;
       others = came.others;
@@ -381,18 +418,18 @@ down_stands takes keeps compose goes_on final bytes link front behind new ready 
       stands = ran_stands compose bytes link (took_down came.taken came.others link) behind new ready.stands term.silent came.ran;
     }
 
-pub down_is_not_refused : TermTakes → TakesKeepSendable → StandsGoOn StandsDown → WrongIsFinal → DownIsNotRefused
-down_is_not_refused takes keeps goes_on final bytes link front behind new ready queue taken =
+pub down_is_not_refused : TermTakes → TakesKeepSendable → NopHasNoEffect → StandsGoOn without_nops StandsDown → WrongIsFinal → DownIsNotRefused
+down_is_not_refused takes keeps nop goes_on final bytes link front behind new ready queue taken =
     let term = ready.stands.term ready.terminal ready.here in
     let down : BytesDown term.rest (front ++ behind) link.down = subst (λ (b : List ℕ). BytesDown term.rest b link.down) queue term.down in
-    let ran = (bytes_come takes keeps goes_on final front behind new bytes.tracked term.rest link term.holds down ready.may ready.none ready.sendable taken).ran in
+    let ran = (bytes_come takes keeps nop goes_on final front behind new bytes.tracked term.rest link term.holds down ready.may ready.none ready.sendable taken).ran in
     record { says = ran.says; out = ran.out; fit = ran.fit; sends = ran.sends; said = ran.said; none = ran.none }
 
-pub bytes_are_marked : TermTakes → TakesKeepSendable → StandsCompose StandsUp → StandsGoOn StandsDown → WrongIsFinal → WritesAreMarked → BytesAreMarked
-bytes_are_marked takes keeps compose goes_on final marks bytes link byte behind new ready queue taken =
+pub bytes_are_marked : TermTakes → TakesKeepSendable → NopHasNoEffect → StandsCompose all_items StandsUp → StandsGoOn without_nops StandsDown → WrongIsFinal → WritesAreMarked → BytesAreMarked
+bytes_are_marked takes keeps nop compose goes_on final marks bytes link byte behind new ready queue taken =
     let term = ready.stands.term ready.terminal ready.here in
     let down : BytesDown term.rest (byte ∷ behind) link.down = subst (λ (b : List ℕ). BytesDown term.rest b link.down) queue term.down in
-    let came = byte_comes takes keeps goes_on final byte [] behind bytes.tracked new new term.rest link (bytes_come takes keeps goes_on final [] behind new) term.holds down
+    let came = byte_comes takes keeps nop goes_on final byte [] behind bytes.tracked new new term.rest link (bytes_come takes keeps nop goes_on final [] behind new) term.holds down
     ready.may ready.none ready.sendable taken.history taken.takes refl in
     record {
       came = record {
@@ -401,18 +438,18 @@ bytes_are_marked takes keeps compose goes_on final marks bytes link byte behind 
         whole = came.whole;
         stands = ran_stands compose bytes link (took_down came.taken came.others link) behind new ready.stands term.silent came.ran;
       };
-      marked = byte_marks takes keeps goes_on final marks byte behind bytes.tracked new term.rest link term.holds down ready.may ready.none ready.sendable taken.history taken.takes;
+      marked = byte_marks takes keeps nop goes_on final marks byte behind bytes.tracked new term.rest link term.holds down ready.may ready.none ready.sendable taken.history taken.takes;
     }
 
 -- ---- the host, and losses
 
-goes_down : StandsCompose StandsDown → (lost : Bool) (rest : Rest) (bytes : List ℕ) (messages more : List ToTerminal) (items : List WireItem)
-    → BytesDown rest bytes messages → AllByRecursion (CanCome record_limit) items → Pairwise StandsDown items more
+goes_down : StandsCompose without_nops StandsDown → (lost : Bool) (rest : Rest) (bytes : List ℕ) (messages more : List ToTerminal) (items : List WireItem)
+    → BytesDown rest bytes messages → AllByRecursion (CanCome record_limit) items → Pairwise StandsDown (without_nops items) more
     → BytesDown rest (sent lost bytes (sent_bytes items)) (sent lost messages more)
 goes_down compose true rest bytes messages more items stands fit said = stands
 goes_down compose false rest bytes messages more items stands fit said = compose rest bytes messages more items stands fit said
 
-pub host_sends : StandsCompose StandsDown → HostSends
+pub host_sends : StandsCompose without_nops StandsDown → HostSends
 host_sends compose bytes link conn items messages stands fit said = record {
   lost = stands.lost;
   host_here = stands.host_here;
@@ -425,7 +462,29 @@ host_sends compose bytes link conn items messages stands fit said = record {
     holds = record { talk = term.holds.talk; attached = term.holds.attached; is_end = term.holds.is_end };
     silent = term.silent;
     down = subst (λ (l : Bool). BytesDown term.rest (sent l bytes.down (sent_bytes items)) (sent link.lost link.down messages)) (sym stands.lost)
-        (goes_down compose link.lost term.rest bytes.down link.down messages items term.down fit said);
+        (goes_down compose link.lost term.rest bytes.down link.down messages items term.down fit
+        (subst (λ (l : List WireItem). Pairwise StandsDown l messages) (sym (all_spoken items messages said)) said));
+  };
+}
+
+nop_can_come : CanCome record_limit no_operation
+nop_can_come = (λ e. absurd (omega (arith, e)), omega arith)
+
+pub nop_stands : StandsCompose without_nops StandsDown → NopStands
+nop_stands compose bytes link stands = record {
+  lost = stands.lost;
+  host_here = stands.host_here;
+  term_here = stands.term_here;
+  read = stands.read;
+  up = stands.up;
+  host = λ here. let host = stands.host here in record { host = host.host; rest_is = host.rest_is };
+  term = λ terminal here. let term = stands.term terminal here in record {
+    rest = term.rest;
+    holds = record { talk = term.holds.talk; attached = term.holds.attached; is_end = term.holds.is_end };
+    silent = term.silent;
+    down = subst (λ (l : Bool). BytesDown term.rest (sent l bytes.down (sent_bytes (no_operation ∷ []))) link.down) (sym stands.lost)
+        (subst (λ (m : List ToTerminal). BytesDown term.rest (sent link.lost bytes.down (sent_bytes (no_operation ∷ []))) m) (sym (sent_nothing link.lost link.down))
+        (goes_down compose link.lost term.rest bytes.down link.down [] (no_operation ∷ []) term.down (nop_can_come, tt) tt));
   };
 }
 
@@ -442,7 +501,7 @@ same_term bytes with_bytes link with_link term a b c d = record {
 pub up_behind_rest : (bytes : ByteLink) (link : Link) → LinkStands bytes link → link.host_here ≡ true → BytesUp bytes.host_rest bytes.up link.up
 up_behind_rest bytes link stands here = subst (λ (r : Rest). BytesUp r bytes.up link.up) (sym (stands.host here).rest_is) stands.up
 
-pub up_stands : StandsGoOn StandsUp → UpStands
+pub up_stands : StandsGoOn all_items StandsUp → UpStands
 up_stands goes_on bytes link front behind items to stands here queue delivers =
     let host = stands.host here in
     let some = goes_on bytes.host_rest to front behind items link.up

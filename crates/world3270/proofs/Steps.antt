@@ -4,12 +4,15 @@ use Rattle.std.proofs.lemmas.Bool.{lt-ltb}
 use Rattle.std.proofs.lemmas.List.{set-get_or}
 use Rattle.host_core.specs.Acts.{Sent}
 use Rattle.host_core.specs.Does.{Does as HostDoes}
+use Rattle.host_core.specs.KeepAlive.{kept_alive, kept_alive_answer, may_keep_alive, with_nop}
 use Rattle.host_core.specs.State.{Host, Connection, Service, unused, connection_at, with_connection, most_connections, phase_of, service_at}
 use Rattle.host_core.specs.declared.phase.Phase.TheVariants as phase
 use Rattle.host_core.specs.declared.acted.Acted.{Acted}
+use Rattle.host_core.specs.declared.acted.Acted.TheVariants as acted
 use Rattle.world3270.specs.ByteWorld.{ByteWorld, host_there, is_there, terminal_there, with_host}
 use Rattle.world3270.specs.ByteSteps.{ActsHost, Steps, Happens, HappensIf, has_place, answer_acted, is_link, is_held, free_from, host_gone_below, host_gone_if_there}
 use Rattle.world3270.specs.declared.event.Event.{Event}
+use Rattle.world3270.specs.declared.event.Event.TheVariants as event
 use Rattle.world3270.specs.declared.event.Stepped.{Stepped}
 use Rattle.world3270.specs.declared.event.Stepped.TheVariants as stepped
 
@@ -45,6 +48,25 @@ host_acted event None number old act answer host below acts others answers place
 host_acted event (Some sent) number old act answer host below acts others answers place happens =
     it_happens event old answer (with_host host old) (place ∙ both (is_link number) true (lt-ltb number most_connections below) refl)
     (happens (record { act = act; host = host; acts = acts; others = others; answers = answers; leaves = refl }))
+
+-- the host sends NOP, or nothing
+pub host_kept_alive : (number : ℕ) (old : ByteWorld) (act : Acted) (answer : Stepped) (host : Host) → number < most_connections
+    → act ≡ kept_alive_answer (connection_at number old.host) → host ≡ with_connection number (kept_alive (connection_at number old.host)) old.host
+    → answer ≡ answer_acted act → Steps (event.KeepAlive number) old answer (with_host host old)
+host_kept_alive number old act answer host below is host_is answers = by_may (may_keep_alive (connection_at number old.host)) refl
+  where
+    by_may : (may : Bool) → may_keep_alive (connection_at number old.host) ≡ may → Steps (event.KeepAlive number) old answer (with_host host old)
+    by_may true e =
+        it_happens (event.KeepAlive number) old answer (with_host host old)
+        (both (is_link number) (may_keep_alive (connection_at number old.host)) (lt-ltb number most_connections below) e)
+        (answers ∙ ap answer_acted (is ∙ ap (λ (b : Bool). if b then acted.Sent else acted.Nothing) e), ap (λ (h : Host). with_host h old) host_is)
+    by_may false e =
+        it_is_skipped (event.KeepAlive number) old answer (with_host host old) (ap (λ (b : Bool). is_link number && b) e ∙ neither (is_link number))
+        (answers ∙ ap answer_acted (is ∙ ap (λ (b : Bool). if b then acted.Sent else acted.Nothing) e))
+        (ap (λ (h : Host). with_host h old)
+        (host_is
+        ∙ ap (λ (b : Bool). with_connection number (if b then with_nop (connection_at number old.host) else connection_at number old.host) old.host) e
+        ∙ ap (λ ls. record old.host { connections = ls }) (set-get_or old.host.connections number unused)))
 
 -- ---- the least number that is free
 

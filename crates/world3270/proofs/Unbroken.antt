@@ -28,7 +28,7 @@ use Rattle.world3270.specs.Placed.{has_place}
 use Rattle.world3270.specs.Refines.{Begin, IsBegin, Reached, GoesOn, StepsGoOn, after}
 use Rattle.world3270.specs.Sendable.{IsTyped}
 use Rattle.world3270.specs.Standing.{link_of}
-use Rattle.world3270.specs.Stands.{StandsUp}
+use Rattle.world3270.specs.Stands.{StandsUp, without_nops}
 use Rattle.world3270.specs.Terminal.{TermStep, took as term_took}
 use Rattle.world3270.specs.Unbroken.{SameEnds, DeliveriesCloseNothing, NobodyHasRefused, NothingIsRefused, UnderWayRefusesNothing}
 use Rattle.world3270.specs.World.{World, Event, IsEvent, AreEvents, with_at}
@@ -179,7 +179,7 @@ module _ (known : KnownWorlds) where
   pub down_same : (begin : Begin) (events : List Event) (at count : ℕ) (old : ByteWorld) (answer : Stepped) (new : ByteWorld) → IsBegin begin → Reached begin events old
       → GoesOn begin events (event.Down at count) old answer new → (number : ℕ) → SameEnds number old new
   down_same begin events at count old answer new is reached goes number =
-      ends_stay begin events old new is reached (Event.Down at) goes.more tt tt (down_leaves (application_of begin.panels) at) (length goes.comes_to.completed)
+      ends_stay begin events old new is reached (Event.Down at) goes.more tt tt (down_leaves (application_of begin.panels) at) (length (without_nops goes.comes_to.completed))
       goes.comes_to.one_each goes.reached number
 
 module _ (known : KnownWorlds) (goes : StepsGoOn) where
@@ -193,6 +193,7 @@ module _ (known : KnownWorlds) (goes : StepsGoOn) where
   deliveries_close_nothing (event.Key terminal key) old answer new is delivery steps number = absurd delivery
   deliveries_close_nothing (event.Act at) old answer new is delivery steps number = absurd delivery
   deliveries_close_nothing (event.Note at text) old answer new is delivery steps number = absurd delivery
+  deliveries_close_nothing (event.KeepAlive at) old answer new is delivery steps number = absurd delivery
   deliveries_close_nothing (event.Lose at) old answer new is delivery steps number = absurd delivery
   deliveries_close_nothing (event.HostSees at) old answer new is delivery steps number = absurd delivery
   deliveries_close_nothing (event.TermSees terminal) old answer new is delivery steps number = absurd delivery

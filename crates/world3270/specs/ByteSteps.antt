@@ -11,6 +11,7 @@ use Rattle.host_core.specs.Application.{application_of}
 use Rattle.host_core.specs.Bytes.{Counter}
 use Rattle.host_core.specs.Does.{Does as HostDoes, acted_by, noted_by}
 use Rattle.host_core.specs.Feeds.{Feeds, counter_at, with_counter}
+use Rattle.host_core.specs.KeepAlive.{kept_alive, may_keep_alive}
 use Rattle.host_core.specs.State.{Host, connection_at, service_at, with_connection, new_host, most_connections, given_up}
 use Rattle.host_core.specs.declared.acted.Acted.{Acted}
 use Rattle.host_core.specs.declared.acted.Acted.TheVariants as acted
@@ -68,6 +69,7 @@ has_place (event.Up number count) world = is_link number && (host_there number w
 has_place (event.Down number count) world = is_link number && (terminal_there number world && is_queued (take count (down_of number world)))
 has_place (event.Act number) world = is_link number && is_some (acted_by (application_of world.host.panels) (service_at number world.host))
 has_place (event.Note number text) world = is_link number && is_some (noted_by text (service_at number world.host))
+has_place (event.KeepAlive number) world = is_link number && may_keep_alive (connection_at number world.host)
 has_place (event.Lose number) world = is_link number && is_up number world
 has_place (event.HostSees number) world = is_link number && (is_lost number world && host_there number world)
 has_place (event.TermSees terminal) world = is_terminal terminal world && sees_loss (slot_at terminal world).at world
@@ -195,6 +197,10 @@ pub record ActsHost (does : Option Sent) (number : ℕ) (old : ByteWorld) (answe
   pub answers : answer ≡ answer_acted act
   pub leaves : new ≡ with_host host old
 
+-- the host sends NOP on a connection; nobody else changes
+abbrev pub nop_sent : ℕ → ByteWorld → ByteWorld
+nop_sent number world = with_host (with_connection number (kept_alive (connection_at number world.host)) world.host) world
+
 -- ---- connecting and restarting
 
 -- memory is refused and nothing changed, or the connection begins
@@ -239,6 +245,7 @@ Happens (event.Up number count) old answer new = ComesUp number (take count (up_
 Happens (event.Down number count) old answer new = GoesDown (terminal_at number old.slots) number (take count (down_of number old)) old answer new
 Happens (event.Act number) old answer new = ActsHost (acted_by (application_of old.host.panels) (service_at number old.host)) number old answer new
 Happens (event.Note number text) old answer new = ActsHost (noted_by text (service_at number old.host)) number old answer new
+Happens (event.KeepAlive number) old answer new = Is (nop_sent number old) answer new
 Happens (event.Lose number) old answer new = Is (with_transits number (lost_transits number old) old) answer new
 Happens (event.HostSees number) old answer new = Is (host_gone number old) answer new
 Happens (event.TermSees terminal) old answer new = Is (saw_loss terminal (slot_at terminal old).at old) answer new

@@ -1,13 +1,14 @@
--- What a delivery of bytes is over messages (our profile): an item whose last byte was taken is a message that was delivered. Items are
--- those of RFC 854, 855 and 885, as the receiving decoder reads them.
+-- What a delivery of bytes is over messages (our profile): an item whose last byte was taken is a message that was delivered, unless it
+-- is NOP, which represents no message. Items are those of RFC 854, 855 and 885, as the receiving decoder reads them.
 use Rattle.std.specs.Prelude.{◌≡◌, ℕ, List, [], Option, Some, None, length, replicate, take}
 use Rattle.telnet_wire.specs.Items.{WireItem}
 use Rattle.telnet_wire.specs.Reading.{Rest, Delivers, nothing}
 use Rattle.tn3270e_msg.specs.Header.{record_limit}
 use Rattle.host_core.specs.State.{service_at}
 use Rattle.term_core.specs.State.{Link, Detached, Attached, Closed}
-use Rattle.world3270.specs.ByteWorld.{ByteWorld, slot_at, terminal_at}
+use Rattle.world3270.specs.ByteWorld.{ByteWorld, down_of, slot_at, terminal_at}
 use Rattle.world3270.specs.Standing.{rest_of}
+use Rattle.world3270.specs.Stands.{without_nops}
 use Rattle.world3270.specs.World.{Event as MessageEvent}
 use Rattle.world3270.specs.declared.event.Stepped.{Stepped}
 use Rattle.world3270.specs.declared.event.Stepped.TheVariants as stepped
@@ -41,9 +42,15 @@ taken_by stepped.Memory bytes = []
 taken_by stepped.Skipped bytes = []
 taken_by (stepped.Refused why) bytes = []
 
--- A decoder that holds this rest completes these items with these bytes; the events are one delivery of a message for each of them.
-pub record AreDeliveries (rest : Rest) (bytes : List ℕ) (delivery : MessageEvent) (events : List MessageEvent) : Type 0 where
+-- A decoder that holds this rest completes these items with these bytes; the events are one delivery of a message for each of them
+-- that represents one.
+pub record AreDeliveries (spoken : List WireItem → List WireItem) (rest : Rest) (bytes : List ℕ) (delivery : MessageEvent) (events : List MessageEvent) : Type 0 where
   pub completed : List WireItem
   pub behind : Rest
   pub delivers : Delivers record_limit rest bytes completed behind
-  pub one_each : events ≡ replicate (length completed) delivery
+  pub one_each : events ≡ replicate (length (spoken completed)) delivery
+
+-- The bytes under way down aren't NOPs alone: if they spell items, one of these represents a message.
+abbrev pub BringAMessage : ℕ → ByteWorld → Type 0
+BringAMessage number world =
+    (items : List WireItem) → Delivers record_limit (terminal_rest number world) (down_of number world) items nothing → without_nops items ≡ [] → items ≡ []

@@ -11,7 +11,7 @@ use Rattle.world3270.specs.Numbers.{NumbersFit}
 use Rattle.world3270.specs.Places.{EndsAgree, UpIsHeld}
 use Rattle.world3270.specs.Sendable.{AlwaysTyped, ScreensAreSendable, PaintsAreScreens, PaintsAreSpelt}
 use Rattle.world3270.specs.StandsEnds.{PaintStands}
-use Rattle.world3270.specs.StandsLinks.{BeginStands, PressStands, WhatComesMayCome, DownIsNotRefused, DownStands, HostSends, UpStands, LossStands, HostLeaves, TermLeaves}
+use Rattle.world3270.specs.StandsLinks.{BeginStands, PressStands, WhatComesMayCome, DownIsNotRefused, DownStands, HostSends, NopStands, UpStands, LossStands, HostLeaves, TermLeaves}
 
 -- the laws of worlds over messages
 pub record KnownWorlds : Type 0 where
@@ -36,6 +36,7 @@ pub record KnownLinks : Type 0 where
   pub down : DownStands
   pub not_refused : DownIsNotRefused
   pub sends : HostSends
+  pub nop : NopStands
   pub up : UpStands
   pub loss : LossStands
   pub host_leaves : HostLeaves

@@ -1,6 +1,6 @@
 -- How the world over bytes follows the world over messages (our profile): after each event the bytes represent a world that a list of
 -- events over messages leads to.
-use Rattle.std.specs.Prelude.{◌≡◌, ◌<◌, ◌≤◌, ⊤, ℕ, List, [], ◌∷◌, ◌++◌, Some, None, drop, take, All}
+use Rattle.std.specs.Prelude.{◌≡◌, ◌<◌, ◌≤◌, ⊤, ℕ, List, [], ◌∷◌, ◌++◌, Option, Some, None, IfSome, drop, take, All}
 use Rattle.lu_pool.specs.Pool.{IsPool}
 use Rattle.lu_pool.specs.declared.entry.Entry.{Entry}
 use Rattle.panels.specs.Panel.{Panels, AreSound}
@@ -8,13 +8,14 @@ use Rattle.host_core.specs.Application.{application_of}
 use Rattle.world3270.specs.ByteRuns.{Runs, refused_at}
 use Rattle.world3270.specs.ByteSteps.{Steps, has_place}
 use Rattle.world3270.specs.ByteWorld.{ByteWorld, down_of, new_byte_world, up_of}
-use Rattle.world3270.specs.Deliveries.{AreDeliveries, host_rest, taken_by, terminal_rest}
+use Rattle.world3270.specs.Deliveries.{AreDeliveries, BringAMessage, host_rest, taken_by, terminal_rest}
 use Rattle.world3270.specs.Happens.{run}
 use Rattle.world3270.specs.Headline.{Headline}
 use Rattle.world3270.specs.Placed.{has_place as has_place_over_messages}
 use Rattle.world3270.specs.SeenBytes.{seen_bytes}
 use Rattle.world3270.specs.Sendable.{IsTyped}
 use Rattle.world3270.specs.Standing.{WorldStands}
+use Rattle.world3270.specs.Stands.{all_items, without_nops}
 use Rattle.world3270.specs.World.{World, Event as MessageEvent, IsEvent, AreEvents, new_world}
 use Rattle.world3270.specs.declared.event.Event.{Event}
 use Rattle.world3270.specs.declared.event.Event.TheVariants as event
@@ -48,18 +49,20 @@ pub record Reached (begin : Begin) (events : List MessageEvent) (bytes : ByteWor
 
 -- ---- what an event comes to
 
-abbrev pub message_event : Event → MessageEvent
-message_event (event.Key terminal key) = MessageEvent.Press terminal key
-message_event (event.Up number count) = MessageEvent.Up number
-message_event (event.Down number count) = MessageEvent.Down number
-message_event (event.Act number) = MessageEvent.Act number
-message_event (event.Note number text) = MessageEvent.Note number text
-message_event (event.Lose number) = MessageEvent.Lose number
-message_event (event.HostSees number) = MessageEvent.HostSees number
-message_event (event.TermSees terminal) = MessageEvent.TermSees terminal
-message_event (event.Connect terminal wanted) = MessageEvent.Connect terminal wanted
-message_event (event.RestartTerm terminal) = MessageEvent.RestartTerm terminal
-message_event event.RestartHost = MessageEvent.RestartHost
+-- keeping a connection alive is nothing over messages
+abbrev pub message_event : Event → Option MessageEvent
+message_event (event.Key terminal key) = Some (MessageEvent.Press terminal key)
+message_event (event.Up number count) = Some (MessageEvent.Up number)
+message_event (event.Down number count) = Some (MessageEvent.Down number)
+message_event (event.Act number) = Some (MessageEvent.Act number)
+message_event (event.Note number text) = Some (MessageEvent.Note number text)
+message_event (event.KeepAlive number) = None
+message_event (event.Lose number) = Some (MessageEvent.Lose number)
+message_event (event.HostSees number) = Some (MessageEvent.HostSees number)
+message_event (event.TermSees terminal) = Some (MessageEvent.TermSees terminal)
+message_event (event.Connect terminal wanted) = Some (MessageEvent.Connect terminal wanted)
+message_event (event.RestartTerm terminal) = Some (MessageEvent.RestartTerm terminal)
+message_event event.RestartHost = Some MessageEvent.RestartHost
 
 -- it happens once, or not at all where memory was refused
 abbrev pub once : MessageEvent → Stepped → List MessageEvent
@@ -69,24 +72,28 @@ once event stepped.Skipped = event ∷ []
 once event (stepped.Part taken) = event ∷ []
 once event stepped.Memory = []
 
+abbrev pub once_if_any : Option MessageEvent → Stepped → List MessageEvent
+once_if_any None answer = []
+once_if_any (Some event) answer = once event answer
+
 -- What an event that was answered so is over messages. A delivery of bytes: one delivery for each message whose last byte was taken. Any
--- other event: itself once, or nothing if memory was refused.
+-- other event: itself once, or nothing if memory was refused, or if it is nothing over messages.
 abbrev pub ComesTo : Event → ByteWorld → Stepped → List MessageEvent → Type 0
 ComesTo (event.Up number count) old answer events =
-    AreDeliveries (host_rest number old) (taken_by answer (take count (up_of number old))) (MessageEvent.Up number) events
+    AreDeliveries all_items (host_rest number old) (taken_by answer (take count (up_of number old))) (MessageEvent.Up number) events
 ComesTo (event.Down number count) old answer events =
-    AreDeliveries (terminal_rest number old) (taken_by answer (take count (down_of number old))) (MessageEvent.Down number) events
-ComesTo event old answer events = events ≡ once (message_event event) answer
+    AreDeliveries without_nops (terminal_rest number old) (taken_by answer (take count (down_of number old))) (MessageEvent.Down number) events
+ComesTo event old answer events = events ≡ once_if_any (message_event event) answer
 
 -- its key, name or text is one of those that there are
 abbrev pub IsReal : Event → Type 0
-IsReal event = IsEvent (message_event event) × IsTyped (message_event event)
+IsReal event = IfSome (message_event event) (λ message. IsEvent message × IsTyped message)
 
--- a delivery of no bytes is skipped in any case
-abbrev pub IsCounted : Event → Type 0
-IsCounted (event.Up number count) = 0 < count
-IsCounted (event.Down number count) = 0 < count
-IsCounted event = ⊤
+-- a delivery of no bytes is skipped in any case, and one of NOPs alone is nothing over messages
+abbrev pub IsCounted : Event → ByteWorld → Type 0
+IsCounted (event.Up number count) world = 0 < count
+IsCounted (event.Down number count) world = (0 < count) × BringAMessage number world
+IsCounted event world = ⊤
 
 -- ---- the laws
 
@@ -143,7 +150,8 @@ RunsGoOn = (begin : Begin) (before : List MessageEvent) (events : List Event) (o
 abbrev pub SkipsAreThose : Type 0
 SkipsAreThose = (begin : Begin) (events : List MessageEvent) (event : Event) (bytes : ByteWorld)
     → IsBegin begin → Reached begin events bytes
-    → IsCounted event → has_place event bytes ≡ has_place_over_messages (application_of begin.panels) (message_event event) (after begin events)
+    → IsCounted event bytes
+    → IfSome (message_event event) (λ message. has_place event bytes ≡ has_place_over_messages (application_of begin.panels) message (after begin events))
 
 -- ---- so
 

@@ -1,6 +1,7 @@
 -- When bytes represent messages: what is under way in each direction spells them, one item each,
--- and nothing else (RFC 1647, sections 8.1 and 10.4; what is sent when is our profile).
-use Rattle.std.specs.Prelude.{◌≡◌, ◌≢◌, ◌<◌, ◌^◌, ℕ, Bool, true, List, [], length, Option, Some}
+-- and nothing else but NOPs to the terminal (RFC 854; RFC 1647, sections 8.1 and 10.4; what is sent
+-- when is our profile).
+use Rattle.std.specs.Prelude.{◌≡◌, ◌≢◌, ◌<◌, ◌^◌, ◌==◌, not, ℕ, Bool, true, false, List, [], filter, length, Option, Some}
 use Rattle.codes3270.specs.Size.{model_2}
 use Rattle.datastream.specs.Grammar.{CommandParts, IsCommand}
 use Rattle.datastream.specs.InboundText.{IsInbound}
@@ -11,7 +12,7 @@ use Rattle.shadow.specs.Belief.{Shadow}
 use Rattle.shadow.specs.Meets.{Meets}
 use Rattle.shadow.specs.Painted.{plainly_painted}
 use Rattle.shadow.specs.Pairs.{Pairwise}
-use Rattle.telnet_wire.specs.Items.{WireItem, Record}
+use Rattle.telnet_wire.specs.Items.{WireItem, Record, Opt, Sub, Other}
 use Rattle.telnet_wire.specs.Reading.{Rest, IsRest, nothing, Delivers}
 use Rattle.tn3270e_msg.specs.Header.{Begins, record_limit, error_response, always_response}
 use Rattle.tn3270e_msg.specs.TermTable.{Term}
@@ -81,22 +82,39 @@ StandsUp item (ToHost.Data parts) = (number : ℕ) × (body : List ℕ) × (item
 StandsUp item (ToHost.Response number verdict) =
     (outcome : Outcome) × (item ≡ response number outcome) × (number < 2 ^ 16) × OutcomeIs verdict outcome
 
+-- ---- which items represent messages
+
+-- NOP, "no operation" (RFC 854, "TELNET Command Structure")
+abbrev pub is_nop : WireItem → Bool
+is_nop (Other code) = code == 241
+is_nop (Record bytes) = false
+is_nop (Opt verb code) = false
+is_nop (Sub bytes) = false
+
+-- to the terminal each item but NOP does
+abbrev pub without_nops : List WireItem → List WireItem
+without_nops items = filter (λ item. not (is_nop item)) items
+
+-- to the host each does
+abbrev pub all_items : List WireItem → List WireItem
+all_items items = items
+
 -- ---- what is under way
 
--- With what the receiving decoder holds before them, the bytes spell items that represent the
--- messages, one by one, and no part of one more. What the decoder holds is the beginning of one,
--- within the limits.
-pub record BytesStand {X : Type 0} (Stands : WireItem → X → Type 0) (rest : Rest) (bytes : List ℕ) (messages : List X) : Type 0 where
+-- With what the receiving decoder holds before them, the bytes spell items, and no part of one
+-- more. Those among them that represent messages (`spoken`) represent these messages, one by one.
+-- What the decoder holds is the beginning of an item, within the limits.
+pub record BytesStand {X : Type 0} (spoken : List WireItem → List WireItem) (Stands : WireItem → X → Type 0) (rest : Rest) (bytes : List ℕ) (messages : List X) : Type 0 where
   pub is_rest : IsRest record_limit rest
   pub items : List WireItem
   pub delivers : Delivers record_limit rest bytes items nothing
-  pub each : Pairwise Stands items messages
+  pub each : Pairwise Stands (spoken items) messages
 
 abbrev pub BytesDown : Rest → List ℕ → List ToTerminal → Type 0
-BytesDown rest bytes messages = BytesStand StandsDown rest bytes messages
+BytesDown rest bytes messages = BytesStand without_nops StandsDown rest bytes messages
 
 abbrev pub BytesUp : Rest → List ℕ → List ToHost → Type 0
-BytesUp rest bytes messages = BytesStand StandsUp rest bytes messages
+BytesUp rest bytes messages = BytesStand all_items StandsUp rest bytes messages
 
 -- ---- a connection
 

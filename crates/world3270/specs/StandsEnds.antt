@@ -19,11 +19,12 @@ use Rattle.tn3270e_msg.specs.Talk.{IsOwnedMessage, IsLuIfSome, Saying}
 use Rattle.tn3270e_msg.specs.declared.term_talk.TermState.{TermState}
 use Rattle.tn3270e_msg.specs.declared.term_talk.TermState.TheVariants.{Willing, Closed}
 use Rattle.term_core.specs.Presses.{key_outcome}
+use Rattle.host_core.specs.KeepAlive.{no_operation}
 use Rattle.host_core.specs.Messages.{ToTerminal}
 use Rattle.host_core.specs.Says.{command_header}
 use Rattle.world3270.specs.TrackedTerminals.{TrackedTerminal, ByteEnd, ByteStep, EndTakes, tracked_after_key}
 use Rattle.world3270.specs.Stands.{StandsDown, StandsUp, IsEnd, Holds}
-use Rattle.world3270.specs.Terminal.{TermEnd, TermStep, is_bound, took, key_came}
+use Rattle.world3270.specs.Terminal.{TermEnd, TermStep, is_bound, quiet, took, key_came}
 
 -- ---- what is painted
 
@@ -85,6 +86,15 @@ pub record SameStep (bytes : ByteStep) (step : TermStep) : Type 0 where
 abbrev pub TermTakes : Type 0
 TermTakes = (message : ToTerminal) (item : WireItem) (old : ByteEnd) (end : TermEnd) (step : ByteStep)
     → ItemComes message item old end step → SameStep step (took end message)
+
+-- NOP has no effect while the talk goes on (RFC 854): the terminal says nothing, and marks no write.
+pub record IsUnmoved (end : TermEnd) (step : ByteStep) : Type 0 where
+  pub same : SameStep step (quiet end)
+  pub unmarked : step.end.station.took_write ≡ false
+
+abbrev pub NopHasNoEffect : Type 0
+NopHasNoEffect = (old : ByteEnd) (end : TermEnd) (step : ByteStep)
+    → IsOpen end.talk.talk.state → IsEnd old end → EndTakes old no_operation step → IsUnmoved end step
 
 -- a paint that finds the terminal bound
 abbrev pub is_painted : TermEnd → ToTerminal → Bool

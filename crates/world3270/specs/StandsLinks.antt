@@ -10,42 +10,43 @@ use Rattle.telnet_wire.specs.Items.{WireItem, CanCome, sent_bytes}
 use Rattle.telnet_wire.specs.Reading.{Rest, nothing, Delivers}
 use Rattle.term_core.specs.Presses.{key_outcome}
 use Rattle.tn3270e_msg.specs.Header.{record_limit}
+use Rattle.host_core.specs.KeepAlive.{no_operation}
 use Rattle.host_core.specs.Messages.{ToTerminal, ToHost}
 use Rattle.host_core.specs.Session.{Conn, new_conn}
 use Rattle.world3270.specs.Always.{is_refusal}
 use Rattle.world3270.specs.Link.{Link, begun, sent, host_left, term_left, term_stepped}
 use Rattle.world3270.specs.TrackedTerminals.{TrackedTerminal, TrackedTakesByte, TrackedTakes, newly_tracked, tracked_after_key}
 use Rattle.world3270.specs.Stands.{StandsDown, StandsUp, BytesStand, ByteLink, LinkStands}
-use Rattle.world3270.specs.StandsEnds.{MayCome, is_painted}
+use Rattle.world3270.specs.StandsEnds.{IsOpen, MayCome, is_painted}
 use Rattle.world3270.specs.Terminal.{TermEnd, took, key_came}
 use Rattle.world3270.specs.World.{World}
 
 -- ---- what is under way
 
 -- No bytes represent no messages.
-abbrev pub NothingStands : {X : Type 0} → (WireItem → X → Type 0) → Type 0
-NothingStands Stands = BytesStand Stands nothing [] []
+abbrev pub NothingStands : {X : Type 0} → (List WireItem → List WireItem) → (WireItem → X → Type 0) → Type 0
+NothingStands spoken Stands = BytesStand spoken Stands nothing [] []
 
 -- A queue with new items appended represents its messages with new ones appended.
-abbrev pub StandsCompose : {X : Type 0} → (WireItem → X → Type 0) → Type 0
-StandsCompose {X} Stands = (rest : Rest) (bytes : List ℕ) (messages more : List X) (items : List WireItem)
-    → BytesStand Stands rest bytes messages → AllByRecursion (CanCome record_limit) items → Pairwise Stands items more
-    → BytesStand Stands rest (bytes ++ sent_bytes items) (messages ++ more)
+abbrev pub StandsCompose : {X : Type 0} → (List WireItem → List WireItem) → (WireItem → X → Type 0) → Type 0
+StandsCompose {X} spoken Stands = (rest : Rest) (bytes : List ℕ) (messages more : List X) (items : List WireItem)
+    → BytesStand spoken Stands rest bytes messages → AllByRecursion (CanCome record_limit) items → Pairwise Stands (spoken items) more
+    → BytesStand spoken Stands rest (bytes ++ sent_bytes items) (messages ++ more)
 
 -- some of the messages are taken, and the others stay
-pub record TakesSome {X : Type 0} (Stands : WireItem → X → Type 0) (mid : Rest) (behind : List ℕ) (items : List WireItem) (messages : List X) : Type 0 where
+pub record TakesSome {X : Type 0} (spoken : List WireItem → List WireItem) (Stands : WireItem → X → Type 0) (mid : Rest) (behind : List ℕ) (items : List WireItem) (messages : List X) : Type 0 where
   pub taken : List X
   pub others : List X
   pub whole : messages ≡ taken ++ others
-  pub each : Pairwise Stands items taken
-  pub stands : BytesStand Stands mid behind others
+  pub each : Pairwise Stands (spoken items) taken
+  pub stands : BytesStand spoken Stands mid behind others
 
 -- The bytes taken off the front deliver items that represent the first messages, and the bytes
 -- after them represent the others.
-abbrev pub StandsGoOn : {X : Type 0} → (WireItem → X → Type 0) → Type 0
-StandsGoOn {X} Stands = (rest mid : Rest) (bytes behind : List ℕ) (items : List WireItem) (messages : List X)
-    → BytesStand Stands rest (bytes ++ behind) messages → Delivers record_limit rest bytes items mid
-    → TakesSome Stands mid behind items messages
+abbrev pub StandsGoOn : {X : Type 0} → (List WireItem → List WireItem) → (WireItem → X → Type 0) → Type 0
+StandsGoOn {X} spoken Stands = (rest mid : Rest) (bytes behind : List ℕ) (items : List WireItem) (messages : List X)
+    → BytesStand spoken Stands rest (bytes ++ behind) messages → Delivers record_limit rest bytes items mid
+    → TakesSome spoken Stands mid behind items messages
 
 -- ---- a connection at its begin
 
@@ -79,10 +80,10 @@ PressStands = (key : Key) (bytes : ByteLink) (link : Link) (terminal : ℕ)
     → LinkStands bytes link → link.term_here ≡ Some terminal → IsSendable (key_outcome key bytes.tracked.terminal.station).screen
     → LinkStands (handed_on (tracked_after_key key bytes.tracked) bytes) (term_stepped (key_came key link.term) link.down link)
 
--- each message may come when it does
+-- each message may come when it does, and the talk goes on before each and after the last
 abbrev pub MayComeAll : TermEnd → List ToTerminal → Type 0
-MayComeAll end [] = ⊤
-MayComeAll end (message ∷ messages) = MayCome end message × MayComeAll (took end message).end messages
+MayComeAll end [] = IsOpen end.talk.talk.state
+MayComeAll end (message ∷ messages) = IsOpen end.talk.talk.state × MayCome end message × MayComeAll (took end message).end messages
 
 -- and none of them closes the connection
 abbrev pub NoneCloses : TermEnd → List ToTerminal → Type 0
@@ -168,6 +169,10 @@ abbrev pub HostSends : Type 0
 HostSends = (bytes : ByteLink) (link : Link) (conn : Conn) (items : List WireItem) (messages : List ToTerminal)
     → LinkStands bytes link → AllByRecursion (CanCome record_limit) items → Pairwise StandsDown items messages
     → LinkStands (said_down conn items bytes) (sent_down conn messages link)
+
+-- It still represents the same one after the host says NOP.
+abbrev pub NopStands : Type 0
+NopStands = (bytes : ByteLink) (link : Link) → LinkStands bytes link → LinkStands (said_down bytes.host (no_operation ∷ []) bytes) link
 
 -- the first of the messages were delivered up, and the others are still under way
 pub record CameUp (bytes : ByteLink) (link : Link) (items : List WireItem) : Type 0 where

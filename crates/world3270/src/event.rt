@@ -20,6 +20,8 @@ pub enum Event {
     Act(usize),
     /// The host sends a note.
     Note(usize, NoteText),
+    /// The host sends NOP, so that TCP notices a peer that is gone.
+    KeepAlive(usize),
     /// The connection is lost.
     Lose(usize),
     /// The host sees that the connection is lost.
@@ -72,6 +74,7 @@ pub(crate) fn events_are_real(event: &Event)
             // For the contract: it is a note's text.
             let _text = text.text();
         }
+        Event::KeepAlive(_) => {}
         Event::Lose(_) => {}
         Event::HostSees(_) => {}
         Event::TermSees(_) => {}

@@ -16,10 +16,10 @@ ghost use Rattle.world3270.specs.Refines.{BeginIsReached, HeadlineIsSeen, RunsGo
 ghost use Rattle.world3270.specs.TrackedTerminals.{HistoryFollows};
 ghost use Rattle.world3270.specs.Sendable.{AlwaysTyped, DataCanBeSpelt, PaintsAreScreens, PaintsAreSpelt, ScreensAreSendable, ScreensKeepTheirShape, ValuesAreTexts};
 ghost use Rattle.world3270.specs.Skipped.{SkippedChangesNothing};
-ghost use Rattle.world3270.specs.Stands.{StandsDown, StandsUp};
-ghost use Rattle.world3270.specs.StandsEnds.{PaintStands, TakesKeepSendable, TermPresses, TermTakes, WritesAreMarked};
+ghost use Rattle.world3270.specs.Stands.{StandsDown, StandsUp, all_items, without_nops};
+ghost use Rattle.world3270.specs.StandsEnds.{NopHasNoEffect, PaintStands, TakesKeepSendable, TermPresses, TermTakes, WritesAreMarked};
 ghost use Rattle.world3270.specs.Unbroken.{DeliveriesCloseNothing, NobodyCloses, NobodyHasRefused, NothingIsRefused, TerminalsRefuseNothing, UnderWayRefusesNothing};
-ghost use Rattle.world3270.specs.StandsLinks.{BeginStands, BytesAreMarked, DownIsNotRefused, DownStands, HostLeaves, HostSends, LossStands, NothingStands, PressStands, StandsCompose, StandsGoOn, TermLeaves, UpStands, WhatComesMayCome};
+ghost use Rattle.world3270.specs.StandsLinks.{BeginStands, BytesAreMarked, DownIsNotRefused, DownStands, HostLeaves, HostSends, LossStands, NopStands, NothingStands, PressStands, StandsCompose, StandsGoOn, TermLeaves, UpStands, WhatComesMayCome};
 
 use datastream::laws::{fields_both_ways, kept_since_the_write, sent_is_read, what_a_note_keeps};
 use host_core::laws::{notes_are_written, panels_are_shown, what_is_shown_fits};
@@ -176,30 +176,32 @@ pub fn the_runs_end_so()
 pub fn bytes_stand_for_messages()
     // A paint that fits the belief represents the wanted screen.
     ensures paint { PaintStands }
-    // A terminal makes of an item, and of a key, what it makes of them over messages. An item is
-    // marked as a write exactly if it represents a paint that finds the terminal bound. Whatever
-    // bytes it takes, there is a history of them.
+    // A terminal makes of an item, and of a key, what it makes of them over messages; and nothing of
+    // NOP. An item is marked as a write exactly if it represents a paint that finds the terminal
+    // bound. Whatever bytes it takes, there is a history of them.
     ensures takes { TermTakes }
+    ensures nop { NopHasNoEffect }
     ensures marks { WritesAreMarked }
     ensures history { HistoryFollows }
     ensures sendable { TakesKeepSendable }
     ensures presses { TermPresses }
     // Bytes represent messages however they are cut, as they are sent and as they are taken.
-    ensures down_empty { NothingStands StandsDown }
-    ensures up_empty { NothingStands StandsUp }
-    ensures down_more { StandsCompose StandsDown }
-    ensures up_more { StandsCompose StandsUp }
-    ensures down_taken { StandsGoOn StandsDown }
-    ensures up_taken { StandsGoOn StandsUp }
+    ensures down_empty { NothingStands without_nops StandsDown }
+    ensures up_empty { NothingStands all_items StandsUp }
+    ensures down_more { StandsCompose without_nops StandsDown }
+    ensures up_more { StandsCompose all_items StandsUp }
+    ensures down_taken { StandsGoOn without_nops StandsDown }
+    ensures up_taken { StandsGoOn all_items StandsUp }
     // A connection that begins represents one over messages that begins. It still does after a key,
-    // a delivery in either direction, a message from the host, a loss, and after an end left it. A
-    // byte down is marked as a write exactly if it completes such a paint.
+    // a delivery in either direction, a message or NOP from the host, a loss, and after an end left
+    // it. A byte down is marked as a write exactly if it completes such a paint.
     ensures begin { BeginStands }
     ensures press { PressStands }
     ensures down { DownStands }
     ensures down_marked { BytesAreMarked }
     ensures not_refused { DownIsNotRefused }
     ensures host_sends { HostSends }
+    ensures nop_sent { NopStands }
     ensures up { UpStands }
     ensures loss { LossStands }
     ensures host_leaves { HostLeaves }
@@ -238,8 +240,9 @@ fn what_is_known()
 /// Law: how the world over bytes follows the world over messages. Callers can apply it to a world
 /// in hand, by [`World::represents_messages`]. A world that begins represents one over messages
 /// that begins. After each event it represents the world after more events: one delivery for each
-/// item that the bytes complete at the receiver, or that one event. An event is skipped exactly if
-/// it is skipped over messages. The headline holds of what is seen of each such world. Bytes that
+/// item but NOP that the bytes complete at the receiver; nothing for keeping a connection alive; or
+/// that one event. An event is skipped exactly if it is skipped over messages, but for a delivery of
+/// NOPs alone. The headline holds of what is seen of each such world. Bytes that
 /// come up or down close no connection; no end ever closes one by a cause; and no response refuses
 /// a command, also if it is under way to a host that has left.
 pub fn bytes_follow_messages()

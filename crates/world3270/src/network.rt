@@ -324,6 +324,18 @@ impl Network {
         }
     }
 
+    /// The host keeps a connection alive: it sends NOP. Skipped unless the connection is bound and
+    /// nothing is to be sent there.
+    pub(crate) fn keep_alive(&mut self, conn: usize) -> Stepped
+        ensures { Steps (event.KeepAlive conn) self.old result self.new }
+    {
+        if conn < MOST_CONNECTIONS {
+            acted_as(self.host.keep_alive(conn))
+        } else {
+            Stepped::Skipped
+        }
+    }
+
     /// A terminal sees that its connection is lost, and leaves it.
     pub(crate) fn term_sees(&mut self, terminal: usize) -> Stepped
         ensures { Steps (event.TermSees terminal) self.old result self.new }
@@ -593,6 +605,7 @@ impl Network {
             Event::Down(conn, count) => self.bring_down(*conn, *count),
             Event::Act(conn) => self.act(*conn),
             Event::Note(conn, text) => self.note(*conn, text),
+            Event::KeepAlive(conn) => self.keep_alive(*conn),
             Event::Lose(conn) => self.lose(*conn),
             Event::HostSees(conn) => self.host_sees(*conn),
             Event::TermSees(terminal) => self.term_sees(*terminal),

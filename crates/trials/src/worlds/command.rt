@@ -8,6 +8,7 @@
 //! down C N          N of them are delivered down to the terminal, likewise
 //! act C             the host acts
 //! note C TEXT       the host sends this note
+//! keepalive C       the host sends NOP
 //! lose C            the connection is lost
 //! hostsees C        the host sees that
 //! termsees T        the terminal sees that
@@ -45,6 +46,7 @@ pub(crate) enum EventWord {
     Down,
     Act,
     Note,
+    KeepAlive,
     Lose,
     HostSees,
     TermSees,
@@ -78,7 +80,7 @@ pub(crate) enum Word {
     Unknown,
 }
 
-pub(crate) static WORDS: [(&str, Word); 22] = [
+pub(crate) static WORDS: [(&str, Word); 23] = [
     ("panels", Word::Panels),
     ("world", Word::World),
     ("|", Word::Text),
@@ -91,6 +93,7 @@ pub(crate) static WORDS: [(&str, Word); 22] = [
     ("down", Word::At(Command::Do(EventWord::Down))),
     ("act", Word::At(Command::Do(EventWord::Act))),
     ("note", Word::At(Command::Do(EventWord::Note))),
+    ("keepalive", Word::At(Command::Do(EventWord::KeepAlive))),
     ("lose", Word::At(Command::Do(EventWord::Lose))),
     ("hostsees", Word::At(Command::Do(EventWord::HostSees))),
     ("termsees", Word::At(Command::Do(EventWord::TermSees))),
@@ -116,6 +119,7 @@ pub(crate) fn scripted_event<'a>(
         EventWord::Down => ScriptedEvent::Down(number, usize::from(number_of(rest)?)),
         EventWord::Act => ScriptedEvent::Act(number),
         EventWord::Note => ScriptedEvent::Note(number, rest),
+        EventWord::KeepAlive => ScriptedEvent::KeepAlive(number),
         EventWord::Lose => ScriptedEvent::Lose(number),
         EventWord::HostSees => ScriptedEvent::HostSees(number),
         EventWord::TermSees => ScriptedEvent::TermSees(number),

@@ -27,6 +27,7 @@ returns c =
       down = stands.down;
       not_refused = stands.not_refused;
       sends = stands.host_sends;
+      nop = stands.nop_sent;
       up = stands.up;
       loss = stands.loss;
       host_leaves = stands.host_leaves;
