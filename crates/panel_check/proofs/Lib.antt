@@ -1,0 +1,4 @@
+pub mod Counting
+pub mod Exclusive
+pub mod LuNames
+pub mod Reporting

@@ -1,0 +1,4 @@
+pub mod Pages
+pub mod PanelText
+pub mod Report
+pub mod Verdict

@@ -1,0 +1,16 @@
+-- The panel text in an input, which a script may follow (our profile). Lines end with LF, or with CR and LF.
+use Rattle.std.specs.Prelude.{ℕ, ◌+◌, ◌==◌, ◌&&◌, ◌||◌, Bool, true, List, [], ◌∷◌, codes, bytes_eq, nat_eq, take, if◌then◌else◌}
+use Rattle.std.specs.List.{starts_with}
+
+-- the text begins with a line `%%`
+abbrev pub is_at_mark : List ℕ → Bool
+is_at_mark text = bytes_eq text (codes "%%") || (starts_with nat_eq text (codes "%%\n") || starts_with nat_eq text (codes "%%\r\n"))
+
+-- The index of the first line `%%`; the text's length if there is no such line. `begins`: a line begins here.
+abbrev pub mark_place : Bool → List ℕ → ℕ
+mark_place begins [] = 0
+mark_place begins (char ∷ text) = if begins && is_at_mark (char ∷ text) then 0 else 1 + mark_place (char == 10) text
+
+-- the panel text, before that line
+abbrev pub panel_text : List ℕ → List ℕ
+panel_text input = take (mark_place true input) input

@@ -1,0 +1,106 @@
+//! All that is found in a panel text, in the order of its lines.
+use crate::finding::{Cause, Finding};
+use crate::items::check_items;
+use crate::lines::Lines;
+use crate::lus::check_lus;
+use crate::names::check_names;
+use crate::notes::Notes;
+use crate::rules::{FIELD_RULES, PANEL_RULES, TOP_RULES, check_keys, text_rules};
+use crate::spot::Spot;
+use crate::survey::{PanelEntry, Survey};
+use crate::targets::check_targets;
+use panels::TreeFault;
+use std::alloc::{AllocError, Global};
+use toml::Table;
+use toml::de::Error;
+
+/// Notes that a text isn't TOML.
+fn note_no_toml(notes: &mut Notes, text: &str, error: &Error) -> Result<(), AllocError> {
+    let Some(span) = error.span() else {
+        return Err(AllocError);
+    };
+    let before = text.as_bytes().get(..span.start).unwrap_or(&[]);
+    let ends = before.iter().filter(|byte| **byte == b'\n').count();
+    let message = String::from_str(notes.alloc, error.message())?;
+    notes.add(Cause::NotToml, ends.saturating_add(1), "", message)
+}
+
+/// Notes the values in a panel's table of keys that are no texts.
+fn check_key_values(notes: &mut Notes, panel: &PanelEntry, index: usize) -> Result<(), AllocError> {
+    let Some(keys) = panel.keys() else {
+        return Ok(());
+    };
+    for (key, value) in keys {
+        if value.is_str() {
+            continue;
+        }
+        let found = value.type_str();
+        let message = format!(in notes.alloc; "a key must have the name of a panel, not {found}")?;
+        let place = panel.place.as_str();
+        notes.at_key(
+            TreeFault::BadKind,
+            Spot::Keys(index),
+            key.as_str(),
+            place,
+            message,
+        )?;
+    }
+    Ok(())
+}
+
+/// Notes the faults of all keys and their values.
+fn check_shape(notes: &mut Notes, survey: &Survey) -> Result<(), AllocError> {
+    check_keys(notes, &TOP_RULES, survey.top, Spot::Top, "")?;
+    for (index, panel) in survey.panels.iter().enumerate() {
+        check_keys(
+            notes,
+            &PANEL_RULES,
+            panel.table,
+            panel.spot,
+            panel.place.as_str(),
+        )?;
+        for text in &panel.texts {
+            let rules = text_rules(text.table);
+            check_keys(notes, rules, text.table, text.spot, text.place.as_str())?;
+        }
+        for field in &panel.fields {
+            check_keys(
+                notes,
+                &FIELD_RULES,
+                field.table,
+                field.spot,
+                field.place.as_str(),
+            )?;
+        }
+        check_key_values(notes, panel, index)?;
+    }
+    Ok(())
+}
+
+/// Notes all that is found in a tree.
+fn check_tree(notes: &mut Notes, top: &Table) -> Result<(), AllocError> {
+    let survey = Survey::of(notes.alloc, top)?;
+    check_shape(notes, &survey)?;
+    check_names(notes, &survey)?;
+    check_items(notes, &survey)?;
+    check_targets(notes, &survey)?;
+    check_lus(notes, top)
+}
+
+/// All that is found in a panel text, in the order of its lines.
+pub(crate) fn explain(alloc: Global, text: &str) -> Result<Vec<Finding>, AllocError> {
+    let lines = Lines::of_text(alloc, text)?;
+    let findings = Vec::new(alloc);
+    let mut notes = Notes {
+        alloc,
+        lines,
+        findings,
+    };
+    match toml::table_from_str(alloc, text) {
+        Ok(top) => check_tree(&mut notes, &top)?,
+        Err(error) => note_no_toml(&mut notes, text, &error)?,
+    }
+    let Notes { mut findings, .. } = notes;
+    findings.sort_by_key(|finding| finding.line)?;
+    Ok(findings)
+}

@@ -1,0 +1,221 @@
+//! The report on a panel text.
+ghost use Rattle.std.specs.Prelude.{◌≡◌, ◌++◌, IfOk, IsTrue, OnOk, string_bytes};
+ghost use Rattle.panel_check.specs.Pages.{count_text, findings_text, outcome_text, page_text, plural, sizes_text, summary_text, warnings_text};
+ghost use Rattle.panel_check.specs.PanelText.{panel_text};
+ghost use Rattle.panel_check.specs.Report.{HasCause, HasFirstCause, IsFaultlessIfAccepted, fault_count};
+
+use crate::explain::explain;
+use crate::finding::{Cause, Finding};
+use crate::judge::{Sizes, Verdict, judge};
+use crate::part::panel_part;
+use panels::PanelFault;
+use std::alloc::{AllocError, Global};
+
+/// What is found in a panel text, in the order of its lines.
+#[derive(Debug, Drop)]
+pub struct Report {
+    pub findings: Vec<Finding>,
+    /// How much the text has, if it has no fault.
+    pub sizes: Option<Sizes>,
+    /// Whether the faults that were found here agree with the readers, so that none had to be left
+    /// out or added.
+    pub agrees: bool,
+}
+
+/// A finding that says no more than the readers do.
+fn plain(alloc: Global, cause: Cause) -> Result<Finding, AllocError>
+    ensures { IfOk result (λ finding. finding.cause ≡ cause) }
+{
+    let message = match cause {
+        Cause::Tree(fault, place) => {
+            let fault = PanelFault::Tree(fault, place);
+            format!(in alloc; "{fault}")?
+        }
+        Cause::Lus(fault) => format!(in alloc; "{fault}")?,
+        Cause::NotToml | Cause::TextWraps | Cause::FillNotNumeric | Cause::NoKeyLeads => {
+            String::from_str(alloc, "not TOML")?
+        }
+    };
+    Ok(Finding {
+        cause,
+        line: 1,
+        place: String::new(alloc),
+        message,
+    })
+}
+
+/// These findings; none of them if one is a fault.
+fn unless_faulty(alloc: Global, findings: Vec<Finding>) -> Vec<Finding>
+    ensures { fault_count result.items ≡ 0 }
+{
+    if count_faults(&findings) == 0 {
+        findings
+    } else {
+        Vec::new(alloc)
+    }
+}
+
+/// Adds a finding for a cause, unless there is one.
+fn with_cause(
+    alloc: Global,
+    mut findings: Vec<Finding>,
+    cause: Cause,
+) -> Result<Vec<Finding>, AllocError>
+    ensures { IfOk result (λ all. HasCause cause all.items) }
+{
+    if has_cause(&findings, cause) {
+        return Ok(findings);
+    }
+    // The readers tell no line, so it comes first.
+    findings.insert(0, plain(alloc, cause)?)?;
+    Ok(findings)
+}
+
+/// Whether a finding is of a cause.
+fn is_of(finding: &Finding, cause: Cause) -> bool
+    ensures { IsTrue result → finding.now.cause ≡ cause }
+{
+    finding.cause == cause
+}
+
+/// Whether a finding of a cause is there.
+fn has_cause(findings: &[Finding], cause: Cause) -> bool
+    ensures { IsTrue result → HasCause cause findings.now }
+{
+    for finding in findings {
+        if is_of(finding, cause) {
+            return true;
+        }
+    }
+    false
+}
+
+/// How many faults there are.
+fn count_faults(findings: &[Finding]) -> usize
+    ensures { result ≡ fault_count findings.now }
+{
+    findings
+        .iter()
+        .filter(|finding| finding.cause.is_fault())
+        .count()
+}
+
+/// The report on a panel text: everything up to a line `%%`. `PanelSet::read` and `Pool::read` decide: if they accept the text, the
+/// report has only warnings; if they refuse it, the fault for which they do is among its faults.
+///
+/// Err only if memory is refused.
+pub fn check(alloc: Global, text: &str) -> Result<Report, AllocError>
+    ensures faultless { IfOk result (λ report. IsFaultlessIfAccepted (panel_text text.now) report.findings.items) }
+    ensures reason { IfOk result (λ report. HasFirstCause (panel_text text.now) report.findings.items) }
+{
+    // For the contract.
+    panels::laws::a_text_defines_its_panels_once();
+    let text = panel_part(text);
+    let findings = explain(alloc, text)?;
+    match judge(alloc, text)? {
+        Verdict::Accepted(sizes) => {
+            let agrees = count_faults(&findings) == 0;
+            Ok(Report {
+                findings: unless_faulty(alloc, findings),
+                sizes: Some(sizes),
+                agrees,
+            })
+        }
+        Verdict::Refused(cause) => {
+            let agrees = has_cause(&findings, cause);
+            Ok(Report {
+                findings: with_cause(alloc, findings, cause)?,
+                sizes: None,
+                agrees,
+            })
+        }
+    }
+}
+
+fn plural(count: usize) -> &'static str
+    ensures { result.now ≡ plural count }
+{
+    if count == 1 { "" } else { "s" }
+}
+
+/// Adds a count of things.
+fn put_count(page: &mut String, count: usize, thing: &str) -> Result<(), AllocError>
+    ensures { OnOk result (string_bytes page.new ≡ string_bytes page.old ++ count_text count thing.now) }
+{
+    let ending = plural(count);
+    write!(page, "{count} {thing}{ending}")
+}
+
+/// Adds how much a text has.
+fn put_sizes(page: &mut String, sizes: Sizes) -> Result<(), AllocError>
+    ensures { OnOk result (string_bytes page.new ≡ string_bytes page.old ++ sizes_text sizes) }
+{
+    page.push_str("ok: ")?;
+    put_count(page, sizes.panels, "panel")?;
+    page.push_str(", ")?;
+    put_count(page, sizes.fields, "field")?;
+    page.push_str(", ")?;
+    put_count(page, sizes.lus, "LU")
+}
+
+/// Adds how much a text has, or how many faults.
+fn put_outcome(page: &mut String, sizes: Option<Sizes>, faults: usize) -> Result<(), AllocError>
+    ensures { OnOk result (string_bytes page.new ≡ string_bytes page.old ++ outcome_text sizes faults) }
+{
+    match sizes {
+        Some(sizes) => put_sizes(page, sizes),
+        None => put_count(page, faults, "fault"),
+    }
+}
+
+/// Adds how many warnings there are, if any.
+fn put_warnings(page: &mut String, count: usize) -> Result<(), AllocError>
+    ensures { OnOk result (string_bytes page.new ≡ string_bytes page.old ++ warnings_text count) }
+{
+    if count == 0 {
+        return Ok(());
+    }
+    page.push_str(", ")?;
+    put_count(page, count, "warning")
+}
+
+/// Adds a line for each finding, with the name of the file.
+fn put_findings(page: &mut String, name: &str, findings: &[Finding]) -> Result<(), AllocError>
+    ensures { OnOk result (string_bytes page.new ≡ string_bytes page.old ++ findings_text name.now findings.now) }
+{
+    for finding in findings {
+        writeln!(page, "{name}:{finding}")?;
+    }
+    Ok(())
+}
+
+impl Report {
+    /// How many faults there are.
+    pub fn faults(&self) -> usize
+        ensures { result ≡ fault_count self.now.findings.items }
+    {
+        count_faults(&self.findings)
+    }
+
+    /// Adds the last line: how much the text has, or how many faults.
+    fn put_summary(&self, page: &mut String) -> Result<(), AllocError>
+        ensures { OnOk result (string_bytes page.new ≡ string_bytes page.old ++ summary_text self.now) }
+    {
+        let faults = self.faults();
+        put_outcome(page, self.sizes, faults)?;
+        put_warnings(page, self.findings.len().saturating_sub(faults))?;
+        page.push('\n')
+    }
+
+    /// The report as text: a line for each finding, with the name of the file, and one that sums up.
+    ///
+    /// Err only if memory is refused.
+    pub fn page(&self, alloc: Global, name: &str) -> Result<String, AllocError>
+        ensures { IfOk result (λ page. string_bytes page ≡ page_text name.now self.now) }
+    {
+        let mut page = String::new(alloc);
+        put_findings(&mut page, name, &self.findings)?;
+        self.put_summary(&mut page)?;
+        Ok(page)
+    }
+}
