@@ -99,6 +99,7 @@ happens (event.Up number count) old answer new comes =
 happens (event.Down number count) old answer new comes = came_down (terminal_at number old.slots) number _ old answer new comes
 happens (event.Act number) old answer new acts = as_many _ old new acts.leaves refl
 happens (event.Note number text) old answer new acts = as_many _ old new acts.leaves refl
+happens (event.KeepAlive number) old answer new is = as_many _ old new is.1 refl
 happens (event.Lose number) old answer new is = as_many _ old new is.1 refl
 happens (event.HostSees number) old answer new is = as_many _ old new is.1 refl
 happens (event.TermSees terminal) old answer new is = as_many _ old new is.1 (sees terminal (slot_at terminal old).at old)

@@ -15,6 +15,11 @@ pub mod Rounds
 pub mod Typing
 pub mod Playing
 pub mod LuNames
+pub mod Addresses
+pub mod WordWalk
 pub mod ClapJobs
 pub mod TermLines
 pub mod TextTyped
+pub mod Checking
+pub mod Appended
+pub mod ScrapeLemmas

@@ -98,14 +98,14 @@ module _ {S : Type 0} (sockets : Sockets S) (conn : ℕ) (absent : length socket
 
   pub gives_nothing : (gave : S → ℕ → List ℕ → Result ℕ Error → S → Type 0) (room : ℕ) → GivesAt gave sockets conn room [] read.NotNow sockets
   gives_nothing gave room = record {
-    gives = subst (λ (it : SocketSlot S). Gives gave it room [] read.NotNow it) nobody (unread refl refl, refl, refl, refl, refl);
+    gives = subst (λ (it : SocketSlot S). Gives gave it room [] read.NotNow it) nobody (unread refl refl, refl, refl, refl, refl, refl, refl);
     moved = sym (or-false sockets.moved);
     others = sym (set-get_or sockets.slots conn unused);
   }
 
   pub takes_nothing : (took : S → List ℕ → Result ℕ Error → S → Type 0) (bytes : List ℕ) → TakesAt took sockets conn bytes write.NotNow sockets
   takes_nothing took bytes = record {
-    takes = subst (λ (it : SocketSlot S). Takes took it bytes write.NotNow it) nobody (unwritten refl refl, refl, refl, refl);
+    takes = subst (λ (it : SocketSlot S). Takes took it bytes write.NotNow it) nobody (unwritten refl refl, refl, refl, refl, refl, refl);
     moved = sym (or-false sockets.moved);
     others = sym (set-get_or sockets.slots conn unused);
   }

@@ -1,5 +1,5 @@
 -- The connections of a host over sockets (our profile): the socket of each connection number, and what a read and a write of it do.
-use Rattle.std.specs.Prelude.{◌≡◌, ◌<◌, ◌≤◌, ◌+◌, ◌-◌, ◌^◌, ◌&&◌, ◌||◌, ⊤, ℕ, Bool, true, false, not, ltb, List, [], length, replicate, slice_set, slice_index_or, Option, Some, None, is_some, Result}
+use Rattle.std.specs.Prelude.{◌≡◌, ◌<◌, ◌≤◌, ◌+◌, ◌-◌, ◌^◌, min, ◌&&◌, ◌||◌, ⊤, ℕ, Bool, true, false, not, ltb, List, [], length, replicate, slice_set, slice_index_or, Option, Some, None, is_some, Result}
 use Rattle.std.specs.declared.io.Error.{Error}
 use Rattle.host_core.specs.State.{most_connections}
 use Rattle.host_core.specs.declared.links.LinkRead.{LinkRead}
@@ -8,16 +8,18 @@ use Rattle.host_core.specs.declared.links.LinkWrite.{LinkWrite}
 use Rattle.host_core.specs.declared.links.LinkWrite.TheVariants as write
 use Rattle.jobs3270.specs.RawCalls.{link_read, link_write}
 
--- The slot of a connection number: the socket, if there is a connection; the number of bytes that wait to be sent; and how many of the
--- number's connections ended and failed.
+-- The slot of a connection number: the socket, if there is a connection; the number of bytes that wait to be sent; how many of the
+-- number's connections ended and failed; and how many bytes the connection's socket gave and took.
 pub record SocketSlot (S : Type 0) : Type 0 where
   pub socket : Option S
   pub waiting : ℕ
   pub ends : ℕ
   pub failures : ℕ
+  pub received : ℕ
+  pub sent : ℕ
 
 abbrev pub unused : {S : Type 0} → SocketSlot S
-unused = record { socket = None; waiting = 0; ends = 0; failures = 0 }
+unused = record { socket = None; waiting = 0; ends = 0; failures = 0; received = 0; sent = 0 }
 
 abbrev pub is_connected : {S : Type 0} → SocketSlot S → Bool
 is_connected slot = is_some slot.socket
@@ -47,6 +49,10 @@ last_count = 2 ^ 64 - 1
 abbrev pub Raises : Bool → ℕ → ℕ → Type 0
 Raises true old new = (old < last_count) × (new ≡ old + 1)
 Raises false old new = (old ≡ last_count) × (new ≡ old)
+
+-- a count of bytes with these more; it stays at its last value
+abbrev pub counted : (count more : ℕ) → ℕ
+counted count more = min (count + more) last_count
 
 -- ---- one call of a socket
 
@@ -94,16 +100,20 @@ module _ {S : Type 0} where
     end_uncounted : ReadsSocket gave old room [] read.Ended new → old.ends ≡ last_count → GivesNothing gave old room new
     failure_uncounted : ReadsSocket gave old room [] read.Failed new → old.failures ≡ last_count → GivesNothing gave old room new
 
-  -- What a read gives, and the slot after it: the count rises at an end and at a failure.
+  -- What a read gives, and the slot after it: a count rises by the bytes that came, at an end and at a failure.
   abbrev pub Gives : (gave : S → ℕ → List ℕ → Result ℕ Error → S → Type 0) → SocketSlot S → ℕ → List ℕ → LinkRead → SocketSlot S → Type 0
   Gives gave old room bytes (read.Got count) new = ReadsSocket gave old room bytes (read.Got count) new
       × (0 < count) × (length bytes ≡ count) × (new.waiting ≡ old.waiting) × (new.ends ≡ old.ends) × (new.failures ≡ old.failures)
+      × (new.received ≡ counted old.received count) × (new.sent ≡ old.sent)
   Gives gave old room bytes read.NotNow new = GivesNothing gave old room new
       × (bytes ≡ []) × (new.waiting ≡ old.waiting) × (new.ends ≡ old.ends) × (new.failures ≡ old.failures)
+      × (new.received ≡ old.received) × (new.sent ≡ old.sent)
   Gives gave old room bytes read.Ended new = ReadsSocket gave old room bytes read.Ended new
       × (bytes ≡ []) × (new.waiting ≡ old.waiting) × (new.ends ≡ old.ends + 1) × (new.failures ≡ old.failures)
+      × (new.received ≡ old.received) × (new.sent ≡ old.sent)
   Gives gave old room bytes read.Failed new = ReadsSocket gave old room bytes read.Failed new
       × (bytes ≡ []) × (new.waiting ≡ old.waiting) × (new.ends ≡ old.ends) × (new.failures ≡ old.failures + 1)
+      × (new.received ≡ old.received) × (new.sent ≡ old.sent)
 
   -- ---- a write
 
@@ -122,14 +132,17 @@ module _ {S : Type 0} where
     takes_not_now : WritesSocket took old bytes write.NotNow new → TakesNothing took old bytes new
     write_uncounted : WritesSocket took old bytes write.Failed new → old.failures ≡ last_count → TakesNothing took old bytes new
 
-  -- What a write takes, and the slot after it: the count rises at a failure.
+  -- What a write takes, and the slot after it: a count rises by the bytes that were sent, and at a failure.
   abbrev pub Takes : (took : S → List ℕ → Result ℕ Error → S → Type 0) → SocketSlot S → List ℕ → LinkWrite → SocketSlot S → Type 0
   Takes took old bytes (write.Took count) new = WritesSocket took old bytes (write.Took count) new
       × (0 < count) × (count ≤ length bytes) × (new.waiting ≡ old.waiting) × (new.ends ≡ old.ends) × (new.failures ≡ old.failures)
+      × (new.received ≡ old.received) × (new.sent ≡ counted old.sent count)
   Takes took old bytes write.NotNow new = TakesNothing took old bytes new
       × (new.waiting ≡ old.waiting) × (new.ends ≡ old.ends) × (new.failures ≡ old.failures)
+      × (new.received ≡ old.received) × (new.sent ≡ old.sent)
   Takes took old bytes write.Failed new = WritesSocket took old bytes write.Failed new
       × (new.waiting ≡ old.waiting) × (new.ends ≡ old.ends) × (new.failures ≡ old.failures + 1)
+      × (new.received ≡ old.received) × (new.sent ≡ old.sent)
 
 -- ---- all numbers
 
@@ -155,9 +168,9 @@ module _ {S : Type 0} where
   abbrev pub failures_at : ℕ → Sockets S → ℕ
   failures_at conn sockets = (slot_at conn sockets).failures
 
-  -- a connection begins, a connection ends, or the number of waiting bytes is set
+  -- a connection begins, a connection ends, or the number of waiting bytes is set; the numbers of bytes stay after the end
   abbrev pub opened : S → SocketSlot S → SocketSlot S
-  opened socket slot = record slot { socket = Some socket; waiting = 0 }
+  opened socket slot = record slot { socket = Some socket; waiting = 0; received = 0; sent = 0 }
 
   abbrev pub emptied : SocketSlot S → SocketSlot S
   emptied slot = record slot { socket = None; waiting = 0 }

@@ -1,79 +1,59 @@
--- The job of the program's arguments, and the usage (our profile). The first argument names the job. Its options follow in any order,
--- each at most once. The crate clap says in its specs/Walk and specs/Faults how arguments spell a subcommand and its options; this
--- module has the subcommands and options.
-use Rattle.std.specs.Prelude.{◌≡◌, ⊤, ℕ, ◌&&◌, Bool, true, false, nat_le, List, [], ◌∷◌, Option, Some, None, codes, bytes_eq, option_map, if◌then◌else◌}
+-- The job of the program's arguments (our profile). The first argument names the job. Its options follow in any order, each at most
+-- once. The crate clap says in its specs/Walk and specs/Faults how arguments spell a subcommand and its options; Topics has the
+-- subcommands and options. `--help` or `-h` in any place, and `--version` in place of a job, are those that clap adds by itself.
+use Rattle.std.specs.Prelude.{◌≡◌, ◌⊎◌, ⊤, ℕ, Bool, true, false, List, [], ◌∷◌, ◌++◌, map, Option, Some, None, codes, bytes_eq, option_map, unwrap_or, if◌then◌else◌}
 use Rattle.std.specs.Option.{option_and_then, option_map_or}
+use Rattle.std.specs.declared.net.ip_addr.IpAddr.{IpAddr}
+use Rattle.clap.specs.Kinds.{IsAmong}
 use Rattle.clap.specs.Walk.{Row, Rule, first_of, is_empty}
 use Rattle.clap.specs.Simple.{App, Shape, new_rule, new_shape, subcommand_of}
 use Rattle.clap.specs.Faults.{fault_of}
+use Rattle.clap.specs.declared.builder.action.ArgAction.TheVariants.{SetTrue}
+use Rattle.clap.specs.declared.error.kind.ErrorKind.{ErrorKind}
+use Rattle.clap.specs.declared.error.kind.ErrorKind.TheVariants as kind
 use Rattle.tn3270e_msg.specs.Lu.{lu_of}
-use Rattle.jobs3270.specs.ScriptLines.{number_of}
+use Rattle.jobs3270.specs.OptionValues.{address_of, port_of, seconds_of, service_port_of, this_machine, turns_of, usual_idle, usual_keepalive, usual_negotiate, usual_turns}
+use Rattle.jobs3270.specs.Topics.{OptionRow, jobs, name_of, operand_of, options_of, takes_value, topic_named}
 use Rattle.jobs3270.specs.declared.job.Job.{Job}
 use Rattle.jobs3270.specs.declared.job.Job.TheVariants as job
+use Rattle.jobs3270.specs.declared.job.Topic.{Topic}
+use Rattle.jobs3270.specs.declared.job.Topic.TheVariants as topic
 use Rattle.jobs3270.specs.declared.job.WordFault.{WordFault}
 use Rattle.jobs3270.specs.declared.job.WordFault.TheVariants.{Refused, Memory}
+use Rattle.jobs3270.specs.declared.service.Service.{Service}
+use Rattle.jobs3270.specs.declared.service.TimeLimits.{TimeLimits}
 
 -- ---- the command line
 
--- an option, as `--port 5000` or `--port=5000`; whether it must be given
-abbrev pub option_rule : List ℕ → Bool → Rule
-option_rule name required = record (new_rule name) { long = Some name; required = required }
-
-abbrev pub port_rule : Rule
-port_rule = option_rule (codes "port") true
-
-abbrev pub turns_rule : Rule
-turns_rule = option_rule (codes "turns") false
-
-abbrev pub lu_rule : Rule
-lu_rule = option_rule (codes "lu") false
-
--- a job's name, and its options
-abbrev pub job_shape : List ℕ → List Rule → Shape
-job_shape name options = record (new_shape name) { rules = options }
-
-abbrev pub script_shape : Shape
-script_shape = job_shape (codes "script") []
-
-abbrev pub show_shape : Shape
-show_shape = job_shape (codes "show") []
-
-abbrev pub selfrun_shape : Shape
-selfrun_shape = job_shape (codes "selfrun") (turns_rule ∷ [])
-
-abbrev pub host_shape : Shape
-host_shape = job_shape (codes "host") (port_rule ∷ turns_rule ∷ [])
-
-abbrev pub serve_shape : Shape
-serve_shape = job_shape (codes "serve") (port_rule ∷ [])
-
-abbrev pub term_shape : Shape
-term_shape = job_shape (codes "term") (port_rule ∷ lu_rule ∷ [])
-
-abbrev pub program : App
-program = record {
-  top = record (new_shape (codes "panel3270")) { no_binary_name = true; is_leaf = false };
-  subs = script_shape ∷ show_shape ∷ selfrun_shape ∷ host_shape ∷ serve_shape ∷ term_shape ∷ [];
+-- an option, as `--port 5000` or `--port=5000`; a flag has no value
+abbrev pub option_rule : OptionRow → Rule
+option_rule option = record (new_rule option.name) {
+  long = Some option.name;
+  required = option.required;
+  action = if takes_value option.kind then None else Some SetTrue;
 }
 
--- ---- the values of options
+abbrev pub operand_rules : Option (List ℕ) → List Rule
+operand_rules None = []
+operand_rules (Some name) = new_rule name ∷ []
 
--- ports that need no privilege
-abbrev pub port_numbered : ℕ → Option ℕ
-port_numbered number = if nat_le 1024 number && nat_le number 65535 then Some number else None
+-- a job's name, options and operand
+abbrev pub job_shape : Topic → Shape
+job_shape topic = record (new_shape (name_of topic)) { rules = map option_rule (options_of topic) ++ operand_rules (operand_of topic) }
 
-abbrev pub turns_numbered : ℕ → Option ℕ
-turns_numbered number = if nat_le 1 number && nat_le number 1000000 then Some number else None
+-- the program; clap's own subcommand `help` isn't used
+abbrev pub program : App
+program = record {
+  top = record (new_shape (codes "panel3270")) {
+    no_binary_name = true;
+    is_leaf = false;
+    disable_help_subcommand = true;
+    has_version = true;
+  };
+  subs = map job_shape jobs;
+}
 
--- the number of turns if the option isn't given
-abbrev pub usual_turns : ℕ
-usual_turns = 10000
-
-abbrev pub port_of : List ℕ → Option ℕ
-port_of word = option_and_then port_numbered (number_of word)
-
-abbrev pub turns_of : List ℕ → Option ℕ
-turns_of word = option_and_then turns_numbered (number_of word)
+-- ---- what is given
 
 abbrev pub given_port : List Row → Option ℕ
 given_port options = option_and_then port_of (first_of (codes "port") options)
@@ -85,44 +65,99 @@ given_turns options = option_map_or turns_of (first_of (codes "turns") options) 
 abbrev pub given_lu : List Row → Option (Option (List ℕ))
 given_lu options = option_map_or (λ word. option_map Some (lu_of word)) (first_of (codes "lu") options) (Some None)
 
+abbrev pub given_service_port : List Row → Option ℕ
+given_service_port options = option_and_then service_port_of (first_of (codes "port") options)
+
+abbrev pub given_address : List Row → Option IpAddr
+given_address options = option_map_or address_of (first_of (codes "listen") options) (Some this_machine)
+
+-- an option of seconds; `usual` if it isn't given
+abbrev pub given_seconds : (name : List ℕ) → (usual : ℕ) → List Row → Option ℕ
+given_seconds name usual options = option_map_or seconds_of (first_of name options) (Some usual)
+
+-- none if the word is no port
+abbrev pub given_metrics : List Row → Option (Option ℕ)
+given_metrics options = option_map_or (λ word. option_map Some (service_port_of word)) (first_of (codes "metrics") options) (Some None)
+
+-- clap gives a flag that is there the value `true`
+abbrev pub is_quiet : List Row → Bool
+is_quiet options = option_map_or (λ word. bytes_eq word (codes "true")) (first_of (codes "quiet") options) false
+
+abbrev pub given_limits : List Row → Option TimeLimits
+given_limits options =
+    option_and_then (λ negotiate. option_and_then (λ keepalive. option_map (λ idle. record { negotiate = negotiate; keepalive = keepalive; idle = idle })
+    (given_seconds (codes "idle") usual_idle options))
+    (given_seconds (codes "keepalive") usual_keepalive options))
+    (given_seconds (codes "negotiate") usual_negotiate options)
+
+abbrev pub given_service : List Row → Option Service
+given_service options =
+    option_and_then (λ port. option_and_then (λ listen. option_and_then (λ limits. option_map (λ metrics. record {
+      listen = listen;
+      port = port;
+      limits = limits;
+      quiet = is_quiet options;
+      metrics = metrics;
+    }) (given_metrics options)) (given_limits options)) (given_address options)) (given_service_port options)
+
+-- the topic after `help`: the whole program if no job is named
+abbrev pub given_topic : List Row → Option Topic
+given_topic options = option_map_or topic_named (first_of (codes "job") options) (Some topic.Program)
+
 -- ---- jobs
 
+-- the job of a topic with these options
+abbrev pub job_of : Topic → List Row → Option Job
+job_of topic.Program options = None
+job_of topic.Script options = Some job.Script
+job_of topic.Show options = Some job.Show
+job_of topic.Selfrun options = option_map (λ turns. job.Selfrun turns) (given_turns options)
+job_of topic.Check options = Some (job.Check (first_of (codes "file") options))
+job_of topic.Host options = option_and_then (λ port. option_map (λ turns. job.Host port turns) (given_turns options)) (given_port options)
+job_of topic.Serve options = option_map (λ service. job.Serve service (first_of (codes "panels") options)) (given_service options)
+job_of topic.Term options = option_and_then (λ port. option_map (λ lu. job.Term port lu) (given_lu options)) (given_port options)
+job_of topic.Help options = option_map (λ topic. job.Help topic) (given_topic options)
+
 abbrev pub job_named : List ℕ → List Row → Option Job
-job_named name options =
-    if bytes_eq name (codes "script") then Some job.Script else
-    if bytes_eq name (codes "show") then Some job.Show else
-    if bytes_eq name (codes "selfrun") then option_map (λ turns. job.Selfrun turns) (given_turns options) else
-    if bytes_eq name (codes "host") then
-    option_and_then (λ port. option_map (λ turns. job.Host port turns) (given_turns options)) (given_port options) else
-    if bytes_eq name (codes "serve") then option_map (λ port. job.Serve port) (given_port options) else
-    if bytes_eq name (codes "term") then
-    option_and_then (λ port. option_map (λ lu. job.Term port lu) (given_lu options)) (given_port options) else
-    None
+job_named name options = option_and_then (λ topic. job_of topic options) (topic_named name)
 
 -- without arguments the job is `script`
 abbrev pub job_by : Option (List ℕ × List Row) → Option Job
 job_by None = Some job.Script
 job_by (Some named) = job_named named.0 named.1
 
+-- the topic of `--help`: the job whose option it is
+abbrev pub topic_of : List (List ℕ) → Topic
+topic_of [] = topic.Program
+topic_of (word ∷ words) = unwrap_or (topic_named word) topic.Program
+
 -- the command line takes the arguments
 abbrev pub is_taken : List (List ℕ) → Bool
 is_taken words = is_empty (fault_of program words)
 
--- the job of the arguments; none if the command line doesn't take them
-unfoldable pub job_of : List (List ℕ) → Option Job
-job_of words = if is_taken words then job_by (subcommand_of program words) else None
+-- what arguments that the command line doesn't take ask for, by a kind of clap's error: help, the version, or no job
+abbrev pub job_by_kind : List (List ℕ) → ErrorKind → Option Job
+job_by_kind words kind.DisplayHelp = Some (job.Help (topic_of words))
+job_by_kind words kind.DisplayVersion = Some job.Version
+job_by_kind words _ = None
+
+-- the command line takes the arguments, and this is their job, if any
+pub record IsTakenFor (words : List (List ℕ)) (answer : Option Job) : Type 0 where
+  pub taken : is_taken words ≡ true
+  pub job : job_by (subcommand_of program words) ≡ answer
+
+-- The command line doesn't take the arguments, and this is what a kind of error that clap has for them asks for. It has one kind, but
+-- for a word that may be an unknown job or an unknown option, which asks for nothing either way.
+pub record IsAskedFor (words : List (List ℕ)) (answer : Option Job) : Type 0 where
+  pub kind : ErrorKind
+  pub among : IsAmong kind (fault_of program words)
+  pub job : job_by_kind words kind ≡ answer
+
+-- the job of the arguments; none if they are refused
+abbrev pub IsJobOf : List (List ℕ) → Option Job → Type 0
+IsJobOf words answer = IsTakenFor words answer ⊎ IsAskedFor words answer
 
 -- why the arguments give no job; a refusal of memory says nothing of them
 abbrev pub HasNoJob : List (List ℕ) → WordFault → Type 0
-HasNoJob words Refused = job_of words ≡ None
+HasNoJob words Refused = IsJobOf words None
 HasNoJob words Memory = ⊤
-
--- ---- arguments without a job
-
--- the line that is printed for them
-abbrev pub usage : List ℕ
-usage = codes "usage: panel3270 [JOB] < INPUT\n  script                      serve panels to terminals, which do commands; this is the job where no word is given\n  selfrun [--turns N]         do the same over sockets\n  show                        apply commands of the data stream, in hexadecimal, to a blank screen, and print it\n  host --port P [--turns N]   serve panels to terminals that connect to 127.0.0.1, for so many turns\n  serve --port P              serve panels to terminals that connect to 127.0.0.1, without end\n  term --port P [--lu NAME]   be a terminal of the host at 127.0.0.1, and do commands\nP is 1024 to 65535, N 1 to 1000000, and 10000 where it isn't given; NAME has 1 to 8 of A to Z, 0 to 9, @, # and $, the first no digit.\nINPUT is UTF-8 of at most 1048576 bytes, in lines that end with LF, which the last may lack:\n  script, selfrun             panels in TOML, a line %%, and commands, one a line\n  host, serve                 panels in TOML\n  term                        commands, one a line\n  show                        commands, one a line: pairs of hexadecimal digits, and blanks; no tab, CR or comment\nstatus: 0 done, 1 input refused, 2 words refused, 3 no memory, 4 socket failed, 5 turns over, 6 output failed"
-
--- the exit status for them
-abbrev pub words_refused : ℕ
-words_refused = 2

@@ -1,76 +1,126 @@
 //! Reads the program's arguments.
-ghost use Rattle.std.specs.Prelude.{◌≡◌, IfOk, IfErr, Some, map, option_map, string_bytes};
+ghost use Rattle.std.specs.Prelude.{◌≡◌, [], IfOk, IfErr, Some, map, option_map, string_bytes, true};
 ghost use Rattle.clap.specs.Walk.{first_of, rows_of};
-ghost use Rattle.clap.specs.Simple.{subcommand_rows_of};
+ghost use Rattle.clap.specs.Simple.{new_rule, subcommand_rows_of};
 ghost use Rattle.clap.specs.Matches.{found_of};
-ghost use Rattle.clap.specs.Values.{kind_of};
-ghost use Rattle.jobs3270.specs.Words.{HasNoJob, program, job_of, job_by, job_named, given_port, given_turns, given_lu, job_shape, option_rule};
-ghost use Rattle.jobs3270.specs.ClapCommands.{AddsJobs, IsCommand, IsJob, IsOption, IsMatch, HasNoMatch, fault_by};
+ghost use Rattle.jobs3270.specs.Topics.{row_of};
+ghost use Rattle.jobs3270.specs.Words.{HasNoJob, IsJobOf, program, job_by, job_named, job_of, given_address, given_limits, given_lu, given_metrics, given_port, given_seconds, given_service, given_service_port, given_topic, given_turns, is_quiet, job_shape, operand_rules, option_rule, topic_of};
+ghost use Rattle.jobs3270.specs.ClapCommands.{AddsArguments, AddsJobs, IsArgument, IsCommand, IsJob, IsMatch, MayFail, job_or_fault};
 
-use crate::job::{Job, Port, Turns, WordFault};
+use crate::job::{FileName, Job, Port, Seconds, ServicePort, Topic, Turns, WordFault};
+use crate::job_table::{JobOption, name_of, operand_of, options_of, topic_named};
+use crate::service::{Service, TimeLimits, address_of};
 use clap::error::ErrorKind;
-use clap::{Arg, ArgMatches, Command, Error};
+use clap::{Arg, ArgAction, ArgMatches, Command};
 use std::alloc::{AllocError, Global};
+use std::net::{IpAddr, Ipv4Addr};
 use tn3270e_msg::Lu;
+
+/// The program's version.
+const VERSION: &str = "1.0";
 
 // ---- the command line
 
-/// An option with this name; `required`: it must be given.
-fn option<'a>(alloc: Global, name: &'a str, required: bool) -> Arg<'a>
-    ensures { IsOption (option_rule name.now required) result }
+/// An option.
+fn argument<'a>(alloc: Global, option: &JobOption<'a>) -> Arg<'a>
+    ensures { IsArgument (option_rule (row_of option.now)) result }
 {
-    Arg::new(alloc, name).long(name).required(required)
+    let argument = Arg::new(alloc, option.name)
+        .long(option.name)
+        .required(option.required);
+    if option.kind.takes_value() {
+        argument
+    } else {
+        argument.action(ArgAction::SetTrue)
+    }
 }
 
-/// A job's name, and the name of each option with whether it is required.
-type JobWords<'a> = (&'a str, &'a [(&'a str, bool)]);
-
-/// The jobs, in the order of the help text.
-static JOBS: [JobWords<'static>; 6] = [
-    ("script", &[]),
-    ("show", &[]),
-    ("selfrun", &[("turns", false)]),
-    ("host", &[("port", true), ("turns", false)]),
-    ("serve", &[("port", true)]),
-    ("term", &[("port", true), ("lu", false)]),
-];
-
-/// A job with its options.
-fn job<'a>(
+/// A job with these options.
+fn with_options<'a>(
     alloc: Global,
-    name: &'a str,
-    options: &[(&'a str, bool)],
+    job: Command<'a>,
+    options: &[JobOption<'a>],
 ) -> Result<Command<'a>, AllocError>
-    ensures { IfOk result (IsJob (job_shape name.now (map (λ given. option_rule given.0.now given.1) options.now))) }
+    ensures { IfOk result (AddsArguments (map (λ option. option_rule (row_of option)) options.now) job.entry) }
 {
-    let mut job = Command::new(alloc, name);
-    for (name, required) in options {
-        job = job.arg(option(alloc, name, *required))?;
+    let mut job = job;
+    for option in options {
+        job = job.arg(argument(alloc, option))?;
     }
     Ok(job)
+}
+
+/// A job that may be given a word without an option.
+fn with_word<'a>(alloc: Global, job: Command<'a>, name: &'a str) -> Result<Command<'a>, AllocError>
+    ensures { IfOk result (AddsArguments (operand_rules (Some name.entry.now)) job.entry) }
+{
+    let word = Arg::new(alloc, name);
+    job.arg(word)
+}
+
+/// A job with its operand, if it has one.
+fn with_operand<'a>(
+    alloc: Global,
+    job: Command<'a>,
+    operand: Option<&'a str>,
+) -> Result<Command<'a>, AllocError>
+    ensures { IfOk result (AddsArguments (operand_rules (option_map (λ name. name.now) operand.entry)) job.entry) }
+{
+    match operand {
+        Some(name) => with_word(alloc, job, name),
+        None => Ok(job),
+    }
+}
+
+/// A job with its options and its operand.
+fn job<'a>(alloc: Global, topic: Topic) -> Result<Command<'a>, AllocError>
+    ensures { IfOk result (IsJob (job_shape topic)) }
+{
+    let bare = Command::new(alloc, name_of(topic));
+    let job = with_options(alloc, bare, options_of(topic))?;
+    with_operand(alloc, job, operand_of(topic))
 }
 
 /// A command with these jobs as subcommands.
 fn with_jobs<'a>(
     alloc: Global,
     command: Command<'a>,
-    jobs: &[JobWords<'a>],
+    jobs: &[Topic],
 ) -> Result<Command<'a>, AllocError>
-    ensures { IfOk result (AddsJobs (map (λ job. job_shape job.0.now (map (λ given. option_rule given.0.now given.1) job.1.now)) jobs.now) command.entry) }
+    ensures { IfOk result (AddsJobs (map job_shape jobs.now) command.entry) }
 {
     let mut command = command;
-    for (name, options) in jobs {
-        command = command.subcommand(job(alloc, name, options)?)?;
+    for topic in jobs {
+        command = command.subcommand(job(alloc, *topic)?)?;
     }
     Ok(command)
 }
+
+/// The program without its jobs. Its own `help` is used in place of clap's.
+fn bare<'a>(alloc: Global) -> Command<'a>
+    ensures { IsCommand (record program { top = record program.top { is_leaf = true }; subs = [] }) result }
+{
+    let named = Command::new(alloc, "panel3270").no_binary_name(true);
+    named.disable_help_subcommand(true).version(VERSION)
+}
+
+/// The jobs of the program.
+static JOBS: [Topic; 8] = [
+    Topic::Script,
+    Topic::Show,
+    Topic::Selfrun,
+    Topic::Check,
+    Topic::Host,
+    Topic::Serve,
+    Topic::Term,
+    Topic::Help,
+];
 
 /// The program, with its jobs as subcommands.
 fn program<'a>(alloc: Global) -> Result<Command<'a>, AllocError>
     ensures { IfOk result (IsCommand program) }
 {
-    let bare = Command::new(alloc, "panel3270").no_binary_name(true);
-    with_jobs(alloc, bare, &JOBS)
+    with_jobs(alloc, bare(alloc), &JOBS)
 }
 
 // ---- what was given
@@ -82,7 +132,14 @@ fn given<'a>(options: &ArgMatches<'a>, name: &str) -> Option<&'a str>
     options.get_str(name)
 }
 
-/// The value of `--port`.
+/// The value of an option or operand that is a file's name, if it is given.
+fn file_in<'a>(options: &ArgMatches<'a>, name: &str) -> Option<FileName<'a>>
+    ensures { result ≡ first_of name.now (rows_of (found_of options.now)) }
+{
+    Some(FileName::new(given(options, name)?))
+}
+
+/// The value of `--port`, of a job for users without privileges.
 fn port_in(options: &ArgMatches<'_>) -> Option<Port>
     ensures { result ≡ given_port (rows_of (found_of options.now)) }
 {
@@ -109,34 +166,140 @@ fn lu_in(options: &ArgMatches<'_>) -> Option<Option<Lu>>
     }
 }
 
-/// The job with this name and these options.
-fn job_named(name: &str, options: &ArgMatches<'_>) -> Option<Job>
-    ensures { result ≡ job_named name.now (rows_of (found_of options.now)) }
+/// The value of `--port`, of a service.
+fn service_port_in(options: &ArgMatches<'_>) -> Option<ServicePort>
+    ensures { result ≡ given_service_port (rows_of (found_of options.now)) }
 {
-    let job = match name {
-        "script" => Job::Script,
-        "show" => Job::Show,
-        "selfrun" => Job::Selfrun {
+    ServicePort::read(given(options, "port")?)
+}
+
+/// The value of `--listen`; 127.0.0.1 if it isn't given.
+fn address_in(options: &ArgMatches<'_>) -> Option<IpAddr>
+    ensures { result ≡ given_address (rows_of (found_of options.now)) }
+{
+    match given(options, "listen") {
+        Some(word) => address_of(word),
+        None => Some(IpAddr::V4(Ipv4Addr::LOCALHOST)),
+    }
+}
+
+/// The value of an option of seconds; `usual` if it isn't given.
+fn seconds_in(options: &ArgMatches<'_>, name: &str, usual: Seconds) -> Option<Seconds>
+    ensures { result ≡ given_seconds name.now usual (rows_of (found_of options.now)) }
+{
+    match given(options, name) {
+        Some(word) => Seconds::read(word),
+        None => Some(usual),
+    }
+}
+
+/// The values of `--negotiate`, `--keepalive` and `--idle`.
+fn limits_in(options: &ArgMatches<'_>) -> Option<TimeLimits>
+    ensures { result ≡ given_limits (rows_of (found_of options.now)) }
+{
+    Some(TimeLimits {
+        negotiate: seconds_in(options, "negotiate", Seconds::usual_negotiate())?,
+        keepalive: seconds_in(options, "keepalive", Seconds::usual_keepalive())?,
+        idle: seconds_in(options, "idle", Seconds::usual_idle())?,
+    })
+}
+
+/// The value of `--metrics`, if it is given. None if it is no port.
+fn metrics_in(options: &ArgMatches<'_>) -> Option<Option<ServicePort>>
+    ensures { result ≡ given_metrics (rows_of (found_of options.now)) }
+{
+    match given(options, "metrics") {
+        Some(word) => Some(Some(ServicePort::read(word)?)),
+        None => Some(None),
+    }
+}
+
+/// Whether `--quiet` is given.
+fn quiet_in(options: &ArgMatches<'_>) -> bool
+    ensures { result ≡ is_quiet (rows_of (found_of options.now)) }
+{
+    match given(options, "quiet") {
+        Some(word) => word == "true",
+        None => false,
+    }
+}
+
+/// How `serve` serves.
+fn service_in(options: &ArgMatches<'_>) -> Option<Service>
+    ensures { result ≡ given_service (rows_of (found_of options.now)) }
+{
+    Some(Service {
+        port: service_port_in(options)?,
+        listen: address_in(options)?,
+        limits: limits_in(options)?,
+        metrics: metrics_in(options)?,
+        quiet: quiet_in(options),
+    })
+}
+
+/// The topic after `help`: the whole program if no job is named. None if the word is no job's name.
+fn topic_in(options: &ArgMatches<'_>) -> Option<Topic>
+    ensures { result ≡ given_topic (rows_of (found_of options.now)) }
+{
+    match given(options, "job") {
+        Some(word) => topic_named(word),
+        None => Some(Topic::Program),
+    }
+}
+
+/// The topic of `--help`: the job whose option it is.
+fn topic_of(words: &[String]) -> Topic
+    ensures { result ≡ topic_of (map string_bytes words.now) }
+{
+    match words {
+        [first, ..] => topic_named(first.as_str()).unwrap_or(Topic::Program),
+        [] => Topic::Program,
+    }
+}
+
+/// The job of a topic with these options.
+fn job_of<'a>(topic: Topic, options: &ArgMatches<'a>) -> Option<Job<'a>>
+    ensures { result ≡ job_of topic (rows_of (found_of options.now)) }
+{
+    let job = match topic {
+        Topic::Program => return None,
+        Topic::Script => Job::Script,
+        Topic::Show => Job::Show,
+        Topic::Selfrun => Job::Selfrun {
             turns: turns_in(options)?,
         },
-        "host" => Job::Host {
+        Topic::Check => Job::Check {
+            file: file_in(options, "file"),
+        },
+        Topic::Host => Job::Host {
             port: port_in(options)?,
             turns: turns_in(options)?,
         },
-        "serve" => Job::Serve {
-            port: port_in(options)?,
+        Topic::Serve => Job::Serve {
+            service: service_in(options)?,
+            panels: file_in(options, "panels"),
         },
-        "term" => Job::Term {
+        Topic::Term => Job::Term {
             port: port_in(options)?,
             lu: lu_in(options)?,
         },
-        _ => return None,
+        Topic::Help => Job::Help(topic_in(options)?),
     };
     Some(job)
 }
 
+/// The job with this name and these options.
+fn job_named<'a>(name: &str, options: &ArgMatches<'a>) -> Option<Job<'a>>
+    ensures { result ≡ job_named name.now (rows_of (found_of options.now)) }
+{
+    match topic_named(name) {
+        Some(topic) => job_of(topic, options),
+        None => None,
+    }
+}
+
 /// The job of a parsed command line: `script` if there is no argument.
-fn job_in(matches: &ArgMatches<'_>) -> Option<Job>
+fn job_in<'a>(matches: &ArgMatches<'a>) -> Option<Job<'a>>
     ensures { result ≡ job_by (subcommand_rows_of matches.now) }
 {
     match matches.subcommand() {
@@ -147,36 +310,38 @@ fn job_in(matches: &ArgMatches<'_>) -> Option<Job>
 
 // ---- words
 
-/// Why the arguments are refused.
-fn fault_of(error: Error) -> WordFault
-    ensures { result ≡ fault_by (kind_of error) }
+/// What words ask for whose parse failed by this kind of error.
+fn job_or_fault<'a>(words: &'a [String], kind: ErrorKind) -> Result<Job<'a>, WordFault>
+    ensures { result ≡ job_or_fault (map string_bytes words.now) kind }
 {
-    match error.kind() {
-        ErrorKind::OutOfMemory => WordFault::Memory,
-        _ => WordFault::Refused,
+    match kind {
+        ErrorKind::DisplayHelp => Ok(Job::Help(topic_of(words))),
+        ErrorKind::DisplayVersion => Ok(Job::Version),
+        ErrorKind::OutOfMemory => Err(WordFault::Memory),
+        _ => Err(WordFault::Refused),
     }
 }
 
-/// The arguments, parsed by the command line.
-fn matches_of<'a>(alloc: Global, words: &'a [String]) -> Result<ArgMatches<'a>, WordFault>
+/// The arguments, parsed by the command line; or the kind of the parse's error.
+fn matches_of<'a>(alloc: Global, words: &'a [String]) -> Result<ArgMatches<'a>, ErrorKind>
     ensures matches { IfOk result (IsMatch (map string_bytes words.now)) }
-    ensures fault { IfErr result (HasNoMatch (map string_bytes words.now)) }
+    ensures kind { IfErr result (MayFail (map string_bytes words.now)) }
 {
     let Ok(command) = program(alloc) else {
-        return Err(WordFault::Memory);
+        return Err(ErrorKind::OutOfMemory);
     };
     match command.try_get_matches_from(words) {
         Ok(matches) => Ok(matches),
-        Err(error) => Err(fault_of(error)),
+        Err(error) => Err(error.kind()),
     }
 }
 
 /// The job of the program's arguments: `script` if there are none.
 ///
-/// Refused if the command line doesn't take them, or if a port, a number of turns or an LU's name isn't valid; Memory if memory is
-/// refused.
-pub fn words(alloc: Global, words: &[String]) -> Result<Job, WordFault>
-    ensures job { IfOk result (λ job. job_of (map string_bytes words.now) ≡ Some job) }
+/// Refused if the command line doesn't take them, or if a port, a number of turns or seconds, an address, an LU's name or a job's name
+/// isn't valid; Memory if memory is refused.
+pub fn words<'a>(alloc: Global, words: &'a [String]) -> Result<Job<'a>, WordFault>
+    ensures job { IfOk result (λ job. IsJobOf (map string_bytes words.now) (Some job)) }
     ensures fault { IfErr result (HasNoJob (map string_bytes words.now)) }
 {
     match matches_of(alloc, words) {
@@ -184,6 +349,6 @@ pub fn words(alloc: Global, words: &[String]) -> Result<Job, WordFault>
             Some(job) => Ok(job),
             None => Err(WordFault::Refused),
         },
-        Err(fault) => Err(fault),
+        Err(kind) => job_or_fault(words, kind),
     }
 }

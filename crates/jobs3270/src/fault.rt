@@ -1,11 +1,13 @@
 //! Why a run ends early: the line that it prints, and its exit status.
 ghost use Rattle.std.specs.Prelude.{◌≡◌};
-ghost use Rattle.jobs3270.specs.Faults.{status_of};
+ghost use Rattle.jobs3270.specs.Faults.{reason_of, status_of};
 
 use lu_pool::PoolFault;
 use panels::PanelFault;
 use std::alloc::AllocError;
 use std::fmt;
+use std::io::ErrorKind;
+use std::net::SocketAddr;
 use thiserror::Error;
 
 /// Why a run ends early. Prints as the line on standard error.
@@ -25,10 +27,24 @@ pub enum Fault {
     NoMemory,
     /// The system refused a socket.
     SocketFailed,
+    /// The system refused to listen at this address, with an error of this kind.
+    CannotListen(SocketAddr, ErrorKind),
     /// The turns are used up.
     TurnsOver,
     /// The output didn't take all that was printed.
     OutputFailed,
+}
+
+/// Why the system refuses to listen, in words.
+fn reason_of(kind: ErrorKind) -> &'static str
+    ensures { result.now ≡ reason_of kind }
+{
+    match kind {
+        ErrorKind::AddrInUse => "address in use",
+        ErrorKind::AddrNotAvailable => "address not available",
+        ErrorKind::PermissionDenied => "permission denied",
+        _ => "refused by the system",
+    }
 }
 
 impl Fault {
@@ -40,7 +56,7 @@ impl Fault {
             Fault::InputNotRead | Fault::Panels(_) | Fault::Pool(_) => 1,
             Fault::NotHex(_) | Fault::NotUnderstood(_) => 1,
             Fault::NoMemory => 3,
-            Fault::SocketFailed => 4,
+            Fault::SocketFailed | Fault::CannotListen(_, _) => 4,
             Fault::TurnsOver => 5,
             Fault::OutputFailed => 6,
         }
@@ -63,6 +79,10 @@ impl fmt::Display for Fault {
             Fault::NotUnderstood(line) => write!(f, "line {line}: not understood"),
             Fault::NoMemory => f.write_str("no memory"),
             Fault::SocketFailed => f.write_str("socket failed"),
+            Fault::CannotListen(address, kind) => {
+                let reason = reason_of(*kind);
+                write!(f, "cannot listen on {address}: {reason}")
+            }
             Fault::TurnsOver => f.write_str("turns over"),
             Fault::OutputFailed => f.write_str("output failed"),
         }

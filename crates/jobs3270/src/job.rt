@@ -1,8 +1,9 @@
 //! The jobs of the program, with the values of their options.
 ghost use Rattle.std.specs.Prelude.{◌≡◌, ◌≤◌, IfSome};
-ghost use Rattle.jobs3270.specs.Words.{port_numbered, turns_numbered, port_of, turns_of, usual_turns};
+ghost use Rattle.jobs3270.specs.OptionValues.{port_numbered, service_port_numbered, service_port_of, seconds_numbered, seconds_of, turns_numbered, port_of, turns_of, usual_idle, usual_keepalive, usual_negotiate, usual_turns};
 
 use crate::script_line::number_of;
+use crate::service::Service;
 use std::marker::Model;
 use tn3270e_msg::Lu;
 
@@ -49,6 +50,121 @@ impl Port {
         ensures in_range { (1024 ≤ result) × (result ≤ 65535) }
     {
         let Port { number } = self;
+        number
+    }
+}
+
+/// A port number of a service, 1 to 65535. Contracts see it as a number.
+#[derive(Clone, Copy)]
+pub struct ServicePort {
+    number: u16,
+}
+
+impl Model for ServicePort {
+    ghost use Rattle.std.specs.Prelude.{ℕ, ◌≤◌};
+
+    ghost Value = { ℕ };
+
+    ghost view = { λ port. port.number };
+
+    ghost invariant = { λ port. (1 ≤ port.number) × (port.number ≤ 65535) };
+
+    ghost inverse = { λ number. record { number = number } };
+}
+
+impl ServicePort {
+    /// The port with a number; None if that is 0.
+    pub fn new(number: u16) -> Option<ServicePort>
+        ensures { result ≡ service_port_numbered number }
+    {
+        match number {
+            1..=65535 => Some(ServicePort { number }),
+            _ => None,
+        }
+    }
+
+    /// The port with a number in decimal digits; None if the word isn't such a number.
+    pub(crate) fn read(word: &str) -> Option<ServicePort>
+        ensures { result ≡ service_port_of word.now }
+    {
+        let number = u16::try_from(number_of(word)?).ok()?;
+        ServicePort::new(number)
+    }
+
+    /// Its number, 1 to 65535.
+    pub fn get(self) -> u16
+        ensures value { result ≡ self }
+        ensures in_range { (1 ≤ result) × (result ≤ 65535) }
+    {
+        let ServicePort { number } = self;
+        number
+    }
+}
+
+/// A time limit in seconds, 0 to 1,000,000; 0 is no limit. Contracts see it as a number.
+#[derive(Clone, Copy)]
+pub struct Seconds {
+    number: u32,
+}
+
+impl Model for Seconds {
+    ghost use Rattle.std.specs.Prelude.{ℕ, ◌≤◌};
+
+    ghost Value = { ℕ };
+
+    ghost view = { λ seconds. seconds.number };
+
+    ghost invariant = { λ seconds. seconds.number ≤ 1000000 };
+
+    ghost inverse = { λ number. record { number = number } };
+}
+
+impl Seconds {
+    /// This number of seconds; None if it is more than 1,000,000.
+    pub fn new(number: u32) -> Option<Seconds>
+        ensures { result ≡ seconds_numbered number }
+    {
+        match number {
+            0..=1_000_000 => Some(Seconds { number }),
+            _ => None,
+        }
+    }
+
+    /// How long a connection may take to agree on a session, if the option isn't given.
+    pub fn usual_negotiate() -> Seconds
+        ensures { result ≡ usual_negotiate }
+    {
+        Seconds { number: 30 }
+    }
+
+    /// How long a bound connection may be silent until it is sent something, if the option isn't given.
+    pub fn usual_keepalive() -> Seconds
+        ensures { result ≡ usual_keepalive }
+    {
+        Seconds { number: 60 }
+    }
+
+    /// How long a connection may be silent, if the option isn't given: without limit.
+    pub fn usual_idle() -> Seconds
+        ensures { result ≡ usual_idle }
+    {
+        Seconds { number: 0 }
+    }
+
+    /// A number of seconds in decimal digits; None if the word isn't such a number.
+    pub(crate) fn read(word: &str) -> Option<Seconds>
+        ensures { result ≡ seconds_of word.now }
+    {
+        let number = u32::try_from(number_of(word)?).ok()?;
+        Seconds::new(number)
+    }
+
+    /// The number, 0 to 1,000,000.
+    pub fn get(self) -> u32
+        ensures value { result ≡ self }
+        ensures in_range { result ≤ 1000000 }
+    {
+        let Seconds { number } = self;
         number
     }
 }
@@ -107,21 +223,93 @@ impl Turns {
     }
 }
 
-/// A job of the program.
+/// The name of a file, as a word of the command line. Contracts see it as that text.
+#[derive(Drop)]
+pub struct FileName<'a> {
+    name: &'a str,
+}
+
+impl<'a> Model for FileName<'a> {
+    ghost use Rattle.std.specs.Prelude.{ℕ, List};
+
+    ghost Value = { List ℕ };
+
+    ghost view = { λ file. file.name.now };
+}
+
+impl<'a> FileName<'a> {
+    /// The file with this name.
+    pub fn new(name: &'a str) -> FileName<'a>
+        ensures { result ≡ name.entry.now }
+    {
+        FileName { name }
+    }
+
+    /// Its name.
+    pub fn as_str(&self) -> &'a str
+        ensures { result.now ≡ self.now }
+    {
+        self.name
+    }
+}
+
+/// A topic of the program's help.
 #[derive(Clone, Copy)]
-pub enum Job {
+pub enum Topic {
+    /// The whole program.
+    Program,
+    /// The job `script`.
+    Script,
+    /// The job `show`.
+    Show,
+    /// The job `selfrun`.
+    Selfrun,
+    /// The job `check`.
+    Check,
+    /// The job `host`.
+    Host,
+    /// The job `serve`.
+    Serve,
+    /// The job `term`.
+    Term,
+    /// The job `help`.
+    Help,
+}
+
+/// A job of the program.
+#[derive(Drop)]
+pub enum Job<'a> {
     /// Serves panels to the terminals of a script.
     Script,
     /// Applies commands to a screen.
     Show,
     /// Serves panels to the terminals of a script over sockets.
-    Selfrun { turns: Turns },
+    Selfrun {
+        turns: Turns,
+    },
+    /// Checks the panel text of a file, or of the input if there is none.
+    Check {
+        file: Option<FileName<'a>>,
+    },
     /// Serves panels to terminals that connect, for a number of turns.
-    Host { port: Port, turns: Turns },
-    /// Serves panels to terminals that connect, without end.
-    Serve { port: Port },
+    Host {
+        port: Port,
+        turns: Turns,
+    },
+    /// Serves the panels of a file, or of the input if there is none, to terminals that connect, without end.
+    Serve {
+        service: Service,
+        panels: Option<FileName<'a>>,
+    },
     /// Runs a terminal of a host, and does the commands of a script.
-    Term { port: Port, lu: Option<Lu> },
+    Term {
+        port: Port,
+        lu: Option<Lu>,
+    },
+    /// Prints help.
+    Help(Topic),
+    /// Prints the program's version.
+    Version,
 }
 
 /// Why the words give no job.

@@ -1,5 +1,5 @@
-//! The jobs of the program panel3270, over streams and sockets: show, script, selfrun, host, serve and term. This crate makes
-//! everything that the program prints and its exit status; the program itself passes its arguments and streams, and prints the usage.
+//! The jobs of the program panel3270, over streams and sockets: show, script, selfrun, host, serve, term and help. This crate makes
+//! everything that the program prints and its exit status; the program itself passes its arguments and streams.
 //!
 //! A job reads from a [`Source`] and writes to a [`Sink`], which count failures. [`CountedReader`] and [`CountedWriter`] make these of
 //! any reader and writer. A job returns the exit status, and prints a fault that ends it early as one line.
@@ -12,28 +12,43 @@
 //! ```
 //!
 //! [`words`] reads the arguments. `specs/Runs` says how a run of show or script ends, `Pages` and `Scripts` what it prints, `Words`
-//! which arguments give which job, and `Faults` each fault's line and status. Readers and sockets are read and written by single calls
-//! that contracts can name ([`RawRead`], [`RawWrite`]): `RawCalls` says what their answers mean, `Sockets` what they do to a connection
-//! that is served, and `Waits` what they do to a terminal. Nothing more is proved of the bytes on a socket.
+//! which arguments give which job, `Topics` each job's options, `Refusals` what is printed for arguments that give no job, `Helps` the
+//! help, and `Faults` and `FileFaults` each fault's line and status. Readers and sockets are read and written by single calls that contracts can name ([`RawRead`], [`RawWrite`]):
+//! `RawCalls` says what their answers mean, `Sockets` what they do to a connection that is served, and `Waits` what they do to a
+//! terminal. `Timing` says what the time limits of a connection ask for, and `Notices` what the log's lines are. Nothing more is
+//! proved of the bytes on a socket.
 #![tactic(auto)]
 
+mod check;
 mod command_line;
 mod fault;
+mod file_fault;
+mod help;
 mod hex_line;
 mod idle;
 mod input;
 mod job;
+mod job_table;
 pub mod laws;
+mod limits;
+mod log;
+mod metered;
+mod metrics;
+mod metrics_page;
+mod metrics_port;
 mod notice;
 mod operator;
 mod page;
 mod player;
 mod raw;
+mod refusal;
+mod scrape;
 mod screen_text;
 mod script;
 mod script_line;
 mod selfrun;
 mod server;
+mod service;
 mod serving;
 mod show;
 mod socket_slot;
@@ -43,19 +58,28 @@ mod streams;
 mod task;
 mod term;
 mod term_line;
+mod uptime;
 
+pub use check::run_check;
 pub use command_line::words;
 pub use fault::Fault;
+pub use file_fault::{FileFault, refuse_file};
+pub use help::{run_help, run_version};
 pub use input::{MOST_BYTES, MOST_READS};
-pub use job::{Job, Port, Turns, WordFault};
-pub use notice::Notice;
+pub use job::{FileName, Job, Port, Seconds, ServicePort, Topic, Turns, WordFault};
+pub use limits::{Activity, Due, Overdue};
+pub use log::Log;
+pub use metrics::{ClosedCounts, EndCounts, Metrics, RejectedCounts, TrafficCounts};
+pub use notice::{Client, Ending, Notice, Usage};
 pub use page::{Page, page_of};
 pub use raw::{RawRead, RawWrite};
+pub use refusal::{Refusal, refusal_of, refuse_words};
 pub use script::{host_of, run_script};
 pub use script_line::{ScriptCommand, typed_text};
 pub use selfrun::run_selfrun;
 pub use server::{Server, Watcher, patience};
-pub use serving::{Log, run_host, run_serve};
+pub use service::{Service, TimeLimits};
+pub use serving::{run_host, run_serve};
 pub use show::run_show;
 pub use streams::{Answer, CountedReader, CountedWriter, Sink, Source, WriteFailed};
 pub use task::end_by;

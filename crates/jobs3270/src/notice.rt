@@ -1,26 +1,72 @@
-//! The lines of a host's log: what became of its connections.
+//! The lines of a server's log: what became of its connections.
 ghost use Rattle.std.specs.Prelude.{◌≡◌, ◌++◌, OnOk, string_bytes};
-ghost use Rattle.jobs3270.specs.Notices.{lu_part, notice_line, notice_of, notice_text};
+ghost use Rattle.jobs3270.specs.Notices.{bound_in_turn, cause_part, client_part, closed_part, ending_of, ending_part, has_time, lu_part, notice_line, notice_text, number_part, overdue_part, time_part, usage_part};
 
+use crate::limits::Overdue;
 use host_core::{Phase, Rejection, Served};
 use std::alloc::AllocError;
+use std::net::SocketAddr;
 use tn3270e_msg::{Cause, Lu};
 
-/// What became of a connection, by its number, 0 to 63.
-#[derive(Drop)]
+/// A connection: its number, 0 to 63, and its peer's address.
+#[derive(Clone, Copy)]
+pub struct Client {
+    /// The number.
+    pub conn: usize,
+    /// The peer's address.
+    pub peer: SocketAddr,
+}
+
+/// Why a connection is over.
+#[derive(Clone, Copy)]
+pub enum Ending {
+    /// The host closed it for this cause.
+    Closed(Cause),
+    /// It ended or failed.
+    Lost,
+    /// It was dropped, since this limit had passed.
+    Dropped(Overdue),
+}
+
+/// What a connection took until it was over.
+#[derive(Clone, Copy)]
+pub struct Usage {
+    /// Whether its terminal was bound to an LU.
+    pub bound: bool,
+    /// How long it lasted, in seconds.
+    pub duration: u64,
+    /// How many screens the host showed after the first one.
+    pub turns: u64,
+    /// How many bytes were sent to the client.
+    pub sent: u64,
+    /// How many bytes came from the client.
+    pub received: u64,
+}
+
+/// What happened at a server.
+#[derive(Clone, Copy)]
 pub enum Notice {
-    /// A client connected, and no number was free.
-    TurnedAway,
+    /// The server listens at this address.
+    Listening(SocketAddr),
+    /// A client at this address connected, and no number was free.
+    TurnedAway(SocketAddr),
     /// A client connected.
-    Connected(usize),
+    Connected(Client),
     /// The host rejected a request for an LU.
-    Refused(usize, Rejection),
+    Rejected(Client, Rejection),
     /// The terminal was bound to an LU.
-    Bound(usize, Lu),
-    /// The host closed the connection for this cause.
-    Closed(usize, Cause),
-    /// The connection ended or failed.
-    Lost(usize),
+    Bound(Client, Lu),
+    /// The connection is over.
+    Ended(Client, Ending, Usage),
+}
+
+/// Adds the number and the peer of a connection.
+fn put_client(text: &mut String, client: &Client) -> Result<(), AllocError>
+    ensures { OnOk result (string_bytes text.new ≡ string_bytes text.old ++ client_part client.now) }
+{
+    let conn = client.conn;
+    let peer = client.peer;
+    write!(text, " conn={conn} peer={peer}")
 }
 
 /// Adds the LU that was requested, if one was.
@@ -28,67 +74,182 @@ fn put_lu(text: &mut String, lu: &Option<Lu>) -> Result<(), AllocError>
     ensures { OnOk result (string_bytes text.new ≡ string_bytes text.old ++ lu_part lu.now) }
 {
     match lu {
-        Some(lu) => write!(text, "{lu} "),
+        Some(lu) => write!(text, " lu={lu}"),
         None => Ok(()),
     }
 }
 
-/// Adds the text of a rejection.
-fn put_rejection(text: &mut String, conn: usize, rejection: &Rejection) -> Result<(), AllocError>
-    ensures { OnOk result (string_bytes text.new ≡ string_bytes text.old ++ notice_text (Notice.Refused conn rejection.now)) }
+/// Adds a rejection.
+fn put_rejection(
+    text: &mut String,
+    client: &Client,
+    rejection: &Rejection,
+) -> Result<(), AllocError>
+    ensures { OnOk result (string_bytes text.new ≡ string_bytes text.old ++ notice_text (Notice.Rejected client.now rejection.now)) }
 {
-    write!(text, "{conn}: refused ")?;
+    put_client(text, client)?;
+    text.push_str(" event=rejected")?;
     put_lu(text, &rejection.lu)?;
     let reason = rejection.reason;
-    write!(text, "{reason}")
+    write!(text, " reason={reason}")
 }
 
-/// Adds the text of a notice.
+/// Adds the limit for which a connection was dropped.
+fn put_overdue(text: &mut String, overdue: Overdue) -> Result<(), AllocError>
+    ensures { OnOk result (string_bytes text.new ≡ string_bytes text.old ++ overdue_part overdue) }
+{
+    match overdue {
+        Overdue::NoAgreement => text.push_str(" event=no-agreement"),
+        Overdue::Idle => text.push_str(" event=idle"),
+    }
+}
+
+/// Adds the number of a cause.
+fn put_number(text: &mut String, cause: Cause) -> Result<(), AllocError>
+    ensures { OnOk result (string_bytes text.new ≡ string_bytes text.old ++ number_part cause) }
+{
+    let number = cause.number();
+    write!(text, " number={number}")
+}
+
+/// Adds the name of a cause.
+fn put_cause(text: &mut String, cause: Cause) -> Result<(), AllocError>
+    ensures { OnOk result (string_bytes text.new ≡ string_bytes text.old ++ cause_part cause) }
+{
+    write!(text, " cause={cause}")
+}
+
+/// Adds that the host closed a connection.
+fn put_closed(text: &mut String, cause: Cause) -> Result<(), AllocError>
+    ensures { OnOk result (string_bytes text.new ≡ string_bytes text.old ++ closed_part cause) }
+{
+    text.push_str(" event=closed")?;
+    put_cause(text, cause)?;
+    put_number(text, cause)
+}
+
+/// Adds why a connection is over.
+fn put_ending(text: &mut String, ending: &Ending) -> Result<(), AllocError>
+    ensures { OnOk result (string_bytes text.new ≡ string_bytes text.old ++ ending_part ending.now) }
+{
+    match ending {
+        Ending::Closed(cause) => put_closed(text, *cause),
+        Ending::Lost => text.push_str(" event=lost"),
+        Ending::Dropped(overdue) => put_overdue(text, *overdue),
+    }
+}
+
+/// Adds what a bound session took.
+fn put_usage(text: &mut String, usage: &Usage) -> Result<(), AllocError>
+    ensures { OnOk result (string_bytes text.new ≡ string_bytes text.old ++ usage_part usage.now) }
+{
+    if !usage.bound {
+        return Ok(());
+    }
+    let Usage {
+        duration,
+        turns,
+        sent,
+        received,
+        ..
+    } = *usage;
+    write!(text, " duration={duration} turns={turns}")?;
+    write!(text, " sent={sent} received={received}")
+}
+
+/// Adds the end of a connection.
+fn put_end(
+    text: &mut String,
+    client: &Client,
+    ending: &Ending,
+    usage: &Usage,
+) -> Result<(), AllocError>
+    ensures { OnOk result (string_bytes text.new ≡ string_bytes text.old ++ notice_text (Notice.Ended client.now ending.now usage.now)) }
+{
+    put_client(text, client)?;
+    put_ending(text, ending)?;
+    put_usage(text, usage)
+}
+
+/// Adds that a client connected.
+fn put_connected(text: &mut String, client: &Client) -> Result<(), AllocError>
+    ensures { OnOk result (string_bytes text.new ≡ string_bytes text.old ++ notice_text (Notice.Connected client.now)) }
+{
+    put_client(text, client)?;
+    text.push_str(" event=connected")
+}
+
+/// Adds that a terminal was bound to an LU.
+fn put_bound(text: &mut String, client: &Client, lu: &Lu) -> Result<(), AllocError>
+    ensures { OnOk result (string_bytes text.new ≡ string_bytes text.old ++ notice_text (Notice.Bound client.now lu.now)) }
+{
+    put_client(text, client)?;
+    write!(text, " event=bound lu={lu}")
+}
+
+/// Adds what happened.
 fn put_text(text: &mut String, notice: &Notice) -> Result<(), AllocError>
     ensures { OnOk result (string_bytes text.new ≡ string_bytes text.old ++ notice_text notice.now) }
 {
     match notice {
-        Notice::TurnedAway => text.push_str("turned away: no number is free"),
-        Notice::Connected(conn) => write!(text, "{conn}: connected"),
-        Notice::Refused(conn, rejection) => put_rejection(text, *conn, rejection),
-        Notice::Bound(conn, lu) => write!(text, "{conn}: bound {lu}"),
-        Notice::Closed(conn, cause) => {
-            let number = cause.number();
-            write!(text, "{conn}: closed {number} {cause}")
-        }
-        Notice::Lost(conn) => write!(text, "{conn}: lost"),
+        Notice::Listening(address) => write!(text, "listening on {address}"),
+        Notice::TurnedAway(peer) => write!(text, " peer={peer} event=turned-away"),
+        Notice::Connected(client) => put_connected(text, client),
+        Notice::Rejected(client, rejection) => put_rejection(text, client, rejection),
+        Notice::Bound(client, lu) => put_bound(text, client, lu),
+        Notice::Ended(client, ending, usage) => put_end(text, client, ending, usage),
     }
 }
 
-/// Adds the line of a notice.
-pub(crate) fn put_notice(text: &mut String, notice: &Notice) -> Result<(), AllocError>
-    ensures { OnOk result (string_bytes text.new ≡ string_bytes text.old ++ notice_line notice.now) }
+/// Whether a notice is an event, whose line has its time.
+fn has_time(notice: &Notice) -> bool
+    ensures { result ≡ has_time notice.now }
 {
+    !matches!(notice, Notice::Listening(_))
+}
+
+/// Adds the time of an event.
+fn put_time(text: &mut String, time: &str, notice: &Notice) -> Result<(), AllocError>
+    ensures { OnOk result (string_bytes text.new ≡ string_bytes text.old ++ time_part time.now notice.now) }
+{
+    if !has_time(notice) {
+        return Ok(());
+    }
+    write!(text, "time={time}")
+}
+
+/// Adds the line of a notice: where the server listens, or else an event in logfmt, with the time first.
+pub(crate) fn put_notice(text: &mut String, time: &str, notice: &Notice) -> Result<(), AllocError>
+    ensures { OnOk result (string_bytes text.new ≡ string_bytes text.old ++ notice_line time.now notice.now) }
+{
+    put_time(text, time, notice)?;
     put_text(text, notice)?;
     text.push('\n')
 }
 
-/// The notice of a connection after one turn of serving, by the phases before and after the turn.
-pub(crate) fn notice_of(
-    conn: usize,
-    before: &Phase,
-    after: &Phase,
-    served: Served,
-) -> Option<Notice>
-    ensures { result ≡ notice_of conn before.now after.now served }
+/// Why a connection is over after a turn of serving, by the phase after the turn; None if it goes on.
+pub(crate) fn ending_of(after: &Phase, served: Served) -> Option<Ending>
+    ensures { result ≡ ending_of after.now served }
 {
     match served {
-        Served::Memory => None,
+        Served::Going => None,
         Served::Lost => match after {
-            Phase::Closed(cause) => Some(Notice::Closed(conn, *cause)),
-            Phase::Free | Phase::Talking | Phase::Bound(_) => Some(Notice::Lost(conn)),
+            Phase::Closed(cause) => Some(Ending::Closed(*cause)),
+            Phase::Free | Phase::Talking | Phase::Bound(_) => Some(Ending::Lost),
         },
-        Served::Going => match before {
-            Phase::Talking => match after {
-                Phase::Bound(lu) => Some(Notice::Bound(conn, *lu)),
-                Phase::Free | Phase::Talking | Phase::Closed(_) => None,
-            },
-            Phase::Free | Phase::Bound(_) | Phase::Closed(_) => None,
+        Served::Memory => None,
+    }
+}
+
+/// The LU that a terminal was bound to in a turn, by the phases before and after it; None if it wasn't bound in that turn.
+pub(crate) fn bound_in_turn(before: &Phase, after: &Phase) -> Option<Lu>
+    ensures { result ≡ bound_in_turn before.now after.now }
+{
+    match before {
+        Phase::Talking => match after {
+            Phase::Bound(lu) => Some(*lu),
+            Phase::Free | Phase::Talking | Phase::Closed(_) => None,
         },
+        Phase::Free | Phase::Bound(_) | Phase::Closed(_) => None,
     }
 }

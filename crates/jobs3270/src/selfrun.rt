@@ -33,7 +33,7 @@ fn is_socket_command(command: &ScriptCommand) -> bool
         ScriptCommand::Happen(event) => match event {
             Event::Connect(_, _) | Event::Key(_, _) | Event::Lose(_) => true,
             Event::Up(_, _) | Event::Down(_, _) | Event::Act(_) | Event::Note(_, _) => false,
-            Event::HostSees(_) | Event::TermSees(_) => false,
+            Event::KeepAlive(_) | Event::HostSees(_) | Event::TermSees(_) => false,
             Event::RestartTerm(_) | Event::RestartHost => false,
         },
     }
@@ -156,7 +156,7 @@ impl LoopbackRun {
             Event::Up(_, _) | Event::Down(_, _) | Event::Act(_) | Event::Note(_, _) => {
                 Ok(Stepped::Skipped)
             }
-            Event::HostSees(_) | Event::TermSees(_) => Ok(Stepped::Skipped),
+            Event::KeepAlive(_) | Event::HostSees(_) | Event::TermSees(_) => Ok(Stepped::Skipped),
             Event::RestartTerm(_) | Event::RestartHost => Ok(Stepped::Skipped),
         }
     }

@@ -2,16 +2,19 @@
 ghost use Rattle.std.specs.Prelude.{◌≡◌, ◌<◌, IfSome};
 ghost use Rattle.host_core.specs.State.{most_connections, phase_of, service_at};
 ghost use Rattle.host_core.specs.declared.phase.Phase.TheVariants as phase;
+ghost use Rattle.jobs3270.specs.Notices.{is_bound, is_new, is_shown};
 
 use crate::fault::Fault;
-use crate::notice::{Notice, notice_of};
+use crate::limits::{Activity, Due};
+use crate::notice::{Client, Ending, Notice, Usage, bound_in_turn, ending_of};
+use crate::service::TimeLimits;
 use crate::sockets::Sockets;
-use host_core::{Host, MOST_CONNECTIONS, Phase, Served, serve_turn};
+use host_core::{Acted, Host, MOST_CONNECTIONS, Phase, Served, Turn, serve_turn};
 use mio::net::{TcpListener, TcpStream};
 use mio::{Events, Interest, Poll, Token};
-use std::alloc::Global;
+use std::alloc::{AllocError, Global};
 use std::io;
-use std::net::{Ipv4Addr, Net, SocketAddr};
+use std::net::{Net, SocketAddr};
 use std::time::Duration;
 
 /// The longest wait of a turn, in milliseconds.
@@ -32,7 +35,14 @@ const LISTENER: Token = Token(MOST_CONNECTIONS);
 /// Gets the notices of a server.
 pub trait Watcher {
     /// Handles one notice. A fault ends the turn.
-    fn notice(&mut self, notice: Notice) -> Result<(), Fault>;
+    fn notice(&mut self, notice: &Notice) -> Result<(), Fault>;
+
+    /// Handles that the host showed a screen on a connection. A fault ends the turn.
+    fn shown(&mut self, host: &Host, conn: usize) -> Result<(), Fault>
+        requires { conn < most_connections };
+
+    /// Does what else is to be done after a turn, at this time in milliseconds. Answers whether it did something.
+    fn turned(&mut self, server: &Server, now: u64) -> bool;
 }
 
 /// Ignores all notices.
@@ -40,9 +50,26 @@ pub trait Watcher {
 pub(crate) struct Unwatched;
 
 impl Watcher for Unwatched {
-    fn notice(&mut self, _notice: Notice) -> Result<(), Fault> {
+    fn notice(&mut self, _notice: &Notice) -> Result<(), Fault> {
         Ok(())
     }
+
+    fn shown(&mut self, _host: &Host, _conn: usize) -> Result<(), Fault> {
+        Ok(())
+    }
+
+    fn turned(&mut self, _server: &Server, _now: u64) -> bool {
+        false
+    }
+}
+
+/// What a server knows of a connection, beside its socket and the host's part.
+#[derive(Clone, Copy)]
+struct ConnectionInfo {
+    client: Client,
+    activity: Activity,
+    /// How many screens were shown after the first one.
+    turns: u64,
 }
 
 /// A host, the sockets of its connections, and the listener.
@@ -50,6 +77,10 @@ impl Watcher for Unwatched {
 pub struct Server {
     host: Host,
     sockets: Sockets<TcpStream>,
+    /// What is known of each number's last connection.
+    infos: Vec<Option<ConnectionInfo>>,
+    /// The server's time, in milliseconds.
+    now: u64,
     listener: TcpListener,
     poll: Poll,
     events: Events,
@@ -61,14 +92,22 @@ pub fn patience(moved: bool) -> Duration {
     Duration::from_millis(millis)
 }
 
-/// A listener on a port of 127.0.0.1, and a poll that waits for it.
-fn listen(net: &impl Net, port: u16) -> io::Result<(TcpListener, Poll)> {
+/// A listener at an address, and a poll that waits for it.
+fn listen(net: &impl Net, address: SocketAddr) -> io::Result<(TcpListener, Poll)> {
     let poll = Poll::new(net)?;
-    let address = SocketAddr::from((Ipv4Addr::LOCALHOST, port));
     let mut listener = TcpListener::bind(net, address)?;
     poll.registry()
         .register(&mut listener, LISTENER, Interest::READABLE)?;
     Ok((listener, poll))
+}
+
+/// Numbers that had no connection.
+fn no_infos(alloc: Global) -> Result<Vec<Option<ConnectionInfo>>, AllocError> {
+    let mut infos = Vec::with_capacity(alloc, MOST_CONNECTIONS)?;
+    for _ in 0..MOST_CONNECTIONS {
+        infos.push(None)?;
+    }
+    Ok(infos)
 }
 
 /// The least free connection number, if there is one.
@@ -84,22 +123,64 @@ fn free_number(host: &Host) -> Option<usize>
     None
 }
 
+/// Whether a command waits for its answer that didn't before, by the numbers of both commands.
+fn is_new(before: Option<u16>, after: Option<u16>) -> bool
+    ensures { result ≡ is_new before after }
+{
+    match after {
+        Some(number) => match before {
+            Some(earlier) => number != earlier,
+            None => true,
+        },
+        None => false,
+    }
+}
+
+/// Whether the host showed a screen in a turn of serving, by the numbers of the commands that waited for their answers before and
+/// after it, and by who has the turn after it.
+fn is_shown(before: Option<u16>, after: Option<u16>, turn: Turn) -> bool
+    ensures { result ≡ is_shown before after turn }
+{
+    match turn {
+        Turn::Terminal => is_new(before, after),
+        Turn::Host => false,
+    }
+}
+
+/// Whether a terminal is bound to an LU.
+fn is_bound(phase: &Phase) -> bool
+    ensures { result ≡ is_bound phase.now }
+{
+    matches!(phase, Phase::Bound(_))
+}
+
 impl Server {
-    /// A server of this host on a port of 127.0.0.1; any free port if `port` is 0. NoMemory if memory is refused; SocketFailed
-    /// if the system refuses a socket, such as for a port in use.
-    pub fn new(net: &impl Net, alloc: Global, host: Host, port: u16) -> Result<Server, Fault> {
+    /// A server of this host at an address; at any free port if its port is 0. NoMemory if memory is refused; CannotListen if the
+    /// system refuses a socket, such as for a port in use.
+    pub fn new(
+        net: &impl Net,
+        alloc: Global,
+        host: Host,
+        address: SocketAddr,
+    ) -> Result<Server, Fault> {
         let Ok(sockets) = Sockets::new(alloc) else {
+            return Err(Fault::NoMemory);
+        };
+        let Ok(infos) = no_infos(alloc) else {
             return Err(Fault::NoMemory);
         };
         let Ok(events) = Events::with_capacity(alloc, MOST_EVENTS) else {
             return Err(Fault::NoMemory);
         };
-        let Ok((listener, poll)) = listen(net, port) else {
-            return Err(Fault::SocketFailed);
+        let (listener, poll) = match listen(net, address) {
+            Ok(parts) => parts,
+            Err(error) => return Err(Fault::CannotListen(address, error.kind())),
         };
         Ok(Server {
             host,
             sockets,
+            infos,
+            now: 0,
             listener,
             poll,
             events,
@@ -124,6 +205,42 @@ impl Server {
             .register(socket, Token(token), interest)
     }
 
+    /// Adds a listener to those for which a poll waits.
+    pub(crate) fn register_listener(
+        &self,
+        listener: &mut TcpListener,
+        token: usize,
+    ) -> io::Result<()> {
+        self.poll
+            .registry()
+            .register(listener, Token(token), Interest::READABLE)
+    }
+
+    /// What an open connection took so far; None if the number has no connection.
+    pub(crate) fn usage(&self, conn: usize) -> Option<Usage>
+        requires { conn < most_connections }
+    {
+        if !self.sockets.is_connected(conn) {
+            return None;
+        }
+        let info = self.info(conn)?;
+        let bound = is_bound(&self.host.phase(conn));
+        Some(self.usage_of(conn, &info, bound))
+    }
+
+    /// What a number's last connection took. `bound`: whether its terminal is bound to an LU, or was at its end.
+    fn usage_of(&self, conn: usize, info: &ConnectionInfo, bound: bool) -> Usage
+        requires { conn < most_connections }
+    {
+        Usage {
+            bound,
+            duration: self.now.saturating_sub(info.activity.began) / 1000,
+            turns: info.turns,
+            sent: self.sockets.sent(conn),
+            received: self.sockets.received(conn),
+        }
+    }
+
     /// One turn: polls for at most `patience`, accepts all waiting connections, and serves each connection once. Answers whether a
     /// byte was read or written, or the host acted. NoMemory if memory is refused; SocketFailed if the poll fails; and any fault
     /// of the watcher.
@@ -145,7 +262,7 @@ impl Server {
     pub(crate) fn accept_all<W: Watcher>(&mut self, watcher: &mut W) -> Result<(), Fault> {
         for _ in 0..MOST_ACCEPTED {
             match self.listener.accept() {
-                Ok((socket, _)) => self.admit(socket, watcher)?,
+                Ok((socket, peer)) => self.admit(socket, peer, watcher)?,
                 Err(_) => return Ok(()),
             }
         }
@@ -153,9 +270,14 @@ impl Server {
     }
 
     /// Begins a connection on the least free number. If no number is free, drops the socket.
-    fn admit<W: Watcher>(&mut self, mut socket: TcpStream, watcher: &mut W) -> Result<(), Fault> {
+    fn admit<W: Watcher>(
+        &mut self,
+        mut socket: TcpStream,
+        peer: SocketAddr,
+        watcher: &mut W,
+    ) -> Result<(), Fault> {
         let Some(conn) = free_number(&self.host) else {
-            return watcher.notice(Notice::TurnedAway);
+            return watcher.notice(&Notice::TurnedAway(peer));
         };
         // Records are short, and their senders wait for answers. If one of these calls fails, the socket is served anyway.
         let _ = socket.set_nodelay(true);
@@ -164,45 +286,179 @@ impl Server {
             return Err(Fault::NoMemory);
         }
         self.sockets.open(conn, socket);
-        watcher.notice(Notice::Connected(conn))
+        let client = Client { conn, peer };
+        self.keep_info(ConnectionInfo {
+            client,
+            activity: Activity::new(self.now),
+            turns: 0,
+        });
+        watcher.notice(&Notice::Connected(client))
     }
 
-    /// Hands the watcher each rejection of the connection that wasn't reported yet.
-    fn report_rejections<W: Watcher>(&mut self, conn: usize, watcher: &mut W) -> Result<(), Fault>
-        requires { conn < most_connections }
-    {
-        for _ in 0..MOST_REJECTIONS {
-            match self.host.next_rejection(conn) {
-                Some(rejection) => watcher.notice(Notice::Refused(conn, rejection))?,
-                None => return Ok(()),
-            }
+    /// What is known of a number's last connection.
+    fn info(&self, conn: usize) -> Option<ConnectionInfo> {
+        *self.infos.get(conn)?
+    }
+
+    /// Keeps what is known of a connection.
+    fn keep_info(&mut self, info: ConnectionInfo) {
+        if let Some(kept) = self.infos.get_mut(info.client.conn) {
+            *kept = Some(info);
         }
-        Ok(())
     }
 
-    /// Serves a connection once, and ends it if it is lost. Answers whether the number of unsent bytes changed.
+    /// Serves a connection once, and ends it if it is over. Answers whether the number of unsent bytes changed.
     fn serve<W: Watcher>(&mut self, conn: usize, watcher: &mut W) -> Result<bool, Fault>
         requires { conn < most_connections }
     {
+        let Some(info) = self.info(conn) else {
+            return Ok(false);
+        };
         let before = self.host.phase(conn);
+        let pending = self.host.pending(conn);
         let waiting = self.host.out(conn).len();
         self.sockets.set_waiting(conn, waiting);
         let served = serve_turn(&mut self.host, &mut self.sockets, conn);
         let acted = self.host.out(conn).len() != waiting;
-        self.report_rejections(conn, watcher)?;
-        let notice = notice_of(conn, &before, &self.host.phase(conn), served);
-        match served {
-            Served::Going => {}
-            Served::Lost => {
-                self.host.closed(conn);
-                self.sockets.close(conn);
-            }
-            Served::Memory => return Err(Fault::NoMemory),
+        if let Served::Memory = served {
+            return Err(Fault::NoMemory);
         }
-        match notice {
-            Some(notice) => watcher.notice(notice)?,
+        self.report_talk(conn, info.client, &before, watcher)?;
+        if is_shown(pending, self.host.pending(conn), self.host.turn(conn)) {
+            self.report_screen(conn, info, &before, watcher)?;
+        }
+        match ending_of(&self.host.phase(conn), served) {
+            Some(ending) => self.end(conn, is_bound(&before), ending, watcher)?,
             None => {}
         }
         Ok(acted)
+    }
+
+    /// Hands the watcher each rejection of the connection that wasn't reported yet, and the LU that its terminal was bound to in the
+    /// turn. `before`: its phase before the turn.
+    fn report_talk<W: Watcher>(
+        &mut self,
+        conn: usize,
+        client: Client,
+        before: &Phase,
+        watcher: &mut W,
+    ) -> Result<(), Fault>
+        requires { conn < most_connections }
+    {
+        for _ in 0..MOST_REJECTIONS {
+            match self.host.next_rejection(conn) {
+                Some(rejection) => watcher.notice(&Notice::Rejected(client, rejection))?,
+                None => break,
+            }
+        }
+        match bound_in_turn(before, &self.host.phase(conn)) {
+            Some(lu) => watcher.notice(&Notice::Bound(client, lu)),
+            None => Ok(()),
+        }
+    }
+
+    /// Tells the watcher that the host showed a screen, and counts it unless it is the first. `before`: the phase before the turn.
+    fn report_screen<W: Watcher>(
+        &mut self,
+        conn: usize,
+        info: ConnectionInfo,
+        before: &Phase,
+        watcher: &mut W,
+    ) -> Result<(), Fault>
+        requires { conn < most_connections }
+    {
+        if is_bound(before) {
+            self.keep_info(ConnectionInfo {
+                turns: info.turns.saturating_add(1),
+                ..info
+            });
+        }
+        watcher.shown(&self.host, conn)
+    }
+
+    /// Ends a connection: frees its number and its LU, and closes its socket. `bound`: whether its terminal is bound to an LU.
+    fn end<W: Watcher>(
+        &mut self,
+        conn: usize,
+        bound: bool,
+        ending: Ending,
+        watcher: &mut W,
+    ) -> Result<(), Fault>
+        requires { conn < most_connections }
+    {
+        self.host.closed(conn);
+        self.sockets.close(conn);
+        let Some(info) = self.info(conn) else {
+            return Ok(());
+        };
+        let usage = self.usage_of(conn, &info, bound);
+        watcher.notice(&Notice::Ended(info.client, ending, usage))
+    }
+
+    /// Does what the time limits ask for at this time, in milliseconds: sends IAC NOP, or drops a connection. Sends IAC NOP also where
+    /// bytes came and nothing was sent in the last turn, since it carries the acknowledgement that the peer's TCP waits for. Answers
+    /// whether it did something. NoMemory if memory is refused, and any fault of the watcher.
+    pub fn keep_time<W: Watcher>(
+        &mut self,
+        now: u64,
+        limits: &TimeLimits,
+        watcher: &mut W,
+    ) -> Result<bool, Fault> {
+        self.now = now;
+        let mut acted = false;
+        for conn in 0..MOST_CONNECTIONS {
+            if self.sockets.is_connected(conn) {
+                acted |= self.apply_limits(conn, limits, watcher)?;
+            }
+        }
+        Ok(acted)
+    }
+
+    /// Does what the time limits ask for on a connection.
+    fn apply_limits<W: Watcher>(
+        &mut self,
+        conn: usize,
+        limits: &TimeLimits,
+        watcher: &mut W,
+    ) -> Result<bool, Fault>
+        requires { conn < most_connections }
+    {
+        let Some(mut info) = self.info(conn) else {
+            return Ok(false);
+        };
+        let (received, sent) = (self.sockets.received(conn), self.sockets.sent(conn));
+        let bound = is_bound(&self.host.phase(conn));
+        let unanswered = info.activity.is_unanswered(received, sent);
+        info.activity.hear(received, sent, self.now);
+        match info.activity.due(limits, bound, self.now) {
+            Due::Disconnect(overdue) => {
+                self.end(conn, bound, Ending::Dropped(overdue), watcher)?;
+                Ok(true)
+            }
+            Due::KeepAlive => {
+                info.activity.keep_alive(self.now);
+                self.keep_info(info);
+                self.keep_alive(conn)
+            }
+            Due::Nothing => {
+                self.keep_info(info);
+                if unanswered {
+                    self.keep_alive(conn)
+                } else {
+                    Ok(false)
+                }
+            }
+        }
+    }
+
+    /// Sends IAC NOP on a connection, unless output waits there. Answers whether it did.
+    fn keep_alive(&mut self, conn: usize) -> Result<bool, Fault>
+        requires { conn < most_connections }
+    {
+        match self.host.keep_alive(conn) {
+            Acted::Sent => Ok(true),
+            Acted::Nothing => Ok(false),
+            Acted::Memory => Err(Fault::NoMemory),
+        }
     }
 }

@@ -3,35 +3,46 @@ ghost use Rattle.std.specs.Prelude.{◌≡◌};
 
 use crate::fault::Fault;
 use crate::input::read_whole;
-use crate::job::{Port, Turns};
-use crate::notice::{Notice, put_notice};
+use crate::job::{Port, ServicePort, Turns};
+use crate::log::Log;
+use crate::metered::Metered;
+use crate::notice::Notice;
 use crate::script::host_of;
 use crate::server::{Server, Unwatched, Watcher, patience};
+use crate::service::{Service, TimeLimits};
 use crate::streams::{Sink, Source};
 use crate::task::end_by;
+use crate::uptime::Uptime;
 use std::alloc::Global;
-use std::net::Net;
+use std::fmt;
+use std::net::{Ipv4Addr, Net, SocketAddr};
 use std::sync::Wait;
+use std::time::Clock;
 
-/// A server of a panel text's host on a port; any free port if `port` is 0.
+/// A server of a panel text's host on a port of 127.0.0.1; any free port if `port` is 0.
 pub(crate) fn server_of(
     net: &impl Net,
     alloc: Global,
     panels: &str,
     port: u16,
 ) -> Result<Server, Fault> {
-    Server::new(net, alloc, host_of(alloc, panels)?, port)
+    let address = SocketAddr::from((Ipv4Addr::LOCALHOST, port));
+    match Server::new(net, alloc, host_of(alloc, panels)?, address) {
+        Ok(server) => Ok(server),
+        Err(Fault::CannotListen(_, _)) => Err(Fault::SocketFailed),
+        Err(fault) => Err(fault),
+    }
 }
 
-/// Reads panels, and begins to serve them on a port.
+/// Reads panels, and begins to serve them on a port of 127.0.0.1.
 fn begin<N: Net, I: Source>(
     net: &N,
     alloc: Global,
-    port: Port,
+    port: u16,
     input: &mut I,
 ) -> Result<Server, Fault> {
     let text = read_whole(alloc, input)?;
-    server_of(net, alloc, text.as_str(), port.get())
+    server_of(net, alloc, text.as_str(), port)
 }
 
 /// Serves this number of turns, and answers what ended them.
@@ -54,7 +65,7 @@ fn host<N: Net, I: Source>(
     turns: Turns,
     input: &mut I,
 ) -> Fault {
-    match begin(net, alloc, port, input) {
+    match begin(net, alloc, port.get(), input) {
         Ok(mut server) => serve_turns(&mut server, turns),
         Err(fault) => fault,
     }
@@ -77,68 +88,122 @@ pub fn run_host<N: Net, I: Source, E: Sink>(
     end_by(host(net, alloc, port, turns, input), faults)
 }
 
-/// Writes each notice as a line. NoMemory if memory is refused; a line that can't be written is left out.
-#[derive(Drop)]
-pub struct Log<'a, E> {
-    /// Makes room for a line.
-    pub alloc: Global,
-    /// Gets the lines.
-    pub lines: &'a mut E,
-}
+// ---- serve
 
-impl<E: Sink> Watcher for Log<'_, E> {
-    fn notice(&mut self, notice: Notice) -> Result<(), Fault> {
-        let mut text = String::new(self.alloc);
-        if put_notice(&mut text, &notice).is_err() {
-            return Err(Fault::NoMemory);
-        }
-        // Terminals are served even if the log can't be written.
-        let _ = self.lines.write_all(text.as_bytes());
-        Ok(())
+/// A warning: the address at which other machines can connect.
+#[derive(Clone, Copy)]
+struct Exposed(SocketAddr);
+
+impl fmt::Display for Exposed {
+    ghost use Rattle.std.specs.Prelude.{Some};
+    ghost use Rattle.jobs3270.specs.Notices.{exposed_text};
+
+    ghost output = { λ exposed. Some (exposed_text exposed.0) };
+
+    fn fmt<W: fmt::Write>(&self, f: &mut fmt::Formatter<W>) -> fmt::Result {
+        let address = self.0;
+        write!(
+            f,
+            "warning: other machines can connect to {address}, and nothing is encrypted"
+        )
     }
 }
 
+/// Reads panels, and begins to serve them at an address.
+fn begin_at<N: Net, I: Source>(
+    net: &N,
+    alloc: Global,
+    address: SocketAddr,
+    input: &mut I,
+) -> Result<Server, Fault> {
+    let text = read_whole(alloc, input)?;
+    Server::new(net, alloc, host_of(alloc, text.as_str())?, address)
+}
+
 /// Serves without end.
-fn serve_on<R: Wait, W: Watcher>(
+fn serve_on<R: Wait + Clock, W: Watcher>(
     rt: &R,
     server: &mut Server,
+    limits: &TimeLimits,
     watcher: &mut W,
 ) -> Result<(), Fault> {
+    let mut uptime = Uptime::new();
     let mut moved = false;
     for _ in rt.forever() {
         moved = server.turn(patience(moved), watcher)?;
+        uptime.read(rt);
+        moved |= server.keep_time(uptime.millis(), limits, watcher)?;
+        moved |= watcher.turned(server, uptime.millis());
     }
     unreachable!()
 }
 
-/// Serves the panels of the input without end, with a log on `faults`.
-fn serve<R: Net + Wait, I: Source, E: Sink>(
+/// Tells the watcher that the server listens, and serves without end.
+fn serve_watched<R: Wait + Clock, W: Watcher>(
+    rt: &R,
+    server: &mut Server,
+    service: &Service,
+    address: SocketAddr,
+    watcher: &mut W,
+) -> Result<(), Fault> {
+    watcher.notice(&Notice::Listening(address))?;
+    serve_on(rt, server, &service.limits, watcher)
+}
+
+/// The same, and answers with metrics at this port.
+fn serve_metered<R: Net + Wait + Clock, W: Watcher>(
     rt: &R,
     alloc: Global,
-    port: Port,
+    server: &mut Server,
+    service: &Service,
+    address: SocketAddr,
+    port: ServicePort,
+    watcher: &mut W,
+) -> Result<(), Fault> {
+    let mut metered = Metered::new(rt, alloc, server, port, watcher)?;
+    serve_watched(rt, server, service, address, &mut metered)
+}
+
+/// Serves the panels of the input without end, with a log on `faults`.
+fn serve<R: Net + Wait + Clock, I: Source, E: Sink>(
+    rt: &R,
+    alloc: Global,
+    service: &Service,
     input: &mut I,
     faults: &mut E,
 ) -> Result<(), Fault> {
-    let mut server = begin(rt, alloc, port, input)?;
+    let address = SocketAddr::new(service.listen, service.port.get());
+    if !service.listen.is_loopback() {
+        let _ = faults.write_line(Exposed(address));
+    }
+    let mut server = begin_at(rt, alloc, address, input)?;
     let mut log = Log {
+        clock: rt,
         alloc,
         lines: faults,
+        quiet: service.quiet,
     };
-    serve_on(rt, &mut server, &mut log)
+    match service.metrics {
+        Some(port) => serve_metered(rt, alloc, &mut server, service, address, port, &mut log),
+        None => serve_watched(rt, &mut server, service, address, &mut log),
+    }
 }
 
-/// Serves like [`run_host`], but without end, and logs on `faults` each connection that begins, is refused an LU, is bound to one, is
-/// closed, or is lost.
+/// Serves the panels of the input to the terminals that connect, without end: at the service's address and port, with its time
+/// limits, and with a log on `faults` unless the service is quiet. If the address isn't one of this machine alone, `faults` first gets
+/// a warning. The log says when the server listens; and of each connection that it begins, is refused an LU, is bound to one, and is
+/// over, with the reason. If the service has a port for metrics, that port of 127.0.0.1 answers with them.
 ///
-/// Returns the exit status if it can't begin or go on: one of `run_host`'s but for 5.
-pub fn run_serve<R: Net + Wait, I: Source, E: Sink>(
+/// Returns the exit status if it can't begin or go on: 1 if the input can't be read (as for [`run_show`](crate::run_show)), if it
+/// defines no panels, or if their LUs are no pool; 3 if memory is refused; 4 if the system refuses to listen, or to wait for sockets.
+pub fn run_serve<R: Net + Wait + Clock, I: Source, E: Sink>(
     rt: &R,
     alloc: Global,
-    port: Port,
+    service: &Service,
     input: &mut I,
     faults: &mut E,
 ) -> u8 {
-    match serve(rt, alloc, port, input, faults) {
+    match serve(rt, alloc, service, input, faults) {
         Ok(()) => 0,
         Err(fault) => end_by(fault, faults),
     }

@@ -2,7 +2,7 @@
 ghost use Rattle.std.specs.Prelude.{◌≡◌, true, false, length};
 ghost use Rattle.host_core.specs.Serves.{GotWithin, TookWithin, bytes_got};
 ghost use Rattle.jobs3270.specs.RawCalls.{is_passing, link_read, link_write};
-ghost use Rattle.jobs3270.specs.Sockets.{GetsIn, Gives, IsReadOnce, IsWrittenOnce, Raises, Takes, TookSome, emptied, is_connected, is_held_back, opened, unused, with_waiting};
+ghost use Rattle.jobs3270.specs.Sockets.{GetsIn, Gives, IsReadOnce, IsWrittenOnce, Raises, Takes, TookSome, counted, emptied, is_connected, is_held_back, opened, unused, with_waiting};
 
 use crate::raw::{RawRead, RawWrite};
 use host_core::{LinkRead, LinkWrite};
@@ -81,8 +81,15 @@ fn raise(count: &mut u64) -> bool
     }
 }
 
-/// The slot of a connection number: the socket of its connection, if there is one, and how many of the number's connections
-/// ended and failed.
+/// Adds a number of bytes to a count, which stays at its last value.
+fn add_bytes(count: &mut u64, more: usize)
+    ensures { count.new ≡ counted count.old more }
+{
+    *count = count.saturating_add(more as u64);
+}
+
+/// The slot of a connection number: the socket of its connection, if there is one, how many of the number's connections ended and
+/// failed, and how many bytes the last connection's socket gave and took.
 #[derive(Drop)]
 pub(crate) struct SocketSlot<S> {
     socket: Option<S>,
@@ -90,6 +97,8 @@ pub(crate) struct SocketSlot<S> {
     waiting: usize,
     ends: u64,
     failures: u64,
+    received: u64,
+    sent: u64,
 }
 
 impl<S> Model for SocketSlot<S> {
@@ -97,7 +106,7 @@ impl<S> Model for SocketSlot<S> {
 
     ghost Value = { SlotValue S };
 
-    ghost view = { λ slot. record { socket = slot.socket; waiting = slot.waiting; ends = slot.ends; failures = slot.failures } };
+    ghost view = { λ slot. record { socket = slot.socket; waiting = slot.waiting; ends = slot.ends; failures = slot.failures; received = slot.received; sent = slot.sent } };
 }
 
 impl SocketSlot<TcpStream> {
@@ -117,6 +126,8 @@ impl<S: RawRead + RawWrite + Drop> SocketSlot<S> {
             waiting: 0,
             ends: 0,
             failures: 0,
+            received: 0,
+            sent: 0,
         }
     }
 
@@ -127,12 +138,28 @@ impl<S: RawRead + RawWrite + Drop> SocketSlot<S> {
         self.socket.is_some()
     }
 
+    /// The number of bytes that the last connection's socket gave.
+    pub(crate) fn received(&self) -> u64
+        ensures { result ≡ self.now.received }
+    {
+        self.received
+    }
+
+    /// The number of bytes that the last connection's socket took.
+    pub(crate) fn sent(&self) -> u64
+        ensures { result ≡ self.now.sent }
+    {
+        self.sent
+    }
+
     /// Begins a connection.
     pub(crate) fn open(&mut self, socket: S)
         ensures { self.new ≡ opened socket self.old }
     {
         self.socket = Some(socket);
         self.waiting = 0;
+        self.received = 0;
+        self.sent = 0;
     }
 
     /// Ends the connection, and closes the socket.
@@ -166,7 +193,10 @@ impl<S: RawRead + RawWrite + Drop> SocketSlot<S> {
             return LinkRead::NotNow;
         };
         match read_once(socket, buffer) {
-            LinkRead::Got(count) => LinkRead::Got(count),
+            LinkRead::Got(count) => {
+                add_bytes(&mut self.received, count);
+                LinkRead::Got(count)
+            }
             LinkRead::NotNow => LinkRead::NotNow,
             LinkRead::Ended => {
                 if raise(&mut self.ends) {
@@ -198,7 +228,10 @@ impl<S: RawRead + RawWrite + Drop> SocketSlot<S> {
             return LinkWrite::NotNow;
         };
         match write_once(socket, bytes) {
-            LinkWrite::Took(count) => LinkWrite::Took(count),
+            LinkWrite::Took(count) => {
+                add_bytes(&mut self.sent, count);
+                LinkWrite::Took(count)
+            }
             LinkWrite::NotNow => LinkWrite::NotNow,
             LinkWrite::Failed => {
                 if raise(&mut self.failures) {

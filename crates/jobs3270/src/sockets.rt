@@ -86,6 +86,22 @@ impl<S: RawRead + RawWrite + Drop> Sockets<S> {
         self.slots[conn].is_connected()
     }
 
+    /// The number of bytes that came on a number's last connection.
+    pub(crate) fn received(&self, conn: usize) -> u64
+        requires { conn < most_connections }
+        ensures { result ≡ (slot_at conn self.now).received }
+    {
+        self.slots[conn].received()
+    }
+
+    /// The number of bytes that were sent on a number's last connection.
+    pub(crate) fn sent(&self, conn: usize) -> u64
+        requires { conn < most_connections }
+        ensures { result ≡ (slot_at conn self.now).sent }
+    {
+        self.slots[conn].sent()
+    }
+
     /// Begins a connection on a number.
     pub(crate) fn open(&mut self, conn: usize, socket: S)
         requires { conn < most_connections }

@@ -1,82 +1,133 @@
-//! The program panel3270: TN3270E hosts, terminals and 3270 screens on the command line. jobs3270 has its jobs; this crate passes the
-//! arguments and the standard streams, and prints the usage.
+//! The program panel3270: TN3270E hosts, terminals and 3270 screens on the command line. jobs3270 has its jobs, and the texts of its
+//! help; this crate passes the arguments, the standard streams and files.
 #![tactic(auto)]
 
-ghost use Rattle.std.specs.Prelude.{◌≡◌};
-ghost use Rattle.jobs3270.specs.Runs.{IsToldIn};
-ghost use Rattle.jobs3270.specs.Words.{usage, words_refused};
-
 use jobs3270::{
-    CountedReader, CountedWriter, Fault, Job, Sink, WordFault, end_by, run_host, run_script,
-    run_selfrun, run_serve, run_show, run_term, words,
+    CountedReader, CountedWriter, Fault, FileName, Job, Refusal, Service, Sink, WordFault, end_by,
+    refusal_of, refuse_file, refuse_words, run_check, run_help, run_host, run_script, run_selfrun,
+    run_serve, run_show, run_term, run_version, words,
 };
 use std::env;
+use std::fs::File;
 use std::io::{self, ErrorKind};
+use std::net::Net;
 use std::process::ExitCode;
-
-/// The exit status if the arguments are refused.
-const WORDS_REFUSED: u8 = 2;
-
-const USAGE: &str = "usage: panel3270 [JOB] < INPUT
-  script                      serve panels to terminals, which do commands; this is the job where no word is given
-  selfrun [--turns N]         do the same over sockets
-  show                        apply commands of the data stream, in hexadecimal, to a blank screen, and print it
-  host --port P [--turns N]   serve panels to terminals that connect to 127.0.0.1, for so many turns
-  serve --port P              serve panels to terminals that connect to 127.0.0.1, without end
-  term --port P [--lu NAME]   be a terminal of the host at 127.0.0.1, and do commands
-P is 1024 to 65535, N 1 to 1000000, and 10000 where it isn't given; NAME has 1 to 8 of A to Z, 0 to 9, @, # and $, the first no digit.
-INPUT is UTF-8 of at most 1048576 bytes, in lines that end with LF, which the last may lack:
-  script, selfrun             panels in TOML, a line %%, and commands, one a line
-  host, serve                 panels in TOML
-  term                        commands, one a line
-  show                        commands, one a line: pairs of hexadecimal digits, and blanks; no tab, CR or comment
-status: 0 done, 1 input refused, 2 words refused, 3 no memory, 4 socket failed, 5 turns over, 6 output failed";
+use std::sync::Wait;
+use std::time::Clock;
 
 /// The arguments after the program's name.
 fn given_words(rt: &HostRuntime) -> io::Result<Vec<String>> {
     Ok(env::args(rt)?.skip(1).collect(rt.alloc())?)
 }
 
-/// The job of the arguments.
-fn given_job(rt: &HostRuntime) -> Result<Job, WordFault> {
-    match given_words(rt) {
-        Ok(given) => words(rt.alloc(), given.as_slice()),
-        Err(error) => match error.kind() {
-            ErrorKind::OutOfMemory => Err(WordFault::Memory),
-            _ => Err(WordFault::Refused),
-        },
+/// Opens a file to be read. A directory is refused.
+fn open(rt: &HostRuntime, name: &str) -> io::Result<File> {
+    let file = File::open(rt, name)?;
+    if file.metadata()?.is_dir() {
+        return Err(ErrorKind::IsADirectory.into());
+    }
+    Ok(file)
+}
+
+/// Prints why a file can't be opened, and returns the exit status.
+fn end_without<E: Sink>(name: &str, why: ErrorKind, faults: &mut E) -> u8 {
+    match why {
+        ErrorKind::OutOfMemory => end_by(Fault::NoMemory, faults),
+        _ => refuse_file(name, why, faults),
     }
 }
 
-/// Prints the usage, and returns the exit status. A usage that can't be printed is left out.
-fn refuse_words<E: Sink>(faults: &mut E) -> u8
-    ensures status { result ≡ words_refused }
-    ensures told { IsToldIn (E.seen faults.old) (E.seen faults.new) usage }
-{
-    let _ = faults.write_line(USAGE);
-    WORDS_REFUSED
+/// Serves the panels of a file, or of the standard input if there is none, and returns the exit status.
+fn serve<R: Net + Wait + Clock>(
+    rt: &HostRuntime,
+    waiting: &R,
+    service: &Service,
+    panels: Option<FileName<'_>>,
+) -> u8 {
+    let alloc = rt.alloc();
+    let mut faults = CountedWriter::new(rt.stderr());
+    let Some(panels) = panels else {
+        let mut input = CountedReader::new(rt.stdin());
+        return run_serve(waiting, alloc, service, &mut input, &mut faults);
+    };
+    match open(rt, panels.as_str()) {
+        Ok(file) => run_serve(
+            waiting,
+            alloc,
+            service,
+            &mut CountedReader::new(file),
+            &mut faults,
+        ),
+        Err(error) => end_without(panels.as_str(), error.kind(), &mut faults),
+    }
 }
 
-fn main(rt: HostRuntime) -> ExitCode {
+/// Checks the panel text of a file, or of the standard input if there is none, and returns the exit status.
+fn check(rt: &HostRuntime, file: Option<FileName<'_>>) -> u8 {
+    let alloc = rt.alloc();
+    let mut out = CountedWriter::new(rt.stdout());
+    let mut faults = CountedWriter::new(rt.stderr());
+    let Some(file) = file else {
+        let mut input = CountedReader::new(rt.stdin());
+        return run_check(alloc, "standard input", &mut input, &mut out, &mut faults);
+    };
+    let name = file.as_str();
+    match open(rt, name) {
+        Ok(opened) => {
+            let mut input = CountedReader::new(opened);
+            run_check(alloc, name, &mut input, &mut out, &mut faults)
+        }
+        Err(error) => end_without(name, error.kind(), &mut faults),
+    }
+}
+
+/// Does a job, and returns the exit status.
+fn do_job<R: Net + Wait + Clock>(rt: &HostRuntime, waiting: &R, job: Job<'_>) -> u8 {
     let alloc = rt.alloc();
     let mut input = CountedReader::new(rt.stdin());
     let mut out = CountedWriter::new(rt.stdout());
     let mut faults = CountedWriter::new(rt.stderr());
-    let status = match given_job(&rt) {
-        Ok(job) => match job {
-            Job::Script => run_script(alloc, &mut input, &mut out, &mut faults),
-            Job::Show => run_show(alloc, &mut input, &mut out, &mut faults),
-            Job::Selfrun { turns } => {
-                run_selfrun(&rt, alloc, turns, &mut input, &mut out, &mut faults)
-            }
-            Job::Host { port, turns } => {
-                run_host(&rt, alloc, port, turns, &mut input, &mut faults)
-            }
-            Job::Serve { port } => run_serve(&rt, alloc, port, &mut input, &mut faults),
-            Job::Term { port, lu } => { run_term(&rt, port, lu, &mut input, &mut out, &mut faults) }
-        },
-        Err(WordFault::Refused) => refuse_words(&mut faults),
-        Err(WordFault::Memory) => end_by(Fault::NoMemory, &mut faults),
+    match job {
+        Job::Script => run_script(alloc, &mut input, &mut out, &mut faults),
+        Job::Show => run_show(alloc, &mut input, &mut out, &mut faults),
+        Job::Selfrun { turns } => {
+            run_selfrun(rt, alloc, turns, &mut input, &mut out, &mut faults)
+        }
+        Job::Check { file } => check(rt, file),
+        Job::Host { port, turns } => run_host(rt, alloc, port, turns, &mut input, &mut faults),
+        Job::Serve { service, panels } => serve(rt, waiting, &service, panels),
+        Job::Term { port, lu } => run_term(rt, port, lu, &mut input, &mut out, &mut faults),
+        Job::Help(topic) => run_help(topic, &mut out, &mut faults),
+        Job::Version => run_version(&mut out, &mut faults),
+    }
+}
+
+/// Does what the words ask for, and returns the exit status.
+///
+/// `waiting` is the runtime, too: `main` alone has its leave to wait, and hands it on.
+fn run<R: Net + Wait + Clock>(rt: &HostRuntime, waiting: &R, given: &[String]) -> u8 {
+    match words(rt.alloc(), given) {
+        Ok(job) => do_job(rt, waiting, job),
+        Err(WordFault::Refused) => {
+            refuse_words(refusal_of(given), &mut CountedWriter::new(rt.stderr()))
+        }
+        Err(WordFault::Memory) => { end_by(Fault::NoMemory, &mut CountedWriter::new(rt.stderr())) }
+    }
+}
+
+/// The exit status if the arguments can't be read.
+fn without_words(rt: &HostRuntime, why: ErrorKind) -> u8 {
+    let mut faults = CountedWriter::new(rt.stderr());
+    match why {
+        ErrorKind::OutOfMemory => end_by(Fault::NoMemory, &mut faults),
+        _ => refuse_words(Refusal::NotText, &mut faults),
+    }
+}
+
+fn main(rt: HostRuntime) -> ExitCode {
+    let status = match given_words(&rt) {
+        Ok(given) => run(&rt, &rt, given.as_slice()),
+        Err(error) => without_words(&rt, error.kind()),
     };
     ExitCode::from(status)
 }

@@ -1,7 +1,7 @@
-use Rattle.std.proofs.Common.{map, subst, sym, string_bytes}
-use Rattle.jobs3270.specs.ClapCommands.{HasNoMatch}
-use Rattle.jobs3270.specs.declared.job.WordFault.{WordFault}
-use Rattle.jobs3270.proofs.ClapJobs.{is_match, no_match}
+use Rattle.std.proofs.Common.{map, string_bytes, subst, sym}
+use Rattle.clap.specs.declared.error.kind.ErrorKind.{ErrorKind}
+use Rattle.jobs3270.specs.ClapCommands.{MayFail}
+use Rattle.jobs3270.proofs.ClapJobs.{is_match, may_fail}
 use Rattle.jobs3270.proofs.command_line.matches_of.Goals as goal
 
 pub returns-in-Ok-try_get_matches_from-clause-matches :
@@ -10,8 +10,8 @@ returns-in-Ok-try_get_matches_from-clause-matches c =
     let found = c.in-Ok-try_get_matches_from in
     is_match c.in-Ok.command (map string_bytes c.args.words.now) c.in-Ok.ensures.is found.matches found.ensures.matches found.ensures.kinds
 
-pub returns-in-Err-clause-fault : goal.returns-in-Err-clause-fault
-returns-in-Err-clause-fault c =
+pub returns-in-Err-clause-kind : goal.returns-in-Err-clause-kind
+returns-in-Err-clause-kind c =
     let words = map string_bytes c.args.words.now in
-    subst (λ (fault : WordFault). HasNoMatch words fault) (sym c.fault_of.ensures)
-    (no_match c.in-Ok.command words c.in-Ok.ensures.is c.in-Err.error c.in-Err.ensures.kinds)
+    subst (λ (kind : ErrorKind). MayFail words kind) (sym c.kind.ensures)
+    (may_fail c.in-Ok.command words c.in-Ok.ensures.is c.in-Err.error c.in-Err.ensures.kinds)

@@ -1,6 +1,9 @@
-use Rattle.std.proofs.Common.{◌∙◌, map, sym, string_bytes}
-use Rattle.std.specs.Prelude.{Some, None}
-use Rattle.jobs3270.proofs.ClapJobs.{job_is, no_job}
+use Rattle.std.proofs.Common.{map, string_bytes, subst, sym, Some, None, Result}
+use Rattle.std.specs.Prelude.{IfOk, IfErr}
+use Rattle.jobs3270.specs.Words.{HasNoJob, IsJobOf}
+use Rattle.jobs3270.specs.declared.job.Job.{Job}
+use Rattle.jobs3270.specs.declared.job.WordFault.{WordFault}
+use Rattle.jobs3270.proofs.ClapJobs.{asked, job_is}
 use Rattle.jobs3270.proofs.command_line.words.Goals as goal
 
 pub returns-in-Some-clause-job : goal.returns-in-Some-clause-job
@@ -11,5 +14,14 @@ pub returns-in-Ok-clause-fault : goal.returns-in-Ok-clause-fault
 returns-in-Ok-clause-fault c =
     job_is (map string_bytes c.args.words.now) c.in-Ok.matches c.in-Ok.ensures.matches None c.in-None.ensures
 
+pub returns-clause-job : goal.returns-clause-job
+returns-clause-job c =
+    let words = map string_bytes c.args.words.now in
+    subst (λ (answer : Result Job WordFault). IfOk answer (λ job. IsJobOf words (Some job))) (sym c.job_or_fault.ensures)
+    (asked words c.in-Err.kind c.in-Err.ensures.kind).0
+
 pub returns-clause-fault : goal.returns-clause-fault
-returns-clause-fault c = no_job (map string_bytes c.args.words.now) c.in-Err.fault c.in-Err.ensures.fault
+returns-clause-fault c =
+    let words = map string_bytes c.args.words.now in
+    subst (λ (answer : Result Job WordFault). IfErr answer (HasNoJob words)) (sym c.job_or_fault.ensures)
+    (asked words c.in-Err.kind c.in-Err.ensures.kind).1

@@ -1,0 +1,72 @@
+-- The values of options (our profile).
+use Rattle.std.specs.Prelude.{ℕ, ◌&&◌, Bool, true, false, nat_le, List, [], ◌∷◌, Option, Some, None, is_some, option_map, if◌then◌else◌}
+use Rattle.std.specs.Option.{option_and_then, option_map_or}
+use Rattle.std.specs.Net.Reader.{read_ipv4, read_ipv6, whole_value}
+use Rattle.std.specs.declared.net.ip_addr.IpAddr.{IpAddr}
+use Rattle.std.specs.declared.net.ip_addr.IpAddr.TheVariants as ip
+use Rattle.tn3270e_msg.specs.Lu.{lu_of}
+use Rattle.jobs3270.specs.ScriptLines.{number_of}
+use Rattle.jobs3270.specs.declared.job_table.ValueKind.{ValueKind}
+use Rattle.jobs3270.specs.declared.job_table.ValueKind.TheVariants as kind
+
+-- ports that need no privilege
+abbrev pub port_numbered : ℕ → Option ℕ
+port_numbered number = if nat_le 1024 number && nat_le number 65535 then Some number else None
+
+-- the ports of a service
+abbrev pub service_port_numbered : ℕ → Option ℕ
+service_port_numbered number = if nat_le 1 number && nat_le number 65535 then Some number else None
+
+-- time limits in seconds; 0 is none
+abbrev pub seconds_numbered : ℕ → Option ℕ
+seconds_numbered number = if nat_le number 1000000 then Some number else None
+
+abbrev pub turns_numbered : ℕ → Option ℕ
+turns_numbered number = if nat_le 1 number && nat_le number 1000000 then Some number else None
+
+abbrev pub port_of : List ℕ → Option ℕ
+port_of word = option_and_then port_numbered (number_of word)
+
+abbrev pub service_port_of : List ℕ → Option ℕ
+service_port_of word = option_and_then service_port_numbered (number_of word)
+
+abbrev pub seconds_of : List ℕ → Option ℕ
+seconds_of word = option_and_then seconds_numbered (number_of word)
+
+abbrev pub turns_of : List ℕ → Option ℕ
+turns_of word = option_and_then turns_numbered (number_of word)
+
+-- the address that a word writes: four decimal octets, else the groups of an IPv6 address (RFC 4291, 2.2)
+unfoldable pub address_of : List ℕ → Option IpAddr
+address_of word =
+    option_map_or (λ octets. Some (ip.V4 (record { octets = octets }))) (whole_value (read_ipv4 word))
+    (option_map (λ segments. ip.V6 (record { segments = segments })) (whole_value (read_ipv6 word)))
+
+-- the word is a value of this kind
+abbrev pub is_value : ValueKind → List ℕ → Bool
+is_value kind.Port word = is_some (port_of word)
+is_value kind.ServicePort word = is_some (service_port_of word)
+is_value kind.Turns word = is_some (turns_of word)
+is_value kind.LuName word = is_some (lu_of word)
+is_value kind.Address word = is_some (address_of word)
+is_value kind.Seconds word = is_some (seconds_of word)
+is_value kind.File word = true
+is_value kind.Flag word = false
+
+-- the values of options that aren't given
+
+abbrev pub usual_turns : ℕ
+usual_turns = 10000
+
+abbrev pub usual_negotiate : ℕ
+usual_negotiate = 30
+
+abbrev pub usual_keepalive : ℕ
+usual_keepalive = 60
+
+abbrev pub usual_idle : ℕ
+usual_idle = 0
+
+-- 127.0.0.1
+abbrev pub this_machine : IpAddr
+this_machine = ip.V4 (record { octets = 127 ∷ 0 ∷ 0 ∷ 1 ∷ [] })

@@ -1,0 +1,140 @@
+//! `help` and `--version`: the texts that tell how the program is used.
+ghost use Rattle.std.specs.Prelude.{◌≡◌};
+ghost use Rattle.jobs3270.specs.Helps.{PrintsLine, help_text, version_text};
+
+use crate::fault::Fault;
+use crate::job::Topic;
+use crate::streams::{Sink, WriteFailed};
+use crate::task::end_by;
+
+const PROGRAM: &str = "panel3270: TN3270E hosts and terminals, and 3270 screens
+
+usage: panel3270 [JOB] < INPUT
+
+jobs:
+  script    serve panels to terminals, which do commands; this is the job if no word is given
+  selfrun   do the same over sockets
+  show      apply commands of the data stream, in hexadecimal, to a blank screen, and print it
+  check     print every fault of a panel text
+  host      serve panels to terminals that connect to 127.0.0.1, for a number of turns
+  serve     serve panels to terminals that connect, without end
+  term      be a terminal of the host at 127.0.0.1, and do commands
+  help      print this text, or with a job's name the help of that job
+
+options:
+  -h, --help      print this text, or after a job the help of that job
+  -V, --version   print the version
+
+INPUT is UTF-8 of at most 1048576 bytes, in lines that end with LF, which the last may lack.
+status: 0 done, 1 input refused, 2 words refused, 3 no memory, 4 socket failed, 5 turns over, 6 output failed";
+
+const SCRIPT: &str = "usage: panel3270 [script] < INPUT
+
+Serve panels to four terminals, which do commands, and print what their operators see.
+
+INPUT is panels in TOML, a line %%, and commands, one a line.";
+
+const SHOW: &str = "usage: panel3270 show < INPUT
+
+Apply commands of the 3270 data stream to a blank screen, and print it.
+
+INPUT is commands, one a line: pairs of hexadecimal digits, and blanks; no tab, CR or comment.";
+
+const SELFRUN: &str = "usage: panel3270 selfrun [--turns N] < INPUT
+
+Serve panels to four terminals over sockets of this machine. The terminals do commands. Print what their operators see.
+
+options:
+  --turns N   the number of turns, 1 to 1000000; 10000 if it isn't given
+
+INPUT is panels in TOML, a line %%, and commands, one a line.";
+
+const HOST: &str = "usage: panel3270 host --port P [--turns N] < INPUT
+
+Serve panels to terminals that connect to 127.0.0.1, for a number of turns.
+
+options:
+  --port P    the port, 1024 to 65535
+  --turns N   the number of turns, 1 to 1000000; 10000 if it isn't given
+
+INPUT is panels in TOML.";
+
+const CHECK: &str = "usage: panel3270 check [FILE]
+
+Print every fault of a panel text, and warnings, each with its line. Without FILE the text is standard input.
+
+FILE is panels in TOML. A line %% ends them.";
+
+const SERVE: &str = "usage: panel3270 serve --port P [OPTION ..] < INPUT
+
+Serve panels to terminals that connect, without end, and log each connection on standard error.
+
+options:
+  --port P              the port, 1 to 65535
+  --listen ADDRESS      the IPv4 or IPv6 address to listen on; 127.0.0.1 if it isn't given
+  --panels FILE         the file that has the panels; INPUT if it isn't given
+  --negotiate SECONDS   drop a connection that agrees on no session in this time; 30 if it isn't given
+  --keepalive SECONDS   test the connection of a terminal that sends nothing for this time; 60 if it isn't given
+  --idle SECONDS        drop a connection that sends nothing for this time; 0 if it isn't given
+  --metrics P           the port of 127.0.0.1 that answers with metrics, 1 to 65535; none if it isn't given
+  --quiet               log no connection
+
+SECONDS is 0 to 1000000; 0 is no limit.
+INPUT is panels in TOML.";
+
+const TERM: &str = "usage: panel3270 term --port P [--lu NAME] < INPUT
+
+Be a terminal of the host at 127.0.0.1, and do commands.
+
+options:
+  --port P    the port, 1024 to 65535
+  --lu NAME   the LU to ask for: 1 to 8 of A to Z, 0 to 9, @, # and $, the first no digit; any LU if it isn't given
+
+INPUT is commands, one a line.";
+
+const HELP: &str = "usage: panel3270 help [JOB]
+
+Print the help of the program, or of a job.";
+
+const VERSION: &str = "panel3270 1.0";
+
+/// The text about a topic, without the newline at its end.
+fn help_text(topic: Topic) -> &'static str
+    ensures { result.now ≡ help_text topic }
+{
+    match topic {
+        Topic::Program => PROGRAM,
+        Topic::Script => SCRIPT,
+        Topic::Show => SHOW,
+        Topic::Selfrun => SELFRUN,
+        Topic::Check => CHECK,
+        Topic::Host => HOST,
+        Topic::Serve => SERVE,
+        Topic::Term => TERM,
+        Topic::Help => HELP,
+    }
+}
+
+/// Prints a line, and returns the exit status: 0, or 6 if the output fails.
+fn print_line<O: Sink, E: Sink>(text: &str, out: &mut O, faults: &mut E) -> u8
+    ensures { PrintsLine text.now (O.seen out.old) (O.seen out.new) (E.seen faults.old) (E.seen faults.new) result }
+{
+    match out.write_line(text) {
+        Ok(()) => 0,
+        Err(WriteFailed) => end_by(Fault::OutputFailed, faults),
+    }
+}
+
+/// Prints the help about a topic, and returns the exit status: 0, or 6 if the output fails.
+pub fn run_help<O: Sink, E: Sink>(topic: Topic, out: &mut O, faults: &mut E) -> u8
+    ensures { PrintsLine (help_text topic) (O.seen out.old) (O.seen out.new) (E.seen faults.old) (E.seen faults.new) result }
+{
+    print_line(help_text(topic), out, faults)
+}
+
+/// Prints the program's version, and returns the exit status: 0, or 6 if the output fails.
+pub fn run_version<O: Sink, E: Sink>(out: &mut O, faults: &mut E) -> u8
+    ensures { PrintsLine version_text (O.seen out.old) (O.seen out.new) (E.seen faults.old) (E.seen faults.new) result }
+{
+    print_line(VERSION, out, faults)
+}

@@ -1,0 +1,207 @@
+//! The jobs' names and options.
+ghost use Rattle.std.specs.Prelude.{◌≡◌, map, option_map};
+ghost use Rattle.jobs3270.specs.Topics.{kind_named, name_of, operand_of, options_of, row_of, takes_value, topic_named};
+
+use crate::job::Topic;
+
+/// What the value of an option is.
+#[derive(Clone, Copy)]
+pub(crate) enum ValueKind {
+    /// A port that needs no privilege, 1024 to 65535.
+    Port,
+    /// A port of a service, 1 to 65535.
+    ServicePort,
+    /// A number of turns, 1 to 1,000,000.
+    Turns,
+    /// The name of an LU.
+    LuName,
+    /// An IPv4 or IPv6 address.
+    Address,
+    /// A time limit in seconds, 0 to 1,000,000.
+    Seconds,
+    /// The name of a file.
+    File,
+    /// None: the option is a flag.
+    Flag,
+}
+
+impl ValueKind {
+    /// Whether an option of this kind takes a value.
+    pub(crate) fn takes_value(self) -> bool
+        ensures { result ≡ takes_value self }
+    {
+        !matches!(self, ValueKind::Flag)
+    }
+}
+
+/// An option of a job.
+#[derive(Clone, Copy)]
+pub(crate) struct JobOption<'a> {
+    /// Its name.
+    pub(crate) name: &'a str,
+    /// The word that names it: its name after two dashes.
+    pub(crate) word: &'a str,
+    /// What its value is.
+    pub(crate) kind: ValueKind,
+    /// Whether it must be given.
+    pub(crate) required: bool,
+}
+
+static SELFRUN: [JobOption<'static>; 1] = [JobOption {
+    name: "turns",
+    word: "--turns",
+    kind: ValueKind::Turns,
+    required: false,
+}];
+
+static HOST: [JobOption<'static>; 2] = [
+    JobOption {
+        name: "port",
+        word: "--port",
+        kind: ValueKind::Port,
+        required: true,
+    },
+    JobOption {
+        name: "turns",
+        word: "--turns",
+        kind: ValueKind::Turns,
+        required: false,
+    },
+];
+
+static SERVE: [JobOption<'static>; 8] = [
+    JobOption {
+        name: "port",
+        word: "--port",
+        kind: ValueKind::ServicePort,
+        required: true,
+    },
+    JobOption {
+        name: "listen",
+        word: "--listen",
+        kind: ValueKind::Address,
+        required: false,
+    },
+    JobOption {
+        name: "panels",
+        word: "--panels",
+        kind: ValueKind::File,
+        required: false,
+    },
+    JobOption {
+        name: "negotiate",
+        word: "--negotiate",
+        kind: ValueKind::Seconds,
+        required: false,
+    },
+    JobOption {
+        name: "keepalive",
+        word: "--keepalive",
+        kind: ValueKind::Seconds,
+        required: false,
+    },
+    JobOption {
+        name: "idle",
+        word: "--idle",
+        kind: ValueKind::Seconds,
+        required: false,
+    },
+    JobOption {
+        name: "metrics",
+        word: "--metrics",
+        kind: ValueKind::ServicePort,
+        required: false,
+    },
+    JobOption {
+        name: "quiet",
+        word: "--quiet",
+        kind: ValueKind::Flag,
+        required: false,
+    },
+];
+
+static TERM: [JobOption<'static>; 2] = [
+    JobOption {
+        name: "port",
+        word: "--port",
+        kind: ValueKind::Port,
+        required: true,
+    },
+    JobOption {
+        name: "lu",
+        word: "--lu",
+        kind: ValueKind::LuName,
+        required: false,
+    },
+];
+
+/// The options of a job.
+pub(crate) fn options_of(topic: Topic) -> &'static [JobOption<'static>]
+    ensures { map row_of result.now ≡ options_of topic }
+{
+    match topic {
+        Topic::Selfrun => &SELFRUN,
+        Topic::Host => &HOST,
+        Topic::Serve => &SERVE,
+        Topic::Term => &TERM,
+        Topic::Program | Topic::Script | Topic::Show | Topic::Check | Topic::Help => &[],
+    }
+}
+
+/// The name of the word that a job may be given without an option.
+pub(crate) fn operand_of<'a>(topic: Topic) -> Option<&'a str>
+    ensures { option_map (λ name. name.now) result ≡ operand_of topic }
+{
+    match topic {
+        Topic::Help => Some("job"),
+        Topic::Check => Some("file"),
+        Topic::Program | Topic::Script | Topic::Show | Topic::Selfrun => None,
+        Topic::Host | Topic::Serve | Topic::Term => None,
+    }
+}
+
+/// The name of a topic's job; empty for the whole program.
+pub(crate) fn name_of<'a>(topic: Topic) -> &'a str
+    ensures { result.now ≡ name_of topic }
+{
+    match topic {
+        Topic::Program => "",
+        Topic::Script => "script",
+        Topic::Show => "show",
+        Topic::Selfrun => "selfrun",
+        Topic::Check => "check",
+        Topic::Host => "host",
+        Topic::Serve => "serve",
+        Topic::Term => "term",
+        Topic::Help => "help",
+    }
+}
+
+/// The topic of the job with this name.
+pub(crate) fn topic_named(name: &str) -> Option<Topic>
+    ensures { result ≡ topic_named name.now }
+{
+    match name {
+        "script" => Some(Topic::Script),
+        "show" => Some(Topic::Show),
+        "selfrun" => Some(Topic::Selfrun),
+        "check" => Some(Topic::Check),
+        "host" => Some(Topic::Host),
+        "serve" => Some(Topic::Serve),
+        "term" => Some(Topic::Term),
+        "help" => Some(Topic::Help),
+        _ => None,
+    }
+}
+
+/// What the option that a word names takes.
+pub(crate) fn kind_named(options: &[JobOption<'_>], word: &str) -> Option<ValueKind>
+    ensures { result ≡ kind_named (map row_of options.now) word.now }
+{
+    for option in options {
+        if word == option.word {
+            return Some(option.kind);
+        }
+    }
+    None
+}

@@ -1,0 +1,111 @@
+//! The time limits of a connection: when it is sent IAC NOP, and when it is dropped.
+ghost use Rattle.std.specs.Prelude.{◌≡◌};
+ghost use Rattle.jobs3270.specs.Timing.{due, heard, is_over, is_unanswered, kept_alive, new_activity};
+
+use crate::job::Seconds;
+use crate::service::TimeLimits;
+
+/// The limit for which a connection is dropped.
+#[derive(Clone, Copy)]
+pub enum Overdue {
+    /// It has not agreed on a session in time.
+    NoAgreement,
+    /// It sent nothing for too long.
+    Idle,
+}
+
+/// What is due on a connection by its time limits.
+#[derive(Clone, Copy)]
+pub enum Due {
+    /// Nothing.
+    Nothing,
+    /// IAC NOP is sent, so that TCP notices if the peer is gone.
+    KeepAlive,
+    /// The connection is dropped.
+    Disconnect(Overdue),
+}
+
+/// When a connection began, and when it did something. Times are milliseconds of the server's time.
+#[derive(Clone, Copy)]
+pub struct Activity {
+    /// When it began.
+    pub began: u64,
+    /// When bytes came last, or when it began.
+    pub heard: u64,
+    /// When IAC NOP was due last, or bytes came since.
+    pub kept_alive: u64,
+    /// The number of bytes that had come at that time.
+    pub received: u64,
+    /// The number of bytes that had been sent.
+    pub sent: u64,
+}
+
+/// Whether a limit has passed after this number of milliseconds.
+fn is_over(limit: Seconds, millis: u64) -> bool
+    ensures { result ≡ is_over limit millis }
+{
+    let seconds = limit.get() as u64;
+    0 < seconds && seconds * 1000 <= millis
+}
+
+impl Activity {
+    /// That of a connection that begins now.
+    pub fn new(now: u64) -> Activity
+        ensures { result ≡ new_activity now }
+    {
+        Activity {
+            began: now,
+            heard: now,
+            kept_alive: now,
+            received: 0,
+            sent: 0,
+        }
+    }
+
+    /// What is due now on a connection, whose terminal is bound to an LU or not. If more than one limit has passed, the first of
+    /// `negotiate`, `idle` and `keepalive` counts.
+    pub fn due(&self, limits: &TimeLimits, bound: bool, now: u64) -> Due
+        ensures { result ≡ due limits.now bound self.now now }
+    {
+        if !bound && is_over(limits.negotiate, now.saturating_sub(self.began)) {
+            return Due::Disconnect(Overdue::NoAgreement);
+        }
+        if is_over(limits.idle, now.saturating_sub(self.heard)) {
+            return Due::Disconnect(Overdue::Idle);
+        }
+        if bound && is_over(limits.keepalive, now.saturating_sub(self.kept_alive)) {
+            return Due::KeepAlive;
+        }
+        Due::Nothing
+    }
+
+    /// Whether bytes came and none were sent since the numbers of bytes were taken last. The peer's TCP then waits for an
+    /// acknowledgement that the system delays, since nothing carries it.
+    pub fn is_unanswered(&self, received: u64, sent: u64) -> bool
+        ensures { result ≡ is_unanswered self.now received sent }
+    {
+        self.received != received && self.sent == sent
+    }
+
+    /// Takes the numbers of bytes that came and were sent until now.
+    pub fn hear(&mut self, received: u64, sent: u64, now: u64)
+        ensures { self.new ≡ heard received sent now self.old }
+    {
+        if self.received != received {
+            self.received = received;
+            self.heard = now;
+            self.kept_alive = now;
+        }
+        self.sent = sent;
+    }
+
+    /// IAC NOP was due now.
+    pub fn keep_alive(&mut self, now: u64)
+        ensures { self.new ≡ kept_alive now self.old }
+    {
+        *self = Activity {
+            kept_alive: now,
+            ..*self
+        };
+    }
+}

@@ -1,0 +1,66 @@
+//! The log of a server.
+use crate::fault::Fault;
+use crate::notice::{Notice, put_notice};
+use crate::server::{Server, Watcher};
+use crate::streams::Sink;
+use host_core::Host;
+use jiff::Timestamp;
+use std::alloc::{AllocError, Global};
+use std::time::Clock;
+
+/// Writes each notice as a line that begins with the time, unless it is quiet. NoMemory if memory is refused; a line that can't be
+/// written is left out.
+#[derive(Drop)]
+pub struct Log<'a, C, E> {
+    /// Tells the time.
+    pub clock: &'a C,
+    /// Makes room for a line.
+    pub alloc: Global,
+    /// Gets the lines.
+    pub lines: &'a mut E,
+    /// Whether nothing is written.
+    pub quiet: bool,
+}
+
+/// Room for the text of a time, in bytes.
+const TIME_ROOM: usize = 32;
+
+/// Room for a line of the usual length, in bytes.
+const LINE_ROOM: usize = 192;
+
+/// Adds the time in UTC, in whole seconds (RFC 3339); `unknown` if the clock fails.
+fn put_time(text: &mut String, clock: &impl Clock) -> Result<(), AllocError> {
+    match Timestamp::now(clock) {
+        Ok(now) => write!(text, "{now:.0}"),
+        Err(_) => text.push_str("unknown"),
+    }
+}
+
+/// The line of a notice at this time.
+fn line_of(alloc: Global, clock: &impl Clock, notice: &Notice) -> Result<String, AllocError> {
+    let mut time = String::with_capacity(alloc, TIME_ROOM)?;
+    put_time(&mut time, clock)?;
+    let mut line = String::with_capacity(alloc, LINE_ROOM)?;
+    put_notice(&mut line, time.as_str(), notice)?;
+    Ok(line)
+}
+
+impl<C: Clock, E: Sink> Watcher for Log<'_, C, E> {
+    fn notice(&mut self, notice: &Notice) -> Result<(), Fault> {
+        if self.quiet {
+            return Ok(());
+        }
+        let line = line_of(self.alloc, self.clock, notice)?;
+        // Terminals are served even if the log can't be written.
+        let _ = self.lines.write_all(line.as_bytes());
+        Ok(())
+    }
+
+    fn shown(&mut self, _host: &Host, _conn: usize) -> Result<(), Fault> {
+        Ok(())
+    }
+
+    fn turned(&mut self, _server: &Server, _now: u64) -> bool {
+        false
+    }
+}

@@ -1,0 +1,39 @@
+//! How `serve` serves: where it listens, its time limits, and what it tells.
+ghost use Rattle.std.specs.Prelude.{◌≡◌};
+ghost use Rattle.jobs3270.specs.OptionValues.{address_of};
+
+use crate::job::{Seconds, ServicePort};
+use std::net::IpAddr;
+
+/// How long a connection may be silent. 0 seconds: without limit.
+#[derive(Clone, Copy)]
+pub struct TimeLimits {
+    /// A connection that has not agreed on a session this long after it began is dropped.
+    pub negotiate: Seconds,
+    /// A bound connection that sent nothing for this long is sent IAC NOP, so that TCP notices a dead peer.
+    pub keepalive: Seconds,
+    /// A connection that sent nothing for this long is dropped.
+    pub idle: Seconds,
+}
+
+/// How `serve` serves.
+#[derive(Clone, Copy)]
+pub struct Service {
+    /// The address that it listens on.
+    pub listen: IpAddr,
+    /// The port that it listens on.
+    pub port: ServicePort,
+    /// How long connections may be silent.
+    pub limits: TimeLimits,
+    /// Whether connections are not logged.
+    pub quiet: bool,
+    /// The port of 127.0.0.1 that answers with metrics, if one does.
+    pub metrics: Option<ServicePort>,
+}
+
+/// The IPv4 or IPv6 address that a word writes, if it writes one.
+pub(crate) fn address_of(word: &str) -> Option<IpAddr>
+    ensures { result ≡ address_of word.now }
+{
+    word.parse::<IpAddr>().ok()
+}
