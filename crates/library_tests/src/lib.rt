@@ -1,6 +1,6 @@
 //! Trials of the libraries up to terminal, belief and panels, over their public calls: tables, worked commands and screens as bytes, printed texts, and
 //! growths refused. A line is printed for each: ok, or that it fails, with the wanted and the actual result. `former` compares a belief and a screen with
-//! what they were.
+//! what they were, and `reports` the reports on panel texts with the readers' answers.
 //!
 //! They are a library that a program runs, and no tests: a crate with tests is proved as a program, which loads all that it stands on.
 #![tactic(auto)]
@@ -17,6 +17,7 @@ mod paints;
 mod panel_texts;
 mod pools;
 mod report;
+mod reports;
 mod screens;
 mod talks;
 mod terminals;
@@ -25,6 +26,7 @@ mod wire;
 use codes3270::Addr;
 pub use former::{compare, compare_speed};
 use report::Report;
+pub use reports::compare_reports;
 use std::fmt::Display;
 use std::io;
 

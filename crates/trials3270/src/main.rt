@@ -10,6 +10,7 @@
 //! storm FILE..        hostile bytes: trials `fuzz`
 //! commands FILE..     lines and their commands: `jobs::commands`
 //! former FILE..       cases for the former code and the present: library_tests `former`
+//! reports FILE..      panel texts, as they are and with random changes: library_tests `reports`
 //! speed FILE          a panel text with 64 LUs; each measured case is run once: trials `speed`
 //! figures FILE        the same, and it is measured
 //! libraries           the libraries' public calls, check by check: library_tests
@@ -27,7 +28,7 @@ mod jobs;
 
 use anyhow::{Context, Result, ensure};
 use jobs::{run_commands, try_jobs};
-use library_tests::{compare, compare_speed, try_libraries};
+use library_tests::{compare, compare_reports, compare_speed, try_libraries};
 use std::{env, fs};
 use trials::{
     CaseFile, Range, Scale, measure, run_dialogues, run_fuzz, run_serving, run_worlds, try_growth,
@@ -41,6 +42,7 @@ enum Cases {
     Storm,
     Commands,
     Former,
+    Reports,
     Speed,
     Figures,
 }
@@ -62,12 +64,13 @@ enum Part {
     Checks(Checks),
 }
 
-static PARTS: [(&str, Part); 13] = [
+static PARTS: [(&str, Part); 14] = [
     ("dialogues", Part::Cases(Cases::Dialogues)),
     ("worlds", Part::Cases(Cases::Worlds)),
     ("storm", Part::Cases(Cases::Storm)),
     ("commands", Part::Cases(Cases::Commands)),
     ("former", Part::Cases(Cases::Former)),
+    ("reports", Part::Cases(Cases::Reports)),
     ("speed", Part::Cases(Cases::Speed)),
     ("figures", Part::Cases(Cases::Figures)),
     ("libraries", Part::Checks(Checks::Libraries)),
@@ -94,6 +97,7 @@ impl Cases {
             Cases::Storm => run_fuzz(rt, file),
             Cases::Commands => Ok(run_commands(rt, file)?),
             Cases::Former => Ok(compare(rt, file.name.as_str(), file.text.as_str())?),
+            Cases::Reports => Ok(compare_reports(rt, file.text.as_str())?),
             Cases::Speed => {
                 measure(rt, Scale::Once, file.text.as_str())?;
                 Ok(true)

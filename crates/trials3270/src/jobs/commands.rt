@@ -9,7 +9,7 @@
 //! A command is spelt as `texts` prints it; the text of a note in code page 037. An empty line, and one that begins with `#`, is for
 //! the reader.
 use crate::jobs::texts::{CommandLine, ScriptLine, TerminalLine};
-use jobs3270::{Job, ScriptCommand, TerminalCommand, WordFault, words};
+use jobs3270::{ScriptCommand, TerminalCommand, words};
 use std::alloc::{AllocError, Global};
 use std::io;
 use trials::CaseFile;
@@ -21,18 +21,16 @@ fn push_words(given: &mut Vec<String>, line: &str) -> Result<(), AllocError> {
     Ok(())
 }
 
-fn job_of(alloc: Global, line: &str) -> Result<Job, WordFault> {
+fn job_text(alloc: Global, line: &str) -> Result<String, AllocError> {
     let mut given = Vec::new(alloc);
-    match push_words(&mut given, line) {
-        Ok(()) => words(alloc, given.as_slice()),
-        Err(_) => Err(WordFault::Memory),
-    }
+    push_words(&mut given, line)?;
+    CommandLine(words(alloc, given.as_slice())).to_string(alloc)
 }
 
 /// The command of a line of this kind, as a text; or that there is no such kind.
 fn command_text(alloc: Global, kind: &str, line: &str) -> Result<String, AllocError> {
     match kind {
-        "words" => CommandLine(job_of(alloc, line)).to_string(alloc),
+        "words" => job_text(alloc, line),
         "script" => ScriptLine {
             command: ScriptCommand::read(line),
             line,

@@ -1,5 +1,7 @@
 //! The commands of lines and of words, as texts: what a script would spell, with all defaults filled in.
-use jobs3270::{Job, ScriptCommand, TerminalCommand, WordFault, typed_text};
+use jobs3270::{
+    FileName, Job, ScriptCommand, Service, TerminalCommand, Topic, WordFault, typed_text,
+};
 use std::fmt;
 use std::fmt::{Display, Formatter, Write};
 use world3270::Event;
@@ -17,7 +19,7 @@ pub(crate) struct TerminalLine(pub(crate) Option<TerminalCommand>);
 
 /// The job of a command line.
 #[derive(Drop)]
-pub(crate) struct CommandLine(pub(crate) Result<Job, WordFault>);
+pub(crate) struct CommandLine<'a>(pub(crate) Result<Job<'a>, WordFault>);
 
 fn write_note<W: Write>(f: &mut Formatter<W>, conn: usize, codes: &[u8]) -> fmt::Result {
     write!(f, "note {conn} [")?;
@@ -83,7 +85,53 @@ impl Display for TerminalLine {
     }
 }
 
-impl Display for CommandLine {
+/// The name of a topic of the help.
+fn topic_name(topic: Topic) -> &'static str {
+    match topic {
+        Topic::Program => "the program",
+        Topic::Script => "script",
+        Topic::Show => "show",
+        Topic::Selfrun => "selfrun",
+        Topic::Check => "check",
+        Topic::Host => "host",
+        Topic::Serve => "serve",
+        Topic::Term => "term",
+        Topic::Help => "help",
+    }
+}
+
+/// The file that is read, if it is named.
+fn write_file<W: Write>(f: &mut Formatter<W>, file: &Option<FileName<'_>>) -> fmt::Result {
+    match file {
+        Some(file) => write!(f, " of [{}]", file.as_str()),
+        None => Ok(()),
+    }
+}
+
+/// How `serve` serves: its address and port, its time limits, and what it tells.
+fn write_service<W: Write>(f: &mut Formatter<W>, service: &Service) -> fmt::Result {
+    let Service {
+        listen,
+        port,
+        limits,
+        quiet,
+        metrics,
+    } = service;
+    write!(f, "serve at {listen} {}", port.get())?;
+    let negotiate = limits.negotiate.get();
+    let keepalive = limits.keepalive.get();
+    write!(f, ", {negotiate} {keepalive} {} seconds", limits.idle.get())?;
+    if let Some(metrics) = metrics {
+        write!(f, ", metrics at {}", metrics.get())?;
+    }
+    if *quiet {
+        f.write_str(", quiet")
+    } else {
+        Ok(())
+    }
+}
+
+impl Display for CommandLine<'_> {
     fn fmt<W: Write>(&self, f: &mut Formatter<W>) -> fmt::Result {
         match &self.0 {
             Ok(Job::Script) => f.write_str("script"),
@@ -92,9 +140,18 @@ impl Display for CommandLine {
             Ok(Job::Host { port, turns }) => {
                 write!(f, "host at {}, {} turns", port.get(), turns.get())
             }
-            Ok(Job::Serve { port }) => write!(f, "serve at {}", port.get()),
+            Ok(Job::Check { file }) => {
+                f.write_str("check")?;
+                write_file(f, file)
+            }
+            Ok(Job::Serve { service, panels }) => {
+                write_service(f, service)?;
+                write_file(f, panels)
+            }
             Ok(Job::Term { port, lu: None }) => write!(f, "term at {}", port.get()),
             Ok(Job::Term { port, lu: Some(lu) }) => write!(f, "term of {lu} at {}", port.get()),
+            Ok(Job::Help(topic)) => write!(f, "help of {}", topic_name(*topic)),
+            Ok(Job::Version) => f.write_str("version"),
             Err(WordFault::Refused) => f.write_str("refused"),
             Err(WordFault::Memory) => f.write_str("no memory"),
         }
