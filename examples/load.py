@@ -23,6 +23,7 @@ class Terminal:  # does what this panel needs, and no more
     def read_until(self, end):
         while end not in self.came:
             self.came += self.socket.recv(65536) or sys.exit("the host ended a connection")
+            self.came = self.came.replace(b"\xff\xf1", b"")  # IAC NOP
         front, _, self.came = self.came.partition(end)
         return front
 
@@ -107,7 +108,7 @@ def trouble():  # garbage, half a record, and silence; meanwhile others are serv
     silent.sign_on()
     print(f"20 that send garbage, one amid a record and one silent for {SILENCE} s: others were served in {slowest:.0f} ms at most, both went on")
 
-host = subprocess.Popen([sys.argv[1], "serve", "--port", str(PORT)], stdin=subprocess.PIPE, stderr=subprocess.DEVNULL)
+host = subprocess.Popen([sys.argv[1], "serve", "--port", str(PORT), "--negotiate", "0"], stdin=subprocess.PIPE, stderr=subprocess.DEVNULL)
 try:
     host.stdin.write(PANELS.encode())
     host.stdin.close()
