@@ -9,7 +9,7 @@ use Rattle.std.proofs.lemmas.Option.{none-some, same_Some, cond_some}
 use Rattle.std.proofs.lemmas.List.Quantifiers.{position-Some}
 use Rattle.codes3270.proofs.Tables.{passes_at, passes_both, passes_both_at, is_number, is_number-true}
 use Rattle.codes3270.specs.SixBit.{six_bit_code}
-use Rattle.codes3270.specs.Size.{cell_count}
+use Rattle.codes3270.specs.Size.{most_cells}
 use Rattle.codes3270.specs.Address.{address_of}
 use Rattle.codes3270.specs.Aid.{IsRealAid, aid_of, byte_of_aid, pf_codes, pa_codes}
 use Rattle.codes3270.specs.CodePage.{characters, character_of, code_of}
@@ -37,7 +37,7 @@ six_bit_at value below =
     let parts = and_parts (nat_le 64 (six_bit_code value)) (nat_eq (six_bit_code value % 64) value) (passes_at six_bit_rule 64 value refl below) in
     (leb-true _ _ parts.0, eqb-true _ _ parts.1)
 
-pub address_read_back : (address : ℕ) → address < cell_count → address_of (six_bit_code (address / 64)) (six_bit_code (address % 64)) ≡ address
+pub address_read_back : (address : ℕ) → address < most_cells → address_of (six_bit_code (address / 64)) (six_bit_code (address % 64)) ≡ address
 address_read_back address in_range =
     let high = six_bit_at (address / 64) (omega arith) in
     let low = six_bit_at (address % 64) (omega arith) in

@@ -1,5 +1,7 @@
--- The size of a screen (GA23-0059-07 on screen sizes). Our profile has only the 3278 model 2.
-use Rattle.std.specs.Prelude.{ℕ, ◌*◌}
+-- The models of the 3278, and the sizes of their screens (GA23-0059-07 on screen sizes; our profile has models 2 to 5).
+use Rattle.std.specs.Prelude.{◌==◌, ℕ, ◌*◌, if◌then◌else◌}
+use Rattle.codes3270.specs.declared.size.Model.{Model}
+use Rattle.codes3270.specs.declared.size.Model.TheVariants.{M2, M3, M4, M5}
 
 -- the rows of a screen, and the cells of a row
 pub record Shape : Type 0 where
@@ -10,11 +12,26 @@ pub record Shape : Type 0 where
 abbrev pub cells_in : Shape → ℕ
 cells_in shape = shape.rows * shape.columns
 
--- the size at the start of every connection
+-- the size at the start of every connection, and after Erase/Write
 abbrev pub model_2 : Shape
 model_2 = record { rows = 24; columns = 80 }
 
--- ---- its numbers, written as numerals for the prover; by `size_laws` they are the model's
+-- the size after Erase/Write Alternate
+abbrev pub alternate_of : Model → Shape
+alternate_of M2 = model_2
+alternate_of M3 = record { rows = 32; columns = 80 }
+alternate_of M4 = record { rows = 43; columns = 80 }
+alternate_of M5 = record { rows = 27; columns = 132 }
+
+-- The four sizes have different numbers of cells, so that such a number tells the size.
+abbrev pub model_with : ℕ → Model
+model_with cells = if cells == 1920 then M2 else if cells == 2560 then M3 else if cells == 3440 then M4 else M5
+
+-- the most cells of a screen, those of model 5
+abbrev pub most_cells : ℕ
+most_cells = 3564
+
+-- ---- the numbers of model 2, written as numerals for the prover; by `size_laws` they are the model's
 
 abbrev pub rows : ℕ
 rows = 24

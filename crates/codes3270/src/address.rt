@@ -1,18 +1,19 @@
 //! Buffer addresses (GA23-0059-07 on buffer addressing).
-ghost use Rattle.std.specs.Prelude.{◌≡◌, ◌<◌, ◌≤◌, ◌+◌, ◌-◌, ◌%◌, true, SomeIff, slice_index, MatchResult};
+ghost use Rattle.std.specs.Prelude.{◌≡◌, ◌<◌, ◌≤◌, ◌+◌, ◌-◌, ◌*◌, ◌%◌, true, SomeIff, slice_index, MatchResult};
 ghost use Rattle.std.specs.List.{range_with_len};
-ghost use Rattle.codes3270.specs.Size.{cell_count};
+ghost use Rattle.codes3270.specs.Size.{cells_in, most_cells};
 ghost use Rattle.codes3270.specs.Address.{address_bytes, address_of};
 ghost use Rattle.codes3270.specs.SixBit.{is_six_bit_code};
 
 use crate::six_bit::code_of_value;
-use crate::size::CELLS;
+use crate::size::Size;
 use std::error::Error;
 use std::fmt;
 use std::marker::Model;
 
-/// A buffer address: the number of a cell, from 0 up to `CELLS` (exclusive), row by row
-/// (GA23-0059-07 on buffer addressing). Contracts see it as a number.
+/// A buffer address: the number of a cell, row by row from 0 on (GA23-0059-07 on buffer
+/// addressing). It is less than [`MOST_CELLS`](crate::MOST_CELLS); whether a screen has that cell
+/// depends on the screen's size. Contracts see it as a number.
 #[derive(Clone, Copy, Debug, PartialEq, Eq)]
 pub struct Addr {
     position: u16,
@@ -20,21 +21,21 @@ pub struct Addr {
 
 impl Model for Addr {
     ghost use Rattle.std.specs.Prelude.{ℕ, ◌<◌};
-    ghost use Rattle.codes3270.specs.Size.{cell_count};
+    ghost use Rattle.codes3270.specs.Size.{most_cells};
 
     ghost Value = { ℕ };
 
     ghost view = { λ addr. addr.position };
 
-    ghost invariant = { λ addr. addr.position < cell_count };
+    ghost invariant = { λ addr. addr.position < most_cells };
 
     ghost inverse = { λ position. record { position = position } };
 }
 
-/// Why two bytes aren't a buffer address of our profile's screen.
+/// Why two bytes aren't a buffer address of a screen.
 #[derive(Clone, Copy, Debug, PartialEq, Eq)]
 pub enum AddrFault {
-    /// The address that they encode is `CELLS` or more.
+    /// The screen has no such cell.
     TooLarge,
 }
 
@@ -53,22 +54,22 @@ impl fmt::Display for AddrFault {
 impl Error for AddrFault {}
 
 impl Addr {
-    /// The address with a number; `None` if the number is `CELLS` or more.
-    pub const fn new(position: u16) -> Option<Addr>
-        ensures { SomeIff result (position < cell_count) position }
+    /// The address with a number; `None` if a screen of this size has no such cell.
+    pub const fn new(position: u16, size: Size) -> Option<Addr>
+        ensures { SomeIff result (position < cells_in size) position }
     {
-        if position < CELLS {
+        if position < size.cells() {
             Some(Addr { position })
         } else {
             None
         }
     }
 
-    /// All addresses of the screen, in ascending order.
-    pub fn all() -> Addrs
-        ensures { result ≡ range_with_len 0 cell_count }
+    /// All addresses of a screen of this size, in ascending order.
+    pub fn all(size: Size) -> Addrs
+        ensures { result ≡ range_with_len 0 (cells_in size) }
     {
-        Addrs { next: 0 }
+        Addrs { next: 0, size }
     }
 
     /// The address of the first cell.
@@ -78,44 +79,48 @@ impl Addr {
         Addr { position: 0 }
     }
 
-    /// Its number, below `CELLS`.
+    /// Its number, below [`MOST_CELLS`](crate::MOST_CELLS).
     pub const fn get(self) -> u16
         ensures value { result ≡ self }
-        ensures in_range { result < cell_count }
+        ensures in_range { result < most_cells }
     {
         self.position
     }
 
-    /// The address `count` cells after this one. Address 0 follows the last. `count` is at most
-    /// `CELLS`.
-    pub const fn forward(self, count: u16) -> Addr
-        requires { count ≤ cell_count }
-        ensures value { result ≡ (self + count) % cell_count }
-        ensures in_range { self < cell_count }
+    /// The address `count` cells after this one, on a screen of this size that has this cell.
+    /// Address 0 follows the last. `count` is at most the number of cells.
+    pub const fn forward(self, count: u16, size: Size) -> Addr
+        requires address { self < cells_in size }
+        requires count { count ≤ cells_in size }
+        ensures value { result ≡ (self + count) % cells_in size }
+        ensures in_range { result < cells_in size }
     {
         Addr {
-            position: (self.position + count) % CELLS,
+            position: round_the_end(self.position + count, size.cells()),
         }
     }
 
-    /// The address `count` cells before this one. The last address precedes 0. `count` is at most
-    /// `CELLS`.
-    pub const fn backward(self, count: u16) -> Addr
-        requires { count ≤ cell_count }
-        ensures value { result ≡ (self + cell_count - count) % cell_count }
-        ensures in_range { self < cell_count }
+    /// The address `count` cells before this one, on a screen of this size that has this cell. The
+    /// last address precedes 0. `count` is at most the number of cells.
+    pub const fn backward(self, count: u16, size: Size) -> Addr
+        requires address { self < cells_in size }
+        requires count { count ≤ cells_in size }
+        ensures value { result ≡ (self + cells_in size - count) % cells_in size }
+        ensures in_range { result < cells_in size }
     {
+        let cells = size.cells();
         Addr {
-            position: (self.position + CELLS - count) % CELLS,
+            position: round_the_end(self.position + cells - count, cells),
         }
     }
 
-    /// The next address; 0 after the last.
-    pub const fn next(self) -> Addr
-        ensures value { result ≡ (self + 1) % cell_count }
-        ensures in_range { self < cell_count }
+    /// The next address on a screen of this size that has this cell; 0 after the last.
+    pub const fn next(self, size: Size) -> Addr
+        requires { self < cells_in size }
+        ensures value { result ≡ (self + 1) % cells_in size }
+        ensures in_range { result < cells_in size }
     {
-        if self.position + 1 < CELLS {
+        if self.position + 1 < size.cells() {
             Addr {
                 position: self.position + 1,
             }
@@ -125,21 +130,35 @@ impl Addr {
     }
 }
 
+/// The position at which a walk arrives that has gone round the end of the screen at most once.
+const fn round_the_end(position: u16, cells: u16) -> u16
+    requires { position < 2 * cells }
+    ensures value { result ≡ position % cells }
+    ensures in_range { result < cells }
+{
+    if position < cells {
+        position
+    } else {
+        position - cells
+    }
+}
+
 /// An iterator over the addresses of the screen, in ascending order. Contracts see the list of the
 /// addresses that it has yet to yield.
 #[derive(Debug, Drop)]
 pub struct Addrs {
     next: u16,
+    size: Size,
 }
 
 impl Model for Addrs {
     ghost use Rattle.std.specs.Prelude.{ℕ, ◌-◌, ◌≤◌, List};
     ghost use Rattle.std.specs.List.{range_with_len};
-    ghost use Rattle.codes3270.specs.Size.{cell_count};
+    ghost use Rattle.codes3270.specs.Size.{cells_in};
 
     ghost Value = { List ℕ };
 
-    ghost view = { λ addrs. range_with_len addrs.next (cell_count - addrs.next) };
+    ghost view = { λ addrs. range_with_len addrs.next (cells_in addrs.size - addrs.next) };
 }
 
 impl Iterator for Addrs {
@@ -152,7 +171,7 @@ impl Iterator for Addrs {
     ghost remaining = { item_count (λ addrs. addrs) };
 
     fn next(&mut self) -> Option<Addr> {
-        match Addr::new(self.next) {
+        match Addr::new(self.next, self.size) {
             Some(addr) => {
                 self.next += 1;
                 Some(addr)
@@ -163,12 +182,12 @@ impl Iterator for Addrs {
 }
 
 /// Encodes an address in two bytes: the graphic codes of its high six bits and of its low six bits
-/// (GA23-0059-07 on buffer addressing). Twelve bits hold every address of the screen.
+/// (GA23-0059-07 on buffer addressing). Twelve bits hold every address of every screen.
 pub fn addr_to_bytes(addr: Addr) -> [u8; 2]
     ensures bytes { result ≡ address_bytes addr }
     ensures read_back { address_of (slice_index result 0) (slice_index result 1) ≡ addr }
     ensures graphic { (is_six_bit_code (slice_index result 0) ≡ true) × (is_six_bit_code (slice_index result 1) ≡ true) }
-    ensures in_range { addr < cell_count }
+    ensures in_range { addr < most_cells }
 {
     let position = addr.position;
     [
@@ -179,11 +198,11 @@ pub fn addr_to_bytes(addr: Addr) -> [u8; 2]
 
 /// Decodes an address from two bytes (GA23-0059-07 on buffer addressing). It has fourteen bits if
 /// the top two bits of the first byte are 0. If they aren't, it has twelve: the low six bits of
-/// each byte, which needn't be a graphic code. The error is `TooLarge` if the address is `CELLS` or
-/// more.
-pub fn addr_from_bytes(bytes: [u8; 2]) -> Result<Addr, AddrFault>
+/// each byte, which needn't be a graphic code. The error is `TooLarge` if a screen of this size has
+/// no such cell.
+pub fn addr_from_bytes(bytes: [u8; 2], size: Size) -> Result<Addr, AddrFault>
     ensures { let address = address_of (slice_index bytes 0) (slice_index bytes 1) in
-        MatchResult result (λ addr. (address < cell_count) × (addr ≡ address)) (λ _. address < cell_count → ⊥) }
+        MatchResult result (λ addr. (address < cells_in size) × (addr ≡ address)) (λ _. address < cells_in size → ⊥) }
 {
     let [high, low] = bytes;
     let position = if high < 64 {
@@ -191,7 +210,7 @@ pub fn addr_from_bytes(bytes: [u8; 2]) -> Result<Addr, AddrFault>
     } else {
         u16::from(high % 64) * 64 + u16::from(low % 64)
     };
-    if position < CELLS {
+    if position < size.cells() {
         Ok(Addr { position })
     } else {
         Err(AddrFault::TooLarge)

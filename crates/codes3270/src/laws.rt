@@ -1,7 +1,7 @@
 //! Laws of codes and sizes: each is the contract of a function that does nothing. Proofs of
 //! other crates use them; no program calls them, and the root doesn't export them.
 ghost use Rattle.std.specs.Prelude.{◌≡◌, ◌*◌, ◌<◌, ◌≤◌, ◌↔◌, ℕ, Some, ◌/◌, ◌%◌};
-ghost use Rattle.codes3270.specs.Size.{rows, columns, cell_count, model_2, cells_in};
+ghost use Rattle.codes3270.specs.Size.{rows, columns, cell_count, model_2, most_cells, cells_in};
 ghost use Rattle.codes3270.specs.Address.{address_of};
 ghost use Rattle.codes3270.specs.SixBit.{six_bit_code};
 ghost use Rattle.codes3270.specs.Attribute.{attr_of, attr_byte};
@@ -17,7 +17,7 @@ use crate::{CELL_COUNT, CELLS, COLUMNS, ROWS};
 /// Law: each value decodes from its own encoding, the two directions of the code page are inverse,
 /// and the codes of characters are 0x40 to 0xFE.
 pub const fn code_laws()
-    ensures addresses { (address : ℕ) → address < cell_count →
+    ensures addresses { (address : ℕ) → address < most_cells →
         address_of (six_bit_code (address / 64)) (six_bit_code (address % 64)) ≡ address }
     ensures attributes { (attr : Attr) → attr_of (attr_byte attr) ≡ attr }
     ensures write_controls { (wcc : Wcc) → wcc_of (wcc_byte wcc) ≡ wcc }

@@ -1,15 +1,104 @@
-//! The size of the screen. Our profile has only the 3278 model 2: 24 rows of 80 cells.
-ghost use Rattle.std.specs.Prelude.{◌*◌};
-ghost use Rattle.codes3270.specs.Size.{rows};
+//! The models of the 3278, and the sizes of their screens (GA23-0059-07 on screen sizes).
+ghost use Rattle.std.specs.Prelude.{◌≡◌, ◌<◌, ◌≤◌, ◌*◌};
+ghost use Rattle.codes3270.specs.Size.{alternate_of, cells_in, model_2, most_cells, rows};
 
-/// The number of rows of the screen, in our profile.
+use std::marker;
+
+/// The most cells of a screen of any model, as a length.
+pub const MOST_CELLS: usize = 3564;
+
+/// The number of rows of a model 2's screen.
 pub const ROWS: u16 = 24;
 
-/// The number of cells of a row, in our profile.
+/// The number of cells of a row of a model 2's screen.
 pub const COLUMNS: u16 = 80;
 
-/// The number of cells of the screen, in our profile. Addresses are less than this.
+/// The number of cells of a model 2's screen.
 pub const CELLS: u16 = ROWS * COLUMNS;
 
 /// `CELLS` as a length, for lists with an item for each cell.
 pub const CELL_COUNT: usize = CELLS as usize;
+
+/// A model of the 3278, with two sizes of its screen: 24 rows of 80 cells, and its alternate size.
+#[derive(Clone, Copy, Debug, PartialEq, Eq)]
+pub enum Model {
+    /// The alternate size is 24 by 80, too.
+    M2,
+    /// The alternate size is 32 by 80.
+    M3,
+    /// The alternate size is 43 by 80.
+    M4,
+    /// The alternate size is 27 by 132.
+    M5,
+}
+
+impl Model {
+    /// The size that Erase/Write Alternate sets.
+    pub const fn alternate(self) -> Size
+        ensures { result ≡ alternate_of self }
+    {
+        Size { model: self }
+    }
+}
+
+/// The size of a screen. Contracts see its rows and columns.
+#[derive(Clone, Copy, Debug, PartialEq, Eq)]
+pub struct Size {
+    // The model of which it is the alternate size.
+    model: Model,
+}
+
+impl marker::Model for Size {
+    ghost use Rattle.codes3270.specs.Size.{Shape, alternate_of, cells_in, model_with};
+
+    ghost Value = { Shape };
+
+    ghost view = { λ size. alternate_of size.model };
+
+    ghost inverse = { λ shape. record { model = model_with (cells_in shape) } };
+}
+
+impl Size {
+    /// 24 rows of 80 cells: the size at the start of every connection, and after Erase/Write.
+    pub const fn base() -> Size
+        ensures { result ≡ model_2 }
+    {
+        Size { model: Model::M2 }
+    }
+
+    /// The number of rows.
+    pub const fn rows(self) -> u16
+        ensures { result ≡ self.rows }
+    {
+        match self.model {
+            Model::M2 => 24,
+            Model::M3 => 32,
+            Model::M4 => 43,
+            Model::M5 => 27,
+        }
+    }
+
+    /// The number of cells of a row.
+    pub const fn cols(self) -> u16
+        ensures { result ≡ self.columns }
+    {
+        match self.model {
+            Model::M2 | Model::M3 | Model::M4 => 80,
+            Model::M5 => 132,
+        }
+    }
+
+    /// The number of cells. Addresses are less than this.
+    pub const fn cells(self) -> u16
+        ensures value { result ≡ cells_in self }
+        ensures few { result ≤ most_cells }
+        ensures some { 0 < result }
+    {
+        match self.model {
+            Model::M2 => 1920,
+            Model::M3 => 2560,
+            Model::M4 => 3440,
+            Model::M5 => 3564,
+        }
+    }
+}

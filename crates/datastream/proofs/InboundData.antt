@@ -4,7 +4,7 @@ use Rattle.std.specs.Prelude.{MatchOption, MatchResult, All, if◌then◌else◌
 use Rattle.std.proofs.lemmas.Bool.{cases_lt, false≢true, lt-ltb, le-ltb}
 use Rattle.std.proofs.lemmas.List.{take_all}
 use Rattle.std.proofs.lemmas.List.Elements.{All-nil}
-use Rattle.codes3270.specs.Size.{cell_count}
+use Rattle.codes3270.specs.Size.{Shape, cells_in}
 use Rattle.codes3270.specs.Address.{address_of}
 use Rattle.codes3270.specs.Aid.{aid_of}
 use Rattle.codes3270.specs.declared.attention.Aid.{Aid}
@@ -26,54 +26,54 @@ abbrev alone_fault : List ℕ → Option InboundFault
 alone_fault [] = None
 alone_fault (next ∷ more) = Some BadForm
 
-abbrev cursor_fault : List ℕ → Option InboundFault
-cursor_fault [] = Some Short
-cursor_fault (high ∷ []) = Some Short
-cursor_fault (high ∷ low ∷ text) = if nat_lt (address_of high low) cell_count then None else Some BadAddress
+abbrev cursor_fault : ℕ → List ℕ → Option InboundFault
+cursor_fault size [] = Some Short
+cursor_fault size (high ∷ []) = Some Short
+cursor_fault size (high ∷ low ∷ text) = if nat_lt (address_of high low) size then None else Some BadAddress
 
-abbrev fault_behind : Form → List ℕ → Option Aid → Option InboundFault
-fault_behind form rest None = Some BadAid
-fault_behind form rest (Some aid) = if stands_alone form aid then alone_fault rest else cursor_fault rest
+abbrev fault_behind : ℕ → Form → List ℕ → Option Aid → Option InboundFault
+fault_behind size form rest None = Some BadAid
+fault_behind size form rest (Some aid) = if stands_alone form aid then alone_fault rest else cursor_fault size rest
 
-abbrev early_fault : Form → List ℕ → Option InboundFault
-early_fault form [] = Some Short
-early_fault form (byte ∷ rest) = fault_behind form rest (aid_of byte)
+abbrev early_fault : ℕ → Form → List ℕ → Option InboundFault
+early_fault size form [] = Some Short
+early_fault size form (byte ∷ rest) = fault_behind size form rest (aid_of byte)
 
-behind_alone : (form : Form) (byte : ℕ) (rest : List ℕ) (aid : Aid) → aid_of byte ≡ Some aid → stands_alone form aid ≡ true → early_fault form (byte ∷ rest) ≡ alone_fault rest
-behind_alone form byte rest aid known is = ap (fault_behind form rest) known ∙ cond_when (stands_alone form aid) (alone_fault rest) (cursor_fault rest) is
+behind_alone : (size : ℕ) (form : Form) (byte : ℕ) (rest : List ℕ) (aid : Aid) → aid_of byte ≡ Some aid → stands_alone form aid ≡ true → early_fault size form (byte ∷ rest) ≡ alone_fault rest
+behind_alone size form byte rest aid known is = ap (fault_behind size form rest) known ∙ cond_when (stands_alone form aid) (alone_fault rest) (cursor_fault size rest) is
 
-behind_long : (form : Form) (byte : ℕ) (rest : List ℕ) (aid : Aid) → aid_of byte ≡ Some aid → stands_alone form aid ≡ false → early_fault form (byte ∷ rest) ≡ cursor_fault rest
-behind_long form byte rest aid known is = ap (fault_behind form rest) known ∙ cond_unless (stands_alone form aid) (alone_fault rest) (cursor_fault rest) is
+behind_long : (size : ℕ) (form : Form) (byte : ℕ) (rest : List ℕ) (aid : Aid) → aid_of byte ≡ Some aid → stands_alone form aid ≡ false → early_fault size form (byte ∷ rest) ≡ cursor_fault size rest
+behind_long size form byte rest aid known is = ap (fault_behind size form rest) known ∙ cond_unless (stands_alone form aid) (alone_fault rest) (cursor_fault size rest) is
 
-few_cursor : (few : List ℕ) → length few < 2 → cursor_fault few ≡ Some Short
-few_cursor [] short = refl
-few_cursor (high ∷ []) short = refl
-few_cursor (high ∷ low ∷ more) short = absurd (omega arith)
+few_cursor : (size : ℕ) (few : List ℕ) → length few < 2 → cursor_fault size few ≡ Some Short
+few_cursor size [] short = refl
+few_cursor size (high ∷ []) short = refl
+few_cursor size (high ∷ low ∷ more) short = absurd (omega arith)
 
-cursor_read : (high low : ℕ) (text : List ℕ) → address_of high low < cell_count → cursor_fault (high ∷ low ∷ text) ≡ None
-cursor_read high low text below = cond_when (nat_lt (address_of high low) cell_count) None (Some BadAddress) (lt-ltb _ _ below)
+cursor_read : (size : ℕ) (high low : ℕ) (text : List ℕ) → address_of high low < size → cursor_fault size (high ∷ low ∷ text) ≡ None
+cursor_read size high low text below = cond_when (nat_lt (address_of high low) size) None (Some BadAddress) (lt-ltb _ _ below)
 
-cursor_beyond : (high low : ℕ) (text : List ℕ) → cell_count ≤ address_of high low → cursor_fault (high ∷ low ∷ text) ≡ Some BadAddress
-cursor_beyond high low text above = cond_unless (nat_lt (address_of high low) cell_count) None (Some BadAddress) (le-ltb _ _ above)
+cursor_beyond : (size : ℕ) (high low : ℕ) (text : List ℕ) → size ≤ address_of high low → cursor_fault size (high ∷ low ∷ text) ≡ Some BadAddress
+cursor_beyond size high low text above = cond_unless (nat_lt (address_of high low) size) None (Some BadAddress) (le-ltb _ _ above)
 
 -- a fault of the parts, behind AID and cursor
-record IsLateFault (form : Form) (fault : InboundFault) (bytes : List ℕ) : Type 0 where
+record IsLateFault (size : ℕ) (form : Form) (fault : InboundFault) (bytes : List ℕ) : Type 0 where
   byte : ℕ
   high : ℕ
   low : ℕ
   text : List ℕ
-  faulty : HasPartFault form fault text
+  faulty : HasPartFault size form fault text
   is : bytes ≡ byte ∷ high ∷ low ∷ text
-  not_early : early_fault form bytes ≡ None
+  not_early : early_fault size form bytes ≡ None
 
-early_or_late : (form : Form) (fault : InboundFault) (bytes : List ℕ) → IsNoInbound form fault bytes → (early_fault form bytes ≡ Some fault) ⊎ IsLateFault form fault bytes
-early_or_late form fault bytes (no_bytes which is) = inl (rw (is, which) refl)
-early_or_late form fault bytes (unknown_aid byte more unknown which is) = inl (rw (is, which) (ap (fault_behind form more) unknown))
-early_or_late form fault bytes (not_alone aid byte next more known stands which is) = inl (rw (is, which) (behind_alone form byte (next ∷ more) aid known stands))
-early_or_late form fault bytes (no_cursor aid byte few known goes_on short which is) = inl (rw (is, which) (behind_long form byte few aid known goes_on ∙ few_cursor few short))
-early_or_late form fault bytes (cursor_too_large aid byte high low more known goes_on above which is) =
-    inl (rw (is, which) (behind_long form byte (high ∷ low ∷ more) aid known goes_on ∙ cursor_beyond high low more above))
-early_or_late form fault bytes (faulty_text aid byte high low text known goes_on below faulty is) =
+early_or_late : (size : Shape) (form : Form) (fault : InboundFault) (bytes : List ℕ) → IsNoInbound size form fault bytes → (early_fault (cells_in size) form bytes ≡ Some fault) ⊎ IsLateFault (cells_in size) form fault bytes
+early_or_late size form fault bytes (no_bytes which is) = inl (rw (is, which) refl)
+early_or_late size form fault bytes (unknown_aid byte more unknown which is) = inl (rw (is, which) (ap (fault_behind (cells_in size) form more) unknown))
+early_or_late size form fault bytes (not_alone aid byte next more known stands which is) = inl (rw (is, which) (behind_alone (cells_in size) form byte (next ∷ more) aid known stands))
+early_or_late size form fault bytes (no_cursor aid byte few known goes_on short which is) = inl (rw (is, which) (behind_long (cells_in size) form byte few aid known goes_on ∙ few_cursor (cells_in size) few short))
+early_or_late size form fault bytes (cursor_too_large aid byte high low more known goes_on above which is) =
+    inl (rw (is, which) (behind_long (cells_in size) form byte (high ∷ low ∷ more) aid known goes_on ∙ cursor_beyond (cells_in size) high low more above))
+early_or_late size form fault bytes (faulty_text aid byte high low text known goes_on below faulty is) =
     inr (record {
       byte = byte;
       high = high;
@@ -81,22 +81,22 @@ early_or_late form fault bytes (faulty_text aid byte high low text known goes_on
       text = text;
       faulty = faulty;
       is = is;
-      not_early = rw is (behind_long form byte (high ∷ low ∷ text) aid known goes_on ∙ cursor_read high low text below);
+      not_early = rw is (behind_long (cells_in size) form byte (high ∷ low ∷ text) aid known goes_on ∙ cursor_read (cells_in size) high low text below);
     })
 
-not_early_inbound : (a : InboundParts) (bytes : List ℕ) → IsInbound a bytes → early_fault a.form bytes ≡ None
-not_early_inbound a bytes (alone byte stands known is_cursor none is) = rw is (behind_alone a.form byte [] a.aid known stands)
+not_early_inbound : (a : InboundParts) (bytes : List ℕ) → IsInbound a bytes → early_fault (cells_in a.size) a.form bytes ≡ None
+not_early_inbound a bytes (alone byte stands known is_cursor none is) = rw is (behind_alone (cells_in a.size) a.form byte [] a.aid known stands)
 not_early_inbound a bytes (long byte high low cursor text goes_on known is_cursor (value, below) are whole is) =
-    let in_range : address_of high low < cell_count = rw value at below in
-    rw is (behind_long a.form byte (high ∷ low ∷ text) a.aid known goes_on ∙ cursor_read high low text in_range)
+    let in_range : address_of high low < cells_in a.size = rw value at below in
+    rw is (behind_long (cells_in a.size) a.form byte (high ∷ low ∷ text) a.aid known goes_on ∙ cursor_read (cells_in a.size) high low text in_range)
 
 -- ---- one inbound data
 
-abbrev inbound_with : Form → Aid → Option ℕ → List Part → InboundParts
-inbound_with form aid cursor parts = record { form = form; aid = aid; cursor = cursor; parts = parts }
+abbrev inbound_with : Form → Shape → Aid → Option ℕ → List Part → InboundParts
+inbound_with form size aid cursor parts = record { form = form; size = size; aid = aid; cursor = cursor; parts = parts }
 
-same_inbound : (f g : Form) (a b : Aid) (c d : Option ℕ) (ps qs : List Part) → f ≡ g → a ≡ b → c ≡ d → ps ≡ qs → inbound_with f a c ps ≡ inbound_with g b d qs
-same_inbound f g a b c d ps qs e h i j = cc
+same_inbound : (f g : Form) (s t : Shape) (a b : Aid) (c d : Option ℕ) (ps qs : List Part) → f ≡ g → s ≡ t → a ≡ b → c ≡ d → ps ≡ qs → inbound_with f s a c ps ≡ inbound_with g t b d qs
+same_inbound f g s t a b c d ps qs e h i j k = cc
 
 same_aid : (a b : Aid) (x y : ℕ) → aid_of x ≡ Some a → aid_of y ≡ Some b → x ≡ y → a ≡ b
 same_aid a b x y is_a is_b same = some_aid a b (aid_of x) (aid_of y) is_a is_b (ap aid_of same)
@@ -117,89 +117,99 @@ alone_or_long bytes x y high low text is_x is_y = cc
 same_cursor : (a b c d x y : ℕ) → x ≡ address_of a b → y ≡ address_of c d → a ≡ c → b ≡ d → x ≡ y
 same_cursor a b c d x y is_x is_y e f = is_x ∙ rw (e, f) (sym is_y)
 
-pub one_inbound : (a b : InboundParts) (bytes : List ℕ) → a.form ≡ b.form → IsInbound a bytes → IsInbound b bytes → a ≡ b
-one_inbound a b bytes same (alone x alone_a known_a cursor_a none_a is_a) (alone y alone_b known_b cursor_b none_b is_b) =
-    same_inbound a.form b.form a.aid b.aid a.cursor b.cursor a.parts b.parts same (same_aid a.aid b.aid x y known_a known_b (head_is bytes x y [] [] is_a is_b)) (cursor_a ∙ sym cursor_b) (none_a ∙ sym none_b)
-one_inbound a b bytes same (alone x alone_a known_a cursor_a none_a is_a) (long y c d m t long_b known_b cursor_b address_b are_b whole_b is_b) =
+pub one_inbound : (a b : InboundParts) (bytes : List ℕ) → a.form ≡ b.form → a.size ≡ b.size → IsInbound a bytes → IsInbound b bytes → a ≡ b
+one_inbound a b bytes same sized (alone x alone_a known_a cursor_a none_a is_a) (alone y alone_b known_b cursor_b none_b is_b) =
+    same_inbound a.form b.form a.size b.size a.aid b.aid a.cursor b.cursor a.parts b.parts same sized (same_aid a.aid b.aid x y known_a known_b (head_is bytes x y [] [] is_a is_b)) (cursor_a ∙ sym cursor_b) (none_a ∙ sym none_b)
+one_inbound a b bytes same sized (alone x alone_a known_a cursor_a none_a is_a) (long y c d m t long_b known_b cursor_b address_b are_b whole_b is_b) =
     alone_or_long bytes x y c d t is_a is_b
-one_inbound a b bytes same (long x h l n s long_a known_a cursor_a address_a are_a whole_a is_a) (alone y alone_b known_b cursor_b none_b is_b) =
+one_inbound a b bytes same sized (long x h l n s long_a known_a cursor_a address_a are_a whole_a is_a) (alone y alone_b known_b cursor_b none_b is_b) =
     alone_or_long bytes y x h l s is_b is_a
-one_inbound a b bytes same (long x h l n s long_a known_a cursor_a address_a are_a whole_a is_a) (long y c d m t long_b known_b cursor_b address_b are_b whole_b is_b) =
+one_inbound a b bytes same sized (long x h l n s long_a known_a cursor_a address_a are_a whole_a is_a) (long y c d m t long_b known_b cursor_b address_b are_b whole_b is_b) =
     let behind = behind_is bytes x y h l c d s t is_a is_b in
     let cursors : n ≡ m = same_cursor h l c d n m address_a.0 address_b.0 behind.0 behind.1 in
-    let parts : a.parts ≡ b.parts = sym (parts_in-whole a.form a.parts s are_a) ∙ ap (λ f. parts_in f s) same ∙ ap (parts_in b.form) behind.2 ∙ parts_in-whole b.form b.parts t are_b in
-    same_inbound a.form b.form a.aid b.aid a.cursor b.cursor a.parts b.parts same (same_aid a.aid b.aid x y known_a known_b (head_is bytes x y (h ∷ l ∷ s) (c ∷ d ∷ t) is_a is_b)) (cursor_a ∙ ap Some cursors ∙ sym cursor_b) parts
+    let parts : a.parts ≡ b.parts =
+    sym (parts_in-whole (cells_in a.size) a.form a.parts s are_a) ∙ ap (λ (size : Shape). parts_in (cells_in size) a.form s) sized
+    ∙ ap (λ f. parts_in (cells_in b.size) f s) same ∙ ap (parts_in (cells_in b.size) b.form) behind.2 ∙ parts_in-whole (cells_in b.size) b.form b.parts t are_b in
+    same_inbound a.form b.form a.size b.size a.aid b.aid a.cursor b.cursor a.parts b.parts same sized (same_aid a.aid b.aid x y known_a known_b (head_is bytes x y (h ∷ l ∷ s) (c ∷ d ∷ t) is_a is_b)) (cursor_a ∙ ap Some cursors ∙ sym cursor_b) parts
 
-inbound_or_late : (a : InboundParts) (fault : InboundFault) (bytes : List ℕ) → IsInbound a bytes → IsLateFault a.form fault bytes → ⊥
+inbound_or_late : (a : InboundParts) (fault : InboundFault) (bytes : List ℕ) → IsInbound a bytes → IsLateFault (cells_in a.size) a.form fault bytes → ⊥
 inbound_or_late a fault bytes (alone x stands known is_cursor none is) late = alone_or_long bytes x late.byte late.high late.low late.text is late.is
 inbound_or_late a fault bytes (long x h l n s goes_on known is_cursor address are whole is) late =
     let behind = behind_is bytes x late.byte h l late.high late.low s late.text is late.is in
-    whole_or_faulty a.form a.parts fault late.text (subst (λ u. AreParts a.form a.parts u) behind.2 are) whole late.faulty
+    whole_or_faulty (cells_in a.size) a.form a.parts fault late.text (subst (λ u. AreParts (cells_in a.size) a.form a.parts u) behind.2 are) whole late.faulty
 
 none_or_some : {P : Type 0} (o : Option InboundFault) (f : InboundFault) → o ≡ None → o ≡ Some f → P
 none_or_some o f is_none is_some = cc
 
-inbound_or_fault : (a : InboundParts) (fault : InboundFault) (bytes : List ℕ) → IsInbound a bytes → IsNoInbound a.form fault bytes → ⊥
+inbound_or_fault : (a : InboundParts) (fault : InboundFault) (bytes : List ℕ) → IsInbound a bytes → IsNoInbound a.size a.form fault bytes → ⊥
 inbound_or_fault a fault bytes inbound none =
-    elim (early_or_late a.form fault bytes none) [
-      | inl early ↦ none_or_some (early_fault a.form bytes) fault (not_early_inbound a bytes inbound) early
+    elim (early_or_late a.size a.form fault bytes none) [
+      | inl early ↦ none_or_some (early_fault (cells_in a.size) a.form bytes) fault (not_early_inbound a bytes inbound) early
       | inr late ↦ inbound_or_late a fault bytes inbound late
     ]
 
 same_early : (o : Option InboundFault) (f g : InboundFault) → o ≡ Some f → o ≡ Some g → f ≡ g
 same_early o f g is_f is_g = cc
 
-same_late : (form : Form) (f g : InboundFault) (bytes : List ℕ) → IsLateFault form f bytes → IsLateFault form g bytes → f ≡ g
-same_late form f g bytes late_f late_g =
+same_late : (size : ℕ) (form : Form) (f g : InboundFault) (bytes : List ℕ) → IsLateFault size form f bytes → IsLateFault size form g bytes → f ≡ g
+same_late size form f g bytes late_f late_g =
     let behind = behind_is bytes late_f.byte late_g.byte late_f.high late_f.low late_g.high late_g.low late_f.text late_g.text late_f.is late_g.is in
-    one_part_fault form f g late_g.text (subst (λ u. HasPartFault form f u) behind.2 late_f.faulty) late_g.faulty
+    one_part_fault size form f g late_g.text (subst (λ u. HasPartFault size form f u) behind.2 late_f.faulty) late_g.faulty
 
-one_inbound_fault : (form : Form) (f g : InboundFault) (bytes : List ℕ) → IsNoInbound form f bytes → IsNoInbound form g bytes → f ≡ g
-one_inbound_fault form f g bytes none_f none_g =
-    elim (early_or_late form f bytes none_f) [
-      | inl early_f ↦ elim (early_or_late form g bytes none_g) [
-        | inl early_g ↦ same_early (early_fault form bytes) f g early_f early_g
-        | inr late_g ↦ none_or_some (early_fault form bytes) f late_g.not_early early_f
+one_inbound_fault : (size : Shape) (form : Form) (f g : InboundFault) (bytes : List ℕ) → IsNoInbound size form f bytes → IsNoInbound size form g bytes → f ≡ g
+one_inbound_fault size form f g bytes none_f none_g =
+    elim (early_or_late size form f bytes none_f) [
+      | inl early_f ↦ elim (early_or_late size form g bytes none_g) [
+        | inl early_g ↦ same_early (early_fault (cells_in size) form bytes) f g early_f early_g
+        | inr late_g ↦ none_or_some (early_fault (cells_in size) form bytes) f late_g.not_early early_f
       ]
-      | inr late_f ↦ elim (early_or_late form g bytes none_g) [
-        | inl early_g ↦ none_or_some (early_fault form bytes) g late_f.not_early early_g
-        | inr late_g ↦ same_late form f g bytes late_f late_g
+      | inr late_f ↦ elim (early_or_late size form g bytes none_g) [
+        | inl early_g ↦ none_or_some (early_fault (cells_in size) form bytes) g late_f.not_early early_g
+        | inr late_g ↦ same_late (cells_in size) form f g bytes late_f late_g
       ]
     ]
 
 -- ---- so a reader that answers inbound data or a fault answers the one
 
-abbrev pub IsRead : Form → List ℕ → Result InboundParts InboundFault → Type 0
-IsRead form bytes read = MatchResult read (λ a. (a.form ≡ form) × IsInbound a bytes) (λ f. IsNoInbound form f bytes)
+abbrev pub IsRead : Form → Shape → List ℕ → Result InboundParts InboundFault → Type 0
+IsRead form size bytes read = MatchResult read (λ a. (a.form ≡ form) × (a.size ≡ size) × IsInbound a bytes) (λ f. IsNoInbound size form f bytes)
 
-pub only_inbound : (form : Form) (r : Result InboundParts InboundFault) (bytes : List ℕ) → IsRead form bytes r → (a : InboundParts) → a.form ≡ form → IsInbound a bytes → r ≡ Ok a
-only_inbound form (Ok b) bytes read a of_form inbound = ap Ok (one_inbound b a bytes (read.0 ∙ sym of_form) read.1 inbound)
-only_inbound form (Err f) bytes read a of_form inbound = absurd (inbound_or_fault a f bytes inbound (subst (λ g. IsNoInbound g f bytes) (sym of_form) read))
+-- a fault of a form and a size is one of inbound data that has them
+fault_of : (a : InboundParts) (form : Form) (size : Shape) (fault : InboundFault) (bytes : List ℕ) → a.form ≡ form → a.size ≡ size
+    → IsNoInbound size form fault bytes → IsNoInbound a.size a.form fault bytes
+fault_of a form size fault bytes of_form of_size none =
+    subst (λ (g : Form). IsNoInbound a.size g fault bytes) (sym of_form) (subst (λ (s : Shape). IsNoInbound s form fault bytes) (sym of_size) none)
 
-pub first_inbound_fault : (form : Form) (r : Result InboundParts InboundFault) (bytes : List ℕ) → IsRead form bytes r → (f : InboundFault) → IsNoInbound form f bytes → r ≡ Err f
-first_inbound_fault form (Ok b) bytes read f fault = absurd (inbound_or_fault b f bytes read.1 (subst (λ g. IsNoInbound g f bytes) (sym read.0) fault))
-first_inbound_fault form (Err g) bytes read f fault = ap Err (one_inbound_fault form g f bytes read fault)
+pub only_inbound : (form : Form) (size : Shape) (r : Result InboundParts InboundFault) (bytes : List ℕ) → IsRead form size bytes r
+    → (a : InboundParts) → a.form ≡ form → a.size ≡ size → IsInbound a bytes → r ≡ Ok a
+only_inbound form size (Ok b) bytes (b_form, b_size, read) a of_form of_size inbound = ap Ok (one_inbound b a bytes (b_form ∙ sym of_form) (b_size ∙ sym of_size) read inbound)
+only_inbound form size (Err f) bytes read a of_form of_size inbound = absurd (inbound_or_fault a f bytes inbound (fault_of a form size f bytes of_form of_size read))
+
+pub first_inbound_fault : (form : Form) (size : Shape) (r : Result InboundParts InboundFault) (bytes : List ℕ) → IsRead form size bytes r
+    → (f : InboundFault) → IsNoInbound size form f bytes → r ≡ Err f
+first_inbound_fault form size (Ok b) bytes (b_form, b_size, read) f fault = absurd (inbound_or_fault b f bytes read (fault_of b form size f bytes b_form b_size fault))
+first_inbound_fault form size (Err g) bytes read f fault = ap Err (one_inbound_fault size form g f bytes read fault)
 
 -- ---- what inbound data has is in range
 
-pub inbound_proper : (a : InboundParts) → IsSent a → All (IsProperPart a.form) a.parts
-inbound_proper a (bytes, alone byte stands known is_cursor none is) = subst (λ ps. All (IsProperPart a.form) ps) (sym none) (All-nil (IsProperPart a.form))
-inbound_proper a (bytes, long byte high low cursor text goes_on known is_cursor address are whole is) = parts_proper a.form a.parts text are
+pub inbound_proper : (a : InboundParts) → IsSent a → All (IsProperPart (cells_in a.size) a.form) a.parts
+inbound_proper a (bytes, alone byte stands known is_cursor none is) = subst (λ ps. All (IsProperPart (cells_in a.size) a.form) ps) (sym none) (All-nil (IsProperPart (cells_in a.size) a.form))
+inbound_proper a (bytes, long byte high low cursor text goes_on known is_cursor address are whole is) = parts_proper (cells_in a.size) a.form a.parts text are
 
-pub cursor_in_range : (a : InboundParts) → IsSent a → IfSome a.cursor (λ cursor. cursor < cell_count)
-cursor_in_range a (bytes, alone byte stands known is_cursor none is) = subst (λ c. IfSome c (λ cursor. cursor < cell_count)) (sym is_cursor) tt
+pub cursor_in_range : (a : InboundParts) → IsSent a → IfSome a.cursor (λ cursor. cursor < cells_in a.size)
+cursor_in_range a (bytes, alone byte stands known is_cursor none is) = subst (λ c. IfSome c (λ cursor. cursor < cells_in a.size)) (sym is_cursor) tt
 cursor_in_range a (bytes, long byte high low cursor text goes_on known is_cursor address are whole is) =
-    subst (λ c. IfSome c (λ cursor. cursor < cell_count)) (sym is_cursor) address.1
+    subst (λ c. IfSome c (λ cursor. cursor < cells_in a.size)) (sym is_cursor) address.1
 
 stands_Buffer : {P : Type 0} (form : Form) (aid : Aid) → form ≡ Buffer → stands_alone form aid ≡ true → P
 stands_Buffer Modified aid is stands = cc
 stands_Buffer AllModified aid is stands = cc
 stands_Buffer Buffer aid is stands = absurd (false≢true stands)
 
-whole_Buffer : (form : Form) (parts : List Part) → form ≡ Buffer → IsWhole form parts → length parts ≡ cell_count
-whole_Buffer Modified parts is whole = cc
-whole_Buffer AllModified parts is whole = cc
-whole_Buffer Buffer parts is whole = whole
+whole_Buffer : (size : ℕ) (form : Form) (parts : List Part) → form ≡ Buffer → IsWhole size form parts → length parts ≡ size
+whole_Buffer size Modified parts is whole = cc
+whole_Buffer size AllModified parts is whole = cc
+whole_Buffer size Buffer parts is whole = whole
 
 -- the cursor is there unless the AID stands alone, and then nothing else is
 pub cursor_unless_alone : (a : InboundParts) → IsSent a → MatchOption a.cursor (stands_alone a.form a.aid ≡ true) (λ _. stands_alone a.form a.aid ≡ false)
@@ -213,25 +223,25 @@ nothing_if_alone a (bytes, alone byte stands known is_cursor none is) short = no
 nothing_if_alone a (bytes, long byte high low cursor text goes_on known is_cursor address are whole is) short = absurd (false≢true (sym goes_on ∙ short))
 
 -- a buffer has as many parts as the screen has cells
-pub buffer_whole : (a : InboundParts) → IsSent a → a.form ≡ Buffer → length a.parts ≡ cell_count
+pub buffer_whole : (a : InboundParts) → IsSent a → a.form ≡ Buffer → length a.parts ≡ cells_in a.size
 buffer_whole a (bytes, alone byte stands known is_cursor none is) of_form = stands_Buffer a.form a.aid of_form stands
-buffer_whole a (bytes, long byte high low cursor text goes_on known is_cursor address are whole is) of_form = whole_Buffer a.form a.parts of_form whole
+buffer_whole a (bytes, long byte high low cursor text goes_on known is_cursor address are whole is) of_form = whole_Buffer (cells_in a.size) a.form a.parts of_form whole
 
 -- ---- what stands behind an AID
 
-pub are_none : (form : Form) (rest : List ℕ) → length rest ≡ 0 → AreParts form (parts_in form rest) rest
-are_none form [] none = subst (λ ps. AreParts form ps []) (sym (parts_in-nil form)) refl
-are_none form (next ∷ more) none = absurd (omega arith)
+pub are_none : (size : ℕ) (form : Form) (rest : List ℕ) → length rest ≡ 0 → AreParts size form (parts_in size form rest) rest
+are_none size form [] none = subst (λ ps. AreParts size form ps []) (sym (parts_in-nil size form)) refl
+are_none size form (next ∷ more) none = absurd (omega arith)
 
-pub alone_read : (form : Form) (aid : Aid) (byte : ℕ) (rest : List ℕ) → aid_of byte ≡ Some aid → stands_alone form aid ≡ true → length rest ≡ 0
-    → IsInbound (record { form = form; aid = aid; cursor = None; parts = parts_in form rest }) (byte ∷ rest)
-alone_read form aid byte [] known stands none = alone byte stands known refl (parts_in-nil form) refl
-alone_read form aid byte (next ∷ more) known stands none = absurd (omega arith)
+pub alone_read : (size : Shape) (form : Form) (aid : Aid) (byte : ℕ) (rest : List ℕ) → aid_of byte ≡ Some aid → stands_alone form aid ≡ true → length rest ≡ 0
+    → IsInbound (record { form = form; size = size; aid = aid; cursor = None; parts = parts_in (cells_in size) form rest }) (byte ∷ rest)
+alone_read size form aid byte [] known stands none = alone byte stands known refl (parts_in-nil (cells_in size) form) refl
+alone_read size form aid byte (next ∷ more) known stands none = absurd (omega arith)
 
-pub not_alone_read : (form : Form) (aid : Aid) (byte : ℕ) (rest : List ℕ) → aid_of byte ≡ Some aid → stands_alone form aid ≡ true → 0 < length rest
-    → IsNoInbound form BadForm (byte ∷ rest)
-not_alone_read form aid byte [] known stands some = absurd (omega arith)
-not_alone_read form aid byte (next ∷ more) known stands some = not_alone aid byte next more known stands refl refl
+pub not_alone_read : (size : Shape) (form : Form) (aid : Aid) (byte : ℕ) (rest : List ℕ) → aid_of byte ≡ Some aid → stands_alone form aid ≡ true → 0 < length rest
+    → IsNoInbound size form BadForm (byte ∷ rest)
+not_alone_read size form aid byte [] known stands some = absurd (omega arith)
+not_alone_read size form aid byte (next ∷ more) known stands some = not_alone aid byte next more known stands refl refl
 
 -- bytes by their first ones and what follows
 pub one_up : (bytes : List ℕ) → 1 ≤ length bytes → bytes ≡ get_or bytes 0 0 ∷ take (length bytes - 1) (drop 1 bytes)
@@ -243,33 +253,33 @@ two_up [] enough = absurd (omega arith)
 two_up (high ∷ []) enough = absurd (omega arith)
 two_up (high ∷ low ∷ rest) enough = ap (λ r. high ∷ low ∷ r) (sym (take_all (length (high ∷ low ∷ rest) - 2) rest (omega arith)))
 
-pub moved : (form : Form) (r : Result InboundParts InboundFault) (a b : List ℕ) → a ≡ b → IsRead form a r → IsRead form b r
-moved form r a b same read = subst (λ bytes. IsRead form bytes r) same read
+pub moved : (form : Form) (size : Shape) (r : Result InboundParts InboundFault) (a b : List ℕ) → a ≡ b → IsRead form size a r → IsRead form size b r
+moved form size r a b same read = subst (λ bytes. IsRead form size bytes r) same read
 
-pub long_read : (form : Form) (aid : Aid) (byte : ℕ) (rest : List ℕ) (cursor high low : ℕ) (text : List ℕ) → aid_of byte ≡ Some aid → stands_alone form aid ≡ false
-    → rest ≡ high ∷ low ∷ text → address_of high low < cell_count → cursor ≡ address_of high low
-    → AreParts form (parts_in form text) text → IsWhole form (parts_in form text)
-    → IsInbound (record { form = form; aid = aid; cursor = Some cursor; parts = parts_in form text }) (byte ∷ rest)
-long_read form aid byte rest cursor high low text known goes_on is below value are whole =
-    let in_range : cursor < cell_count = rw value below in
+pub long_read : (size : Shape) (form : Form) (aid : Aid) (byte : ℕ) (rest : List ℕ) (cursor high low : ℕ) (text : List ℕ) → aid_of byte ≡ Some aid → stands_alone form aid ≡ false
+    → rest ≡ high ∷ low ∷ text → address_of high low < cells_in size → cursor ≡ address_of high low
+    → AreParts (cells_in size) form (parts_in (cells_in size) form text) text → IsWhole (cells_in size) form (parts_in (cells_in size) form text)
+    → IsInbound (record { form = form; size = size; aid = aid; cursor = Some cursor; parts = parts_in (cells_in size) form text }) (byte ∷ rest)
+long_read size form aid byte rest cursor high low text known goes_on is below value are whole =
+    let in_range : cursor < cells_in size = rw value below in
     long byte high low cursor text goes_on known refl (value, in_range) are whole (ap (λ r. byte ∷ r) is)
 
-pub long_text_fault : (form : Form) (aid : Aid) (byte : ℕ) (rest : List ℕ) (high low : ℕ) (text : List ℕ) (fault : InboundFault) → aid_of byte ≡ Some aid → stands_alone form aid ≡ false
-    → rest ≡ high ∷ low ∷ text → address_of high low < cell_count → HasPartFault form fault text → IsNoInbound form fault (byte ∷ rest)
-long_text_fault form aid byte rest high low text fault known goes_on is below faulty =
+pub long_text_fault : (size : Shape) (form : Form) (aid : Aid) (byte : ℕ) (rest : List ℕ) (high low : ℕ) (text : List ℕ) (fault : InboundFault) → aid_of byte ≡ Some aid → stands_alone form aid ≡ false
+    → rest ≡ high ∷ low ∷ text → address_of high low < cells_in size → HasPartFault (cells_in size) form fault text → IsNoInbound size form fault (byte ∷ rest)
+long_text_fault size form aid byte rest high low text fault known goes_on is below faulty =
     faulty_text aid byte high low text known goes_on below faulty (ap (λ r. byte ∷ r) is)
 
-pub cursor_beyond_read : (form : Form) (aid : Aid) (byte : ℕ) (rest : List ℕ) (high low : ℕ) (text : List ℕ) → aid_of byte ≡ Some aid → stands_alone form aid ≡ false
-    → rest ≡ high ∷ low ∷ text → (address_of high low < cell_count → ⊥) → IsNoInbound form BadAddress (byte ∷ rest)
-cursor_beyond_read form aid byte rest high low text known goes_on is beyond =
-    elim (cases_lt (address_of high low) cell_count) [
+pub cursor_beyond_read : (size : Shape) (form : Form) (aid : Aid) (byte : ℕ) (rest : List ℕ) (high low : ℕ) (text : List ℕ) → aid_of byte ≡ Some aid → stands_alone form aid ≡ false
+    → rest ≡ high ∷ low ∷ text → (address_of high low < cells_in size → ⊥) → IsNoInbound size form BadAddress (byte ∷ rest)
+cursor_beyond_read size form aid byte rest high low text known goes_on is beyond =
+    elim (cases_lt (address_of high low) (cells_in size)) [
       | inl below ↦ absurd (beyond below)
       | inr above ↦ cursor_too_large aid byte high low text known goes_on above refl (ap (λ r. byte ∷ r) is)
     ]
 
-pub cursor_missing : (form : Form) (aid : Aid) (byte : ℕ) (rest : List ℕ) → aid_of byte ≡ Some aid → stands_alone form aid ≡ false → length rest < 2
-    → IsNoInbound form Short (byte ∷ rest)
-cursor_missing form aid byte rest known goes_on short = no_cursor aid byte rest known goes_on short refl refl
+pub cursor_missing : (size : Shape) (form : Form) (aid : Aid) (byte : ℕ) (rest : List ℕ) → aid_of byte ≡ Some aid → stands_alone form aid ≡ false → length rest < 2
+    → IsNoInbound size form Short (byte ∷ rest)
+cursor_missing size form aid byte rest known goes_on short = no_cursor aid byte rest known goes_on short refl refl
 
-pub aid_unknown : (form : Form) (bytes : List ℕ) (byte : ℕ) (rest : List ℕ) → bytes ≡ byte ∷ rest → aid_of byte ≡ None → IsNoInbound form BadAid bytes
-aid_unknown form bytes byte rest is unknown = unknown_aid byte rest unknown refl is
+pub aid_unknown : (size : Shape) (form : Form) (bytes : List ℕ) (byte : ℕ) (rest : List ℕ) → bytes ≡ byte ∷ rest → aid_of byte ≡ None → IsNoInbound size form BadAid bytes
+aid_unknown size form bytes byte rest is unknown = unknown_aid byte rest unknown refl is

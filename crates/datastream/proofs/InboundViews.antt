@@ -2,7 +2,6 @@
 use Rattle.std.proofs.Common.{◌≡◌, ℕ, ◌<◌, List, [], ◌∷◌, ◌++◌, map, true, refl, ap, sym, ◌∙◌, All, subst}
 use Rattle.std.specs.List.{flat_map}
 use Rattle.std.proofs.lemmas.List.Elements.{All-head, All-tail, All-nil, All-cons}
-use Rattle.codes3270.specs.Size.{cell_count}
 use Rattle.codes3270.specs.declared.attribute.Attr.{Attr as Attribute}
 use Rattle.codes3270.specs.declared.attribute.Cell.{Cell}
 use Rattle.codes3270.specs.declared.attribute.Cell.TheVariants.{Char as CharCell, Attr as AttrCell}
@@ -15,30 +14,31 @@ use Rattle.datastream.specs.InboundFields.{Returned, leading_text, returned, cel
 
 -- ---- which parts a form has not
 
-no_attribute : {P : Type 0} (form : Form) (attr : Attribute) → (form ≡ Buffer → ⊥) → IsProperPart form (Attr attr) → P
-no_attribute Modified attr other proper = absurd proper
-no_attribute AllModified attr other proper = absurd proper
-no_attribute Buffer attr other proper = absurd (other refl)
+module _ (size : ℕ) where
+  no_attribute : {P : Type 0} (form : Form) (attr : Attribute) → (form ≡ Buffer → ⊥) → IsProperPart size form (Attr attr) → P
+  no_attribute Modified attr other proper = absurd proper
+  no_attribute AllModified attr other proper = absurd proper
+  no_attribute Buffer attr other proper = absurd (other refl)
 
-text_char : (form : Form) (char : ℕ) → (form ≡ Buffer → ⊥) → IsProperPart form (Char char) → is_text_char char ≡ true
-text_char Modified char other proper = proper
-text_char AllModified char other proper = proper
-text_char Buffer char other proper = absurd (other refl)
+  text_char : (form : Form) (char : ℕ) → (form ≡ Buffer → ⊥) → IsProperPart size form (Char char) → is_text_char char ≡ true
+  text_char Modified char other proper = proper
+  text_char AllModified char other proper = proper
+  text_char Buffer char other proper = absurd (other refl)
 
-address_in_range : (form : Form) (address : ℕ) → (form ≡ Buffer → ⊥) → IsProperPart form (At address) → address < cell_count
-address_in_range Modified address other proper = proper
-address_in_range AllModified address other proper = proper
-address_in_range Buffer address other proper = absurd (other refl)
+  address_in_range : (form : Form) (address : ℕ) → (form ≡ Buffer → ⊥) → IsProperPart size form (At address) → address < size
+  address_in_range Modified address other proper = proper
+  address_in_range AllModified address other proper = proper
+  address_in_range Buffer address other proper = absurd (other refl)
 
--- ---- from parts to fields and back
+  -- ---- from parts to fields and back
 
-pub fields_joined : (form : Form) (parts : List Part) → (form ≡ Buffer → ⊥) → All (IsProperPart form) parts → parts_of_fields (leading_text parts) (returned parts) ≡ parts
-fields_joined form [] other proper = refl
-fields_joined form (At address ∷ parts) other proper =
-    ap (λ ps. At address ∷ ps) (fields_joined form parts other (All-tail (IsProperPart form) (At address) parts proper))
-fields_joined form (Char char ∷ parts) other proper =
-    ap (λ ps. Char char ∷ ps) (fields_joined form parts other (All-tail (IsProperPart form) (Char char) parts proper))
-fields_joined form (Attr attr ∷ parts) other proper = no_attribute form attr other (All-head (IsProperPart form) (Attr attr) parts proper)
+  pub fields_joined : (form : Form) (parts : List Part) → (form ≡ Buffer → ⊥) → All (IsProperPart size form) parts → parts_of_fields (leading_text parts) (returned parts) ≡ parts
+  fields_joined form [] other proper = refl
+  fields_joined form (At address ∷ parts) other proper =
+      ap (λ ps. At address ∷ ps) (fields_joined form parts other (All-tail (IsProperPart size form) (At address) parts proper))
+  fields_joined form (Char char ∷ parts) other proper =
+      ap (λ ps. Char char ∷ ps) (fields_joined form parts other (All-tail (IsProperPart size form) (Char char) parts proper))
+  fields_joined form (Attr attr ∷ parts) other proper = no_attribute form attr other (All-head (IsProperPart size form) (Attr attr) parts proper)
 
 lead_of_fields : (fields : List Returned) → leading_text (flat_map field_parts fields) ≡ []
 lead_of_fields [] = refl
@@ -65,11 +65,12 @@ fields_again (field ∷ fields) =
 pub returned_again : (chars : List ℕ) (fields : List Returned) → returned (parts_of_fields chars fields) ≡ fields
 returned_again chars fields = returned_past chars (flat_map field_parts fields) ∙ fields_again fields
 
-pub cells_joined : (parts : List Part) → All (IsProperPart Buffer) parts → parts_of_cells (cells_sent parts) ≡ parts
-cells_joined [] proper = refl
-cells_joined (At address ∷ parts) proper = absurd (All-head (IsProperPart Buffer) (At address) parts proper)
-cells_joined (Char char ∷ parts) proper = ap (λ ps. Char char ∷ ps) (cells_joined parts (All-tail (IsProperPart Buffer) (Char char) parts proper))
-cells_joined (Attr attr ∷ parts) proper = ap (λ ps. Attr attr ∷ ps) (cells_joined parts (All-tail (IsProperPart Buffer) (Attr attr) parts proper))
+module _ (size : ℕ) where
+  pub cells_joined : (parts : List Part) → All (IsProperPart size Buffer) parts → parts_of_cells (cells_sent parts) ≡ parts
+  cells_joined [] proper = refl
+  cells_joined (At address ∷ parts) proper = absurd (All-head (IsProperPart size Buffer) (At address) parts proper)
+  cells_joined (Char char ∷ parts) proper = ap (λ ps. Char char ∷ ps) (cells_joined parts (All-tail (IsProperPart size Buffer) (Char char) parts proper))
+  cells_joined (Attr attr ∷ parts) proper = ap (λ ps. Attr attr ∷ ps) (cells_joined parts (All-tail (IsProperPart size Buffer) (Attr attr) parts proper))
 
 pub cells_again : (cells : List Cell) → cells_sent (parts_of_cells cells) ≡ cells
 cells_again [] = refl
@@ -87,31 +88,32 @@ parts_are_fields = record {
 
 -- ---- fields of proper parts
 
-pub lead_proper : (form : Form) (parts : List Part) → (form ≡ Buffer → ⊥) → All (IsProperPart form) parts → All (λ char. is_text_char char ≡ true) (leading_text parts)
-lead_proper form [] other proper = All-nil (λ char. is_text_char char ≡ true)
-lead_proper form (At address ∷ parts) other proper = All-nil (λ char. is_text_char char ≡ true)
-lead_proper form (Char char ∷ parts) other proper =
-    All-cons (λ c. is_text_char c ≡ true) char (leading_text parts) (text_char form char other (All-head (IsProperPart form) (Char char) parts proper))
-    (lead_proper form parts other (All-tail (IsProperPart form) (Char char) parts proper))
-lead_proper form (Attr attr ∷ parts) other proper = All-nil (λ char. is_text_char char ≡ true)
+module _ (size : ℕ) where
+  pub lead_proper : (form : Form) (parts : List Part) → (form ≡ Buffer → ⊥) → All (IsProperPart size form) parts → All (λ char. is_text_char char ≡ true) (leading_text parts)
+  lead_proper form [] other proper = All-nil (λ char. is_text_char char ≡ true)
+  lead_proper form (At address ∷ parts) other proper = All-nil (λ char. is_text_char char ≡ true)
+  lead_proper form (Char char ∷ parts) other proper =
+      All-cons (λ c. is_text_char c ≡ true) char (leading_text parts) (text_char size form char other (All-head (IsProperPart size form) (Char char) parts proper))
+      (lead_proper form parts other (All-tail (IsProperPart size form) (Char char) parts proper))
+  lead_proper form (Attr attr ∷ parts) other proper = All-nil (λ char. is_text_char char ≡ true)
 
-pub returned_proper : (form : Form) (parts : List Part) → (form ≡ Buffer → ⊥) → All (IsProperPart form) parts → All IsProperReturned (returned parts)
-returned_proper form [] other proper = All-nil IsProperReturned
-returned_proper form (At address ∷ parts) other proper =
-    let others : All (IsProperPart form) parts = All-tail (IsProperPart form) (At address) parts proper in
-    All-cons IsProperReturned (record { first = address; text = leading_text parts }) (returned parts)
-    (record { first = address_in_range form address other (All-head (IsProperPart form) (At address) parts proper); text = lead_proper form parts other others })
-    (returned_proper form parts other others)
-returned_proper form (Char char ∷ parts) other proper = returned_proper form parts other (All-tail (IsProperPart form) (Char char) parts proper)
-returned_proper form (Attr attr ∷ parts) other proper = no_attribute form attr other (All-head (IsProperPart form) (Attr attr) parts proper)
+  pub returned_proper : (form : Form) (parts : List Part) → (form ≡ Buffer → ⊥) → All (IsProperPart size form) parts → All (IsProperReturned size) (returned parts)
+  returned_proper form [] other proper = All-nil (IsProperReturned size)
+  returned_proper form (At address ∷ parts) other proper =
+      let others : All (IsProperPart size form) parts = All-tail (IsProperPart size form) (At address) parts proper in
+      All-cons (IsProperReturned size) (record { first = address; text = leading_text parts }) (returned parts)
+      (record { first = address_in_range size form address other (All-head (IsProperPart size form) (At address) parts proper); text = lead_proper form parts other others })
+      (returned_proper form parts other others)
+  returned_proper form (Char char ∷ parts) other proper = returned_proper form parts other (All-tail (IsProperPart size form) (Char char) parts proper)
+  returned_proper form (Attr attr ∷ parts) other proper = no_attribute size form attr other (All-head (IsProperPart size form) (Attr attr) parts proper)
 
-buffer_returned : (parts : List Part) → All (IsProperPart Buffer) parts → returned parts ≡ []
-buffer_returned [] proper = refl
-buffer_returned (At address ∷ parts) proper = absurd (All-head (IsProperPart Buffer) (At address) parts proper)
-buffer_returned (Char char ∷ parts) proper = buffer_returned parts (All-tail (IsProperPart Buffer) (Char char) parts proper)
-buffer_returned (Attr attr ∷ parts) proper = buffer_returned parts (All-tail (IsProperPart Buffer) (Attr attr) parts proper)
+  buffer_returned : (parts : List Part) → All (IsProperPart size Buffer) parts → returned parts ≡ []
+  buffer_returned [] proper = refl
+  buffer_returned (At address ∷ parts) proper = absurd (All-head (IsProperPart size Buffer) (At address) parts proper)
+  buffer_returned (Char char ∷ parts) proper = buffer_returned parts (All-tail (IsProperPart size Buffer) (Char char) parts proper)
+  buffer_returned (Attr attr ∷ parts) proper = buffer_returned parts (All-tail (IsProperPart size Buffer) (Attr attr) parts proper)
 
-pub any_returned_proper : (form : Form) (parts : List Part) → All (IsProperPart form) parts → All IsProperReturned (returned parts)
-any_returned_proper Modified parts proper = returned_proper Modified parts (λ e. cc) proper
-any_returned_proper AllModified parts proper = returned_proper AllModified parts (λ e. cc) proper
-any_returned_proper Buffer parts proper = subst (λ fs. All IsProperReturned fs) (sym (buffer_returned parts proper)) (All-nil IsProperReturned)
+  pub any_returned_proper : (form : Form) (parts : List Part) → All (IsProperPart size form) parts → All (IsProperReturned size) (returned parts)
+  any_returned_proper Modified parts proper = returned_proper Modified parts (λ e. cc) proper
+  any_returned_proper AllModified parts proper = returned_proper AllModified parts (λ e. cc) proper
+  any_returned_proper Buffer parts proper = subst (λ fs. All (IsProperReturned size) fs) (sym (buffer_returned parts proper)) (All-nil (IsProperReturned size))

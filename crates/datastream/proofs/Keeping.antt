@@ -1,5 +1,5 @@
 -- Cells that are kept by bits and bytes.
-use Rattle.std.proofs.Common.{◌≡◌, ℕ, zero, suc, ◌+◌, ◌*◌, ◌^◌, ◌/◌, ◌%◌, ◌<◌, ◌≤◌, Bool, true, false, List, [], ◌∷◌, length, replicate, set, get_or, map, refl, ap, sym, subst, arith, ◌∙◌, ne_eqb, eq-eqb, inl, inr, if◌then◌else◌, All}
+use Rattle.std.proofs.Common.{◌≡◌, ℕ, zero, suc, ◌+◌, ◌*◌, ◌^◌, ◌/◌, ◌%◌, ◌<◌, ◌≤◌, Bool, true, false, List, [], ◌∷◌, length, replicate, take, set, get_or, map, refl, ap, sym, subst, arith, ◌∙◌, ne_eqb, eq-eqb, inl, inr, if◌then◌else◌, All}
 use Rattle.std.specs.Prelude.{nat_eq, bit_and, bit_or}
 use Rattle.std.specs.Int.{bit_at, w64, bit_not}
 use Rattle.std.proofs.Math.Nat.{mod-lt}
@@ -42,8 +42,8 @@ one_bit zero few = refl
 one_bit (suc zero) few = refl
 one_bit (suc (suc n)) few = absurd (omega arith)
 
-pub word_bits : (words : List ℕ) (index word : ℕ) → word ≡ get_or words index 0 → AreBits (has_bit words) index word
-word_bits words index word is = λ place low inside.
+pub word_bits : (size : ℕ) (words : List ℕ) (index word : ℕ) → word ≡ get_or words index 0 → AreBits size (has_bit words) index word
+word_bits size words index word is = λ place low inside.
     let quotient : (64 * index + place) / 64 ≡ index = omega arith in
     let remainder : (64 * index + place) % 64 ≡ place = omega arith in
     one_bit (bit_at word place) (bit_at-lt word place)
@@ -54,6 +54,14 @@ word_bits words index word is = λ place low inside.
     ))
 
 -- ---- cells
+
+pub take-set : {X : Type 0} (xs : List X) (k i : ℕ) (y : X) → take k (set xs i y) ≡ set (take k xs) i y
+take-set [] zero i y = refl
+take-set [] (suc k) i y = refl
+take-set (x ∷ xs) zero zero y = refl
+take-set (x ∷ xs) zero (suc i) y = refl
+take-set (x ∷ xs) (suc k) zero y = refl
+take-set {X} (x ∷ xs) (suc k) (suc i) y = ap (λ (l : List X). x ∷ l) (take-set xs k i y)
 
 module _ {A : Type 0} where
   pub length_kept : (f : ℕ → ℕ → A) (at : ℕ) (bytes : List ℕ) → length (kept f at bytes) ≡ length bytes
@@ -208,12 +216,16 @@ module _ (attributes characters bytes : List ℕ) (at : ℕ) (within : at < leng
   keep_read a k = want_read Keep
       (sym (ap (λ b. want_kept b (has_bit characters at) (get_or bytes at 0)) a ∙ ap (λ b. want_kept false b (get_or bytes at 0)) k))
 
+-- the same character under another name
+pub character_seen : (now : List Want) (at byte other : ℕ) → byte ≡ other → Char other ≡ get_or now at (Char other) → Char byte ≡ get_or now at (Char byte)
+character_seen now at byte other same is = subst (λ (b : ℕ). Char b ≡ get_or now at (Char b)) (sym same) is
+
 -- the bits of a word, by the cells
-pub marked_bits : (holds : Want → Bool) (bits : List ℕ) (cells now : List Want) (size word result : ℕ) → size ≤ length cells → cells ≡ now → Marks holds bits cells
-    → ((place : ℕ) → place < 64 → 64 * word + place < size → bit_at result place ≡ bit_of (has_bit bits (64 * word + place)))
+pub marked_bits : (holds : Want → Bool) (bits : List ℕ) (cells now : List Want) (size most word result : ℕ) → size ≤ length cells → size ≤ most → cells ≡ now → Marks holds bits cells
+    → ((place : ℕ) → place < 64 → 64 * word + place < most → bit_at result place ≡ bit_of (has_bit bits (64 * word + place)))
     → (place : ℕ) → place < 64 → 64 * word + place < size → bit_at result place ≡ bit_of (holds (get_or now (64 * word + place) Keep))
-marked_bits holds bits cells now size word result long view marked is = λ place low inside.
-    is place low inside ∙ ap bit_of (marked (64 * word + place) (omega arith) Keep ∙ ap (λ (ws : List Want). holds (get_or ws (64 * word + place) Keep)) view)
+marked_bits holds bits cells now size most word result long few view marked is = λ place low inside.
+    is place low (omega arith) ∙ ap bit_of (marked (64 * word + place) (omega arith) Keep ∙ ap (λ (ws : List Want). holds (get_or ws (64 * word + place) Keep)) view)
 
 pub proper_read : (cells now : List Want) (at : ℕ) (w : Want) → cells ≡ now → All IsProper cells → at < length cells → w ≡ get_or now at w → IsProper w
 proper_read cells now at w view proper within is =

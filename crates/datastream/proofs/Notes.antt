@@ -1,11 +1,12 @@
 -- What a note makes of the cells, and what it keeps of them.
-use Rattle.std.proofs.Common.{◌≡◌, ℕ, ◌+◌, ◌%◌, ◌<◌, not, Bool, true, false, List, [], ◌∷◌, ◌++◌, length, map, get_or, set, take, drop, Option, Some, None, sym, ◌∙◌, ap, refl, inl, inr, suc, zero, subst}
+use Rattle.std.proofs.Common.{◌≡◌, ℕ, ◌+◌, ◌%◌, ◌<◌, ◌≤◌, not, Bool, true, false, List, [], ◌∷◌, ◌++◌, length, map, get_or, set, take, drop, Option, Some, None, sym, ◌∙◌, ap, refl, inl, inr, suc, zero, subst}
 use Rattle.std.specs.Prelude.{All}
 use Rattle.std.specs.List.{Contains}
 use Rattle.std.specs.Option.{option_or}
 use Rattle.std.proofs.lemmas.List.{length-map, length-set, get_or-set_same, get_or-set_other, map-append, drop-map, take-map}
 use Rattle.std.proofs.lemmas.List.Elements.{All-head, All-tail, All-weaker, All-set, All-contains, All-contains_itself}
 use Rattle.std.proofs.lemmas.Bool.{cases_eq}
+use Rattle.codes3270.specs.Size.{cells_in, most_cells}
 use Rattle.codes3270.specs.declared.attention.Aid.{Aid}
 use Rattle.codes3270.specs.declared.attribute.Cell.{Cell}
 use Rattle.codes3270.specs.declared.attribute.Cell.TheVariants.{Char, Attr}
@@ -54,9 +55,9 @@ executed_note (Eua stop ∷ orders) after_data cells cursor aid at each = absurd
 
 after_note : (command : CommandParts) (screen : Screen) (note : IsNote command) → after_command command screen ≡ screen_of (noted note.first note.others screen.cells) screen.cursor screen.aid
 after_note command screen note =
-    ap (λ code. after_code code command.wcc command.orders screen) note.code
-    ∙ ap (λ wcc. after_code Write wcc command.orders screen) note.wcc
-    ∙ ap (λ orders. after_code Write (Some quiet) orders screen) note.orders
+    ap (λ code. after_code code (cells_in command.size) command.wcc command.orders screen) note.code
+    ∙ ap (λ wcc. after_code Write (cells_in command.size) wcc command.orders screen) note.wcc
+    ∙ ap (λ orders. after_code Write (cells_in command.size) (Some quiet) orders screen) note.orders
     ∙ ap (restored quiet) (executed_note note.others false screen.cells screen.cursor screen.aid note.first note.each)
 
 cells_after : (command : CommandParts) (screen : Screen) (note : IsNote command) → (after_command command screen).cells ≡ noted note.first note.others screen.cells
@@ -279,27 +280,28 @@ keeps_form command screen over =
           (λ there. none (subst (λ places. Contains places at) (sym (places_are (length screen.cells) command over.note)) there));
     }
 
-storable_noted : (at : ℕ) (orders : List Order) (cells : List Cell) → All IsProper orders → All IsStorableCell cells → All IsStorableCell (noted at orders cells)
-storable_noted at [] cells proper storable = storable
-storable_noted at (Data byte ∷ orders) cells proper storable =
-    storable_noted ((at + 1) % length cells) orders (set cells at (Char byte)) (All-tail IsProper (Data byte) orders proper)
-    (All-set IsStorableCell cells at (Char byte) (All-head IsProper (Data byte) orders proper) storable)
-storable_noted at (Sba address ∷ orders) cells proper storable = storable_noted address orders cells (All-tail IsProper (Sba address) orders proper) storable
-storable_noted at (Sf attribute ∷ orders) cells proper storable = storable_noted at orders cells (All-tail IsProper (Sf attribute) orders proper) storable
-storable_noted at (Ic ∷ orders) cells proper storable = storable_noted at orders cells (All-tail IsProper Ic orders proper) storable
-storable_noted at (Pt ∷ orders) cells proper storable = storable_noted at orders cells (All-tail IsProper Pt orders proper) storable
-storable_noted at (Ra stop byte ∷ orders) cells proper storable = storable_noted at orders cells (All-tail IsProper (Ra stop byte) orders proper) storable
-storable_noted at (Eua stop ∷ orders) cells proper storable = storable_noted at orders cells (All-tail IsProper (Eua stop) orders proper) storable
+storable_noted : (size : ℕ) (at : ℕ) (orders : List Order) (cells : List Cell) → All (IsProper size) orders → All IsStorableCell cells → All IsStorableCell (noted at orders cells)
+storable_noted size at [] cells proper storable = storable
+storable_noted size at (Data byte ∷ orders) cells proper storable =
+    storable_noted size ((at + 1) % length cells) orders (set cells at (Char byte)) (All-tail (IsProper size) (Data byte) orders proper)
+    (All-set IsStorableCell cells at (Char byte) (All-head (IsProper size) (Data byte) orders proper) storable)
+storable_noted size at (Sba address ∷ orders) cells proper storable = storable_noted size address orders cells (All-tail (IsProper size) (Sba address) orders proper) storable
+storable_noted size at (Sf attribute ∷ orders) cells proper storable = storable_noted size at orders cells (All-tail (IsProper size) (Sf attribute) orders proper) storable
+storable_noted size at (Ic ∷ orders) cells proper storable = storable_noted size at orders cells (All-tail (IsProper size) Ic orders proper) storable
+storable_noted size at (Pt ∷ orders) cells proper storable = storable_noted size at orders cells (All-tail (IsProper size) Pt orders proper) storable
+storable_noted size at (Ra stop byte ∷ orders) cells proper storable = storable_noted size at orders cells (All-tail (IsProper size) (Ra stop byte) orders proper) storable
+storable_noted size at (Eua stop ∷ orders) cells proper storable = storable_noted size at orders cells (All-tail (IsProper size) (Eua stop) orders proper) storable
 
 pub keeps_sendable : NoteKeepsSendable
 keeps_sendable command screen note proper is =
-    let others : All IsProper note.others = All-tail IsProper (Sba note.first) note.others (subst (All IsProper) note.orders proper) in
+    let size : ℕ = length screen.cells in
+    let others : All (IsProper size) note.others = All-tail (IsProper size) (Sba note.first) note.others (subst (All (IsProper size)) note.orders proper) in
     subst IsSendable (sym (after_note command screen note))
     (record {
-      size = length-noted note.first note.others screen.cells ∙ is.size;
-      cursor = is.cursor;
+      few = subst (λ (n : ℕ). n ≤ most_cells) (sym (length-noted note.first note.others screen.cells)) is.few;
+      cursor = subst (λ (n : ℕ). screen.cursor < n) (sym (length-noted note.first note.others screen.cells)) is.cursor;
       aid = is.aid;
-      storable = storable_noted note.first note.others screen.cells others is.storable;
+      storable = storable_noted size note.first note.others screen.cells others is.storable;
     })
 
 -- ---- what keys kept

@@ -1,11 +1,11 @@
 -- For proofs alone: a bit for each cell, and cells that are kept as bytes and such bits (our profile).
 use Rattle.std.specs.Prelude.{◌≡◌, ◌<◌, ◌+◌, ◌*◌, ◌/◌, ◌%◌, ◌&&◌, not, ℕ, length, Bool, true, false, List, [], ◌∷◌, slice_index_or, nat_eq, nat_lt}
 use Rattle.std.specs.Int.{bit_at}
-use Rattle.codes3270.specs.Size.{cell_count}
+use Rattle.codes3270.specs.Size.{most_cells}
 
--- how many words of 64 bits have a bit for each cell
+-- how many words of 64 bits have a bit for each cell of a screen, whatever its size
 abbrev pub word_count : ℕ
-word_count = (cell_count + 63) / 64
+word_count = (most_cells + 63) / 64
 
 abbrev pub bit_of : Bool → ℕ
 bit_of true = 1
@@ -18,9 +18,9 @@ has_bit words cell = nat_eq (bit_at (slice_index_or words (cell / 64) 0) (cell %
 abbrev pub is_within : ℕ → ℕ → ℕ → Bool
 is_within from to cell = not (nat_lt cell from) && nat_lt cell to
 
--- a word's bits say of each of its cells whether a test holds there
-abbrev pub AreBits : (ℕ → Bool) → ℕ → ℕ → Type 0
-AreBits holds word bits = (place : ℕ) → place < 64 → 64 * word + place < cell_count → bit_at bits place ≡ bit_of (holds (64 * word + place))
+-- a word's bits say of each of its cells whether a test holds there, on a screen with `size` cells
+abbrev pub AreBits : ℕ → (ℕ → Bool) → ℕ → ℕ → Type 0
+AreBits size holds word bits = (place : ℕ) → place < 64 → 64 * word + place < size → bit_at bits place ≡ bit_of (holds (64 * word + place))
 
 -- what is kept of the cells from an address on, whose bytes these are
 abbrev pub kept : {A : Type 0} → (ℕ → ℕ → A) → ℕ → List ℕ → List A

@@ -1,7 +1,7 @@
 -- What bytes spell commands of the 3270 data stream (GA23-0059-07, "3270 Data Stream Commands" and "Buffer Control Orders
 -- and Order Codes"), and where others go wrong, in reading order (our profile).
 use Rattle.std.specs.Prelude.{◌≡◌, ℕ, ◌<◌, ◌≤◌, List, [], ◌∷◌, ◌++◌, length, Bool, true, false, ◌==◌, ◌||◌, ◌⊎◌, Option, Some, None}
-use Rattle.codes3270.specs.Size.{cell_count}
+use Rattle.codes3270.specs.Size.{Shape, cells_in, model_2}
 use Rattle.codes3270.specs.Address.{address_of}
 use Rattle.codes3270.specs.Attribute.{attr_of}
 use Rattle.codes3270.specs.Storable.{is_storable}
@@ -35,36 +35,38 @@ repeat_to_address = 0x3C
 abbrev pub erase_unprotected_to_address : ℕ
 erase_unprotected_to_address = 0x12
 
+-- In what follows, `size` is the number of cells of the screen that the orders act on.
+
 -- two bytes stand for an address
-abbrev pub IsAddress : ℕ → ℕ → ℕ → Type 0
-IsAddress high low address = (address ≡ address_of high low) × (address < cell_count)
+abbrev pub IsAddress : ℕ → ℕ → ℕ → ℕ → Type 0
+IsAddress size high low address = (address ≡ address_of high low) × (address < size)
 
 -- the bytes that stand for an order
-abbrev pub IsOrder : Order → List ℕ → Type 0
-IsOrder (Char char) bytes = (is_storable char ≡ true) × (bytes ≡ char ∷ [])
-IsOrder (Sf attr) bytes = (code : ℕ) × (attr ≡ attr_of code) × (bytes ≡ start_field ∷ code ∷ [])
-IsOrder (Sba address) bytes = (high low : ℕ) × IsAddress high low address × (bytes ≡ set_buffer_address ∷ high ∷ low ∷ [])
-IsOrder Ic bytes = bytes ≡ insert_cursor ∷ []
-IsOrder Pt bytes = bytes ≡ program_tab ∷ []
-IsOrder (Ra stop char) bytes =
-    (high low : ℕ) × IsAddress high low stop × (is_storable char ≡ true) × (bytes ≡ repeat_to_address ∷ high ∷ low ∷ char ∷ [])
-IsOrder (Eua stop) bytes = (high low : ℕ) × IsAddress high low stop × (bytes ≡ erase_unprotected_to_address ∷ high ∷ low ∷ [])
+abbrev pub IsOrder : ℕ → Order → List ℕ → Type 0
+IsOrder size (Char char) bytes = (is_storable char ≡ true) × (bytes ≡ char ∷ [])
+IsOrder size (Sf attr) bytes = (code : ℕ) × (attr ≡ attr_of code) × (bytes ≡ start_field ∷ code ∷ [])
+IsOrder size (Sba address) bytes = (high low : ℕ) × IsAddress size high low address × (bytes ≡ set_buffer_address ∷ high ∷ low ∷ [])
+IsOrder size Ic bytes = bytes ≡ insert_cursor ∷ []
+IsOrder size Pt bytes = bytes ≡ program_tab ∷ []
+IsOrder size (Ra stop char) bytes =
+    (high low : ℕ) × IsAddress size high low stop × (is_storable char ≡ true) × (bytes ≡ repeat_to_address ∷ high ∷ low ∷ char ∷ [])
+IsOrder size (Eua stop) bytes = (high low : ℕ) × IsAddress size high low stop × (bytes ≡ erase_unprotected_to_address ∷ high ∷ low ∷ [])
 
 -- an order's addresses and characters are in their ranges
-abbrev pub IsProper : Order → Type 0
-IsProper (Char char) = is_storable char ≡ true
-IsProper (Sf attr) = Unit {0}
-IsProper (Sba address) = address < cell_count
-IsProper Ic = Unit {0}
-IsProper Pt = Unit {0}
-IsProper (Ra stop char) = (stop < cell_count) × (is_storable char ≡ true)
-IsProper (Eua stop) = stop < cell_count
+abbrev pub IsProper : ℕ → Order → Type 0
+IsProper size (Char char) = is_storable char ≡ true
+IsProper size (Sf attr) = Unit {0}
+IsProper size (Sba address) = address < size
+IsProper size Ic = Unit {0}
+IsProper size Pt = Unit {0}
+IsProper size (Ra stop char) = (stop < size) × (is_storable char ≡ true)
+IsProper size (Eua stop) = stop < size
 
 -- the bytes that stand for orders, one after the other
-abbrev pub AreOrders : List Order → List ℕ → Type 0
-AreOrders [] bytes = bytes ≡ []
-AreOrders (order ∷ orders) bytes =
-    (front back : List ℕ) × IsOrder order front × AreOrders orders back × (bytes ≡ front ++ back)
+abbrev pub AreOrders : ℕ → List Order → List ℕ → Type 0
+AreOrders size [] bytes = bytes ≡ []
+AreOrders size (order ∷ orders) bytes =
+    (front back : List ℕ) × IsOrder size order front × AreOrders size orders back × (bytes ≡ front ++ back)
 
 -- the orders that have an address behind their code
 abbrev pub has_address : ℕ → Bool
@@ -75,28 +77,29 @@ abbrev pub is_order_code : ℕ → Bool
 is_order_code code = has_address code || code == start_field || code == insert_cursor || code == program_tab
 
 -- What stands where an order should, and is none: the fault that a reader from left to right meets first (our profile).
-pub data IsNoOrder (fault : CommandFault) (bytes : List ℕ) : Type 0 where
+pub data IsNoOrder (size : ℕ) (fault : CommandFault) (bytes : List ℕ) : Type 0 where
   unknown_code : (code : ℕ) (more : List ℕ) → is_order_code code ≡ false → is_storable code ≡ false
-      → fault ≡ BadOrder → bytes ≡ code ∷ more → IsNoOrder fault bytes
-  cut_attribute : fault ≡ Truncated → bytes ≡ start_field ∷ [] → IsNoOrder fault bytes
+      → fault ≡ BadOrder → bytes ≡ code ∷ more → IsNoOrder size fault bytes
+  cut_attribute : fault ≡ Truncated → bytes ≡ start_field ∷ [] → IsNoOrder size fault bytes
   cut_address : (code : ℕ) (few : List ℕ) → has_address code ≡ true → length few < 2
-      → fault ≡ Truncated → bytes ≡ code ∷ few → IsNoOrder fault bytes
-  address_too_large : (code high low : ℕ) (more : List ℕ) → has_address code ≡ true → cell_count ≤ address_of high low
-      → fault ≡ BadAddress → bytes ≡ code ∷ high ∷ low ∷ more → IsNoOrder fault bytes
-  cut_character : (high low : ℕ) → address_of high low < cell_count
-      → fault ≡ Truncated → bytes ≡ repeat_to_address ∷ high ∷ low ∷ [] → IsNoOrder fault bytes
-  unstorable_character : (high low char : ℕ) (more : List ℕ) → address_of high low < cell_count → is_storable char ≡ false
-      → fault ≡ BadOrder → bytes ≡ repeat_to_address ∷ high ∷ low ∷ char ∷ more → IsNoOrder fault bytes
+      → fault ≡ Truncated → bytes ≡ code ∷ few → IsNoOrder size fault bytes
+  address_too_large : (code high low : ℕ) (more : List ℕ) → has_address code ≡ true → size ≤ address_of high low
+      → fault ≡ BadAddress → bytes ≡ code ∷ high ∷ low ∷ more → IsNoOrder size fault bytes
+  cut_character : (high low : ℕ) → address_of high low < size
+      → fault ≡ Truncated → bytes ≡ repeat_to_address ∷ high ∷ low ∷ [] → IsNoOrder size fault bytes
+  unstorable_character : (high low char : ℕ) (more : List ℕ) → address_of high low < size → is_storable char ≡ false
+      → fault ≡ BadOrder → bytes ≡ repeat_to_address ∷ high ∷ low ∷ char ∷ more → IsNoOrder size fault bytes
 
 -- the text is orders up to a place where none stands, and this is the fault there (our profile)
-abbrev pub HasFault : CommandFault → List ℕ → Type 0
-HasFault fault text = (orders : List Order) × (front back : List ℕ) × AreOrders orders front × IsNoOrder fault back × (text ≡ front ++ back)
+abbrev pub HasFault : ℕ → CommandFault → List ℕ → Type 0
+HasFault size fault text = (orders : List Order) × (front back : List ℕ) × AreOrders size orders front × IsNoOrder size fault back × (text ≡ front ++ back)
 
 -- ---- commands (GA23-0059-07, "3270 Data Stream Commands")
 
--- what a command says
+-- what a command says, and the size that the screen has after it
 pub record CommandParts : Type 0 where
   pub code : CommandCode
+  pub size : Shape
   pub wcc : Option Wcc
   pub orders : List Order
 
@@ -123,25 +126,40 @@ is_write ReadModified = false
 is_write ReadModifiedAll = false
 is_write EraseAllUnprotected = false
 
--- the bytes spell the command
-pub data IsCommand (command : CommandParts) (bytes : List ℕ) : Type 0 where
+-- The size that a screen has after a command: Erase/Write sets the size that all models have, Erase/Write Alternate the
+-- alternate size, and the others keep the size that the screen has now (GA23-0059-07 on Erase/Write and on Erase/Write
+-- Alternate).
+abbrev pub size_after : CommandCode → Shape → Shape → Shape
+size_after Write now alternate = now
+size_after EraseWrite now alternate = model_2
+size_after EraseWriteAlternate now alternate = alternate
+size_after ReadBuffer now alternate = now
+size_after ReadModified now alternate = now
+size_after ReadModifiedAll now alternate = now
+size_after EraseAllUnprotected now alternate = now
+
+-- The bytes spell the command for a screen of these two sizes. Its addresses are judged by the size that holds after the
+-- erase (our profile).
+pub data IsCommand (now alternate : Shape) (command : CommandParts) (bytes : List ℕ) : Type 0 where
   write : (byte wcc : ℕ) (text : List ℕ) → is_write command.code ≡ true → IsCode command.code byte
-      → command.wcc ≡ Some (wcc_of wcc) → AreOrders command.orders text
-      → bytes ≡ byte ∷ wcc ∷ text → IsCommand command bytes
+      → command.size ≡ size_after command.code now alternate
+      → command.wcc ≡ Some (wcc_of wcc) → AreOrders (cells_in command.size) command.orders text
+      → bytes ≡ byte ∷ wcc ∷ text → IsCommand now alternate command bytes
   other : (byte : ℕ) (ignored : List ℕ) → is_write command.code ≡ false → IsCode command.code byte
+      → command.size ≡ size_after command.code now alternate
       → command.wcc ≡ None → command.orders ≡ []
-      → bytes ≡ byte ∷ ignored → IsCommand command bytes
+      → bytes ≡ byte ∷ ignored → IsCommand now alternate command bytes
 
--- some bytes spell the command
+-- some bytes spell the command, for a screen of some sizes
 abbrev pub IsSpelt : CommandParts → Type 0
-IsSpelt command = (bytes : List ℕ) × IsCommand command bytes
+IsSpelt command = (now alternate : Shape) × (bytes : List ℕ) × IsCommand now alternate command bytes
 
--- the bytes spell no command, and this is the first fault in them (our profile)
-pub data IsNoCommand (fault : CommandFault) (bytes : List ℕ) : Type 0 where
-  no_bytes : fault ≡ Truncated → bytes ≡ [] → IsNoCommand fault bytes
+-- the bytes spell no command for a screen of these two sizes, and this is the first fault in them (our profile)
+pub data IsNoCommand (now alternate : Shape) (fault : CommandFault) (bytes : List ℕ) : Type 0 where
+  no_bytes : fault ≡ Truncated → bytes ≡ [] → IsNoCommand now alternate fault bytes
   unknown_command : (byte : ℕ) (more : List ℕ) → ((code : CommandCode) → IsCode code byte → ⊥)
-      → fault ≡ BadCommand → bytes ≡ byte ∷ more → IsNoCommand fault bytes
+      → fault ≡ BadCommand → bytes ≡ byte ∷ more → IsNoCommand now alternate fault bytes
   no_wcc : (code : CommandCode) (byte : ℕ) → is_write code ≡ true → IsCode code byte
-      → fault ≡ Truncated → bytes ≡ byte ∷ [] → IsNoCommand fault bytes
+      → fault ≡ Truncated → bytes ≡ byte ∷ [] → IsNoCommand now alternate fault bytes
   no_order : (code : CommandCode) (byte wcc : ℕ) (text : List ℕ) → is_write code ≡ true → IsCode code byte
-      → HasFault fault text → bytes ≡ byte ∷ wcc ∷ text → IsNoCommand fault bytes
+      → HasFault (cells_in (size_after code now alternate)) fault text → bytes ≡ byte ∷ wcc ∷ text → IsNoCommand now alternate fault bytes

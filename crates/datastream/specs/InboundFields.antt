@@ -1,8 +1,8 @@
 -- Inbound data (GA23-0059-07 on inbound data streams) by fields: the characters before any address, each returned field with its
 -- first address and its text, and the cells of a buffer.
-use Rattle.std.specs.Prelude.{◌≡◌, ⊤, ◌+◌, ◌%◌, ◌<◌, ℕ, Bool, true, false, List, [], ◌∷◌, ◌++◌, length, map, filter, All, Option, Some, None, if◌then◌else◌}
+use Rattle.std.specs.Prelude.{◌≡◌, ⊤, ◌+◌, ◌%◌, ◌<◌, ◌≤◌, ℕ, Bool, true, false, List, [], ◌∷◌, ◌++◌, length, map, filter, All, Option, Some, None, if◌then◌else◌}
 use Rattle.std.specs.List.{flat_map, list_all}
-use Rattle.codes3270.specs.Size.{cell_count}
+use Rattle.codes3270.specs.Size.{Shape, cells_in, most_cells}
 use Rattle.codes3270.specs.Aid.{IsRealAid}
 use Rattle.codes3270.specs.Storable.{is_storable}
 use Rattle.codes3270.specs.declared.attribute.Cell.{Cell}
@@ -21,9 +21,9 @@ pub record Returned : Type 0 where
   pub first : ℕ
   pub text : List ℕ
 
--- its address is one of the screen, and its text has no nulls
-pub record IsProperReturned (field : Returned) : Type 0 where
-  pub first : field.first < cell_count
+-- its address is one of the screen, which has `size` cells, and its text has no nulls
+pub record IsProperReturned (size : ℕ) (field : Returned) : Type 0 where
+  pub first : field.first < size
   pub text : All (λ char. is_text_char char ≡ true) field.text
 
 -- ---- from parts to fields
@@ -72,10 +72,10 @@ parts_of_cells cells = map part_of_cell cells
 -- The two views are one: parts of modified fields are those of their fields, the parts of a buffer those of its cells, and
 -- fields or cells come back from their parts.
 pub record PartsAreFields : Type 0 where
-  pub joined : (form : Form) (parts : List Part) → (form ≡ Buffer → ⊥) → All (IsProperPart form) parts → parts_of_fields (leading_text parts) (returned parts) ≡ parts
+  pub joined : (size : ℕ) (form : Form) (parts : List Part) → (form ≡ Buffer → ⊥) → All (IsProperPart size form) parts → parts_of_fields (leading_text parts) (returned parts) ≡ parts
   pub lead_back : (chars : List ℕ) (fields : List Returned) → leading_text (parts_of_fields chars fields) ≡ chars
   pub returned_back : (chars : List ℕ) (fields : List Returned) → returned (parts_of_fields chars fields) ≡ fields
-  pub cells_joined : (parts : List Part) → All (IsProperPart Buffer) parts → parts_of_cells (cells_sent parts) ≡ parts
+  pub cells_joined : (size : ℕ) (parts : List Part) → All (IsProperPart size Buffer) parts → parts_of_cells (cells_sent parts) ≡ parts
   pub cells_back : (cells : List Cell) → cells_sent (parts_of_cells cells) ≡ cells
 
 -- ---- what a screen sends
@@ -95,31 +95,34 @@ returned_field size field = record { first = (field.place + 1) % size; text = wi
 abbrev pub returned_of : List Cell → List Returned
 returned_of cells = map (returned_field (length cells)) (filter is_modified_field (fields cells))
 
--- what Read Modified, or Read Modified All, says of a screen
-abbrev pub modified_data : Form → Screen → InboundParts
-modified_data form screen =
+-- what Read Modified, or Read Modified All, says of a screen of a size
+abbrev pub modified_data : Form → Shape → Screen → InboundParts
+modified_data form size screen =
     if stands_alone form screen.aid
-    then record { form = form; aid = screen.aid; cursor = None; parts = [] }
-    else record { form = form; aid = screen.aid; cursor = Some screen.cursor; parts = parts_of_fields (lead_of screen.cells) (returned_of screen.cells) }
+    then record { form = form; size = size; aid = screen.aid; cursor = None; parts = [] }
+    else record { form = form; size = size; aid = screen.aid; cursor = Some screen.cursor; parts = parts_of_fields (lead_of screen.cells) (returned_of screen.cells) }
 
--- what Read Buffer says of a screen
-abbrev pub buffer_data : Screen → InboundParts
-buffer_data screen =
-    record { form = Buffer; aid = screen.aid; cursor = Some screen.cursor; parts = parts_of_cells screen.cells }
+-- what Read Buffer says of a screen of a size
+abbrev pub buffer_data : Shape → Screen → InboundParts
+buffer_data size screen =
+    record { form = Buffer; size = size; aid = screen.aid; cursor = Some screen.cursor; parts = parts_of_cells screen.cells }
 
 abbrev pub IsStorableCell : Cell → Type 0
 IsStorableCell (CharCell char) = is_storable char ≡ true
 IsStorableCell (AttrCell attr) = ⊤
 
--- a screen of the profile's size, whose parts can all be written as bytes
+-- a screen whose parts and addresses can all be written as bytes
 pub record IsSendable (screen : Screen) : Type 0 where
-  pub size : length screen.cells ≡ cell_count
-  pub cursor : screen.cursor < cell_count
+  pub few : length screen.cells ≤ most_cells
+  pub cursor : screen.cursor < length screen.cells
   pub aid : IsRealAid screen.aid
   pub storable : All IsStorableCell screen.cells
 
--- What a screen's read writes is read as exactly that screen's data.
+-- What a screen's read writes is read as exactly that screen's data, by the screen's size.
 pub record SentIsRead : Type 0 where
-  pub modified : (screen : Screen) → IsSendable screen → IsInbound (modified_data Modified screen) (read_modified false screen)
-  pub all : (screen : Screen) → IsSendable screen → IsInbound (modified_data AllModified screen) (read_modified true screen)
-  pub buffer : (screen : Screen) → IsSendable screen → IsInbound (buffer_data screen) (read_buffer screen)
+  pub modified : (size : Shape) (screen : Screen) → length screen.cells ≡ cells_in size → IsSendable screen
+      → IsInbound (modified_data Modified size screen) (read_modified false screen)
+  pub all : (size : Shape) (screen : Screen) → length screen.cells ≡ cells_in size → IsSendable screen
+      → IsInbound (modified_data AllModified size screen) (read_modified true screen)
+  pub buffer : (size : Shape) (screen : Screen) → length screen.cells ≡ cells_in size → IsSendable screen
+      → IsInbound (buffer_data size screen) (read_buffer screen)

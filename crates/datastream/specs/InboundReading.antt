@@ -1,6 +1,5 @@
 -- Reading inbound data from left to right (our profile): what a value that borrows the bytes has still to give.
 use Rattle.std.specs.Prelude.{◌≡◌, ℕ, zero, suc, Bool, not, List, [], ◌∷◌, length, Result, Ok, Err, nat_lt, ◌==◌, if◌then◌else◌}
-use Rattle.codes3270.specs.Size.{cell_count}
 use Rattle.codes3270.specs.Address.{address_of}
 use Rattle.codes3270.specs.Attribute.{attr_of}
 use Rattle.codes3270.specs.Storable.{is_storable}
@@ -18,14 +17,14 @@ abbrev pub Gives : {X Y : Type 0} → (X → Y) → Result X InboundFault → Re
 Gives view (Ok x) read = read ≡ Ok (view x)
 Gives view (Err e) read = read ≡ Err e
 
--- each reader returns what the first bytes spell, and the bytes after that
+-- each reader returns what the first bytes spell, and the bytes after that; `size` is the number of cells of the screen
 
 -- an address, after its order's code
-abbrev pub address_at : List ℕ → Result (Part × List ℕ) InboundFault
-address_at [] = Err BadForm
-address_at (high ∷ []) = Err BadForm
-address_at (high ∷ low ∷ rest) =
-    if nat_lt (address_of high low) cell_count then Ok (At (address_of high low), rest) else Err BadAddress
+abbrev pub address_at : ℕ → List ℕ → Result (Part × List ℕ) InboundFault
+address_at size [] = Err BadForm
+address_at size (high ∷ []) = Err BadForm
+address_at size (high ∷ low ∷ rest) =
+    if nat_lt (address_of high low) size then Ok (At (address_of high low), rest) else Err BadAddress
 
 -- an attribute, after its order's code
 abbrev pub attribute_at : List ℕ → Result (Part × List ℕ) InboundFault
@@ -33,10 +32,10 @@ attribute_at [] = Err Short
 attribute_at (code ∷ rest) = Ok (Attr (attr_of code), rest)
 
 -- a part of the modified fields
-unfoldable pub text_part_at : List ℕ → Result (Part × List ℕ) InboundFault
-text_part_at [] = Err Short
-text_part_at (byte ∷ rest) =
-    if byte == set_buffer_address then address_at rest
+unfoldable pub text_part_at : ℕ → List ℕ → Result (Part × List ℕ) InboundFault
+text_part_at size [] = Err Short
+text_part_at size (byte ∷ rest) =
+    if byte == set_buffer_address then address_at size rest
     else if is_text_char byte then Ok (Char byte, rest)
     else Err BadForm
 
@@ -48,10 +47,10 @@ cell_part_at (byte ∷ rest) =
     else if is_storable byte then Ok (Char byte, rest)
     else Err BadForm
 
-abbrev pub part_at : Form → List ℕ → Result (Part × List ℕ) InboundFault
-part_at Modified text = text_part_at text
-part_at AllModified text = text_part_at text
-part_at Buffer text = cell_part_at text
+abbrev pub part_at : ℕ → Form → List ℕ → Result (Part × List ℕ) InboundFault
+part_at size Modified text = text_part_at size text
+part_at size AllModified text = text_part_at size text
+part_at size Buffer text = cell_part_at text
 
 -- a part, and those in the bytes after it
 abbrev pub and_parts : (List ℕ → List Part) → Result (Part × List ℕ) InboundFault → List Part
@@ -59,13 +58,13 @@ and_parts others (Ok found) = found.0 ∷ others found.1
 and_parts others (Err fault) = []
 
 -- the parts that the bytes begin with, up to the first bytes that spell none; at most `n`
-unfoldable pub parts_within : Form → ℕ → List ℕ → List Part
-parts_within form zero text = []
-parts_within form (suc n) text = and_parts (parts_within form n) (part_at form text)
+unfoldable pub parts_within : ℕ → Form → ℕ → List ℕ → List Part
+parts_within size form zero text = []
+parts_within size form (suc n) text = and_parts (parts_within size form n) (part_at size form text)
 
 -- the parts at the front of the bytes, up to where none stands
-unfoldable pub parts_in : Form → List ℕ → List Part
-parts_in form text = parts_within form (length text) text
+unfoldable pub parts_in : ℕ → Form → List ℕ → List Part
+parts_in size form text = parts_within size form (length text) text
 
 -- a byte that begins no address
 abbrev pub begins_no_address : ℕ → Bool

@@ -1,6 +1,7 @@
 -- What a command makes of a screen (GA23-0059-07, "3270 Data Stream Commands"), one equation for each order.
 use Rattle.std.specs.Prelude.{◌+◌, ◌-◌, ◌%◌, ◌&&◌, ℕ, Bool, true, false, List, [], ◌∷◌, length, drop, map, replicate, zip, position, slice_set, Option, Some, None, if◌then◌else◌}
 use Rattle.std.specs.List.{list_all, prefix_len}
+use Rattle.codes3270.specs.Size.{cells_in}
 use Rattle.codes3270.specs.declared.attribute.Cell.{Cell}
 use Rattle.codes3270.specs.declared.attribute.Cell.TheVariants.{Char, Attr}
 use Rattle.codes3270.specs.declared.attention.Aid.TheVariants.{NoAid}
@@ -114,9 +115,9 @@ abbrev pub all_executed : List Order → WriteProgress → WriteProgress
 all_executed [] write = write
 all_executed (order ∷ orders) write = all_executed orders (executed order write)
 
--- a screen of nulls, with the cursor at 0 (GA23-0059-07 on Erase/Write)
-abbrev pub cleared : Screen → Screen
-cleared screen = record screen { cells = replicate (length screen.cells) (Char 0); cursor = 0 }
+-- a screen of nulls with `size` cells, and with the cursor at 0 (GA23-0059-07 on Erase/Write)
+abbrev pub cleared : ℕ → Screen → Screen
+cleared size screen = record screen { cells = replicate size (Char 0); cursor = 0 }
 
 -- MDT off in all attributes where the control character resets (GA23-0059-07, "Write Control Character (WCC)")
 abbrev pub prepared : Wcc → Screen → Screen
@@ -157,17 +158,17 @@ unprotected_erased screen =
     let cells = screen.cells in
     record screen { cells = map open_unmodified (opened 0 (length cells) cells); cursor = home cells }
 
--- The screen after a command of a code, with a write control character and orders where it has them. That Erase/Write
--- Alternate has the one size too is our profile.
-abbrev pub after_code : CommandCode → Option Wcc → List Order → Screen → Screen
-after_code Write wcc orders screen = written wcc orders screen
-after_code EraseWrite wcc orders screen = written wcc orders (cleared screen)
-after_code EraseWriteAlternate wcc orders screen = written wcc orders (cleared screen)
-after_code EraseAllUnprotected wcc orders screen = record (unprotected_erased screen) { aid = NoAid }
-after_code ReadBuffer wcc orders screen = screen
-after_code ReadModified wcc orders screen = screen
-after_code ReadModifiedAll wcc orders screen = screen
+-- The screen after a command of a code, with a write control character and orders where it has them. An erase leaves a
+-- screen with `size` cells (GA23-0059-07 on Erase/Write and on Erase/Write Alternate).
+abbrev pub after_code : CommandCode → ℕ → Option Wcc → List Order → Screen → Screen
+after_code Write size wcc orders screen = written wcc orders screen
+after_code EraseWrite size wcc orders screen = written wcc orders (cleared size screen)
+after_code EraseWriteAlternate size wcc orders screen = written wcc orders (cleared size screen)
+after_code EraseAllUnprotected size wcc orders screen = record (unprotected_erased screen) { aid = NoAid }
+after_code ReadBuffer size wcc orders screen = screen
+after_code ReadModified size wcc orders screen = screen
+after_code ReadModifiedAll size wcc orders screen = screen
 
 -- the screen after a command
 abbrev pub after_command : CommandParts → Screen → Screen
-after_command command screen = after_code command.code command.wcc command.orders screen
+after_command command screen = after_code command.code (cells_in command.size) command.wcc command.orders screen

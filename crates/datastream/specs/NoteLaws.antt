@@ -41,7 +41,7 @@ NoteLeavesUnprotected = (command : CommandParts) (screen : Screen) → WritesPro
 
 -- A screen that can be sent stays one.
 abbrev pub NoteKeepsSendable : Type 0
-NoteKeepsSendable = (command : CommandParts) (screen : Screen) → IsNote command → All IsProper command.orders → IsSendable screen
+NoteKeepsSendable = (command : CommandParts) (screen : Screen) → IsNote command → All (IsProper (length screen.cells)) command.orders → IsSendable screen
     → IsSendable (after_command command screen)
 
 -- A note over characters of protected fields, written on what was left and on what it is now: keys have kept of the one what

@@ -1,6 +1,5 @@
 -- Reading orders from left to right: what a value that borrows the bytes has still to give.
 use Rattle.std.specs.Prelude.{◌≡◌, ℕ, zero, suc, List, [], ◌∷◌, length, Result, Ok, Err, nat_lt, ◌==◌, if◌then◌else◌}
-use Rattle.codes3270.specs.Size.{cell_count}
 use Rattle.codes3270.specs.Address.{address_of}
 use Rattle.codes3270.specs.Attribute.{attr_of}
 use Rattle.codes3270.specs.Storable.{is_storable}
@@ -20,36 +19,36 @@ abbrev pub Gives : {X Y : Type 0} → (X → Y) → Result X CommandFault → Re
 Gives view (Ok x) read = read ≡ Ok (view x)
 Gives view (Err e) read = read ≡ Err e
 
--- each reader returns what the first bytes spell, and the bytes after that
+-- each reader returns what the first bytes spell, and the bytes after that; `size` is the number of cells of the screen
 abbrev pub byte_at : List ℕ → Result (ℕ × List ℕ) CommandFault
 byte_at [] = Err Truncated
 byte_at (byte ∷ rest) = Ok (byte, rest)
 
-abbrev pub address_at : List ℕ → Result (ℕ × List ℕ) CommandFault
-address_at [] = Err Truncated
-address_at (high ∷ []) = Err Truncated
-address_at (high ∷ low ∷ rest) =
-    if nat_lt (address_of high low) cell_count then Ok (address_of high low, rest) else Err BadAddress
+abbrev pub address_at : ℕ → List ℕ → Result (ℕ × List ℕ) CommandFault
+address_at size [] = Err Truncated
+address_at size (high ∷ []) = Err Truncated
+address_at size (high ∷ low ∷ rest) =
+    if nat_lt (address_of high low) size then Ok (address_of high low, rest) else Err BadAddress
 
 abbrev pub character_at : List ℕ → Result (ℕ × List ℕ) CommandFault
 character_at [] = Err Truncated
 character_at (char ∷ rest) = if is_storable char then Ok (char, rest) else Err BadOrder
 
 -- the order with this code, which these bytes follow
-unfoldable pub order_after : ℕ → List ℕ → Result (Order × List ℕ) CommandFault
-order_after code rest =
+unfoldable pub order_after : ℕ → ℕ → List ℕ → Result (Order × List ℕ) CommandFault
+order_after size code rest =
     if code == start_field then byte_at rest >>= (λ attr. Ok (Sf (attr_of attr.0), attr.1))
-    else if code == set_buffer_address then address_at rest >>= (λ stop. Ok (Sba stop.0, stop.1))
-    else if code == erase_unprotected_to_address then address_at rest >>= (λ stop. Ok (Eua stop.0, stop.1))
+    else if code == set_buffer_address then address_at size rest >>= (λ stop. Ok (Sba stop.0, stop.1))
+    else if code == erase_unprotected_to_address then address_at size rest >>= (λ stop. Ok (Eua stop.0, stop.1))
     else if code == repeat_to_address then
-    address_at rest >>= (λ stop. character_at stop.1 >>= (λ char. Ok (Ra stop.0 char.0, char.1)))
+    address_at size rest >>= (λ stop. character_at stop.1 >>= (λ char. Ok (Ra stop.0 char.0, char.1)))
     else if code == insert_cursor then Ok (Ic, rest)
     else if code == program_tab then Ok (Pt, rest)
     else Err BadOrder
 
-unfoldable pub order_at : List ℕ → Result (Order × List ℕ) CommandFault
-order_at [] = Err Truncated
-order_at (byte ∷ rest) = if is_storable byte then Ok (Char byte, rest) else order_after byte rest
+unfoldable pub order_at : ℕ → List ℕ → Result (Order × List ℕ) CommandFault
+order_at size [] = Err Truncated
+order_at size (byte ∷ rest) = if is_storable byte then Ok (Char byte, rest) else order_after size byte rest
 
 -- an order, and those in the bytes after it
 abbrev pub and_orders : (List ℕ → List Order) → Result (Order × List ℕ) CommandFault → List Order
@@ -57,10 +56,10 @@ and_orders others (Ok found) = found.0 ∷ others found.1
 and_orders others (Err fault) = []
 
 -- the orders that the bytes begin with, up to the first bytes that spell none; at most `n`
-unfoldable pub orders_within : ℕ → List ℕ → List Order
-orders_within zero text = []
-orders_within (suc n) text = and_orders (orders_within n) (order_at text)
+unfoldable pub orders_within : ℕ → ℕ → List ℕ → List Order
+orders_within size zero text = []
+orders_within size (suc n) text = and_orders (orders_within size n) (order_at size text)
 
 -- the orders at the front of the bytes, up to where none stands
-unfoldable pub orders_in : List ℕ → List Order
-orders_in text = orders_within (length text) text
+unfoldable pub orders_in : ℕ → List ℕ → List Order
+orders_in size text = orders_within size (length text) text

@@ -1,7 +1,7 @@
 -- A wanted screen, cell by cell (our profile).
-use Rattle.std.specs.Prelude.{◌≡◌, ◌<◌, ℕ, Bool, true, false, IsTrue, List, All, length, map}
+use Rattle.std.specs.Prelude.{◌≡◌, ◌<◌, ◌≤◌, ℕ, Bool, true, false, IsTrue, List, All, length, map}
 use Rattle.codes3270.specs.Attribute.{attr_of, attr_byte}
-use Rattle.codes3270.specs.Size.{cell_count}
+use Rattle.codes3270.specs.Size.{Shape, cells_in, most_cells}
 use Rattle.codes3270.specs.Storable.{is_storable}
 use Rattle.datastream.specs.CellBits.{has_bit, kept, Marks}
 use Rattle.datastream.specs.declared.wanted.Want.{Want}
@@ -16,16 +16,18 @@ is_proper Keep = true
 abbrev pub IsProper : Want → Type 0
 IsProper want = IsTrue (is_proper want)
 
--- what a whole screen is wanted to be: its cells, its cursor, and whether all fields are marked as unmodified first
+-- what a whole screen is wanted to be: its size, its cells, its cursor, and whether all fields are marked as unmodified first
 pub record WantedScreen : Type 0 where
+  pub size : Shape
   pub cells : List Want
   pub cursor : ℕ
   pub reset : Bool
 
 pub record IsScreen (screen : WantedScreen) : Type 0 where
-  pub size : length screen.cells ≡ cell_count
+  pub size : length screen.cells ≡ cells_in screen.size
+  pub few : cells_in screen.size ≤ most_cells
   pub proper : All IsProper screen.cells
-  pub cursor_in_range : screen.cursor < cell_count
+  pub cursor_in_range : screen.cursor < cells_in screen.size
 
 -- ---- how the cells are kept, for proofs alone
 

@@ -4,6 +4,7 @@ use Rattle.std.specs.Prelude.{◌≡◌, ℕ, List, [], ◌∷◌, ◌++◌, map
 use Rattle.std.specs.Borrow.{MutBor}
 use Rattle.std.specs.List.{flat_map}
 use Rattle.codes3270.specs.Address.{address_bytes}
+use Rattle.codes3270.specs.Size.{Shape}
 use Rattle.codes3270.specs.Appending.{Appends}
 use Rattle.codes3270.specs.Attribute.{attr_byte}
 use Rattle.codes3270.specs.declared.attribute.Attr.{Attr}
@@ -56,9 +57,9 @@ orders_of (chars text) = map (λ char. Char char) text
 orders_of (ra stop char) = Ra stop char ∷ []
 orders_of ic = Ic ∷ []
 
--- what has to hold of a call: addresses are on the screen, characters storable
-abbrev pub IsAllowed : Call → Type 0
-IsAllowed call = All IsProper (orders_of call)
+-- what has to hold of a call: addresses are on the screen, which has `size` cells, and characters storable
+abbrev pub IsAllowed : ℕ → Call → Type 0
+IsAllowed size call = All (IsProper size) (orders_of call)
 
 -- the bytes that a call appends
 abbrev pub call_bytes : Call → List ℕ
@@ -68,8 +69,8 @@ call_bytes call = orders_bytes (orders_of call)
 abbrev pub command_bytes : CommandCode → Wcc → List Call → List ℕ
 command_bytes code wcc calls = command_start code wcc ++ flat_map call_bytes calls
 
--- the command that these calls name: where it is no write, no more than its code
-abbrev pub command_of_calls : CommandCode → Wcc → List Call → CommandParts
-command_of_calls code wcc calls =
-    if is_write code then record { code = code; wcc = Some wcc; orders = flat_map orders_of calls }
-    else record { code = code; wcc = None; orders = [] }
+-- the command that these calls name, for a screen that has this size after it: where it is no write, no more than its code
+abbrev pub command_of_calls : Shape → CommandCode → Wcc → List Call → CommandParts
+command_of_calls size code wcc calls =
+    if is_write code then record { code = code; size = size; wcc = Some wcc; orders = flat_map orders_of calls }
+    else record { code = code; size = size; wcc = None; orders = [] }

@@ -1,19 +1,20 @@
-//! A bit for each cell of a screen, in words of 64.
+//! A bit for each cell of a screen of any size, in words of 64.
 ghost use Rattle.std.specs.Prelude.{◌≡◌, ◌<◌, ◌≤◌, ◌+◌, ◌*◌, ◌/◌, ℕ, false, true, nat_eq, nat_lt, if◌then◌else◌, MatchOption};
-ghost use Rattle.codes3270.specs.Size.{cell_count};
+ghost use Rattle.codes3270.specs.Size.{most_cells};
 ghost use Rattle.std.specs.Int.{bit_at};
 ghost use Rattle.datastream.specs.CellBits.{bit_of, has_bit, is_within, word_count, AreBits};
 
-use codes3270::CELL_COUNT;
+use codes3270::MOST_CELLS;
 use std::marker::Model;
 
 /// How many bits a word has.
 const BITS: usize = 64;
 
-/// How many words have a bit for each cell.
-const WORDS: usize = (CELL_COUNT + BITS - 1) / BITS;
+/// How many words have a bit for each cell of the largest screen.
+const WORDS: usize = (MOST_CELLS + BITS - 1) / BITS;
 
-/// A bit for each cell of a screen. Contracts see the words: a cell's bit is that of its number modulo 64, in the word of
+/// A bit for each cell of a screen, which may have any size: the bits of cells that the screen
+/// doesn't have mean nothing. Contracts see the words: a cell's bit is that of its number modulo 64, in the word of
 /// its number divided by 64.
 #[derive(Clone, Debug, Drop)]
 pub struct CellBits {
@@ -34,7 +35,7 @@ impl Model for CellBits {
 impl CellBits {
     /// Each bit is set, or none.
     pub fn all(bit: bool) -> CellBits
-        ensures { (cell : ℕ) → cell < cell_count → has_bit result cell ≡ bit }
+        ensures { (cell : ℕ) → cell < most_cells → has_bit result cell ≡ bit }
     {
         CellBits {
             words: [word_of(bit); WORDS],
@@ -50,7 +51,7 @@ impl CellBits {
 
     /// Whether a cell's bit is set.
     pub fn has(&self, cell: usize) -> bool
-        requires { cell < cell_count }
+        requires { cell < most_cells }
         ensures { result ≡ has_bit self.now cell }
     {
         (self.words[cell / BITS] >> (cell % BITS)) & 1 == 1
@@ -58,36 +59,37 @@ impl CellBits {
 
     /// Sets a cell's bit, or clears it.
     pub fn put(&mut self, cell: usize, bit: bool)
-        requires { cell < cell_count }
+        requires { cell < most_cells }
         ensures { (other : ℕ) → has_bit self.new other ≡ (if nat_eq other cell then bit else has_bit self.old other) }
     {
         let word = with_bit(self.words[cell / BITS], cell % BITS, bit);
         self.words[cell / BITS] = word;
     }
 
-    /// The first cell from one on whose bit is set, or the number of cells.
-    pub fn first_from(&self, from: usize) -> usize
-        requires { from ≤ cell_count }
+    /// The first cell from one on whose bit is set, or the screen's number of cells, which is given.
+    pub fn first_from(&self, from: usize, cells: usize) -> usize
+        requires order { from ≤ cells }
+        requires few { cells ≤ most_cells }
         ensures from { from ≤ result }
-        ensures within { result ≤ cell_count }
+        ensures within { result ≤ cells }
         ensures clear { (cell : ℕ) → from ≤ cell → cell < result → has_bit self.now cell ≡ false }
-        ensures set { result < cell_count → has_bit self.now result ≡ true }
+        ensures set { result < cells → has_bit self.now result ≡ true }
     {
         let mut at = from;
-        for index in from / BITS..WORDS {
+        for index in from / BITS..words_of(cells) {
             if let Some(place) = first_in(self.words[index], at % BITS) {
-                return within(index * BITS + place);
+                return within(index * BITS + place, cells);
             }
             at = (index + 1) * BITS;
         }
-        CELL_COUNT
+        cells
     }
 
     /// Sets the bits of the cells from one to another, or clears them.
     #[inline(always)]
     pub fn put_range(&mut self, from: usize, to: usize, bit: bool)
         requires order { from ≤ to }
-        requires few { to ≤ cell_count }
+        requires few { to ≤ most_cells }
         ensures { (other : ℕ) → has_bit self.new other ≡ (if is_within from to other then bit else has_bit self.old other) }
     {
         if from < to {
@@ -102,7 +104,7 @@ impl CellBits {
     /// The same of cells whose bits are all in one word.
     fn put_in_word(&mut self, from: usize, to: usize, bit: bool)
         requires order { from < to }
-        requires few { to ≤ cell_count }
+        requires few { to ≤ most_cells }
         requires one { to ≤ (from / 64 + 1) * 64 }
         ensures { (other : ℕ) → has_bit self.new other ≡ (if is_within from to other then bit else has_bit self.old other) }
     {
@@ -116,7 +118,7 @@ impl CellBits {
     #[inline(never)]
     fn put_in_words(&mut self, from: usize, to: usize, bit: bool)
         requires order { from ≤ to }
-        requires few { to ≤ cell_count }
+        requires few { to ≤ most_cells }
         ensures { (other : ℕ) → has_bit self.new other ≡ (if is_within from to other then bit else has_bit self.old other) }
     {
         for index in from / BITS..(to + BITS - 1) / BITS {
@@ -131,7 +133,7 @@ impl CellBits {
     /// The bits of 64 cells, the lowest that of the first.
     pub fn word(&self, index: usize) -> u64
         requires { index < word_count }
-        ensures { AreBits (has_bit self.now) index result }
+        ensures { AreBits most_cells (has_bit self.now) index result }
     {
         self.words[index]
     }
@@ -175,13 +177,21 @@ fn ones_below(place: usize) -> u64
     u64::MAX >> 1 >> (BITS - 1 - place)
 }
 
-/// A cell, or the number of cells where it is more.
-fn within(cell: usize) -> usize
-    ensures least { result ≤ cell_count }
-    ensures same { result < cell_count → result ≡ cell }
+/// How many words have the bits of this many cells. The last one may have bits of no cell.
+fn words_of(cells: usize) -> usize
+    requires { cells ≤ most_cells }
+    ensures { result ≡ (cells + 63) / 64 }
+{
+    (cells + BITS - 1) / BITS
+}
+
+/// A cell, or the number of cells if that is less.
+fn within(cell: usize, cells: usize) -> usize
+    ensures least { result ≤ cells }
+    ensures same { result < cells → result ≡ cell }
     ensures below { result ≤ cell }
 {
-    if cell < CELL_COUNT { cell } else { CELL_COUNT }
+    if cell < cells { cell } else { cells }
 }
 
 /// The first place from one on at which a word's bit is set.

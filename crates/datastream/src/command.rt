@@ -1,33 +1,36 @@
 //! Reading commands.
-ghost use Rattle.std.specs.Prelude.{◌≡◌, ◌↔◌, MatchResult, All, length, ◌<◌, ◌^◌};
-ghost use Rattle.datastream.specs.Grammar.{CommandParts, IsCommand, IsNoCommand, IsSpelt, IsProper, AreOrders, HasFault};
+ghost use Rattle.std.specs.Prelude.{◌≡◌, ◌↔◌, MatchResult, IfOk, IfErr, All, length, ◌<◌, ◌^◌};
+ghost use Rattle.codes3270.specs.Size.{cells_in};
+ghost use Rattle.datastream.specs.Grammar.{CommandParts, IsCommand, IsNoCommand, IsSpelt, IsProper, AreOrders, HasFault, size_after};
 ghost use Rattle.datastream.specs.Reading.{orders_in};
 ghost use Rattle.datastream.specs.declared.fault.CommandFault.{CommandFault as Fault};
 
 use crate::command_code::CommandCode;
 use crate::fault::CommandFault;
 use crate::orders::{Orders, byte_of, order_of};
-use codes3270::Wcc;
+use codes3270::{Size, Wcc};
 use std::marker::Model;
 
-/// A command (GA23-0059-07, "3270 Data Stream Commands"), lent from its bytes. Contracts see its code, its write control
-/// character and its orders.
+/// A command (GA23-0059-07, "3270 Data Stream Commands"), lent from its bytes. Contracts see its code, the size that
+/// the screen has after it, its write control character and its orders.
 #[derive(Drop)]
 pub struct Command<'a> {
     code: CommandCode,
+    size: Size,
     wcc: Option<Wcc>,
     text: &'a [u8],
 }
 
 impl<'a> Model for Command<'a> {
+    ghost use Rattle.codes3270.specs.Size.{cells_in};
     ghost use Rattle.datastream.specs.Grammar.{CommandParts, IsSpelt};
     ghost use Rattle.datastream.specs.Reading.{orders_in};
 
     ghost Value = { CommandParts };
 
-    ghost view = { λ command. record { code = command.code; wcc = command.wcc; orders = orders_in command.text.now } };
+    ghost view = { λ command. record { code = command.code; size = command.size; wcc = command.wcc; orders = orders_in (cells_in command.size) command.text.now } };
 
-    ghost invariant = { λ command. IsSpelt (record { code = command.code; wcc = command.wcc; orders = orders_in command.text.now }) };
+    ghost invariant = { λ command. IsSpelt (record { code = command.code; size = command.size; wcc = command.wcc; orders = orders_in (cells_in command.size) command.text.now }) };
 }
 
 impl<'a> Command<'a> {
@@ -38,6 +41,14 @@ impl<'a> Command<'a> {
         ensures spelt { IsSpelt self.now }
     {
         self.code
+    }
+
+    /// The size that the screen has after the command. The addresses of its orders are below it.
+    pub fn size(&self) -> Size
+        ensures size { result ≡ self.now.size }
+        ensures spelt { IsSpelt self.now }
+    {
+        self.size
     }
 
     /// The write control character, or `None` where the command is no write and so has none.
@@ -51,23 +62,26 @@ impl<'a> Command<'a> {
     /// The orders from the first one on, each data byte being one. A command that is no write has none.
     pub fn orders(&self) -> Orders<'a>
         ensures orders { result ≡ self.now.orders }
-        ensures proper { All IsProper result }
+        ensures proper { All (IsProper (cells_in self.now.size)) result }
         ensures few { length result < 2 ^ 64 }
         ensures spelt { IsSpelt self.now }
     {
         // For the contract: the text has less than 2^64 bytes.
         let _bytes = self.text.len();
-        Orders { text: self.text }
+        Orders {
+            size: self.size,
+            text: self.text,
+        }
     }
 }
 
-/// Whether a text is orders to its end.
-fn check_orders(text: &[u8]) -> Result<(), CommandFault>
-    ensures { MatchResult result (λ _. AreOrders (orders_in text.now) text.now) (λ fault. HasFault fault text.now) }
+/// Whether a text is orders to its end, for a screen of this size.
+fn check_orders(text: &[u8], size: Size) -> Result<(), CommandFault>
+    ensures { MatchResult result (λ _. AreOrders (cells_in size) (orders_in (cells_in size) text.now) text.now) (λ fault. HasFault (cells_in size) fault text.now) }
 {
     let mut rest = text;
     while !rest.is_empty() {
-        match order_of(rest) {
+        match order_of(rest, size) {
             Ok((_, after)) => rest = after,
             Err(fault) => return Err(fault),
         }
@@ -75,8 +89,25 @@ fn check_orders(text: &[u8]) -> Result<(), CommandFault>
     Ok(())
 }
 
-fn command_of(bytes: &[u8]) -> Result<Command<'_>, CommandFault>
-    ensures { MatchResult result (λ command. IsCommand command bytes.now) (λ fault. IsNoCommand fault bytes.now) }
+/// The size that the screen has after a write, if the text is orders to its end for a screen of that size.
+fn check_write(
+    code: CommandCode,
+    text: &[u8],
+    now: Size,
+    alternate: Size,
+) -> Result<Size, CommandFault>
+    ensures orders { IfOk result (λ size. (size ≡ size_after code now alternate) × AreOrders (cells_in size) (orders_in (cells_in size) text.now) text.now) }
+    ensures fault { IfErr result (λ fault. HasFault (cells_in (size_after code now alternate)) fault text.now) }
+{
+    let size = code.size_after(now, alternate);
+    match check_orders(text, size) {
+        Ok(()) => Ok(size),
+        Err(fault) => Err(fault),
+    }
+}
+
+fn command_of(bytes: &[u8], now: Size, alternate: Size) -> Result<Command<'_>, CommandFault>
+    ensures { MatchResult result (λ command. IsCommand now alternate command bytes.now) (λ fault. IsNoCommand now alternate fault bytes.now) }
 {
     let (byte, rest) = byte_of(bytes)?;
     let Some(code) = CommandCode::from_byte(byte) else {
@@ -85,28 +116,35 @@ fn command_of(bytes: &[u8]) -> Result<Command<'_>, CommandFault>
     if !code.has_orders() {
         return Ok(Command {
             code,
+            size: code.size_after(now, alternate),
             wcc: None,
             text: &[],
         });
     }
     let (wcc, text) = byte_of(rest)?;
-    check_orders(text)?;
+    let size = check_write(code, text, now, alternate)?;
     Ok(Command {
         code,
+        size,
         wcc: Some(Wcc::from_byte(wcc)),
         text,
     })
 }
 
-/// The command that the bytes spell, or the first fault in them, in reading order.
+/// The command that the bytes spell, or the first fault in them, in reading order, for a screen of this size now and with
+/// this alternate size.
+///
+/// Addresses are judged by the size that holds after the erase (our profile): [`Size::base`] for Erase/Write, the alternate
+/// size for Erase/Write Alternate, and the size now for any other command.
 ///
 /// All orders are read, so that a command with a fault changes nothing. What follows a read command or Erase All
 /// Unprotected is ignored (our profile).
-pub fn read_command(bytes: &[u8]) -> Result<Command<'_>, CommandFault>
-    ensures found { MatchResult result (λ command. IsCommand command bytes.now) (λ fault. IsNoCommand fault bytes.now) }
+pub fn read_command(bytes: &[u8], now: Size, alternate: Size) -> Result<Command<'_>, CommandFault>
+    ensures found { MatchResult result (λ command. IsCommand now alternate command bytes.now) (λ fault. IsNoCommand now alternate fault bytes.now) }
+    ensures size { IfOk result (λ command. command.size ≡ size_after command.code now alternate) }
     // There is no other command, and no other fault.
-    ensures only { (command : CommandParts) → IsCommand command bytes.now → result ≡ Ok command }
-    ensures first { (fault : Fault) → IsNoCommand fault bytes.now → result ≡ Err fault }
+    ensures only { (command : CommandParts) → IsCommand now alternate command bytes.now → result ≡ Ok command }
+    ensures first { (fault : Fault) → IsNoCommand now alternate fault bytes.now → result ≡ Err fault }
 {
-    command_of(bytes)
+    command_of(bytes, now, alternate)
 }

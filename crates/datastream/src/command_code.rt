@@ -1,16 +1,18 @@
 //! The commands and their codes.
 ghost use Rattle.std.specs.Prelude.{◌≡◌, MatchOption};
 ghost use Rattle.datastream.specs.declared.command_code.CommandCode.{CommandCode as Code};
-ghost use Rattle.datastream.specs.Grammar.{IsCode, codes_of, is_write};
+ghost use Rattle.datastream.specs.Grammar.{IsCode, codes_of, is_write, size_after};
+
+use codes3270::Size;
 
 /// What a command does (GA23-0059-07, "3270 Data Stream Commands").
 #[derive(Clone, Copy, Debug, PartialEq, Eq, Hash)]
 pub enum CommandCode {
     /// Write: stores from the cursor on.
     Write,
-    /// Erase/Write: as Write, on a screen that was cleared.
+    /// Erase/Write: as Write, on a screen that was cleared and has the size of a model 2.
     EraseWrite,
-    /// Erase/Write Alternate: the same as Erase/Write, since the screen has one size (our profile).
+    /// Erase/Write Alternate: as Erase/Write, but the screen has its alternate size.
     EraseWriteAlternate,
     /// Read Buffer: asks for all cells.
     ReadBuffer,
@@ -51,6 +53,21 @@ impl CommandCode {
             CommandCode::ReadModified => 0xF6,
             CommandCode::ReadModifiedAll => 0x6E,
             CommandCode::EraseAllUnprotected => 0x6F,
+        }
+    }
+
+    /// The size that a screen has after the command, by the size that it has now and its alternate size.
+    pub(crate) fn size_after(self, now: Size, alternate: Size) -> Size
+        ensures { result ≡ size_after self now alternate }
+    {
+        match self {
+            CommandCode::EraseWrite => Size::base(),
+            CommandCode::EraseWriteAlternate => alternate,
+            CommandCode::Write => now,
+            CommandCode::ReadBuffer => now,
+            CommandCode::ReadModified => now,
+            CommandCode::ReadModifiedAll => now,
+            CommandCode::EraseAllUnprotected => now,
         }
     }
 

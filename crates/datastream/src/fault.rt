@@ -13,7 +13,8 @@ pub enum CommandFault {
     /// A byte that is neither an order's code nor storable, or a Repeat to Address whose character isn't storable. The
     /// latter is judged after its address.
     BadOrder,
-    /// An address isn't below [`CELLS`](codes3270::CELLS). It is judged when both its bytes are there.
+    /// The screen has no cell with an address. It is judged when both its bytes are there, by the size that holds after the
+    /// erase.
     BadAddress,
     /// The bytes end inside an order, or before the write control character, or there are none.
     Truncated,

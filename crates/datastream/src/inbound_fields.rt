@@ -7,7 +7,7 @@ ghost use Rattle.datastream.specs.InboundReading.{begins_no_address};
 ghost use Rattle.datastream.specs.InboundReturned.{returned_of_field};
 
 use crate::order_codes::SET_BUFFER_ADDRESS;
-use codes3270::{Addr, addr_from_bytes, storable};
+use codes3270::{Addr, Size, addr_from_bytes, storable};
 use std::marker::Model;
 
 /// A returned field (GA23-0059-07 on Read Modified).
@@ -22,12 +22,14 @@ pub struct ReturnedField<'a> {
 /// The fields that are left of those that came, in their order. Contracts see their list.
 #[derive(Drop)]
 pub struct ReturnedFields<'a> {
+    pub(crate) size: Size,
     pub(crate) text: &'a [u8],
 }
 
 impl<'a> Model for ReturnedFields<'a> {
     ghost use Rattle.std.specs.Prelude.{◌≡◌, List};
     ghost use Rattle.std.specs.List.{prefix_len};
+    ghost use Rattle.codes3270.specs.Size.{cells_in};
     ghost use Rattle.codes3270.specs.Storable.{is_storable};
     ghost use Rattle.datastream.specs.declared.inbound_part.Form.TheVariants.{Modified};
     ghost use Rattle.datastream.specs.InboundText.{AreParts};
@@ -36,10 +38,10 @@ impl<'a> Model for ReturnedFields<'a> {
 
     ghost Value = { List Returned };
 
-    ghost view = { λ fields. returned (parts_in Modified fields.text.now) };
+    ghost view = { λ fields. returned (parts_in (cells_in fields.size) Modified fields.text.now) };
 
     // There is no character before the first address.
-    ghost invariant = { λ fields. AreParts Modified (parts_in Modified fields.text.now) fields.text.now × (prefix_len is_storable fields.text.now ≡ 0) };
+    ghost invariant = { λ fields. AreParts (cells_in fields.size) Modified (parts_in (cells_in fields.size) Modified fields.text.now) fields.text.now × (prefix_len is_storable fields.text.now ≡ 0) };
 }
 
 impl<'a> Iterator for ReturnedFields<'a> {
@@ -53,7 +55,7 @@ impl<'a> Iterator for ReturnedFields<'a> {
         let [_, high, low, rest @ ..] = self.text else {
             return None;
         };
-        let Ok(first) = addr_from_bytes([*high, *low]) else {
+        let Ok(first) = addr_from_bytes([*high, *low], self.size) else {
             return None;
         };
         let (text, others) = split_field(rest);

@@ -48,7 +48,7 @@ pub enum InboundFault {
     Short,
     /// The first byte is no key's AID.
     BadAid,
-    /// The cursor's or a field's address isn't below [`CELLS`](codes3270::CELLS). It is judged when both its bytes are there.
+    /// The screen has no cell with the cursor's or a field's address. It is judged when both its bytes are there.
     BadAddress,
     /// A byte is out of place or can't be stored, a field's text has a null, an address is cut short, there are more cells
     /// than the screen has, or something follows an AID that stands alone.

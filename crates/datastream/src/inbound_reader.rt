@@ -1,30 +1,33 @@
 //! Reading the parts of inbound data.
 ghost use Rattle.std.specs.Prelude.{◌≡◌, ⊤, List, MatchResult};
 ghost use Rattle.std.specs.Iterator.{YieldsFirst, item_count};
+ghost use Rattle.codes3270.specs.Size.{cells_in};
 ghost use Rattle.datastream.specs.declared.inbound_part.Form.TheVariants.{Buffer};
 ghost use Rattle.datastream.specs.InboundText.{AreParts, IsWhole, HasPartFault};
 ghost use Rattle.datastream.specs.InboundReading.{Gives, address_at, attribute_at, text_part_at, cell_part_at, part_at, parts_in};
 
 use crate::inbound_part::{Form, InboundFault, Part};
 use crate::order_codes::{SET_BUFFER_ADDRESS, START_FIELD};
-use codes3270::{Attr, CELLS, Cell, addr_from_bytes, storable};
+use codes3270::{Attr, Cell, Size, addr_from_bytes, storable};
 use std::marker::Model;
 
 /// The parts that are left of inbound data. Contracts see their list.
 #[derive(Drop)]
 pub struct Parts<'a> {
+    pub(crate) size: Size,
     pub(crate) form: Form,
     pub(crate) text: &'a [u8],
 }
 
 impl<'a> Model for Parts<'a> {
     ghost use Rattle.std.specs.Prelude.{List};
+    ghost use Rattle.codes3270.specs.Size.{cells_in};
     ghost use Rattle.datastream.specs.declared.inbound_part.Part.{Part};
     ghost use Rattle.datastream.specs.InboundReading.{parts_in};
 
     ghost Value = { List Part };
 
-    ghost view = { λ parts. parts_in parts.form parts.text.now };
+    ghost view = { λ parts. parts_in (cells_in parts.size) parts.form parts.text.now };
 }
 
 impl<'a> Iterator for Parts<'a> {
@@ -35,7 +38,7 @@ impl<'a> Iterator for Parts<'a> {
     ghost remaining = { item_count (λ parts. parts) };
 
     fn next(&mut self) -> Option<Part> {
-        match part_of(self.form, self.text) {
+        match part_of(self.form, self.text, self.size) {
             Ok((part, rest)) => {
                 self.text = rest;
                 Some(part)
@@ -48,11 +51,13 @@ impl<'a> Iterator for Parts<'a> {
 /// The cells that are left of a buffer. Contracts see their list.
 #[derive(Drop)]
 pub struct Cells<'a> {
+    pub(crate) size: Size,
     pub(crate) text: &'a [u8],
 }
 
 impl<'a> Model for Cells<'a> {
     ghost use Rattle.std.specs.Prelude.{List};
+    ghost use Rattle.codes3270.specs.Size.{cells_in};
     ghost use Rattle.codes3270.specs.declared.attribute.Cell.{Cell};
     ghost use Rattle.datastream.specs.declared.inbound_part.Form.TheVariants.{Buffer};
     ghost use Rattle.datastream.specs.InboundReading.{parts_in};
@@ -60,7 +65,7 @@ impl<'a> Model for Cells<'a> {
 
     ghost Value = { List Cell };
 
-    ghost view = { λ cells. cells_sent (parts_in Buffer cells.text.now) };
+    ghost view = { λ cells. cells_sent (parts_in (cells_in cells.size) Buffer cells.text.now) };
 }
 
 impl<'a> Cells<'a> {
@@ -68,7 +73,10 @@ impl<'a> Cells<'a> {
     pub fn copy(&self) -> Cells<'a>
         ensures { result ≡ self.now }
     {
-        Cells { text: self.text }
+        Cells {
+            size: self.size,
+            text: self.text,
+        }
     }
 }
 
@@ -93,11 +101,11 @@ impl<'a> Iterator for Cells<'a> {
 // Each of these reads what the first bytes spell, and also returns the bytes after that.
 
 /// An address, after its order's code.
-fn address_part_of(bytes: &[u8]) -> Result<(Part, &[u8]), InboundFault>
-    ensures { Gives (λ x. (x.0, x.1.now)) result (address_at bytes.now) }
+fn address_part_of(bytes: &[u8], size: Size) -> Result<(Part, &[u8]), InboundFault>
+    ensures { Gives (λ x. (x.0, x.1.now)) result (address_at (cells_in size) bytes.now) }
 {
     match bytes {
-        [high, low, rest @ ..] => match addr_from_bytes([*high, *low]) {
+        [high, low, rest @ ..] => match addr_from_bytes([*high, *low], size) {
             Ok(addr) => Ok((Part::At(addr), rest)),
             Err(_) => Err(InboundFault::BadAddress),
         },
@@ -117,12 +125,12 @@ fn attribute_part_of(bytes: &[u8]) -> Result<(Part, &[u8]), InboundFault>
 
 /// An address or a character of the modified fields.
 #[tactic(auto, unfolding(crate::specs::InboundReading::text_part_at))]
-fn text_part_of(bytes: &[u8]) -> Result<(Part, &[u8]), InboundFault>
-    ensures { Gives (λ x. (x.0, x.1.now)) result (text_part_at bytes.now) }
+fn text_part_of(bytes: &[u8], size: Size) -> Result<(Part, &[u8]), InboundFault>
+    ensures { Gives (λ x. (x.0, x.1.now)) result (text_part_at (cells_in size) bytes.now) }
 {
     match bytes {
         [] => Err(InboundFault::Short),
-        [SET_BUFFER_ADDRESS, rest @ ..] => address_part_of(rest),
+        [SET_BUFFER_ADDRESS, rest @ ..] => address_part_of(rest, size),
         [byte, rest @ ..] => {
             if storable(*byte) && *byte != 0 {
                 Ok((Part::Char(*byte), rest))
@@ -151,24 +159,24 @@ fn cell_part_of(bytes: &[u8]) -> Result<(Part, &[u8]), InboundFault>
     }
 }
 
-fn part_of(form: Form, bytes: &[u8]) -> Result<(Part, &[u8]), InboundFault>
-    ensures { Gives (λ x. (x.0, x.1.now)) result (part_at form bytes.now) }
+fn part_of(form: Form, bytes: &[u8], size: Size) -> Result<(Part, &[u8]), InboundFault>
+    ensures { Gives (λ x. (x.0, x.1.now)) result (part_at (cells_in size) form bytes.now) }
 {
     match form {
-        Form::Modified => text_part_of(bytes),
-        Form::All => text_part_of(bytes),
+        Form::Modified => text_part_of(bytes, size),
+        Form::All => text_part_of(bytes, size),
         Form::Buffer => cell_part_of(bytes),
     }
 }
 
 /// Whether a text is parts of modified fields to its end.
-fn check_fields(form: Form, text: &[u8]) -> Result<(), InboundFault>
+fn check_fields(form: Form, text: &[u8], size: Size) -> Result<(), InboundFault>
     requires { form ≡ Buffer → ⊥ }
-    ensures { MatchResult result (λ _. AreParts form (parts_in form text.now) text.now) (λ fault. HasPartFault form fault text.now) }
+    ensures { MatchResult result (λ _. AreParts (cells_in size) form (parts_in (cells_in size) form text.now) text.now) (λ fault. HasPartFault (cells_in size) form fault text.now) }
 {
     let mut rest = text;
     while !rest.is_empty() {
-        match part_of(form, rest) {
+        match part_of(form, rest, size) {
             Ok((_, after)) => rest = after,
             Err(fault) => return Err(fault),
         }
@@ -177,11 +185,11 @@ fn check_fields(form: Form, text: &[u8]) -> Result<(), InboundFault>
 }
 
 /// Whether a text is as many cells as the screen has.
-fn check_cells(text: &[u8]) -> Result<(), InboundFault>
-    ensures { MatchResult result (λ _. AreParts Buffer (parts_in Buffer text.now) text.now × IsWhole Buffer (parts_in Buffer text.now)) (λ fault. HasPartFault Buffer fault text.now) }
+fn check_cells(text: &[u8], size: Size) -> Result<(), InboundFault>
+    ensures { MatchResult result (λ _. AreParts (cells_in size) Buffer (parts_in (cells_in size) Buffer text.now) text.now × IsWhole (cells_in size) Buffer (parts_in (cells_in size) Buffer text.now)) (λ fault. HasPartFault (cells_in size) Buffer fault text.now) }
 {
     let mut rest = text;
-    for _ in 0..CELLS {
+    for _ in 0..size.cells() {
         match cell_part_of(rest) {
             Ok((_, after)) => rest = after,
             Err(fault) => return Err(fault),
@@ -195,12 +203,12 @@ fn check_cells(text: &[u8]) -> Result<(), InboundFault>
 }
 
 /// Whether a text is all the parts that a form has behind AID and cursor.
-pub(crate) fn check_parts(form: Form, text: &[u8]) -> Result<(), InboundFault>
-    ensures { MatchResult result (λ _. AreParts form (parts_in form text.now) text.now × IsWhole form (parts_in form text.now)) (λ fault. HasPartFault form fault text.now) }
+pub(crate) fn check_parts(form: Form, text: &[u8], size: Size) -> Result<(), InboundFault>
+    ensures { MatchResult result (λ _. AreParts (cells_in size) form (parts_in (cells_in size) form text.now) text.now × IsWhole (cells_in size) form (parts_in (cells_in size) form text.now)) (λ fault. HasPartFault (cells_in size) form fault text.now) }
 {
     match form {
-        Form::Modified => check_fields(Form::Modified, text),
-        Form::All => check_fields(Form::All, text),
-        Form::Buffer => check_cells(text),
+        Form::Modified => check_fields(Form::Modified, text, size),
+        Form::All => check_fields(Form::All, text, size),
+        Form::Buffer => check_cells(text, size),
     }
 }

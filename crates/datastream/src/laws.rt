@@ -13,7 +13,8 @@ pub fn written_is_read()
     ensures { WrittenIsRead }
 {}
 
-/// Law: bytes spell one command at most, and are one inbound data of each form at most.
+/// Law: bytes spell one command at most for a screen of given sizes, and are one inbound data at most
+/// of each form and size.
 pub fn one_reading()
     ensures command { OneCommand }
     ensures inbound { OneInbound }

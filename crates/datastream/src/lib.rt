@@ -2,10 +2,12 @@
 //! send.
 //!
 //! [`read_command`] reads a command whole before anything comes of it: it answers the command, which lends its orders one
-//! by one, or the first fault in reading order. A [`CommandWriter`] appends commands to a vector.
+//! by one, or the first fault in reading order. It needs the two sizes of the screen, that now and the alternate one, since
+//! addresses are judged by the size that holds after the erase. A [`CommandWriter`] appends commands to a vector.
 //!
 //! ```text
-//! for order in read_command(&[0xF5, 0xC3, 0x11, 0x40, 0x40, 0x1D, 0x60, 0xC8, 0xC9])?.orders() {
+//! let bytes = [0xF5, 0xC3, 0x11, 0x40, 0x40, 0x1D, 0x60, 0xC8, 0xC9];
+//! for order in read_command(&bytes, Size::base(), Model::M5.alternate())?.orders() {
 //!     match order {
 //!         Order::Sba(addr) => ..,
 //!         Order::Sf(attr) => ..,

@@ -1,6 +1,7 @@
 //! Reading orders.
 ghost use Rattle.std.specs.Prelude.{◌≡◌, List};
 ghost use Rattle.std.specs.Iterator.{YieldsFirst, item_count};
+ghost use Rattle.codes3270.specs.Size.{cells_in};
 ghost use Rattle.datastream.specs.Reading.{Gives, order_at, order_after, byte_at, address_at, character_at};
 
 use crate::fault::CommandFault;
@@ -9,24 +10,27 @@ use crate::order_codes::{
     ERASE_UNPROTECTED_TO_ADDRESS, INSERT_CURSOR, PROGRAM_TAB, REPEAT_TO_ADDRESS,
     SET_BUFFER_ADDRESS, START_FIELD,
 };
-use codes3270::{Addr, Attr, addr_from_bytes, storable};
+use codes3270::{Addr, Attr, Size, addr_from_bytes, storable};
 use std::marker::Model;
 
 /// The orders that are left of a command, lent from its bytes: an iterator, which answers `None` once they are at an end.
 /// Contracts see the list of these orders.
 #[derive(Drop)]
 pub struct Orders<'a> {
+    /// Of the screen that the orders act on.
+    pub(crate) size: Size,
     pub(crate) text: &'a [u8],
 }
 
 impl<'a> Model for Orders<'a> {
     ghost use Rattle.std.specs.Prelude.{List};
+    ghost use Rattle.codes3270.specs.Size.{cells_in};
     ghost use Rattle.datastream.specs.declared.order.Order.{Order};
     ghost use Rattle.datastream.specs.Reading.{orders_in};
 
     ghost Value = { List Order };
 
-    ghost view = { λ orders. orders_in orders.text.now };
+    ghost view = { λ orders. orders_in (cells_in orders.size) orders.text.now };
 }
 
 impl<'a> Iterator for Orders<'a> {
@@ -38,7 +42,7 @@ impl<'a> Iterator for Orders<'a> {
 
     #[inline(always)]
     fn next(&mut self) -> Option<Order> {
-        match order_of(self.text) {
+        match order_of(self.text, self.size) {
             Ok((order, rest)) => {
                 self.text = rest;
                 Some(order)
@@ -59,11 +63,11 @@ pub(crate) fn byte_of(bytes: &[u8]) -> Result<(u8, &[u8]), CommandFault>
     }
 }
 
-fn address_of(bytes: &[u8]) -> Result<(Addr, &[u8]), CommandFault>
-    ensures { Gives (λ x. (x.0, x.1.now)) result (address_at bytes.now) }
+fn address_of(bytes: &[u8], size: Size) -> Result<(Addr, &[u8]), CommandFault>
+    ensures { Gives (λ x. (x.0, x.1.now)) result (address_at (cells_in size) bytes.now) }
 {
     match bytes {
-        [high, low, rest @ ..] => match addr_from_bytes([*high, *low]) {
+        [high, low, rest @ ..] => match addr_from_bytes([*high, *low], size) {
             Ok(addr) => Ok((addr, rest)),
             Err(_) => Err(CommandFault::BadAddress),
         },
@@ -85,23 +89,23 @@ fn character_of(bytes: &[u8]) -> Result<(u8, &[u8]), CommandFault>
 /// The order with this code, which these bytes follow.
 #[inline(always)]
 #[tactic(auto, unfolding(crate::specs::Reading::order_after))]
-fn order_behind(code: u8, bytes: &[u8]) -> Result<(Order, &[u8]), CommandFault>
-    ensures { Gives (λ x. (x.0, x.1.now)) result (order_after code bytes.now) }
+fn order_behind(code: u8, bytes: &[u8], size: Size) -> Result<(Order, &[u8]), CommandFault>
+    ensures { Gives (λ x. (x.0, x.1.now)) result (order_after (cells_in size) code bytes.now) }
 {
     match code {
         START_FIELD => {
             let (attr, rest) = byte_of(bytes)?;
             Ok((Order::Sf(Attr::from_code(attr)), rest))
         }
-        SET_BUFFER_ADDRESS => match address_of(bytes) {
+        SET_BUFFER_ADDRESS => match address_of(bytes, size) {
             Ok((addr, rest)) => Ok((Order::Sba(addr), rest)),
             Err(fault) => Err(fault),
         },
-        ERASE_UNPROTECTED_TO_ADDRESS => match address_of(bytes) {
+        ERASE_UNPROTECTED_TO_ADDRESS => match address_of(bytes, size) {
             Ok((stop, rest)) => Ok((Order::Eua(stop), rest)),
             Err(fault) => Err(fault),
         },
-        REPEAT_TO_ADDRESS => match address_of(bytes) {
+        REPEAT_TO_ADDRESS => match address_of(bytes, size) {
             Ok((stop, rest)) => {
                 let (character, rest) = character_of(rest)?;
                 Ok((Order::Ra(stop, character), rest))
@@ -117,13 +121,13 @@ fn order_behind(code: u8, bytes: &[u8]) -> Result<(Order, &[u8]), CommandFault>
 /// The order at the front of the bytes.
 #[inline(always)]
 #[tactic(auto, unfolding(crate::specs::Reading::order_at))]
-pub(crate) fn order_of(bytes: &[u8]) -> Result<(Order, &[u8]), CommandFault>
-    ensures { Gives (λ x. (x.0, x.1.now)) result (order_at bytes.now) }
+pub(crate) fn order_of(bytes: &[u8], size: Size) -> Result<(Order, &[u8]), CommandFault>
+    ensures { Gives (λ x. (x.0, x.1.now)) result (order_at (cells_in size) bytes.now) }
 {
     let (byte, rest) = byte_of(bytes)?;
     if storable(byte) {
         Ok((Order::Char(byte), rest))
     } else {
-        order_behind(byte, rest)
+        order_behind(byte, rest, size)
     }
 }

@@ -11,5 +11,6 @@ pub mod Inside
 pub mod Homes
 pub mod Sendable
 pub mod SentKeys
+pub mod RowEnds
 pub mod Free
 pub mod KeyNames

@@ -1,5 +1,5 @@
 -- A key leaves a screen that can be sent, where it found one.
-use Rattle.std.proofs.Common.{◌≡◌, ◌<◌, ◌≤◌, ◌+◌, ◌-◌, ◌%◌, ◌==◌, ◌&&◌, not, ℕ, zero, suc, Bool, true, false, Option, None, Some, Result, Ok, Err, List, [], ◌∷◌, ◌++◌, length, take, drop, replicate, arith, refl, sym, subst, ◌∙◌, IfSome, IfOk, if◌then◌else◌}
+use Rattle.std.proofs.Common.{◌≡◌, ◌≤◌, ◌+◌, ◌-◌, ◌%◌, ◌==◌, ◌&&◌, not, ℕ, zero, suc, Bool, true, false, Option, None, Some, Result, Ok, Err, List, [], ◌∷◌, ◌++◌, length, take, drop, replicate, arith, refl, sym, subst, IfSome, IfOk, if◌then◌else◌}
 use Rattle.std.specs.Prelude.{slice_index_or, option_map}
 use Rattle.std.specs.List.{All, list_all}
 use Rattle.std.proofs.lemmas.Bool.Decides.{nat_tests}
@@ -220,7 +220,6 @@ key_fine columns key keyboard screen real is = by_lock keyboard.lock
 
 pub keys_keep_sendable : KeysStayOnTheScreen → KeysKeepSendable
 keys_keep_sendable stay columns key keyboard screen real is =
-    let new : Screen = (pressed columns key keyboard screen).screen in
-    let on = stay columns key keyboard screen (subst (λ size. screen.cursor < size) (sym is.size) is.cursor) in
+    let on = stay columns key keyboard screen is.cursor in
     let kept = key_fine columns key keyboard screen real is in
-    record { size = on.0 ∙ is.size; cursor = subst (λ size. new.cursor < size) is.size on.1; aid = kept.aid; storable = kept.cells }
+    record { few = omega (arith, on.0, is.few); cursor = omega (arith, on.0, on.1); aid = kept.aid; storable = kept.cells }

@@ -13,6 +13,7 @@ use Rattle.datastream.proofs.Rounds.{distance_at, at_distance}
 use Rattle.datastream.proofs.Places.{across_more, across_none, get_or-across, length-across, by_place_from}
 use Rattle.datastream.proofs.Texts.{get_or-ring, get_or-text}
 use Rattle.presentation.proofs.Texts.{text_ends_at, length-ring}
+use Rattle.presentation.specs.Sizes.{SizedScreen}
 use Rattle.keyboard.specs.Edits.{reach, text_from, laid, without_null, deleted, marked_at, rewritten, changed, advanced, typed, typed_code, typed_before, with_room, wants_numbers, is_numeric_letter}
 use Rattle.codes3270.specs.CodePage.{code_of}
 use Rattle.keyboard.specs.Places.{governing_place, is_free_at}
@@ -204,10 +205,20 @@ text_some cells at a here = by_case (list_all is_char cells)
     by_case false = rw (drop_more cells at (Char 0) a) (begun (get_or cells at (Char 0)) (drop (at + 1) cells ++ take at cells) here)
 
 -- the steps of an edit give the edit
-pub rewritten_is : (text : List ℕ) (before between after : Screen) → between ≡ record before { cells = laid before.cursor (length text) text before.cells } → after ≡ record between { cells = marked_at (governing_place between.cells between.cursor) between.cells } → after ≡ rewritten text before
+pub rewritten_is : (text : List ℕ) (before between after : SizedScreen)
+    → between ≡ record before { screen = record before.screen { cells = laid before.screen.cursor (length text) text before.screen.cells } }
+    → after ≡ record between { screen = record between.screen { cells = marked_at (governing_place between.screen.cells between.screen.cursor) between.screen.cells } }
+    → after ≡ record before { screen = rewritten text before.screen }
 rewritten_is text before between after e f =
-    let Marks : Screen → Type 0 = λ s. after ≡ record s { cells = marked_at (governing_place s.cells s.cursor) s.cells } in
+    let Marks : SizedScreen → Type 0 = λ s. after ≡ record s { screen = record s.screen { cells = marked_at (governing_place s.screen.cells s.screen.cursor) s.screen.cells } } in
     subst Marks e f
+
+pub shown : {before after : SizedScreen} → before ≡ after → before.screen ≡ after.screen
+shown e = ap (λ (sized : SizedScreen). sized.screen) e
+
+-- a screen in the size of another
+pub same_size : (before after : SizedScreen) (screen : Screen) → after ≡ record before { screen = screen } → after ≡ record before { screen = after.screen }
+same_size before after screen e = e ∙ ap (λ (s : Screen). record before { screen = s }) (sym (shown e))
 
 pub changed_is : (text : List ℕ) (before after : Screen) → is_free_at before.cells before.cursor ≡ true → after ≡ rewritten text before → changed text before ≡ Ok after
 changed_is text before after free e = rw (free, e)

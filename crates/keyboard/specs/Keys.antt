@@ -95,7 +95,7 @@ acted columns Reset keyboard screen = done (reset keyboard) screen
 acted columns Enter keyboard screen = sent EnterAid keyboard screen
 acted columns (Pf key) keyboard screen = sent (PfAid key) keyboard screen
 acted columns (Pa key) keyboard screen = sent (PaAid key) keyboard screen
-acted columns Clear keyboard screen = sent ClearAid keyboard (cleared screen)
+acted columns Clear keyboard screen = sent ClearAid keyboard (cleared (length screen.cells) screen)
 
 -- a key at any other lock
 abbrev pub locked_out : Key → Keyboard → Screen → Outcome

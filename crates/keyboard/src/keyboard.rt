@@ -1,11 +1,12 @@
 //! The keyboard, and what each key does.
-ghost use Rattle.std.specs.Prelude.{◌≡◌, false};
-ghost use Rattle.codes3270.specs.Size.{columns};
+ghost use Rattle.std.specs.Prelude.{◌≡◌, ◌<◌, false, length};
+ghost use Rattle.codes3270.specs.Size.{cells_in};
+ghost use Rattle.datastream.specs.Meaning.{cleared};
 ghost use Rattle.keyboard.specs.State.{fresh, freed};
 ghost use Rattle.keyboard.specs.Keys.{pressed, acted, locked_out, reset, sent, keyboard_after, answer_to};
 
 use crate::{Key, Lock, Pressed, Refusal, edits, places};
-use codes3270::{Addr, Aid, COLUMNS};
+use codes3270::{Addr, Aid};
 use presentation::Screen;
 use std::marker::Model;
 
@@ -68,9 +69,9 @@ impl Keyboard {
     /// `Error` and change nothing else (our profile). Enter, PF, PA and Clear set the screen's AID, end insert mode and set the
     /// lock to `Wait`; what is sent then is read off the screen.
     pub fn press(&mut self, screen: &mut Screen, key: Key) -> Pressed
-        ensures keyboard { self.new ≡ (pressed columns key self.old screen.old).keyboard }
-        ensures screen { screen.new ≡ (pressed columns key self.old screen.old).screen }
-        ensures answer { result ≡ (pressed columns key self.old screen.old).answer }
+        ensures keyboard { self.new ≡ (pressed screen.old.size.columns key self.old screen.old.screen).keyboard }
+        ensures screen { screen.new ≡ record screen.old { screen = (pressed screen.old.size.columns key self.old screen.old.screen).screen } }
+        ensures answer { result ≡ (pressed screen.old.size.columns key self.old screen.old.screen).answer }
     {
         match self.lock {
             Lock::Free => self.act(screen, key),
@@ -80,9 +81,9 @@ impl Keyboard {
 
     /// A key at a lock that isn't free: all but Reset are refused.
     fn stay_locked(&mut self, screen: &Screen, key: Key) -> Pressed
-        ensures keyboard { self.new ≡ (locked_out key self.old screen.now).keyboard }
-        ensures screen { (locked_out key self.old screen.now).screen ≡ screen.now }
-        ensures answer { result ≡ (locked_out key self.old screen.now).answer }
+        ensures keyboard { self.new ≡ (locked_out key self.old screen.now.screen).keyboard }
+        ensures screen { (locked_out key self.old screen.now.screen).screen ≡ screen.now.screen }
+        ensures answer { result ≡ (locked_out key self.old screen.now.screen).answer }
     {
         match key {
             Key::Reset => {
@@ -95,9 +96,9 @@ impl Keyboard {
 
     /// A key at a free lock.
     fn act(&mut self, screen: &mut Screen, key: Key) -> Pressed
-        ensures keyboard { self.new ≡ (acted columns key self.old screen.old).keyboard }
-        ensures screen { screen.new ≡ (acted columns key self.old screen.old).screen }
-        ensures answer { result ≡ (acted columns key self.old screen.old).answer }
+        ensures keyboard { self.new ≡ (acted screen.old.size.columns key self.old screen.old.screen).keyboard }
+        ensures screen { screen.new ≡ record screen.old { screen = (acted screen.old.size.columns key self.old screen.old.screen).screen } }
+        ensures answer { result ≡ (acted screen.old.size.columns key self.old screen.old.screen).answer }
     {
         match key {
             Key::Char(letter) => {
@@ -128,17 +129,17 @@ impl Keyboard {
             Key::Pf(number) => self.send(screen, Aid::Pf(number)),
             Key::Pa(number) => self.send(screen, Aid::Pa(number)),
             Key::Clear => {
-                screen.clear();
+                clear(screen);
                 self.send(screen, Aid::Clear)
             }
             Key::Tab => go(screen, places::next_start(screen, screen.cursor())),
             Key::BackTab => go(screen, places::start_before(screen, screen.cursor())),
             Key::NewLine => go(screen, places::next_line(screen, screen.cursor())),
             Key::Home => go(screen, screen.home()),
-            Key::CursorUp => go(screen, screen.cursor().backward(COLUMNS)),
-            Key::CursorDown => go(screen, screen.cursor().forward(COLUMNS)),
-            Key::CursorLeft | Key::Backspace => go(screen, screen.cursor().backward(1)),
-            Key::CursorRight => go(screen, screen.cursor().next()),
+            Key::CursorUp => go(screen, places::up(screen, screen.cursor())),
+            Key::CursorDown => go(screen, places::down(screen, screen.cursor())),
+            Key::CursorLeft | Key::Backspace => go(screen, places::left(screen, screen.cursor())),
+            Key::CursorRight => go(screen, places::right(screen, screen.cursor())),
         }
     }
 
@@ -170,9 +171,9 @@ impl Keyboard {
 
     /// Sends an AID: the keyboard waits, with insert mode off.
     fn send(&mut self, screen: &mut Screen, aid: Aid) -> Pressed
-        ensures keyboard { self.new ≡ (sent aid self.old screen.old).keyboard }
-        ensures screen { screen.new ≡ (sent aid self.old screen.old).screen }
-        ensures answer { result ≡ (sent aid self.old screen.old).answer }
+        ensures keyboard { self.new ≡ (sent aid self.old screen.old.screen).keyboard }
+        ensures screen { screen.new ≡ record screen.old { screen = (sent aid self.old screen.old.screen).screen } }
+        ensures answer { result ≡ (sent aid self.old screen.old.screen).answer }
     {
         screen.set_aid(aid);
         self.lock = Lock::Wait;
@@ -181,9 +182,19 @@ impl Keyboard {
     }
 }
 
+/// All cells null, the cursor at 0.
+fn clear(screen: &mut Screen)
+    ensures { screen.new ≡ record screen.old { screen = cleared (length screen.old.screen.cells) screen.old.screen } }
+{
+    // For the contract: there is a cell for each address of the screen's size.
+    let _size = screen.size();
+    screen.clear();
+}
+
 /// Moves the cursor.
 fn go(screen: &mut Screen, to: Addr) -> Pressed
-    ensures screen { screen.new ≡ record screen.old { cursor = to } }
+    requires { to < cells_in screen.old.size }
+    ensures screen { screen.new ≡ record screen.old { screen = record screen.old.screen { cursor = to } } }
     ensures answer { result ≡ Pressed.Done }
 {
     screen.set_cursor(to);

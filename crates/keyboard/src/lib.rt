@@ -1,4 +1,4 @@
-//! The keyboard of a 3278 model 2: what each key does to the screen and to the keyboard (GA23-0059-07 on keyboard operation; the
+//! The keyboard of a 3278 of any model from 2 to 5: what each key does to the screen and to the keyboard (GA23-0059-07 on keyboard operation; the
 //! order of refusals and what each leaves is our profile). No call allocates.
 //!
 //! A [`Keyboard`] starts in [`Lock::Wait`], and the host's writes free it by [`Keyboard::restored`]. [`Keyboard::press`]

@@ -1,22 +1,24 @@
 //! The places that keys look for.
-ghost use Rattle.std.specs.Prelude.{◌≡◌, ◌+◌, ◌%◌, ◌<◌, ◌&&◌, not, length};
-ghost use Rattle.codes3270.specs.Size.{cell_count, columns};
+ghost use Rattle.std.specs.Prelude.{◌≡◌, ◌+◌, ◌-◌, ◌%◌, ◌<◌, ◌≤◌, ◌&&◌, not, length};
+ghost use Rattle.codes3270.specs.Size.{cells_in};
 ghost use Rattle.datastream.specs.Screen.{is_char, is_char_at, protects};
 ghost use Rattle.keyboard.specs.Places.{is_start_at, is_free_at, next_start as start_behind, start_before as start_ahead, next_line as line_behind, row_end, first_or_zero, onward};
 
-use codes3270::{Addr, Attr, CELLS, COLUMNS, Cell};
+use codes3270::{Addr, Attr, Cell};
 use presentation::Screen;
 
 /// Whether a cell holds a character.
 pub(crate) fn is_character_at(screen: &Screen, at: Addr) -> bool
-    ensures { result ≡ is_char_at screen.now.cells at }
+    requires { at < cells_in screen.now.size }
+    ensures { result ≡ is_char_at screen.now.screen.cells at }
 {
     screen.cell(at).is_character()
 }
 
 /// Whether a cell may be typed into: it is unprotected, and no attribute.
 pub(crate) fn is_free(screen: &Screen, at: Addr) -> bool
-    ensures { result ≡ is_free_at screen.now.cells at }
+    requires { at < cells_in screen.now.size }
+    ensures { result ≡ is_free_at screen.now.screen.cells at }
 {
     is_free_under(screen.attribute_over(at), screen.cell(at))
 }
@@ -30,19 +32,21 @@ fn is_free_under(over: Option<Attr>, cell: Cell) -> bool
 
 /// Whether a cell is the first of an unprotected field.
 fn is_start(screen: &Screen, at: Addr) -> bool
-    requires { length screen.now.cells ≡ cell_count }
-    ensures { result ≡ is_start_at screen.now.cells at }
+    requires { at < cells_in screen.now.size }
+    ensures { result ≡ is_start_at screen.now.screen.cells at }
 {
-    screen.cell(at.backward(1)).is_unprotected_attribute() && is_character_at(screen, at)
+    screen.cell(left(screen, at)).is_unprotected_attribute() && is_character_at(screen, at)
 }
 
 /// The first start behind a cell, round the end; its own is the last. 0 if there is none.
 pub(crate) fn next_start(screen: &Screen, at: Addr) -> Addr
-    requires { length screen.now.cells ≡ cell_count }
-    ensures { result ≡ start_behind screen.now.cells at }
+    requires { at < cells_in screen.now.size }
+    ensures value { result ≡ start_behind screen.now.screen.cells at }
+    ensures in_range { result < cells_in screen.now.size }
 {
-    for step in 1..=CELLS {
-        let place = at.forward(step);
+    let size = screen.size();
+    for step in 0..size.cells() {
+        let place = at.forward(step + 1, size);
         if is_start(screen, place) {
             return place;
         }
@@ -52,11 +56,13 @@ pub(crate) fn next_start(screen: &Screen, at: Addr) -> Addr
 
 /// The first start before a cell, round the end; its own is the last. 0 if there is none.
 pub(crate) fn start_before(screen: &Screen, at: Addr) -> Addr
-    requires { length screen.now.cells ≡ cell_count }
-    ensures { result ≡ start_ahead screen.now.cells at }
+    requires { at < cells_in screen.now.size }
+    ensures value { result ≡ start_ahead screen.now.screen.cells at }
+    ensures in_range { result < cells_in screen.now.size }
 {
-    for step in 1..=CELLS {
-        let place = at.backward(step);
+    let size = screen.size();
+    for step in 0..size.cells() {
+        let place = at.backward(step + 1, size);
         if is_start(screen, place) {
             return place;
         }
@@ -66,12 +72,14 @@ pub(crate) fn start_before(screen: &Screen, at: Addr) -> Addr
 
 /// The first free cell behind a cell, round the end; its own is the last. 0 if there is none.
 fn next_free(screen: &Screen, at: Addr) -> Addr
-    requires { length screen.now.cells ≡ cell_count }
-    ensures { result ≡ first_or_zero (is_free_at screen.now.cells) (onward (length screen.now.cells) at) }
+    requires { at < cells_in screen.now.size }
+    ensures value { result ≡ first_or_zero (is_free_at screen.now.screen.cells) (onward (length screen.now.screen.cells) at) }
+    ensures in_range { result < cells_in screen.now.size }
 {
+    let size = screen.size();
     let mut over = screen.attribute_over(at);
-    for step in 1..=CELLS {
-        let free = at.forward(step);
+    for step in 0..size.cells() {
+        let free = at.forward(step + 1, size);
         let cell = screen.cell(free);
         over = cell.attribute().or(over);
         if is_free_under(over, cell) {
@@ -81,18 +89,78 @@ fn next_free(screen: &Screen, at: Addr) -> Addr
     Addr::first()
 }
 
-/// The last cell of a row.
-fn row_end_of(at: Addr) -> Addr
-    ensures { result ≡ row_end columns at }
+/// The number of cells of a row, of which the screen has one or more.
+pub(crate) fn columns_of(screen: &Screen) -> u16
+    ensures value { result ≡ screen.now.size.columns }
+    ensures some { 0 < result }
+    ensures few { result ≤ cells_in screen.now.size }
 {
-    let place = at.get();
-    at.forward(COLUMNS - 1 - place % COLUMNS)
+    let size = screen.size();
+    // For the contract: the screen has a first cell.
+    let _cells = size.cells();
+    size.cols()
+}
+
+/// The cell above a cell, in the last row if the cell is in the first.
+pub(crate) fn up(screen: &Screen, at: Addr) -> Addr
+    requires { at < cells_in screen.now.size }
+    ensures value { result ≡ (at + length screen.now.screen.cells - screen.now.size.columns) % length screen.now.screen.cells }
+    ensures in_range { result < cells_in screen.now.size }
+{
+    at.backward(columns_of(screen), screen.size())
+}
+
+/// The cell below a cell, in the first row if the cell is in the last.
+pub(crate) fn down(screen: &Screen, at: Addr) -> Addr
+    requires { at < cells_in screen.now.size }
+    ensures value { result ≡ (at + screen.now.size.columns) % length screen.now.screen.cells }
+    ensures in_range { result < cells_in screen.now.size }
+{
+    at.forward(columns_of(screen), screen.size())
+}
+
+/// The cell before a cell, round the end.
+pub(crate) fn left(screen: &Screen, at: Addr) -> Addr
+    requires { at < cells_in screen.now.size }
+    ensures value { result ≡ (at + length screen.now.screen.cells - 1) % length screen.now.screen.cells }
+    ensures in_range { result < cells_in screen.now.size }
+{
+    at.backward(1, screen.size())
+}
+
+/// The cell behind a cell, round the end.
+pub(crate) fn right(screen: &Screen, at: Addr) -> Addr
+    requires { at < cells_in screen.now.size }
+    ensures value { result ≡ (at + 1) % length screen.now.screen.cells }
+    ensures in_range { result < cells_in screen.now.size }
+{
+    at.next(screen.size())
+}
+
+/// How many cells of its row are behind a cell.
+fn rest_of_row(at: u16, columns: u16) -> u16
+    requires { 0 < columns }
+    ensures value { result ≡ columns - 1 - at % columns }
+    ensures few { result < columns }
+{
+    columns - 1 - at % columns
+}
+
+/// The last cell of a row.
+fn row_end_of(screen: &Screen, at: Addr) -> Addr
+    requires { at < cells_in screen.now.size }
+    ensures value { result ≡ row_end screen.now.size.columns at }
+    ensures in_range { result < cells_in screen.now.size }
+{
+    let rest = rest_of_row(at.get(), columns_of(screen));
+    at.forward(rest, screen.size())
 }
 
 /// The first free cell behind the row of a cell, round the end; that row's last cell is the last. 0 if there is none.
 pub(crate) fn next_line(screen: &Screen, at: Addr) -> Addr
-    requires { length screen.now.cells ≡ cell_count }
-    ensures { result ≡ line_behind columns screen.now.cells at }
+    requires { at < cells_in screen.now.size }
+    ensures value { result ≡ line_behind screen.now.size.columns screen.now.screen.cells at }
+    ensures in_range { result < cells_in screen.now.size }
 {
-    next_free(screen, row_end_of(at))
+    next_free(screen, row_end_of(screen, at))
 }

@@ -5,6 +5,8 @@ use Rattle.std.specs.Option.{option_and_then}
 use Rattle.std.proofs.Math.Bridge.{le_prop}
 use Rattle.std.proofs.lemmas.Bool.{cases_order}
 use Rattle.std.proofs.lemmas.Option.{same_Some, slice_get_within, none-some}
+use Rattle.codes3270.specs.Size.{Shape, most_cells}
+use Rattle.codes3270.specs.declared.size.Model.{Model}
 use Rattle.codes3270.specs.declared.attention.Aid.{Aid}
 use Rattle.codes3270.specs.declared.attention.Aid.TheVariants.{Enter, Clear, Pf, Pa}
 use Rattle.panels.specs.declared.extent.Extent.{Extent}
@@ -16,14 +18,13 @@ use Rattle.panels.specs.declared.panel.TextItem.{TextItem}
 use Rattle.panels.specs.declared.fault.Part.{Part}
 use Rattle.panels.specs.declared.fault.Part.TheVariants.{Panel, Field}
 use Rattle.panels.specs.Characters.{codes_of}
-use Rattle.panels.specs.Defines.{Defines, DefinesOnce, IsContentOf, IsCursorBy, IsEachOf, IsFieldNamed, IsFieldOf, IsPanelNamed, IsPanelOf, IsTargetBy, IsTextOf, fields_before, text_at_key}
-use Rattle.panels.specs.Draft.{DraftItem, DraftPanel, DraftText, draft_of}
-use Rattle.panels.specs.Faults.{IsNamedBefore, name_at}
+use Rattle.panels.specs.Defines.{Defines, DefinesOnce, IsContentOf, IsCursorBy, IsEachOf, IsFieldNamed, IsFieldOf, IsOtherwiseBy, IsPanelNamed, IsPanelOf, IsTargetBy, IsTextOf, fields_before, text_at_key}
+use Rattle.panels.specs.Draft.{DraftItem, DraftPanel, DraftText, draft_of, draft_shape, otherwise_of}
+use Rattle.panels.specs.Faults.{IsBasePanelNamed, IsNamedBefore, name_at}
 use Rattle.panels.specs.Items.{IsExtentOf}
 use Rattle.panels.specs.Keys.{IsKey, name_of_key}
 use Rattle.panels.specs.Panel.{PanelParts, Panels, target_at, target_of}
 use Rattle.panels.specs.Passes.{IsFaultless}
-use Rattle.panels.specs.Size.{message_start}
 use Rattle.panels.proofs.Faultless.{draft_of_each, named_is_part, no_fault}
 
 -- ---- lists
@@ -81,35 +82,35 @@ one_field_named draft name m n clean (p, i, is, m_is) (q, j, also, n_is) =
 
 -- ---- texts and fields
 
-abbrev extent_of : (first size : ℕ) → 1 ≤ first → 1 ≤ size → first + size ≤ message_start → Extent
-extent_of first size after cells above = record { first = first; length = size; after_attribute = after; has_cells = cells; above_message = above }
+abbrev extent_of : (first size : ℕ) → 1 ≤ first → 1 ≤ size → first + size < most_cells → Extent
+extent_of first size after cells above = record { first = first; length = size; after_attribute = after; has_cells = cells; on_screen = above }
 
 -- of each fact there is one proof
-same_facts : (first size : ℕ) (a b : 1 ≤ first) (c d : 1 ≤ size) (e f : first + size ≤ message_start) → extent_of first size a c e ≡ extent_of first size b d f
+same_facts : (first size : ℕ) (a b : 1 ≤ first) (c d : 1 ≤ size) (e f : first + size < most_cells) → extent_of first size a c e ≡ extent_of first size b d f
 same_facts first size a b c d e f =
     ap (λ after. extent_of first size after c e) (le_prop a b) ∙ ap (λ cells. extent_of first size b cells e) (le_prop c d) ∙ ap (λ above. extent_of first size b d above) (le_prop e f)
 
-same_size : (first size other : ℕ) → size ≡ other → (a b : 1 ≤ first) (c : 1 ≤ size) (d : 1 ≤ other) (e : first + size ≤ message_start) (f : first + other ≤ message_start)
+same_size : (first size other : ℕ) → size ≡ other → (a b : 1 ≤ first) (c : 1 ≤ size) (d : 1 ≤ other) (e : first + size < most_cells) (f : first + other < most_cells)
     → extent_of first size a c e ≡ extent_of first other b d f
 same_size first size other same a b c d e f =
-    subst (λ n. (d : 1 ≤ n) (f : first + n ≤ message_start) → extent_of first size a c e ≡ extent_of first n b d f) same (λ d f. same_facts first size a b c d e f) d f
+    subst (λ n. (d : 1 ≤ n) (f : first + n < most_cells) → extent_of first size a c e ≡ extent_of first n b d f) same (λ d f. same_facts first size a b c d e f) d f
 
 same_extent : (first second size other : ℕ) → first ≡ second → size ≡ other
-    → (a : 1 ≤ first) (b : 1 ≤ second) (c : 1 ≤ size) (d : 1 ≤ other) (e : first + size ≤ message_start) (f : second + other ≤ message_start)
+    → (a : 1 ≤ first) (b : 1 ≤ second) (c : 1 ≤ size) (d : 1 ≤ other) (e : first + size < most_cells) (f : second + other < most_cells)
     → extent_of first size a c e ≡ extent_of second other b d f
 same_extent first second size other begin same a b c d e f =
-    subst (λ n. (b : 1 ≤ n) (f : n + other ≤ message_start) → extent_of first size a c e ≡ extent_of n other b d f) begin
+    subst (λ n. (b : 1 ≤ n) (f : n + other < most_cells) → extent_of first size a c e ≡ extent_of n other b d f) begin
     (λ b f. same_size first size other same a b c d e f) b f
 
 same_number : (m n : ℕ) → pos m ≡ pos n → m ≡ n
 same_number m n same = cc
 
-one_extent : (item : DraftItem) (one other : Extent) → IsExtentOf item one → IsExtentOf item other → one ≡ other
-one_extent item one other is also =
+one_extent : (shape : Shape) (item : DraftItem) (one other : Extent) → IsExtentOf shape item one → IsExtentOf shape item other → one ≡ other
+one_extent shape item one other is also =
     let first : one.first ≡ other.first = same_number one.first other.first (is.0 ∙ sym also.0) in
     let size : one.length ≡ other.length = same_number one.length other.length (is.1 ∙ sym also.1) in
     same_extent one.first other.first one.length other.length first size
-    one.after_attribute other.after_attribute one.has_cells other.has_cells one.above_message other.above_message
+    one.after_attribute other.after_attribute one.has_cells other.has_cells one.on_screen other.on_screen
 
 one_content : (draft : DraftText) (item : DraftItem) (one other : Content) → IsFaultless draft → IsContentOf draft.panels item one → IsContentOf draft.panels item other → one ≡ other
 one_content draft item (Literal shown) (Literal other) clean (text, has, is) (rival, also_has, also) =
@@ -121,9 +122,10 @@ one_content draft item (Show number) (Show other) clean is also = ap Show (one_f
 abbrev text_item : Extent → Bool → Content → TextItem
 text_item extent bright content = record { extent = extent; bright = bright; content = content }
 
-one_text : (draft : DraftText) (item : DraftItem) (one other : TextItem) → IsFaultless draft → IsTextOf draft.panels item one → IsTextOf draft.panels item other → one ≡ other
-one_text draft item one other clean is also =
-    ap (λ extent. text_item extent one.bright one.content) (one_extent item one.extent other.extent is.extent also.extent)
+one_text : (shape : Shape) (draft : DraftText) (item : DraftItem) (one other : TextItem) → IsFaultless draft → IsTextOf shape draft.panels item one
+    → IsTextOf shape draft.panels item other → one ≡ other
+one_text shape draft item one other clean is also =
+    ap (λ extent. text_item extent one.bright one.content) (one_extent shape item one.extent other.extent is.extent also.extent)
     ∙ ap (λ bright. text_item other.extent bright one.content) (is.bright ∙ sym also.bright)
     ∙ ap (λ content. text_item other.extent other.bright content) (one_content draft item one.content other.content clean is.content also.content)
 
@@ -131,11 +133,11 @@ abbrev field_item : ℕ → List ℕ → Extent → Bool → Bool → Bool → B
 field_item number name extent numeric hidden required marked fill =
     record { number = number; name = name; extent = extent; numeric = numeric; hidden = hidden; required = required; marked = marked; fill = fill }
 
-one_field : (n : ℕ) (item : DraftItem) (one other : FieldItem) → IsFieldOf n item one → IsFieldOf n item other → one ≡ other
-one_field n item one other is also =
+one_field : (shape : Shape) (n : ℕ) (item : DraftItem) (one other : FieldItem) → IsFieldOf shape n item one → IsFieldOf shape n item other → one ≡ other
+one_field shape n item one other is also =
     ap (λ number. field_item number one.name one.extent one.numeric one.hidden one.required one.marked one.fill) (is.number ∙ sym also.number)
     ∙ ap (λ name. field_item other.number name one.extent one.numeric one.hidden one.required one.marked one.fill) (is.name ∙ sym also.name)
-    ∙ ap (λ extent. field_item other.number other.name extent one.numeric one.hidden one.required one.marked one.fill) (one_extent item one.extent other.extent is.extent also.extent)
+    ∙ ap (λ extent. field_item other.number other.name extent one.numeric one.hidden one.required one.marked one.fill) (one_extent shape item one.extent other.extent is.extent also.extent)
     ∙ ap (λ numeric. field_item other.number other.name other.extent numeric one.hidden one.required one.marked one.fill) (is.numeric ∙ sym also.numeric)
     ∙ ap (λ hidden. field_item other.number other.name other.extent other.numeric hidden one.required one.marked one.fill) (is.hidden ∙ sym also.hidden)
     ∙ ap (λ required. field_item other.number other.name other.extent other.numeric other.hidden required one.marked one.fill) (is.required ∙ sym also.required)
@@ -144,20 +146,20 @@ one_field n item one other is also =
 
 -- ---- the cursor
 
-has_name : (draft : DraftText) (panel : DraftPanel) (p i : ℕ) (name : List ℕ) (fields : List FieldItem) (field : FieldItem) → slice_get draft.panels p ≡ Some panel
-    → IsEachOf (λ i. IsFieldOf (fields_before p draft.panels + i)) panel.fields fields → slice_get fields i ≡ Some field → field.name ≡ name → name_at (Field p i) draft.panels ≡ Some name
-has_name draft panel p i name fields field there are at_i named =
-    let (item, inside, is) = draft_of_each (λ i. IsFieldOf (fields_before p draft.panels + i)) panel.fields fields i field are at_i in
+has_name : (shape : Shape) (draft : DraftText) (panel : DraftPanel) (p i : ℕ) (name : List ℕ) (fields : List FieldItem) (field : FieldItem) → slice_get draft.panels p ≡ Some panel
+    → IsEachOf (λ i. IsFieldOf shape (fields_before p draft.panels + i)) panel.fields fields → slice_get fields i ≡ Some field → field.name ≡ name → name_at (Field p i) draft.panels ≡ Some name
+has_name shape draft panel p i name fields field there are at_i named =
+    let (item, inside, is) = draft_of_each (λ i. IsFieldOf shape (fields_before p draft.panels + i)) panel.fields fields i field are at_i in
     ap (λ o. option_map (λ (f : DraftItem). f.name) (option_and_then (λ (panel : DraftPanel). slice_get panel.fields i) o)) there
     ∙ ap (option_map (λ (f : DraftItem). f.name)) inside ∙ ap Some (sym is.name ∙ named)
 
-one_cursor : (draft : DraftText) (panel : DraftPanel) (p : ℕ) (name : Option (List ℕ)) (fields : List FieldItem) (one other : ℕ) → IsFaultless draft → slice_get draft.panels p ≡ Some panel
-    → IsEachOf (λ i. IsFieldOf (fields_before p draft.panels + i)) panel.fields fields → IsCursorBy name fields one → IsCursorBy name fields other → one ≡ other
-one_cursor draft panel p None [] one other clean there are is also = is ∙ sym also
-one_cursor draft panel p None (first ∷ more) one other clean there are is also = is ∙ sym also
-one_cursor draft panel p (Some name) fields one other clean there are (i, field, at_i, named, is) (j, rival, at_j, called, also) =
+one_cursor : (shape : Shape) (draft : DraftText) (panel : DraftPanel) (p : ℕ) (name : Option (List ℕ)) (fields : List FieldItem) (one other : ℕ) → IsFaultless draft → slice_get draft.panels p ≡ Some panel
+    → IsEachOf (λ i. IsFieldOf shape (fields_before p draft.panels + i)) panel.fields fields → IsCursorBy name fields one → IsCursorBy name fields other → one ≡ other
+one_cursor shape draft panel p None [] one other clean there are is also = is ∙ sym also
+one_cursor shape draft panel p None (first ∷ more) one other clean there are is also = is ∙ sym also
+one_cursor shape draft panel p (Some name) fields one other clean there are (i, field, at_i, named, is) (j, rival, at_j, called, also) =
     let same : i ≡ j =
-    one_field_of draft name p i j clean (has_name draft panel p i name fields field there are at_i named) (has_name draft panel p j name fields rival there are at_j called) in
+    one_field_of draft name p i j clean (has_name shape draft panel p i name fields field there are at_i named) (has_name shape draft panel p j name fields rival there are at_j called) in
     let item : field ≡ rival = same_Some _ _ (sym at_i ∙ ap (slice_get fields) same ∙ at_j) in
     is ∙ ap (λ (f : FieldItem). f.extent.first) item ∙ sym also
 
@@ -168,6 +170,17 @@ one_target draft None one other clean is also = is ∙ sym also
 one_target draft (Some name) None other clean is also = absurd is
 one_target draft (Some name) (Some p) None clean is also = absurd also
 one_target draft (Some name) (Some p) (Some q) clean is also = ap Some (one_panel_named draft name p q clean is also)
+
+base_is_named : (panels : List DraftPanel) (name : List ℕ) (p : ℕ) → IsBasePanelNamed panels name p → IsPanelNamed panels name p
+base_is_named panels name p (panel, there, two, is) = ap (option_map (λ (panel : DraftPanel). panel.name)) there ∙ ap Some is
+
+one_otherwise : (draft : DraftText) (name : Option (List ℕ)) (one other : Option ℕ) → IsFaultless draft → IsOtherwiseBy draft.panels name one → IsOtherwiseBy draft.panels name other
+    → one ≡ other
+one_otherwise draft None one other clean is also = is ∙ sym also
+one_otherwise draft (Some name) None other clean is also = absurd is
+one_otherwise draft (Some name) (Some p) None clean is also = absurd also
+one_otherwise draft (Some name) (Some p) (Some q) clean is also =
+    ap Some (one_panel_named draft name p q clean (base_is_named draft.panels name p is) (base_is_named draft.panels name q also))
 
 -- each place among the names of keys is some key's
 one_place : (Is : ℕ → Type 0) → Is 0 → Is 1 → ((n : ℕ) → 1 ≤ n → n ≤ 3 → Is (1 + n)) → ((n : ℕ) → 1 ≤ n → n ≤ 24 → Is (4 + n)) → (k : ℕ) → k < 29 → Is k
@@ -205,23 +218,29 @@ one_list_of_targets draft panel p one other clean is also =
 
 -- ---- panels
 
-abbrev panel_parts : List TextItem → List FieldItem → ℕ → List (Option ℕ) → PanelParts
-panel_parts texts fields cursor targets = record { texts = texts; fields = fields; cursor = cursor; targets = targets }
+abbrev panel_parts : Model → Option ℕ → List TextItem → List FieldItem → ℕ → List (Option ℕ) → PanelParts
+panel_parts model otherwise texts fields cursor targets =
+    record { model = model; otherwise = otherwise; texts = texts; fields = fields; cursor = cursor; targets = targets }
 
 one_panel : (draft : DraftText) (panel : DraftPanel) (p : ℕ) (one other : PanelParts) → IsFaultless draft → slice_get draft.panels p ≡ Some panel → IsPanelOf draft.panels p panel one
     → IsPanelOf draft.panels p panel other → one ≡ other
 one_panel draft panel p one other clean there is also =
+    let shape = draft_shape panel in
     let texts : one.texts ≡ other.texts =
-    one_each (λ i. IsTextOf draft.panels) panel.texts one.texts other.texts is.texts also.texts (λ i item x y at_i of also_of. one_text draft item x y clean of also_of) in
+    one_each (λ i. IsTextOf shape draft.panels) panel.texts one.texts other.texts is.texts also.texts (λ i item x y at_i of also_of. one_text shape draft item x y clean of also_of) in
     let fields : one.fields ≡ other.fields =
-    one_each (λ i. IsFieldOf (fields_before p draft.panels + i)) panel.fields one.fields other.fields is.fields also.fields
-    (λ i item x y at_i of also_of. one_field (fields_before p draft.panels + i) item x y of also_of) in
+    one_each (λ i. IsFieldOf shape (fields_before p draft.panels + i)) panel.fields one.fields other.fields is.fields also.fields
+    (λ i item x y at_i of also_of. one_field shape (fields_before p draft.panels + i) item x y of also_of) in
     let cursor : one.cursor ≡ other.cursor =
-    one_cursor draft panel p panel.cursor one.fields one.cursor other.cursor clean there is.fields is.cursor
+    one_cursor shape draft panel p panel.cursor one.fields one.cursor other.cursor clean there is.fields is.cursor
     (subst (λ list. IsCursorBy panel.cursor list other.cursor) (sym fields) also.cursor) in
-    ap (λ list. panel_parts list one.fields one.cursor one.targets) texts ∙ ap (λ list. panel_parts other.texts list one.cursor one.targets) fields
-    ∙ ap (λ place. panel_parts other.texts other.fields place one.targets) cursor
-    ∙ ap (λ list. panel_parts other.texts other.fields other.cursor list) (one_list_of_targets draft panel p one other clean is also)
+    let otherwise : one.otherwise ≡ other.otherwise = one_otherwise draft (otherwise_of panel) one.otherwise other.otherwise clean is.otherwise also.otherwise in
+    ap (λ model. panel_parts model one.otherwise one.texts one.fields one.cursor one.targets) (is.model ∙ sym also.model)
+    ∙ ap (λ place. panel_parts other.model place one.texts one.fields one.cursor one.targets) otherwise
+    ∙ ap (λ list. panel_parts other.model other.otherwise list one.fields one.cursor one.targets) texts
+    ∙ ap (λ list. panel_parts other.model other.otherwise other.texts list one.cursor one.targets) fields
+    ∙ ap (λ place. panel_parts other.model other.otherwise other.texts other.fields place one.targets) cursor
+    ∙ ap (λ list. panel_parts other.model other.otherwise other.texts other.fields other.cursor list) (one_list_of_targets draft panel p one other clean is also)
 
 abbrev panel_set : ℕ → List (List ℕ) → List PanelParts → Panels
 panel_set start lus panels = record { start = start; lus = lus; panels = panels }

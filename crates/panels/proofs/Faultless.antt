@@ -8,9 +8,10 @@ use Rattle.panels.specs.declared.fault.TreeFault.{TreeFault}
 use Rattle.panels.specs.declared.fault.TreeFault.TheVariants as fault
 use Rattle.panels.specs.declared.fault.Part.{Part}
 use Rattle.panels.specs.declared.fault.Part.TheVariants.{Top, Panel, Text, Field, Keys}
-use Rattle.panels.specs.Draft.{DraftItem, DraftPanel, DraftText}
+use Rattle.codes3270.specs.Size.{model_2}
+use Rattle.panels.specs.Draft.{DraftItem, DraftPanel, DraftText, draft_shape}
 use Rattle.panels.specs.Items.{is_on_screen, is_in_place}
-use Rattle.panels.specs.Faults.{item_at, is_part, name_at, HasFault}
+use Rattle.panels.specs.Faults.{item_at, shape_at, is_part, name_at, HasFault}
 use Rattle.panels.specs.Passes.{IsFaultless}
 use Rattle.panels.specs.Defines.{IsEachOf}
 
@@ -39,15 +40,24 @@ named_is_part (Keys p) panels name is = cc
 misplaced : (b c : Bool) → b ≡ false → not (b && c) ≡ true
 misplaced b c is = rw is refl
 
--- an item lies on the screen
-pub on_screen : (draft : DraftText) (part : Part) (item : DraftItem) → IsFaultless draft → item_at part draft.panels ≡ Some item → is_on_screen item ≡ true
+-- an item lies on the screen of its panel
+pub on_screen : (draft : DraftText) (part : Part) (item : DraftItem) → IsFaultless draft → item_at part draft.panels ≡ Some item
+    → is_on_screen (shape_at part draft.panels) item ≡ true
 on_screen draft part item clean there =
-    elim (cases_Bool (is_on_screen item)) [
+    let shape = shape_at part draft.panels in
+    elim (cases_Bool (is_on_screen shape item)) [
       | inl yes' ↦ yes'
       | inr no' ↦
           absurd (no_fault draft part fault.OutOfPlace clean (item_is_part part draft.panels item there)
-          (ap (λ o. option_map_or (λ item. not (is_in_place item)) o false) there ∙ misplaced (is_on_screen item) _ no'))
+          (ap (λ o. option_map_or (λ item. not (is_in_place shape item)) o false) there ∙ misplaced (is_on_screen shape item) _ no'))
     ]
+
+-- which is that of the panel
+pub text_shape : (panels : List DraftPanel) (panel : DraftPanel) (p i : ℕ) → slice_get panels p ≡ Some panel → shape_at (Text p i) panels ≡ draft_shape panel
+text_shape panels panel p i there = ap (λ o. option_map_or draft_shape o model_2) there
+
+pub field_shape : (panels : List DraftPanel) (panel : DraftPanel) (p i : ℕ) → slice_get panels p ≡ Some panel → shape_at (Field p i) panels ≡ draft_shape panel
+field_shape panels panel p i there = ap (λ o. option_map_or draft_shape o model_2) there
 
 -- what stands inside a list
 pub there_in : {X : Type 0} (xs : List X) (i : ℕ) → i < length xs → (x : X) × (slice_get xs i ≡ Some x)

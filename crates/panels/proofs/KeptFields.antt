@@ -5,7 +5,7 @@ use Rattle.std.specs.Option.{option_or}
 use Rattle.std.specs.Int.{is_in_range}
 use Rattle.std.proofs.lemmas.Bool.Decides.{nat_tests}
 use Rattle.std.proofs.lemmas.Option.{same_Some, cond_some}
-use Rattle.codes3270.specs.Size.{cell_count}
+use Rattle.codes3270.specs.Size.{cells_in}
 use Rattle.codes3270.specs.declared.attribute.Attr.{Attr}
 use Rattle.datastream.specs.declared.wanted.Want.{Want}
 use Rattle.datastream.specs.declared.wanted.Want.TheVariants as want
@@ -13,10 +13,11 @@ use Rattle.panels.specs.declared.extent.Extent.{Extent}
 use Rattle.panels.specs.declared.message.Message.{Message}
 use Rattle.panels.specs.declared.panel.Field.{Field}
 use Rattle.panels.specs.Size.{message_start}
-use Rattle.panels.specs.Panel.{PanelParts, IsCellOf, HasItemsApart}
+use Rattle.panels.specs.Panel.{PanelParts, IsCellOf, IsAbove, IsLaidOut, HasItemsApart, shape_of}
 use Rattle.panels.specs.Screen.{Values, distance_in, item_cell, autoskip_attr, shown, text_cell, field_attr, kept_cell, field_cell, stopper_cell, message_text, message_cell, first_some, wanted_cell}
 use Rattle.panels.specs.KeptFields.{FieldsAreKeptWhole}
 use Rattle.panels.proofs.Answering.{Answers, or_answers, left_answers, first_answers, left_is_some, right_is_some, first_is_some, mapped_is_some, given_is_some, mapped_answer, none_given, taken_answer}
+use Rattle.panels.proofs.Placing.{all_at, cells_some, start_before_end}
 use Rattle.panels.proofs.Screens.{cell_of_screen}
 
 -- ---- where an item has a cell
@@ -91,7 +92,7 @@ wanted_of_field : (panel : PanelParts) (values : Values) (message : Message) (i 
 wanted_of_field panel values message i cell field apart at_i has =
     let texts = first_some (text_cell values cell) panel.texts in
     let fields = first_some (field_cell values message true cell) panel.fields in
-    let behind = option_or (message_cell panel.fields message cell) (first_some (stopper_cell cell) panel.fields) in
+    let behind = option_or (message_cell (message_start (shape_of panel)) panel.fields message cell) (first_some (stopper_cell cell) panel.fields) in
     let there = field_is_some panel values message i cell field at_i has in
     taken_answer (λ w. w ≡ cell_of_field values message cell field) (option_or texts (option_or fields behind)) (want.Char 0)
     (right_is_some texts (option_or fields behind) (left_is_some fields behind there))
@@ -162,11 +163,12 @@ fields_behind panel values message i field apart at_i =
 not_above : (a b : ℕ) → nat_lt a b ≡ false → a ≤ b → a - b ≡ 0
 not_above a b is most = grind (arith, nat_tests)
 
-message_behind : (panel : PanelParts) (message : Message) (field : Field) → Answers IsAttribute (message_cell panel.fields message (field.extent.first + field.extent.length))
-message_behind panel message field = λ w is.
+message_behind : (start : ℕ) (panel : PanelParts) (message : Message) (field : Field) → field.extent.first + field.extent.length ≤ start
+    → Answers IsAttribute (message_cell start panel.fields message (field.extent.first + field.extent.length))
+message_behind start panel message field above = λ w is.
     let cell = field.extent.first + field.extent.length in
-    let (not_before, w_is) = none_given (nat_lt cell message_start) (item_cell (autoskip_attr true) (message_text panel.fields message) (cell - message_start)) w is in
-    (autoskip_attr true, sym w_is ∙ item_first (autoskip_attr true) (message_text panel.fields message) (cell - message_start) (not_above cell message_start not_before field.extent.above_message))
+    let (not_before, w_is) = none_given (nat_lt cell start) (item_cell (autoskip_attr true) (message_text panel.fields message) (cell - start)) w is in
+    (autoskip_attr true, sym w_is ∙ item_first (autoskip_attr true) (message_text panel.fields message) (cell - start) (not_above cell start not_before above))
 
 pub stopper_answers : (cell : ℕ) (fields : List Field) → Answers IsAttribute (first_some (stopper_cell cell) fields)
 stopper_answers cell fields =
@@ -182,26 +184,32 @@ stopper_is_some panel i field at_i =
     first_is_some (stopper_cell (field.extent.first + field.extent.length)) panel.fields i field at_i
     (given_is_some (field.extent.first + field.extent.length == field.extent.first + field.extent.length) (want.Attr (autoskip_attr false)) (same_number (field.extent.first + field.extent.length)))
 
-wanted_behind : (panel : PanelParts) (values : Values) (message : Message) (i : ℕ) (field : Field) → HasItemsApart panel → slice_get panel.fields i ≡ Some field
+before_end : (cell end start cells : ℕ) → cell ≤ end → end ≤ start → start < cells → cell < cells
+before_end cell end start cells below above before = omega arith
+
+field_above : (panel : PanelParts) (i : ℕ) (field : Field) → IsLaidOut panel → slice_get panel.fields i ≡ Some field
+    → field.extent.first + field.extent.length ≤ message_start (shape_of panel)
+field_above panel i field laid at_i = all_at (λ (field : Field). IsAbove (shape_of panel) field.extent) panel.fields i field laid.fields at_i
+
+wanted_behind : (panel : PanelParts) (values : Values) (message : Message) (i : ℕ) (field : Field) → HasItemsApart panel → IsLaidOut panel → slice_get panel.fields i ≡ Some field
     → IsAttribute (wanted_cell panel values message true (field.extent.first + field.extent.length))
-wanted_behind panel values message i field apart at_i =
+wanted_behind panel values message i field apart laid at_i =
     let cell = field.extent.first + field.extent.length in
     let texts = first_some (text_cell values cell) panel.texts in
     let fields = first_some (field_cell values message true cell) panel.fields in
-    let row = message_cell panel.fields message cell in
+    let row = message_cell (message_start (shape_of panel)) panel.fields message cell in
     let stoppers = first_some (stopper_cell cell) panel.fields in
     taken_answer IsAttribute (option_or texts (option_or fields (option_or row stoppers))) (want.Char 0)
     (right_is_some texts (option_or fields (option_or row stoppers)) (right_is_some fields (option_or row stoppers) (right_is_some row stoppers (stopper_is_some panel i field at_i))))
     (or_answers IsAttribute texts (option_or fields (option_or row stoppers)) (texts_behind panel values i field apart at_i)
     (or_answers IsAttribute fields (option_or row stoppers) (fields_behind panel values message i field apart at_i)
-    (or_answers IsAttribute row stoppers (message_behind panel message field) (stopper_answers cell panel.fields))))
+    (or_answers IsAttribute row stoppers (message_behind (message_start (shape_of panel)) panel message field (field_above panel i field laid at_i)) (stopper_answers cell panel.fields))))
 
 -- ---- so it is kept whole
 
-on_screen : (extent : Extent) (cell : ℕ) → cell ≤ extent.first + extent.length → cell < cell_count
-on_screen extent cell below =
-    let above = extent.above_message in
-    omega arith
+on_screen : (panel : PanelParts) (i : ℕ) (field : Field) → IsLaidOut panel → slice_get panel.fields i ≡ Some field → (cell : ℕ) → cell ≤ field.extent.first + field.extent.length
+    → cell < cells_in (shape_of panel)
+on_screen panel i field laid at_i cell below = before_end cell _ _ _ below (field_above panel i field laid at_i) (start_before_end (shape_of panel) (cells_some panel.model))
 
 first_has : (extent : Extent) → IsCellOf extent (extent.first - 1)
 first_has extent =
@@ -220,26 +228,30 @@ character_has first size cell low high = (omega arith, omega arith)
 at_most : (first size : ℕ) → first - 1 ≤ first + size
 at_most first size = omega arith
 
+at_end : (n : ℕ) → n ≤ n
+at_end n = omega arith
+
 less_at_most : (a b : ℕ) → a < b → a ≤ b
 less_at_most a b less = omega arith
 
 pub fields_kept_whole : FieldsAreKeptWhole
-fields_kept_whole panel values message i field apart at_i =
+fields_kept_whole panel values message i field apart laid at_i =
     let attribute = field_attr values message true field in
     let first = field.extent.first in
     let size = field.extent.length in
-    let behind = wanted_behind panel values message i field apart at_i in
+    let behind = wanted_behind panel values message i field apart laid at_i in
+    let within = on_screen panel i field laid at_i in
     record {
       attribute = (
         attribute,
-        cell_of_screen panel values message true (first - 1) (on_screen field.extent (first - 1) (at_most first size))
+        cell_of_screen panel values message true (first - 1) (within (first - 1) (at_most first size))
             ∙ ap Some (wanted_of_field panel values message i (first - 1) field apart at_i (first_has field.extent) ∙ kept_first attribute (first - 1 + 1 - first) (first_distance field.extent)),
       );
       characters = λ cell is.
-          cell_of_screen panel values message true cell (on_screen field.extent cell (less_at_most cell (first + size) is.1))
+          cell_of_screen panel values message true cell (within cell (less_at_most cell (first + size) is.1))
           ∙ ap Some (wanted_of_field panel values message i cell field apart at_i (character_has first size cell is.0 is.1) ∙ kept_later attribute ((cell + 1 - first) == 0) (some_distance first cell is.0));
       next = (
         behind.0,
-        cell_of_screen panel values message true (first + size) (on_screen field.extent (first + size) (omega arith)) ∙ ap Some behind.1,
+        cell_of_screen panel values message true (first + size) (within (first + size) (at_end (first + size))) ∙ ap Some behind.1,
       );
     }

@@ -1,16 +1,26 @@
 -- Where keys lead, and that it is there.
-use Rattle.std.proofs.Common.{◌≡◌, ◌<◌, ◌+◌, ℕ, List, length, Option, Some, None, refl, ap, sym, subst, lit<, arith}
-use Rattle.std.specs.Prelude.{slice_get, option_map}
+use Rattle.std.proofs.Common.{◌≡◌, ◌<◌, ◌+◌, ℕ, List, length, Option, Some, None, Bool, true, false, cond, ℤ, pos, negsuc, ◌≤ℤ◌, ◌≤◌, ◌∙◌, refl, ap, sym, subst, lit<, arith}
+use Rattle.std.specs.Prelude.{◌≢◌, int_le, slice_get, option_map}
 use Rattle.std.specs.Option.{option_and_then}
+use Rattle.std.specs.Ordering.{int_eq}
+use Rattle.std.proofs.lemmas.Bool.{and_parts, false≢true}
+use Rattle.std.proofs.lemmas.Bool.Decides.{Decides-int_eq}
+use Rattle.std.proofs.lemmas.Int.{ints}
 use Rattle.std.proofs.lemmas.Option.{slice_get_within}
+use Rattle.codes3270.specs.declared.size.Model.{Model}
+use Rattle.codes3270.specs.declared.size.Model.TheVariants.{M2, M3, M4, M5}
 use Rattle.codes3270.specs.declared.attention.Aid.{Aid}
 use Rattle.codes3270.specs.declared.attention.Aid.TheVariants.{NoAid, Enter, Clear, Pf, Pa}
 use Rattle.panels.specs.Building.{AreTargetsOf}
 use Rattle.panels.specs.Draft.{DraftPanel, DraftText}
 use Rattle.panels.specs.Keys.{key_names, name_of_key, place_of_key, IsKey}
-use Rattle.panels.specs.Panel.{Panels, AreLinked, target_at}
-use Rattle.panels.specs.Defines.{IsPanelNamed, IsTargetBy, text_at_key, IsPanelOf, Defines}
+use Rattle.panels.specs.Panel.{PanelParts, Panels, AreLinked, HaveOtherwise, IsOtherwise, target_at}
+use Rattle.panels.specs.Defines.{IsOtherwiseBy, IsPanelNamed, IsTargetBy, text_at_key, IsPanelOf, Defines}
+use Rattle.panels.specs.Faults.{IsBasePanelNamed}
+use Rattle.panels.specs.Passes.{IsFaultless}
+use Rattle.panels.specs.Size.{is_model_number, model_numbered}
 use Rattle.panels.proofs.Faultless.{there_in, draft_of_each}
+use Rattle.panels.proofs.Sound.{model_is_known}
 
 abbrev named_at : DraftPanel → Option (List ℕ) → Option (List ℕ)
 named_at panel key = option_and_then (λ name. text_at_key name panel.keys) key
@@ -52,3 +62,57 @@ linked draft set defines = record {
       let below = target_below draft.panels name target (subst (λ t. IsTargetBy draft.panels name t) leads (is.targets aid key)) in
       omega (arith, below, defines.panels.size);
 }
+
+-- ---- what is shown in a panel's place
+
+is_two : (number : ℤ) → int_eq number (pos 2) ≡ true → model_numbered number ≡ M2
+is_two number same = subst (λ n. model_numbered n ≡ M2) (sym ((Decides-int_eq number (pos 2)).0 same)) refl
+
+other_model : (three four five : Bool) → (three ≡ false → four ≡ false → five ≡ false → ⊥) → cond three M3 (cond four M4 (cond five M5 M2)) ≢ M2
+other_model true four five one same = cc
+other_model false true five one same = cc
+other_model false false true one same = cc
+other_model false false false one same = one refl refl refl
+
+differs : (number other : ℤ) → int_eq number other ≡ false → number ≢ other
+differs number other isnt same = false≢true (sym isnt ∙ (Decides-int_eq number other).1 same)
+
+none_of_four : (n : ℕ) → 2 ≤ n → n ≤ 5 → n ≢ 2 → n ≢ 3 → n ≢ 4 → n ≢ 5 → ⊥
+none_of_four n low high two three four five = grind arith
+
+none_left : (number : ℤ) → pos 2 ≤ℤ number → number ≤ℤ pos 5 → number ≢ pos 2 → number ≢ pos 3 → number ≢ pos 4 → number ≢ pos 5 → ⊥
+none_left (pos n) low high two three four five =
+    none_of_four n (omega (arith, ints, low)) (omega (arith, ints, high)) (λ is. two (ap pos is)) (λ is. three (ap pos is)) (λ is. four (ap pos is)) (λ is. five (ap pos is))
+none_left (negsuc n) low high two three four five = absurd (omega (arith, ints, low))
+
+in_order : (a b : ℤ) → int_le a b ≡ true → a ≤ℤ b
+in_order a b is = omega (arith, ints, is)
+
+not_two : (number : ℤ) → is_model_number number ≡ true → int_eq number (pos 2) ≡ false → model_numbered number ≢ M2
+not_two number known isnt =
+    let sides = and_parts (int_le (pos 2) number) (int_le number (pos 5)) known in
+    other_model (int_eq number (pos 3)) (int_eq number (pos 4)) (int_eq number (pos 5)) (λ three four five.
+    none_left number (in_order _ _ sides.0) (in_order _ _ sides.1) (differs number (pos 2) isnt) (differs number (pos 3) three) (differs number (pos 4) four) (differs number (pos 5) five))
+
+otherwise_by : (panels : List DraftPanel) (parts : List PanelParts) (two : Bool) (name : List ℕ) (model : Model) (otherwise : Option ℕ) → (two ≡ true → model ≡ M2)
+    → (two ≡ false → model ≢ M2) → ((q : ℕ) → IsBasePanelNamed panels name q → (other : PanelParts) × (slice_get parts q ≡ Some other) × (other.model ≡ M2))
+    → IsOtherwiseBy panels (cond two None (Some name)) otherwise → IsOtherwise parts model otherwise
+otherwise_by panels parts true name model otherwise base other there is = subst (IsOtherwise parts model) (sym is) (base refl)
+otherwise_by panels parts false name model None base other there is = absurd is
+otherwise_by panels parts false name model (Some q) base other there is =
+    let (part, at_q, two) = there q is in
+    (other refl, part, at_q, two)
+
+pub have_otherwise : (draft : DraftText) (set : Panels) → IsFaultless draft → Defines draft set → HaveOtherwise set
+have_otherwise draft set clean defines = λ p panel at_p.
+    let (inner, there, is) = draft_of_each (IsPanelOf draft.panels) draft.panels set.panels p panel defines.panels at_p in
+    let known = model_is_known draft inner p clean there in
+    subst (λ model. IsOtherwise set.panels model panel.otherwise) (sym is.model)
+    (otherwise_by draft.panels set.panels (int_eq inner.model (pos 2)) inner.otherwise (model_numbered inner.model) panel.otherwise
+    (is_two inner.model) (not_two inner.model known)
+    (λ q (base, at_q, two, named).
+    let below : q < length set.panels = omega (arith, slice_get_within draft.panels q base at_q, defines.panels.size) in
+    let (other, read) = there_in set.panels q below in
+    let its = defines.panels.are q base other at_q read in
+    (other, read, its.model ∙ ap model_numbered two))
+    is.otherwise)

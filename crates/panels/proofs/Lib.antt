@@ -9,6 +9,7 @@ pub mod Overlapping
 pub mod Sound
 pub mod Linking
 pub mod Faultless
+pub mod Placing
 pub mod Leading
 pub mod Putting
 pub mod Apart

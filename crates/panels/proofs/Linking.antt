@@ -7,19 +7,20 @@ use Rattle.std.proofs.lemmas.List.Elements.{All-nil, All-cons}
 use Rattle.std.proofs.lemmas.Slice.Eq.{bytes_eq-Decides}
 use Rattle.std.proofs.lemmas.List.{length-map}
 use Rattle.std.proofs.lemmas.Option.{slice_get-map, slice_get_within, get_or_from_slice_get, slice_get-get_or}
+use Rattle.codes3270.specs.Size.{Shape}
 use Rattle.panels.specs.declared.panel.Field.{Field as FieldItem}
 use Rattle.panels.specs.declared.fault.Part.TheVariants.{Text, Field}
 use Rattle.panels.specs.Keys.{key_names}
 use Rattle.panels.specs.Limits.{most_panels, most_fields}
-use Rattle.panels.specs.Draft.{DraftItem, DraftPanel, DraftText}
-use Rattle.panels.specs.Faults.{name_at, NamesPanel}
+use Rattle.panels.specs.Draft.{DraftItem, DraftPanel, DraftText, draft_shape, otherwise_of}
+use Rattle.panels.specs.Faults.{name_at, NamesPanel, NamesBasePanel, IsBasePanelNamed}
 use Rattle.panels.specs.Items.{is_on_screen}
 use Rattle.panels.specs.Building.{IsTextIn, AreTargetsOf}
-use Rattle.panels.specs.Defines.{IsFieldOf, IsEachOf, IsPanelNamed, IsCursorBy, IsTargetBy, fields_before, text_at_key}
+use Rattle.panels.specs.Defines.{IsFieldOf, IsEachOf, IsPanelNamed, IsCursorBy, IsOtherwiseBy, IsTargetBy, fields_before, text_at_key}
 use Rattle.panels.specs.Passes.{IsFaultless}
-use Rattle.panels.proofs.Sound.{few_panels, few_fields, before_few, cursor_is_there, target_is_there}
+use Rattle.panels.proofs.Sound.{few_panels, few_fields, before_few, cursor_is_there, otherwise_is_there, target_is_there}
 use Rattle.panels.proofs.Building.{AreBuilt}
-use Rattle.panels.proofs.Faultless.{on_screen, there_in}
+use Rattle.panels.proofs.Faultless.{on_screen, text_shape, field_shape, there_in}
 
 pub contained_at : {X : Type 0} (xs : List X) (i : ℕ) (x : X) → slice_get xs i ≡ Some x → Contains xs x
 contained_at xs i x there = (i, slice_get_within xs i x there, get_or_from_slice_get xs i x x there)
@@ -63,12 +64,18 @@ text_in panels panel i item has there =
     let (p, at_p) = place_of panels panel has in
     (p, i, ap (option_and_then (λ panel. slice_get panel.texts i)) at_p ∙ there)
 
-pub text_on_screen : (draft : DraftText) (item : DraftItem) → IsFaultless draft → IsTextIn draft.panels item → is_on_screen item ≡ true
-text_on_screen draft item clean (p, i, there) = on_screen draft (Text p i) item clean there
+pub text_on_screen : (draft : DraftText) (panel : DraftPanel) (i : ℕ) (item : DraftItem) → IsFaultless draft → Contains draft.panels panel → slice_get panel.texts i ≡ Some item
+    → is_on_screen (draft_shape panel) item ≡ true
+text_on_screen draft panel i item clean has there =
+    let (p, at_p) = place_of draft.panels panel has in
+    subst (λ s. is_on_screen s item ≡ true) (text_shape draft.panels panel p i at_p)
+    (on_screen draft (Text p i) item clean (ap (option_and_then (λ panel. slice_get panel.texts i)) at_p ∙ there))
 
 pub field_on_screen : (draft : DraftText) (panel : DraftPanel) (p i : ℕ) (item : DraftItem) → IsFaultless draft → slice_get draft.panels p ≡ Some panel
-    → slice_get panel.fields i ≡ Some item → is_on_screen item ≡ true
-field_on_screen draft panel p i item clean at_p there = on_screen draft (Field p i) item clean (ap (option_and_then (λ panel. slice_get panel.fields i)) at_p ∙ there)
+    → slice_get panel.fields i ≡ Some item → is_on_screen (draft_shape panel) item ≡ true
+field_on_screen draft panel p i item clean at_p there =
+    subst (λ s. is_on_screen s item ≡ true) (field_shape draft.panels panel p i at_p)
+    (on_screen draft (Field p i) item clean (ap (option_and_then (λ panel. slice_get panel.fields i)) at_p ∙ there))
 
 -- the text at the first of a panel's keys with a name
 abbrev pub Key : Type 0
@@ -95,9 +102,9 @@ key_searched name read keys all found same is first =
     ap (text_at_key name) (sym is ∙ ap (map seen) (sym same)) ∙ key_found name read ∙ ap (option_map (λ (key : Key). key.1.now)) (sym first)
 
 -- of the fields that are built one has the cursor's name
-pub cursor_is_named : (draft : DraftText) (panel : DraftPanel) (p : ℕ) (name : List ℕ) (fields : List FieldItem) → IsFaultless draft → slice_get draft.panels p ≡ Some panel
-    → IsEachOf (λ i. IsFieldOf (fields_before p draft.panels + i)) panel.fields fields → panel.cursor ≡ Some name → ¬ All (λ field. ¬ (field.name ≡ name)) fields
-cursor_is_named draft panel p name fields clean there are named = λ none.
+pub cursor_is_named : (shape : Shape) (draft : DraftText) (panel : DraftPanel) (p : ℕ) (name : List ℕ) (fields : List FieldItem) → IsFaultless draft → slice_get draft.panels p ≡ Some panel
+    → IsEachOf (λ i. IsFieldOf shape (fields_before p draft.panels + i)) panel.fields fields → panel.cursor ≡ Some name → ¬ All (λ field. ¬ (field.name ≡ name)) fields
+cursor_is_named shape draft panel p name fields clean there are named = λ none.
     cursor_is_there draft panel p name clean there named (λ (i, item, at_i, is).
     let below : i < length fields = omega (arith, slice_get_within panel.fields i item at_i, are.size) in
     let (field, found) = there_in fields i below in
@@ -105,11 +112,11 @@ cursor_is_named draft panel p name fields clean there are named = λ none.
     let read : get_or fields i field ≡ field = get_or_from_slice_get fields i field field found in
     none i field below (ap (λ (field : FieldItem). field.name) read ∙ its.name ∙ is))
 
-pub cursor_given : (draft : DraftText) (panel : DraftPanel) (p : ℕ) (cursor : Option (Bor (List ℕ))) (fields : List FieldItem) → IsFaultless draft
-    → slice_get draft.panels p ≡ Some panel → IsEachOf (λ i. IsFieldOf (fields_before p draft.panels + i)) panel.fields fields → option_map (λ name. name.now) cursor ≡ panel.cursor
+pub cursor_given : (shape : Shape) (draft : DraftText) (panel : DraftPanel) (p : ℕ) (cursor : Option (Bor (List ℕ))) (fields : List FieldItem) → IsFaultless draft
+    → slice_get draft.panels p ≡ Some panel → IsEachOf (λ i. IsFieldOf shape (fields_before p draft.panels + i)) panel.fields fields → option_map (λ name. name.now) cursor ≡ panel.cursor
     → IfSome cursor (λ name. ¬ All (λ field. ¬ (field.name ≡ name.now)) fields)
-cursor_given draft panel p None fields clean there are same = tt
-cursor_given draft panel p (Some name) fields clean there are same = cursor_is_named draft panel p name.now fields clean there are (sym same)
+cursor_given shape draft panel p None fields clean there are same = tt
+cursor_given shape draft panel p (Some name) fields clean there are same = cursor_is_named shape draft panel p name.now fields clean there are (sym same)
 
 -- where the cursor stands
 cursor_here : (b : Bool) (field : FieldItem) (fields : List FieldItem) (name : List ℕ) → (b ≡ true → field.name ≡ name) → (b ≡ false → ¬ (field.name ≡ name))
@@ -143,6 +150,18 @@ pub target_found : (draft : DraftText) (panel : DraftPanel) (key name : List ℕ
 target_found draft panel key name o clean has at_key found =
     let (p, there) = place_of draft.panels panel has in
     subst (λ t. IsTargetBy draft.panels t o) (sym at_key) (found_by draft.panels name o (target_is_there draft panel p key name clean there at_key) found)
+
+-- so is what is shown in a panel's place
+pub otherwise_found : (draft : DraftText) (panel : DraftPanel) (name : List ℕ) (o : Option ℕ) → IsFaultless draft → Contains draft.panels panel → otherwise_of panel ≡ Some name
+    → MatchOption o (¬ NamesBasePanel name draft.panels) (IsBasePanelNamed draft.panels name) → IsOtherwiseBy draft.panels (otherwise_of panel) o
+otherwise_found draft panel name o clean has named found =
+    let (p, there) = place_of draft.panels panel has in
+    subst (λ n. IsOtherwiseBy draft.panels n o) (sym named) (base_found draft.panels name o (otherwise_is_there draft panel p name clean there named) found)
+  where
+    base_found : (panels : List DraftPanel) (name : List ℕ) (o : Option ℕ) → (¬ NamesBasePanel name panels → ⊥)
+        → MatchOption o (¬ NamesBasePanel name panels) (IsBasePanelNamed panels name) → IsOtherwiseBy panels (Some name) o
+    base_found panels name None there found = there found
+    base_found panels name (Some p) there found = found
 
 -- the names of keys, as they are borrowed
 pub record AreKeyNames (names : List (Bor (List ℕ))) : Type 0 where

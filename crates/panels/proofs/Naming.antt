@@ -5,11 +5,11 @@ use Rattle.std.specs.Option.{option_and_then, option_map_or}
 use Rattle.std.proofs.lemmas.Bool.{false≢true}
 use Rattle.std.proofs.lemmas.Option.{none-some, same_Some, slice_get_within}
 use Rattle.panels.specs.declared.fault.TreeFault.{TreeFault}
-use Rattle.panels.specs.declared.fault.TreeFault.TheVariants.{BadName}
+use Rattle.panels.specs.declared.fault.TreeFault.TheVariants.{BadName, NoTarget}
 use Rattle.panels.specs.declared.fault.Part.{Part}
 use Rattle.panels.specs.declared.fault.Part.TheVariants.{Top, Panel, Text, Field, Keys}
 use Rattle.panels.specs.Draft.{DraftItem, DraftPanel, DraftText}
-use Rattle.panels.specs.Faults.{HasFault, has_bad_name, IsNamedBefore, IsTwiceNamed, NamesPanel, NamesField, name_at}
+use Rattle.panels.specs.Faults.{HasFault, HasLostCursor, HasLostOtherwise, has_bad_name, IsNamedBefore, IsTwiceNamed, NamesPanel, NamesField, name_at}
 use Rattle.panels.specs.Index.{NameIndex, part_named, IsLater, IsIndexTo}
 use Rattle.panels.specs.Items.{is_name}
 use Rattle.panels.specs.Walk.{is_letter_of}
@@ -179,6 +179,22 @@ lost_cursor true cursor name Has is tells = (
   λ (x, at_x, none). absurd (none (subst Has (same_Some name x (sym is ∙ at_x)) (tells.0 refl))),
 )
 lost_cursor false cursor name Has is tells = (λ lost. (name, is, λ has. false≢true (tells.1 has)), λ found. refl)
+
+-- a panel with a cursor that is there lacks a target if what is shown in its place isn't
+pub lost_otherwise : (draft : DraftText) (fault : TreeFault) (part : Part) (p : ℕ) (panel : DraftPanel) (r : Bool) → fault ≡ NoTarget → part ≡ Panel p
+    → slice_get draft.panels p ≡ Some panel → ¬ HasLostCursor panel → (IsTrue r → HasLostOtherwise panel draft.panels) × (HasLostOtherwise panel draft.panels → IsTrue r)
+    → (IsTrue r → HasFault fault part draft) × (HasFault fault part draft → IsTrue r)
+lost_otherwise draft fault part p panel r of_fault of_part there kept tells =
+    subst (λ f. (IsTrue r → HasFault f part draft) × (HasFault f part draft → IsTrue r)) (sym of_fault)
+    (subst (λ q. (IsTrue r → HasFault NoTarget q draft) × (HasFault NoTarget q draft → IsTrue r)) (sym of_part) (
+      λ is. (panel, there, inr (tells.0 is)),
+      λ (other, at_p, lost).
+          let same : other ≡ panel = same_Some other panel (sym at_p ∙ there) in
+          tells.1 (elim lost [
+            | inl cursor ↦ absurd (kept (subst HasLostCursor same cursor))
+            | inr place ↦ subst (λ (x : DraftPanel). HasLostOtherwise x draft.panels) same place
+          ]),
+    ))
 
 -- what the code tells of the name of any part is what is said of panels and fields
 bad_names : (part : Part) (panels : List DraftPanel) → option_map_or (λ name. not (is_name (is_letter_of part) name)) (name_at part panels) false ≡ has_bad_name part panels

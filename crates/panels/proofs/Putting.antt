@@ -1,12 +1,12 @@
 -- One thing put over another.
 use Rattle.std.proofs.Common.{◌≡◌, ◌<◌, ◌≤◌, ◌+◌, ◌-◌, ℕ, zero, suc, Bor, List, [], ◌∷◌, ◌++◌, length, get_or, set, drop, Bool, true, false, cond, Option, Some, None, refl, ap, sym, subst, ◌∙◌, arith, inl, inr}
-use Rattle.std.specs.Prelude.{codes, is_some, option_copied, IfSome, ◌⊎◌, ◌==◌, ◌≢◌, ◌&&◌, nat_le, nat_lt, unwrap_or, slice_get, slice_index_or}
+use Rattle.std.specs.Prelude.{All, find, codes, is_some, option_copied, IfSome, ◌⊎◌, ◌==◌, ◌≢◌, ◌&&◌, nat_le, nat_lt, unwrap_or, slice_get, slice_index_or}
 use Rattle.std.specs.Option.{option_or, option_and_then, option_map_or}
 use Rattle.std.proofs.lemmas.List.{drop_more, get_or-set_same, get_or-set_other, length-set}
 use Rattle.std.proofs.lemmas.Bool.{cases_eq}
 use Rattle.std.proofs.lemmas.Option.{slice_get_past, slice_get-get_or}
 use Rattle.std.proofs.lemmas.Bool.Decides.{nat_tests}
-use Rattle.codes3270.specs.Size.{cell_count}
+use Rattle.codes3270.specs.Size.{Shape, cells_in}
 use Rattle.codes3270.specs.CodePage.{code_of}
 use Rattle.codes3270.specs.declared.attribute.Attr.{Attr}
 use Rattle.datastream.specs.Wanted.{WantedScreen}
@@ -16,10 +16,12 @@ use Rattle.panels.specs.declared.message.Message.{Message}
 use Rattle.panels.specs.declared.message.Message.TheVariants.{Fresh, Plain, KeyNotActive, Required}
 use Rattle.panels.specs.declared.panel.Field.{Field}
 use Rattle.panels.specs.declared.panel.TextItem.{TextItem}
+use Rattle.panels.specs.declared.extent.Extent.{Extent}
 use Rattle.panels.specs.Size.{message_start}
-use Rattle.panels.specs.Panel.{PanelParts}
-use Rattle.panels.specs.Screen.{Values, item_cell, autoskip_attr, first_some, text_cell, field_cell, stopper_cell, coded, message_text, wanted_cell, wanted_cursor}
-use Rattle.panels.specs.Put.{IsPut, field_spoken, row_cell, text_with}
+use Rattle.panels.specs.Panel.{PanelParts, IsAbove, IsLaidOut, shape_of}
+use Rattle.panels.specs.Screen.{Values, item_cell, autoskip_attr, field_numbered, first_some, text_cell, field_cell, stopper_cell, coded, message_text, wanted_cell, wanted_cursor}
+use Rattle.panels.specs.Put.{ArePut, IsPut, FitsOn, field_spoken, row_cell, text_with}
+use Rattle.panels.proofs.Placing.{cells_some, start_before_end}
 
 pub over : {X : Type 0} (one other : Option X) (under : X) → unwrap_or (option_or one other) under ≡ unwrap_or one (unwrap_or other under)
 over None other under = refl
@@ -27,16 +29,39 @@ over (Some x) other under = refl
 
 -- ---- one of a list over those behind it
 
-pub put_back : {X : Type 0} (find : ℕ → X → Option Want) (xs : List X) (n : ℕ) (x : X) (base old new : List Want) → 0 < n → n ≤ length xs → x ≡ get_or xs (n - 1) x
+fits_on : (extent : Extent) (shape : Shape) → IsAbove shape extent → message_start shape < cells_in shape → FitsOn shape extent
+fits_on extent shape above before = before_end (extent.first + extent.length) (message_start shape) (cells_in shape) above before
+  where
+    before_end : (end start cells : ℕ) → end ≤ start → start < cells → end < cells
+    before_end end start cells above before = omega arith
+
+pub put_back : {X : Type 0} (find : ℕ → X → Option Want) (xs : List X) (n : ℕ) (x : X) (base old new : WantedScreen) → 0 < n → n ≤ length xs → x ≡ get_or xs (n - 1) x
     → IsPut (λ cell. first_some (find cell) (drop n xs)) base old → IsPut (λ cell. find cell x) old new
     → IsPut (λ cell. first_some (find cell) (drop (n - 1) xs)) base new
-put_back find xs n x base old new some fits is before now cell default below =
+put_back find xs n x base old new some fits is before now = (
+  now.0 ∙ before.0,
+  λ cell default below.
+      let within : n - 1 < length xs = omega arith in
+      let up : n - 1 + 1 ≡ n = omega arith in
+      let step : drop (n - 1) xs ≡ x ∷ drop n xs = drop_more xs (n - 1) x within ∙ ap (λ y. y ∷ drop (n - 1 + 1) xs) (sym is) ∙ ap (λ m. x ∷ drop m xs) up in
+      now.1 cell default (subst (λ s. cell < cells_in s) (sym before.0) below) ∙ ap (unwrap_or (find cell x)) (before.1 cell default below)
+      ∙ sym (over (find cell x) (first_some (find cell) (drop n xs)) (get_or base.cells cell default))
+      ∙ ap (λ ys. unwrap_or (first_some (find cell) ys) (get_or base.cells cell default)) (sym step),
+)
+
+-- where all things of a list fit, the one at a place does
+pub fits_at : {X : Type 0} (extent : X → Extent) (shape other : Shape) (xs : List X) (n : ℕ) (x : X) → other ≡ shape → All (λ y. FitsOn shape (extent y)) xs → 0 < n → n ≤ length xs
+    → x ≡ get_or xs (n - 1) x → FitsOn other (extent x)
+fits_at extent shape other xs n x same all some fits is =
     let within : n - 1 < length xs = omega arith in
-    let up : n - 1 + 1 ≡ n = omega arith in
-    let step : drop (n - 1) xs ≡ x ∷ drop n xs = drop_more xs (n - 1) x within ∙ ap (λ y. y ∷ drop (n - 1 + 1) xs) (sym is) ∙ ap (λ m. x ∷ drop m xs) up in
-    now cell default below ∙ ap (unwrap_or (find cell x)) (before cell default below)
-    ∙ sym (over (find cell x) (first_some (find cell) (drop n xs)) (get_or base cell default))
-    ∙ ap (λ ys. unwrap_or (first_some (find cell) ys) (get_or base cell default)) (sym step)
+    subst (λ s. FitsOn s (extent x)) (sym same) (subst (λ y. FitsOn shape (extent y)) (sym is) (all (n - 1) x within))
+
+-- what lies above the row for messages fits on the screen
+pub all_fit : {X : Type 0} (extent : X → Extent) (panel : PanelParts) (shape : Shape) (xs : List X) → shape ≡ shape_of panel → All (λ x. IsAbove (shape_of panel) (extent x)) xs
+    → All (λ x. FitsOn shape (extent x)) xs
+all_fit extent panel shape xs same all = λ k d below.
+    subst (λ s. FitsOn s (extent (get_or xs k d))) (sym same)
+    (fits_on (extent (get_or xs k d)) (shape_of panel) (all k d below) (start_before_end (shape_of panel) (cells_some panel.model)))
 
 -- ---- cell after cell
 
@@ -44,7 +69,7 @@ put_back find xs n x base old new some fits is before now cell default below =
 abbrev pub some_from : ℕ → ℕ → (ℕ → Want) → ℕ → Option Want
 some_from start n f cell = cond (nat_le start cell && nat_lt cell (start + n)) (Some (f (cell - start))) None
 
-abbrev pub IsPutFrom : ℕ → ℕ → (ℕ → Want) → List Want → List Want → Type 0
+abbrev pub IsPutFrom : ℕ → ℕ → (ℕ → Want) → WantedScreen → WantedScreen → Type 0
 IsPutFrom start n f old new = IsPut (some_from start n f) old new
 
 if_true : {X : Type 0} (b : Bool) (x y : X) → b ≡ true → cond b x y ≡ x
@@ -59,9 +84,9 @@ last_within start n cell is = grind (arith, nat_tests)
 others_within : (start n cell : ℕ) → cell ≢ start + n → (nat_le start cell && nat_lt cell (start + (n + 1))) ≡ (nat_le start cell && nat_lt cell (start + n))
 others_within start n cell is = grind (arith, nat_tests)
 
-pub put_more : (start n : ℕ) (f : ℕ → Want) (base old : List Want) → length old ≡ cell_count → start + n < cell_count
-    → IsPutFrom start n f base old → IsPutFrom start (n + 1) f base (set old (start + n) (f n))
-put_more start n f base old size within before cell default below =
+put_more : (size start n : ℕ) (f : ℕ → Want) (base old : List Want) → length old ≡ size → start + n < size
+    → ArePut size (some_from start n f) base old → ArePut size (some_from start (n + 1) f) base (set old (start + n) (f n))
+put_more size start n f base old long within before cell default below =
     let fits : start + n < length old = omega arith in
     elim (cases_eq cell (start + n)) [
       | inl same ↦
@@ -75,36 +100,46 @@ put_more start n f base old size within before cell default below =
     ]
 
 -- a screen on which a cell was put, so that it has all its cells, had them before
-size_before : (place : ℕ) (want : Want) (old new : WantedScreen) → new ≡ record old { cells = set old.cells place want } → length new.cells ≡ cell_count → length old.cells ≡ cell_count
+size_before : (place : ℕ) (want : Want) (old new : WantedScreen) → new ≡ record old { cells = set old.cells place want } → length new.cells ≡ cells_in new.size
+    → length old.cells ≡ cells_in old.size
 size_before place want old new is size =
     sym (length-set old.cells place want) ∙ ap length (sym (ap (λ (screen : WantedScreen). screen.cells) is)) ∙ size
+    ∙ ap (λ (screen : WantedScreen). cells_in screen.size) is
 
-pub put_next : (start n place : ℕ) (f : ℕ → Want) (base : List Want) (want : Want) (old new : WantedScreen) → place ≡ start + n → want ≡ f n → start + n < cell_count
-    → new ≡ record old { cells = set old.cells place want } → length new.cells ≡ cell_count
-    → IsPutFrom start n f base old.cells → IsPutFrom start (n + 1) f base new.cells
+pub put_next : (start n place : ℕ) (f : ℕ → Want) (base : WantedScreen) (want : Want) (old new : WantedScreen) → place ≡ start + n → want ≡ f n → start + n < cells_in base.size
+    → new ≡ record old { cells = set old.cells place want } → length new.cells ≡ cells_in new.size
+    → IsPutFrom start n f base old → IsPutFrom start (n + 1) f base new
 put_next start n place f base want old new at wants within is size before =
     let cells : new.cells ≡ set old.cells (start + n) (f n) =
     ap (λ (screen : WantedScreen). screen.cells) is ∙ ap (λ p. set old.cells p want) at ∙ ap (set old.cells (start + n)) wants in
-    subst (IsPutFrom start (n + 1) f base) (sym cells) (put_more start n f base old.cells (size_before place want old new is size) within before)
+    let long : length old.cells ≡ cells_in base.size = size_before place want old new is size ∙ ap cells_in before.0 in (
+      ap (λ (screen : WantedScreen). screen.size) is ∙ before.0,
+      subst (ArePut (cells_in base.size) (some_from start (n + 1) f) base.cells) (sym cells)
+          (put_more (cells_in base.size) start n f base.cells old.cells long within before.1),
+    )
 
 nothing_within : (start cell : ℕ) → (nat_le start cell && nat_lt cell (start + 0)) ≡ false
 nothing_within start cell = grind (arith, nat_tests)
 
-put_none : (start : ℕ) (f : ℕ → Want) (base : List Want) → IsPutFrom start 0 f base base
-put_none start f base cell default below = ap (λ o. unwrap_or o (get_or base cell default)) (sym (if_false _ (Some (f (cell - start))) None (nothing_within start cell)))
+put_none : (start : ℕ) (f : ℕ → Want) (base : WantedScreen) → IsPutFrom start 0 f base base
+put_none start f base = (
+  refl,
+  λ cell default below. ap (λ o. unwrap_or o (get_or base.cells cell default)) (sym (if_false _ (Some (f (cell - start))) None (nothing_within start cell))),
+)
 
-pub put_first : (start : ℕ) (f : ℕ → Want) (want : Want) (old new : WantedScreen) → want ≡ f 0 → start + 0 < cell_count
-    → new ≡ record old { cells = set old.cells start want } → length new.cells ≡ cell_count → IsPutFrom start 1 f old.cells new.cells
-put_first start f want old new wants within is size = put_next start 0 start f old.cells want old new (omega arith) wants within is size (put_none start f old.cells)
+pub put_first : (start : ℕ) (f : ℕ → Want) (want : Want) (old new : WantedScreen) → want ≡ f 0 → start + 0 < cells_in old.size
+    → new ≡ record old { cells = set old.cells start want } → length new.cells ≡ cells_in new.size → IsPutFrom start 1 f old new
+put_first start f want old new wants within is size = put_next start 0 start f old want old new (omega arith) wants within is size (put_none start f old)
 
-all_within : (n cell : ℕ) → n ≡ cell_count → cell < cell_count → (nat_le 0 cell && nat_lt cell (0 + n)) ≡ true
-all_within n cell is below = grind (arith, nat_tests)
+all_within : (n cell : ℕ) → cell < n → (nat_le 0 cell && nat_lt cell (0 + n)) ≡ true
+all_within n cell below = grind (arith, nat_tests)
 
-pub nulls_put : (n : ℕ) (base now : List Want) → n ≡ cell_count → IsPutFrom 0 n (λ distance. want.Char 0) base now
-    → (cell : ℕ) (default : Want) → cell < cell_count → get_or now cell default ≡ want.Char 0
-nulls_put n base now is put cell default below =
-    put cell default below
-    ∙ ap (λ o. unwrap_or o (get_or base cell default)) (if_true (nat_le 0 cell && nat_lt cell (0 + n)) (Some (want.Char 0)) None (all_within n cell is below))
+pub nulls_put : (n : ℕ) (base now : WantedScreen) → n ≡ cells_in base.size → IsPutFrom 0 n (λ distance. want.Char 0) base now
+    → (cell : ℕ) (default : Want) → cell < cells_in base.size → get_or now.cells cell default ≡ want.Char 0
+nulls_put n base now whole put cell default below =
+    put.1 cell default below
+    ∙ ap (λ o. unwrap_or o (get_or base.cells cell default))
+    (if_true (nat_le 0 cell && nat_lt cell (0 + n)) (Some (want.Char 0)) None (all_within n cell (subst (λ m. cell < m) (sym whole) below)))
 
 -- ---- the message
 
@@ -119,6 +154,32 @@ cursor_is panel Fresh = refl
 cursor_is panel Plain = refl
 cursor_is panel KeyNotActive = refl
 cursor_is panel (Required number) = refl
+
+if_found : {X : Type 0} (P : X → Type 0) (b : Bool) (x : X) (rest : Option X) → P x → IfSome rest P → IfSome (cond b (Some x) rest) P
+if_found P true x rest first more = first
+if_found P false x rest first more = more
+
+found_has : {X : Type 0} (P : X → Type 0) (test : X → Bool) (xs : List X) → All P xs → IfSome (find test xs) P
+found_has P test [] all = tt
+found_has P test (x ∷ xs) all =
+    if_found P (test x) x (find test xs) (all 0 x (omega arith)) (found_has P test xs (λ k d below. all (suc k) d (omega (arith, below))))
+
+first_on : (extent : Extent) (start cells : ℕ) → extent.first + extent.length ≤ start → start < cells → extent.first < cells
+first_on extent start cells above before = omega (arith, above, before)
+
+place_on : (shape : Shape) (o : Option Field) (cursor : ℕ) → cursor < cells_in shape → message_start shape < cells_in shape → IfSome o (λ field. IsAbove shape field.extent)
+    → option_map_or (λ field. field.extent.first) o cursor < cells_in shape
+place_on shape None cursor within before above = within
+place_on shape (Some field) cursor within before above = first_on field.extent (message_start shape) (cells_in shape) above before
+
+-- the cursor is on the screen
+pub cursor_within : (panel : PanelParts) (message : Message) → IsLaidOut panel → wanted_cursor panel message < cells_in (shape_of panel)
+cursor_within panel Fresh laid = laid.cursor
+cursor_within panel Plain laid = laid.cursor
+cursor_within panel KeyNotActive laid = laid.cursor
+cursor_within panel (Required number) laid =
+    place_on (shape_of panel) (field_numbered number panel.fields) panel.cursor laid.cursor (start_before_end (shape_of panel) (cells_some panel.model))
+    (found_has (λ (field : Field). IsAbove (shape_of panel) field.extent) (λ field. field.number == number) panel.fields laid.fields)
 
 -- what `get` answers of a text
 pub got : (text : List ℕ) (i : ℕ) (found : Option (Bor ℕ)) → is_some found ≡ nat_lt i (length text) → IfSome found (λ byte. byte.now ≡ slice_index_or text i byte.now)
@@ -167,21 +228,23 @@ character_at attr text n byte is =
     let back : n + 1 - 1 ≡ n = omega arith in
     ap want.Char (is ∙ ap (λ k. slice_index_or text k 0) (sym back)) ∙ sym (if_false (n + 1 == 0) (want.Attr attr) (want.Char (slice_index_or text (n + 1 - 1) 0)) some)
 
-row_range : (cell : ℕ) → cell < cell_count → (nat_le message_start cell && nat_lt cell (message_start + (cell_count - message_start))) ≡ cond (nat_lt cell message_start) false true
-row_range cell below = grind (arith, nat_tests)
+row_range : (start n cell : ℕ) → cell < start + n → (nat_le start cell && nat_lt cell (start + n)) ≡ cond (nat_lt cell start) false true
+row_range start n cell below = grind (arith, nat_tests)
 
 turned : {X : Type 0} (b : Bool) (x : X) → cond (cond b false true) (Some x) None ≡ cond b None (Some x)
 turned true x = refl
 turned false x = refl
 
-pub row_put : (text : List ℕ) (n : ℕ) (base now : List Want) → n ≡ cell_count - message_start
-    → IsPutFrom message_start n (item_cell (autoskip_attr true) text) base now
-    → IsPut (row_cell text) base now
-row_put text n base now whole is cell default below =
-    subst (λ n. IsPutFrom message_start n (item_cell (autoskip_attr true) text) base now) whole is cell default below
-    ∙ ap (λ o. unwrap_or o (get_or base cell default))
-    (ap (λ b. cond b (Some (item_cell (autoskip_attr true) text (cell - message_start))) None) (row_range cell below)
-    ∙ turned (nat_lt cell message_start) (item_cell (autoskip_attr true) text (cell - message_start)))
+pub row_put : (start n : ℕ) (text : List ℕ) (base now : WantedScreen) → start + n ≡ cells_in base.size → IsPutFrom start n (item_cell (autoskip_attr true) text) base now
+    → IsPut (row_cell start text) base now
+row_put start n text base now whole is = (
+  is.0,
+  λ cell default below.
+      is.1 cell default below
+      ∙ ap (λ o. unwrap_or o (get_or base.cells cell default))
+      (ap (λ b. cond b (Some (item_cell (autoskip_attr true) text (cell - start))) None) (row_range start n cell (subst (λ m. cell < m) (sym whole) below))
+      ∙ turned (nat_lt cell start) (item_cell (autoskip_attr true) text (cell - start))),
+)
 
 -- ---- all of them
 
@@ -193,19 +256,31 @@ layered texts fields message stoppers null base one two three four e0 e1 e2 e3 e
     ∙ sym (over texts (option_or fields (option_or message stoppers)) null
     ∙ ap (unwrap_or texts) (over fields (option_or message stoppers) null ∙ ap (unwrap_or fields) (over message stoppers null)))
 
-pub put_all : (panel : PanelParts) (values : Values) (message : Message) (keep : Bool) (name : List ℕ) (texts : List TextItem) (fields : List Field) (base one two three four : List Want)
-    → name ≡ option_map_or (λ field. field.name) (field_spoken panel.fields message) [] → texts ≡ panel.texts → fields ≡ panel.fields → ((cell : ℕ) (default : Want) → cell < cell_count → get_or base cell default ≡ want.Char 0)
-    → IsPut (λ cell. first_some (stopper_cell cell) fields) base one → IsPut (row_cell (text_with name message)) one two
+-- a cell of one screen is one of another of its size
+still : (one other : WantedScreen) (cell : ℕ) → one.size ≡ other.size → cell < cells_in other.size → cell < cells_in one.size
+still one other cell same below = subst (λ s. cell < cells_in s) (sym same) below
+
+pub put_all : (panel : PanelParts) (values : Values) (message : Message) (keep : Bool) (name : List ℕ) (texts : List TextItem) (fields : List Field) (base one two three four : WantedScreen)
+    → base.size ≡ shape_of panel → name ≡ option_map_or (λ field. field.name) (field_spoken panel.fields message) [] → texts ≡ panel.texts → fields ≡ panel.fields
+    → ((cell : ℕ) (default : Want) → cell < cells_in base.size → get_or base.cells cell default ≡ want.Char 0)
+    → IsPut (λ cell. first_some (stopper_cell cell) fields) base one → IsPut (row_cell (message_start one.size) (text_with name message)) one two
     → IsPut (λ cell. first_some (field_cell values message keep cell) fields) two three → IsPut (λ cell. first_some (text_cell values cell) texts) three four
-    → (cell : ℕ) (default : Want) → cell < cell_count → get_or four cell default ≡ wanted_cell panel values message keep cell
-put_all panel values message keep name texts fields base one two three four same_name same_texts same_fields nulls stoppers row inputs labels cell default below =
-    layered (first_some (text_cell values cell) texts) (first_some (field_cell values message keep cell) fields) (row_cell (text_with name message) cell)
-    (first_some (stopper_cell cell) fields) (want.Char 0) _ _ _ _ _ (nulls cell default below) (stoppers cell default below) (row cell default below)
-    (inputs cell default below) (labels cell default below)
+    → (cell : ℕ) (default : Want) → cell < cells_in (shape_of panel) → get_or four.cells cell default ≡ wanted_cell panel values message keep cell
+put_all panel values message keep name texts fields base one two three four whole same_name same_texts same_fields nulls stoppers row inputs labels cell default within =
+    let below : cell < cells_in base.size = subst (λ s. cell < cells_in s) (sym whole) within in
+    let at_one = still one base cell stoppers.0 below in
+    let at_two = still two one cell row.0 at_one in
+    let at_three = still three two cell inputs.0 at_two in
+    let start : message_start one.size ≡ message_start (shape_of panel) = ap message_start (stoppers.0 ∙ whole) in
+    layered (first_some (text_cell values cell) texts) (first_some (field_cell values message keep cell) fields) (row_cell (message_start one.size) (text_with name message) cell)
+    (first_some (stopper_cell cell) fields) (want.Char 0) _ _ _ _ _ (nulls cell default below) (stoppers.1 cell default below) (row.1 cell default at_one)
+    (inputs.1 cell default at_two) (labels.1 cell default at_three)
     ∙ ap (λ ts. unwrap_or (option_or (first_some (text_cell values cell) ts) (option_or (first_some (field_cell values message keep cell) fields)
-    (option_or (row_cell (text_with name message) cell) (first_some (stopper_cell cell) fields)))) (want.Char 0)) same_texts
+    (option_or (row_cell (message_start one.size) (text_with name message) cell) (first_some (stopper_cell cell) fields)))) (want.Char 0)) same_texts
     ∙ ap (λ fs. unwrap_or (option_or (first_some (text_cell values cell) panel.texts) (option_or (first_some (field_cell values message keep cell) fs)
-    (option_or (row_cell (text_with name message) cell) (first_some (stopper_cell cell) fs)))) (want.Char 0)) same_fields
+    (option_or (row_cell (message_start one.size) (text_with name message) cell) (first_some (stopper_cell cell) fs)))) (want.Char 0)) same_fields
+    ∙ ap (λ n. unwrap_or (option_or (first_some (text_cell values cell) panel.texts) (option_or (first_some (field_cell values message keep cell) panel.fields)
+    (option_or (row_cell n (text_with name message) cell) (first_some (stopper_cell cell) panel.fields)))) (want.Char 0)) start
     ∙ ap (λ text. unwrap_or (option_or (first_some (text_cell values cell) panel.texts) (option_or (first_some (field_cell values message keep cell) panel.fields)
-    (option_or (row_cell text cell) (first_some (stopper_cell cell) panel.fields)))) (want.Char 0))
+    (option_or (row_cell (message_start (shape_of panel)) text cell) (first_some (stopper_cell cell) panel.fields)))) (want.Char 0))
     (ap (λ n. text_with n message) same_name ∙ text_is panel.fields message)

@@ -1,5 +1,5 @@
 -- What a draft without a fault has.
-use Rattle.std.proofs.Common.{◌≡◌, ◌≤◌, ◌*◌, ℕ, zero, suc, List, [], ◌∷◌, length, Option, Some, None, Bool, true, false, ◌||◌, refl, sym, ap, ◌∙◌, arith}
+use Rattle.std.proofs.Common.{◌≡◌, ◌≤◌, ◌*◌, ℕ, zero, suc, List, [], ◌∷◌, length, Option, Some, None, Bool, true, false, not, ◌||◌, refl, sym, ap, ◌∙◌, inl, inr, arith}
 use Rattle.std.specs.Prelude.{is_some, Contains, nat_lt, slice_get, bytes_eq, if◌then◌else◌}
 use Rattle.std.specs.Option.{option_map_or}
 use Rattle.std.proofs.lemmas.Bool.{false≢true, false_from_ne_true}
@@ -8,11 +8,16 @@ use Rattle.std.proofs.lemmas.Option.{same_Some}
 use Rattle.panels.specs.declared.fault.TreeFault.TheVariants as fault
 use Rattle.panels.specs.declared.fault.Part.TheVariants.{Top, Panel, Text, Keys}
 use Rattle.panels.specs.Limits.{most_panels, most_fields}
-use Rattle.panels.specs.Draft.{DraftItem, DraftPanel, DraftText}
-use Rattle.panels.specs.Faults.{HasFieldNamed, NamesField, NamesPanel, has_too_many, item_at}
+use Rattle.panels.specs.Size.{is_model_number}
+use Rattle.panels.specs.Draft.{DraftItem, DraftPanel, DraftText, otherwise_of}
+use Rattle.panels.specs.Faults.{NamesBasePanel, HasFieldNamed, NamesField, NamesPanel, has_too_many, item_at}
 use Rattle.panels.specs.Passes.{IsFaultless}
 use Rattle.panels.specs.Defines.{fields_before, text_at_key}
 use Rattle.panels.proofs.Faultless.{no_fault}
+
+not_not : (b : Bool) → ¬ (not b ≡ true) → b ≡ true
+not_not true is = refl
+not_not false is = absurd (is refl)
 
 -- what a text shows, where the text starts, where the cursor stands and where a key leads is there
 pub shown_is_there : (draft : DraftText) (item : DraftItem) (p i : ℕ) → IsFaultless draft → item_at (Text p i) draft.panels ≡ Some item → item.text ≡ None
@@ -24,7 +29,18 @@ start_is_there draft clean lost = no_fault draft Top fault.NoTarget clean refl l
 
 pub cursor_is_there : (draft : DraftText) (panel : DraftPanel) (p : ℕ) (name : List ℕ) → IsFaultless draft → slice_get draft.panels p ≡ Some panel
     → panel.cursor ≡ Some name → ¬ HasFieldNamed name panel → ⊥
-cursor_is_there draft panel p name clean there named lost = no_fault draft (Panel p) fault.NoTarget clean (ap is_some there) (panel, name, there, named, lost)
+cursor_is_there draft panel p name clean there named lost = no_fault draft (Panel p) fault.NoTarget clean (ap is_some there) (panel, there, inl (name, named, lost))
+
+-- so is what is shown in a panel's place
+pub otherwise_is_there : (draft : DraftText) (panel : DraftPanel) (p : ℕ) (name : List ℕ) → IsFaultless draft → slice_get draft.panels p ≡ Some panel
+    → otherwise_of panel ≡ Some name → ¬ NamesBasePanel name draft.panels → ⊥
+otherwise_is_there draft panel p name clean there named lost = no_fault draft (Panel p) fault.NoTarget clean (ap is_some there) (panel, there, inr (name, named, lost))
+
+-- a panel's model is one of 2 to 5
+pub model_is_known : (draft : DraftText) (panel : DraftPanel) (p : ℕ) → IsFaultless draft → slice_get draft.panels p ≡ Some panel → is_model_number panel.model ≡ true
+model_is_known draft panel p clean there =
+    let at_panel = ap (λ o. option_map_or (λ (panel : DraftPanel). not (is_model_number panel.model)) o false) there in
+    not_not (is_model_number panel.model) (λ is. no_fault draft (Panel p) fault.BadModel clean (ap is_some there) (at_panel ∙ is))
 
 later : {X : Type 0} (x y : X) (xs : List X) → Contains xs y → Contains (x ∷ xs) y
 later x y xs (k, below, is) = (suc k, omega arith, is)

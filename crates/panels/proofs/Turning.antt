@@ -6,7 +6,7 @@ use Rattle.std.proofs.lemmas.Bool.{cases_Bool, false≢true}
 use Rattle.std.proofs.lemmas.Bool.Decides.{Decides-eqb}
 use Rattle.std.proofs.lemmas.Option.{none-some, same_Some, slice_get-get_or, slice_get_cases}
 use Rattle.panels.specs.declared.fault.TreeFault.{TreeFault}
-use Rattle.panels.specs.declared.fault.TreeFault.TheVariants.{UnknownKey, Missing, BadKind, BadName, TwiceNamed, OutOfPlace, Overlap, NoCode, NoTarget, BadKey, TooMany}
+use Rattle.panels.specs.declared.fault.TreeFault.TheVariants.{UnknownKey, Missing, BadKind, BadName, TwiceNamed, OutOfPlace, Overlap, NoCode, NoTarget, BadKey, TooMany, BadModel}
 use Rattle.panels.specs.declared.fault.Part.{Part}
 use Rattle.panels.specs.declared.fault.Part.TheVariants.{Top, Panel, Text, Field, Keys}
 use Rattle.panels.specs.declared.fault.At.{At}
@@ -305,6 +305,7 @@ pass_some TooMany = omega arith
 pass_some BadName = omega arith
 pass_some BadKey = omega arith
 pass_some TwiceNamed = omega arith
+pass_some BadModel = omega arith
 pass_some OutOfPlace = omega arith
 pass_some NoCode = omega arith
 pass_some Overlap = omega arith
@@ -318,6 +319,7 @@ pass_below TooMany = omega arith
 pass_below BadName = omega arith
 pass_below BadKey = omega arith
 pass_below TwiceNamed = omega arith
+pass_below BadModel = omega arith
 pass_below OutOfPlace = omega arith
 pass_below NoCode = omega arith
 pass_below Overlap = omega arith
@@ -353,8 +355,9 @@ looked_for TooMany = (0, omega arith, refl)
 looked_for BadName = (0, omega arith, refl)
 looked_for BadKey = (1, omega arith, refl)
 looked_for TwiceNamed = (2, omega arith, refl)
-looked_for OutOfPlace = (0, omega arith, refl)
-looked_for NoCode = (1, omega arith, refl)
+looked_for BadModel = (0, omega arith, refl)
+looked_for OutOfPlace = (1, omega arith, refl)
+looked_for NoCode = (2, omega arith, refl)
 looked_for Overlap = (0, omega arith, refl)
 looked_for NoTarget = (0, omega arith, refl)
 
@@ -368,11 +371,6 @@ none_in_turn pass k fault is = absurd (none-some fault is)
 one_in_turn : (pass : ℕ) (f : TreeFault) → pass_of f ≡ pass → fault_turn f ≡ 0 → AreInTurn pass (f ∷ [])
 one_in_turn pass f at_pass at_turn zero fault is = subst (λ g. (pass_of g ≡ pass) × (fault_turn g ≡ 0)) (same_Some f fault is) (at_pass, at_turn)
 one_in_turn pass f at_pass at_turn (suc k) fault is = absurd (none-some fault is)
-
-two_in_turn : (pass : ℕ) (f g : TreeFault) → pass_of f ≡ pass → fault_turn f ≡ 0 → pass_of g ≡ pass → fault_turn g ≡ 1 → AreInTurn pass (f ∷ g ∷ [])
-two_in_turn pass f g f_pass f_turn g_pass g_turn zero fault is = subst (λ h. (pass_of h ≡ pass) × (fault_turn h ≡ 0)) (same_Some f fault is) (f_pass, f_turn)
-two_in_turn pass f g f_pass f_turn g_pass g_turn (suc zero) fault is = subst (λ h. (pass_of h ≡ pass) × (fault_turn h ≡ 1)) (same_Some g fault is) (g_pass, g_turn)
-two_in_turn pass f g f_pass f_turn g_pass g_turn (suc (suc k)) fault is = absurd (none-some fault is)
 
 three_in_turn : (pass : ℕ) (f g h : TreeFault) → pass_of f ≡ pass → fault_turn f ≡ 0 → pass_of g ≡ pass → fault_turn g ≡ 1 → pass_of h ≡ pass → fault_turn h ≡ 2
     → AreInTurn pass (f ∷ g ∷ h ∷ [])
@@ -395,7 +393,7 @@ in_turn pass =
     at_pass pass 1 _ _ (three_in_turn 1 UnknownKey Missing BadKind refl refl refl refl refl refl)
     (at_pass pass 2 _ _ (one_in_turn 2 TooMany refl refl)
     (at_pass pass 3 _ _ (three_in_turn 3 BadName BadKey TwiceNamed refl refl refl refl refl refl)
-    (at_pass pass 4 _ _ (two_in_turn 4 OutOfPlace NoCode refl refl refl refl)
+    (at_pass pass 4 _ _ (three_in_turn 4 BadModel OutOfPlace NoCode refl refl refl refl refl refl)
     (at_pass pass 5 _ _ (one_in_turn 5 Overlap refl refl)
     (at_pass pass 6 _ _ (one_in_turn 6 NoTarget refl refl) (none_in_turn pass))))))
 
@@ -426,6 +424,7 @@ its_turn TooMany = refl
 its_turn BadName = refl
 its_turn BadKey = refl
 its_turn TwiceNamed = refl
+its_turn BadModel = refl
 its_turn OutOfPlace = refl
 its_turn NoCode = refl
 its_turn Overlap = refl

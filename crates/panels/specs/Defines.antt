@@ -2,6 +2,7 @@
 use Rattle.std.specs.Prelude.{◌≡◌, ℕ, zero, suc, ◌+◌, List, [], ◌∷◌, length, Option, Some, None, option_and_then, slice_get, bytes_eq, chars, if◌then◌else◌}
 use Rattle.std.specs.Option.{option_map_or}
 use Rattle.codes3270.specs.declared.attention.Aid.{Aid}
+use Rattle.codes3270.specs.Size.{Shape}
 use Rattle.toml.specs.Data.{Members}
 use Rattle.toml.specs.Parse.{parse_document}
 use Rattle.panels.specs.declared.fault.Part.TheVariants as part
@@ -10,8 +11,9 @@ use Rattle.panels.specs.declared.panel.Content.TheVariants.{Literal, Show}
 use Rattle.panels.specs.declared.panel.TextItem.{TextItem}
 use Rattle.panels.specs.declared.panel.Field.{Field}
 use Rattle.panels.specs.Characters.{codes_of}
-use Rattle.panels.specs.Draft.{DraftItem, DraftPanel, DraftText, draft_of}
-use Rattle.panels.specs.Faults.{name_at}
+use Rattle.panels.specs.Size.{model_numbered}
+use Rattle.panels.specs.Draft.{DraftItem, DraftPanel, DraftText, draft_of, draft_shape, otherwise_of}
+use Rattle.panels.specs.Faults.{name_at, IsBasePanelNamed}
 use Rattle.panels.specs.Items.{IsExtentOf}
 use Rattle.panels.specs.Keys.{key_names, name_of_key, IsKey}
 use Rattle.panels.specs.Panel.{PanelParts, target_of, Panels}
@@ -35,15 +37,15 @@ abbrev pub IsContentOf : List DraftPanel → DraftItem → Content → Type 0
 IsContentOf panels item (Literal shown) = (text : List ℕ) × (item.text ≡ Some text) × (shown ≡ codes_of (chars text))
 IsContentOf panels item (Show number) = (item.text ≡ None) × IsFieldNamed panels item.show number
 
-pub record IsTextOf (panels : List DraftPanel) (item : DraftItem) (text : TextItem) : Type 0 where
-  pub extent : IsExtentOf item text.extent
+pub record IsTextOf (shape : Shape) (panels : List DraftPanel) (item : DraftItem) (text : TextItem) : Type 0 where
+  pub extent : IsExtentOf shape item text.extent
   pub bright : text.bright ≡ item.bright
   pub content : IsContentOf panels item text.content
 
-pub record IsFieldOf (n : ℕ) (item : DraftItem) (field : Field) : Type 0 where
+pub record IsFieldOf (shape : Shape) (n : ℕ) (item : DraftItem) (field : Field) : Type 0 where
   pub number : field.number ≡ n
   pub name : field.name ≡ item.name
-  pub extent : IsExtentOf item field.extent
+  pub extent : IsExtentOf shape item field.extent
   pub numeric : field.numeric ≡ item.numeric
   pub hidden : field.hidden ≡ item.hidden
   pub required : field.required ≡ item.required
@@ -72,9 +74,17 @@ IsTargetBy panels None target = target ≡ None
 IsTargetBy panels (Some name) None = ⊥
 IsTargetBy panels (Some name) (Some p) = IsPanelNamed panels name p
 
+-- which panel is shown in its place: the one of model 2 with a name, where there has to be one
+abbrev pub IsOtherwiseBy : List DraftPanel → Option (List ℕ) → Option ℕ → Type 0
+IsOtherwiseBy panels None otherwise = otherwise ≡ None
+IsOtherwiseBy panels (Some name) None = ⊥
+IsOtherwiseBy panels (Some name) (Some p) = IsBasePanelNamed panels name p
+
 pub record IsPanelOf (panels : List DraftPanel) (p : ℕ) (draft : DraftPanel) (panel : PanelParts) : Type 0 where
-  pub texts : IsEachOf (λ i. IsTextOf panels) draft.texts panel.texts
-  pub fields : IsEachOf (λ i. IsFieldOf (fields_before p panels + i)) draft.fields panel.fields
+  pub model : panel.model ≡ model_numbered draft.model
+  pub otherwise : IsOtherwiseBy panels (otherwise_of draft) panel.otherwise
+  pub texts : IsEachOf (λ i. IsTextOf (draft_shape draft) panels) draft.texts panel.texts
+  pub fields : IsEachOf (λ i. IsFieldOf (draft_shape draft) (fields_before p panels + i)) draft.fields panel.fields
   pub cursor : IsCursorBy draft.cursor panel.fields panel.cursor
   pub places : length panel.targets ≡ length key_names
   pub targets : (aid : Aid) → IsKey aid → IsTargetBy panels (option_and_then (λ name. text_at_key name draft.keys) (name_of_key aid)) (target_of panel aid)

@@ -1,9 +1,12 @@
 -- A panel text as it stands: what its tables say, by the types of their keys (our profile).
-use Rattle.std.specs.Prelude.{codes, ℕ, ℤ, pos, Bool, List, length, map, Option, Some, None, chars, unwrap_or}
+use Rattle.std.specs.Prelude.{codes, ℕ, ℤ, pos, Bool, List, length, map, Option, Some, None, chars, unwrap_or, if◌then◌else◌}
+use Rattle.std.specs.Ordering.{int_eq}
+use Rattle.codes3270.specs.Size.{Shape, alternate_of}
 use Rattle.toml.specs.Data.{Members, no_members}
 use Rattle.panels.specs.declared.fault.TreeFault.{TreeFault}
+use Rattle.panels.specs.Size.{model_numbered}
 use Rattle.panels.specs.Shape.{wrong_by, top_rules, panel_rules, text_rules, field_rules, wrong_in_keys}
-use Rattle.panels.specs.Tree.{text_under, text_or_empty, number, is_set, table_under, items_under, tables_in, texts_in, texts_by_key}
+use Rattle.panels.specs.Tree.{text_under, text_or_empty, number_under, number, is_set, table_under, items_under, tables_in, texts_in, texts_by_key}
 
 -- a text or a field: what is wrong with its keys, and what these say; what is absent is 0, unset, or no text
 pub record DraftItem : Type 0 where
@@ -21,10 +24,13 @@ pub record DraftItem : Type 0 where
   pub required : Bool
   pub marked : Bool
 
--- a panel; `keys` has the names in its table of keys, each with the panel that it names
+-- a panel, of model 2 unless it says another; `otherwise` is the name of the panel that is shown in its place, empty where there is none;
+-- `keys` has the names in its table of keys, each with the panel that it names
 pub record DraftPanel : Type 0 where
   pub wrong : Option TreeFault
   pub name : List ℕ
+  pub model : ℤ
+  pub otherwise : List ℕ
   pub cursor : Option (List ℕ)
   pub texts : List DraftItem
   pub fields : List DraftItem
@@ -36,6 +42,14 @@ pub record DraftText : Type 0 where
   pub start : List ℕ
   pub lus : List (List ℕ)
   pub panels : List DraftPanel
+
+-- the size of the screen on which a panel is laid out: the alternate size of its model
+abbrev pub draft_shape : DraftPanel → Shape
+draft_shape panel = alternate_of (model_numbered panel.model)
+
+-- the name of the panel that is shown in its place; one of model 2 is shown in each session
+abbrev pub otherwise_of : DraftPanel → Option (List ℕ)
+otherwise_of panel = if int_eq panel.model (pos 2) then None else Some panel.otherwise
 
 -- how many characters an item has: those of its text, or its `length`
 abbrev pub size_by : Option (List ℕ) → ℤ → ℤ
@@ -67,8 +81,10 @@ field_item_of table = item_by (wrong_by field_rules table) table
 
 abbrev pub panel_of : Members → DraftPanel
 panel_of table = record {
-  wrong = wrong_by panel_rules table;
+  wrong = wrong_by (panel_rules table) table;
   name = text_or_empty (codes "name") table;
+  model = unwrap_or (number_under (codes "model") table) (pos 2);
+  otherwise = text_or_empty (codes "otherwise") table;
   cursor = text_under (codes "cursor") table;
   texts = map text_item_of (tables_in (items_under (codes "text") table));
   fields = map field_item_of (tables_in (items_under (codes "field") table));

@@ -3,7 +3,7 @@ use Rattle.std.specs.Prelude.{◌≡◌, ℕ, ◌==◌, ℤ, pos, ◌+ℤ◌, �
 use Rattle.std.specs.List.{list_any, list_all}
 use Rattle.std.specs.Int.{is_in_range}
 use Rattle.codes3270.specs.CodePage.{code_of}
-use Rattle.codes3270.specs.Size.{columns}
+use Rattle.codes3270.specs.Size.{Shape}
 use Rattle.panels.specs.Size.{item_rows, message_start}
 use Rattle.panels.specs.declared.extent.Extent.{Extent}
 use Rattle.panels.specs.Draft.{DraftItem}
@@ -28,37 +28,40 @@ is_panel_name name = is_name is_panel_letter name
 abbrev pub is_field_name : List ℕ → Bool
 is_field_name name = is_name is_field_letter name
 
--- the address of a row and a column, both from 1 on
-abbrev pub first_of : ℤ → ℤ → ℤ
-first_of row column = ((row -ℤ pos 1) *ℤ pos columns) +ℤ (column -ℤ pos 1)
+-- the address of a row and a column of a screen, both from 1 on
+abbrev pub first_of : Shape → ℤ → ℤ → ℤ
+first_of shape row column = ((row -ℤ pos 1) *ℤ pos shape.columns) +ℤ (column -ℤ pos 1)
 
 -- the address of an item's first character; its attribute is before it
-abbrev pub first_cell : DraftItem → ℤ
-first_cell item = first_of item.row item.column
+abbrev pub first_cell : Shape → DraftItem → ℤ
+first_cell shape item = first_of shape item.row item.column
 
 abbrev pub is_between : ℤ → ℤ → ℤ → Bool
 is_between low high value = int_le low value && int_le value high
 
 -- an item of a length has its attribute on the screen and ends before the message row
-abbrev pub is_above_message : ℤ → ℤ → Bool
-is_above_message first size = int_le (pos 1) first && is_between (pos 1) (pos message_start -ℤ first) size
+abbrev pub is_above_message : Shape → ℤ → ℤ → Bool
+is_above_message shape first size = int_le (pos 1) first && is_between (pos 1) (pos (message_start shape) -ℤ first) size
+
+-- the item starts in a row and a column above the message row of a screen of this size
+abbrev pub is_in_rows : Shape → DraftItem → Bool
+is_in_rows shape item = is_between (pos 1) (pos (item_rows shape)) item.row && is_between (pos 1) (pos shape.columns) item.column
 
 -- the item, with its attribute, lies above the message row
-abbrev pub is_on_screen : DraftItem → Bool
-is_on_screen item =
-    is_between (pos 1) (pos item_rows) item.row && is_between (pos 1) (pos columns) item.column && is_above_message (first_cell item) item.size
+abbrev pub is_on_screen : Shape → DraftItem → Bool
+is_on_screen shape item = is_in_rows shape item && is_above_message shape (first_cell shape item) item.size
 
 -- it does, and its fill is no longer than it
-abbrev pub is_in_place : DraftItem → Bool
-is_in_place item = is_on_screen item && int_le (pos (length (chars item.fill))) item.size
+abbrev pub is_in_place : Shape → DraftItem → Bool
+is_in_place shape item = is_on_screen shape item && int_le (pos (length (chars item.fill))) item.size
 
 -- a cell is the item's attribute or one of its characters
-abbrev pub HasCell : DraftItem → ℤ → Type 0
-HasCell item cell = (first_cell item ≤ℤ (cell +ℤ pos 1)) × ((cell +ℤ pos 1) ≤ℤ (first_cell item +ℤ item.size))
+abbrev pub HasCell : Shape → DraftItem → ℤ → Type 0
+HasCell shape item cell = (first_cell shape item ≤ℤ (cell +ℤ pos 1)) × ((cell +ℤ pos 1) ≤ℤ (first_cell shape item +ℤ item.size))
 
 -- the item's place and size, as an extent
-abbrev pub IsExtentOf : DraftItem → Extent → Type 0
-IsExtentOf item extent = (pos extent.first ≡ first_cell item) × (pos extent.length ≡ item.size)
+abbrev pub IsExtentOf : Shape → DraftItem → Extent → Type 0
+IsExtentOf shape item extent = (pos extent.first ≡ first_cell shape item) × (pos extent.length ≡ item.size)
 
 abbrev pub has_no_code : ℕ → Bool
 has_no_code character = is_none (code_of character)

@@ -6,7 +6,7 @@ use Rattle.datastream.specs.declared.wanted.Want.TheVariants as want
 use Rattle.panels.specs.declared.extent.Extent.{Extent}
 use Rattle.panels.specs.declared.panel.Field.{Field}
 use Rattle.panels.specs.declared.message.Message.{Message}
-use Rattle.panels.specs.Panel.{PanelParts, HasItemsApart}
+use Rattle.panels.specs.Panel.{PanelParts, HasItemsApart, IsLaidOut}
 use Rattle.panels.specs.Screen.{Values, screen_of}
 
 abbrev pub HasAttributeAt : WantedScreen → ℕ → Type 0
@@ -28,7 +28,7 @@ pub record IsKeptWhole (screen : WantedScreen) (extent : Extent) : Type 0 where
 -- a screen that is to keep what was typed keeps each field of the panel whole
 abbrev pub FieldsAreKeptWhole : Type 0
 FieldsAreKeptWhole =
-    (panel : PanelParts) (values : Values) (message : Message) (i : ℕ) (field : Field) → HasItemsApart panel → slice_get panel.fields i ≡ Some field
+    (panel : PanelParts) (values : Values) (message : Message) (i : ℕ) (field : Field) → HasItemsApart panel → IsLaidOut panel → slice_get panel.fields i ≡ Some field
     → IsKeptWhole (screen_of panel values message true) field.extent
 
 -- a cell is a character of one of the panel's fields

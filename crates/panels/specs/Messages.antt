@@ -3,7 +3,7 @@ use Rattle.std.specs.Prelude.{ℕ, List, ◌++◌, codes, decimal}
 use Rattle.panels.specs.declared.fault.At.{At}
 use Rattle.panels.specs.declared.fault.At.TheVariants.{Top, Panel, Text, Field}
 use Rattle.panels.specs.declared.fault.TreeFault.{TreeFault}
-use Rattle.panels.specs.declared.fault.TreeFault.TheVariants.{UnknownKey, Missing, BadKind, BadName, TwiceNamed, OutOfPlace, Overlap, NoCode, NoTarget, BadKey, TooMany}
+use Rattle.panels.specs.declared.fault.TreeFault.TheVariants.{UnknownKey, Missing, BadKind, BadName, TwiceNamed, OutOfPlace, Overlap, NoCode, NoTarget, BadKey, TooMany, BadModel}
 use Rattle.panels.specs.declared.fault.PanelFault.{PanelFault}
 use Rattle.panels.specs.declared.fault.PanelFault.TheVariants.{Memory, NotToml, Tree}
 
@@ -25,6 +25,7 @@ tree_fault_text NoCode = codes "NoCode"
 tree_fault_text NoTarget = codes "NoTarget"
 tree_fault_text BadKey = codes "BadKey"
 tree_fault_text TooMany = codes "TooMany"
+tree_fault_text BadModel = codes "BadModel"
 
 abbrev pub fault_text : PanelFault → List ℕ
 fault_text Memory = codes "no memory"

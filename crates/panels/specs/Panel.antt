@@ -1,6 +1,9 @@
 -- What panels have (our profile).
-use Rattle.std.specs.Prelude.{◌≡◌, ◌≢◌, ℕ, ◌<◌, ◌≤◌, ◌+◌, List, length, Option, Some, option_and_then, slice_get, All}
-use Rattle.codes3270.specs.Size.{cell_count}
+use Rattle.std.specs.Prelude.{◌≡◌, ◌≢◌, ℕ, ◌<◌, ◌≤◌, ◌+◌, Bool, true, false, List, length, Option, Some, None, option_and_then, unwrap_or, slice_get, All, if◌then◌else◌}
+use Rattle.std.specs.Option.{option_map_or}
+use Rattle.codes3270.specs.Size.{Shape, cells_in, alternate_of}
+use Rattle.codes3270.specs.declared.size.Model.{Model}
+use Rattle.codes3270.specs.declared.size.Model.TheVariants.{M2, M3, M4, M5}
 use Rattle.codes3270.specs.declared.attention.Aid.{Aid}
 use Rattle.panels.specs.declared.extent.Extent.{Extent}
 use Rattle.panels.specs.declared.panel.Content.{Content}
@@ -9,13 +12,21 @@ use Rattle.panels.specs.declared.panel.TextItem.{TextItem}
 use Rattle.panels.specs.declared.panel.Field.{Field}
 use Rattle.panels.specs.Characters.{AreCharacters}
 use Rattle.panels.specs.Keys.{place_of_key, IsKey}
+use Rattle.panels.specs.Size.{message_start}
 
--- a panel: its texts and fields, where its cursor is, and for each key, in the order of their names, the panel that it leads to
+-- a panel: its model; where that isn't 2, the panel that is shown in its place in a session of another model; its texts and fields, where its
+-- cursor is, and for each key, in the order of their names, the panel that it leads to
 pub record PanelParts : Type 0 where
+  pub model : Model
+  pub otherwise : Option ℕ
   pub texts : List TextItem
   pub fields : List Field
   pub cursor : ℕ
   pub targets : List (Option ℕ)
+
+-- the size of the screen on which it is laid out
+abbrev pub shape_of : PanelParts → Shape
+shape_of panel = alternate_of panel.model
 
 -- the panel that a key leads to
 abbrev pub target_at : List (Option ℕ) → ℕ → Option ℕ
@@ -30,14 +41,46 @@ pub record Panels : Type 0 where
   pub lus : List (List ℕ)
   pub panels : List PanelParts
 
+-- a panel of a model is shown as it is in a session of a model: if it is of model 2, or of the session's
+abbrev pub is_shown : Model → Model → Bool
+is_shown M2 session = true
+is_shown M3 M3 = true
+is_shown M4 M4 = true
+is_shown M5 M5 = true
+is_shown _ session = false
+
+-- of the panel at an index, the index of the one that is shown in a session of a model: itself, or the one in its place
+abbrev pub shown_of : Model → ℕ → PanelParts → ℕ
+shown_of session p panel = if is_shown panel.model session then p else unwrap_or panel.otherwise p
+
+abbrev pub shown_in : Panels → Model → ℕ → ℕ
+shown_in set session p = option_map_or (shown_of session p) (slice_get set.panels p) p
+
 -- the first panel and all targets are there
 pub record AreLinked (set : Panels) : Type 0 where
   pub start : set.start < length set.panels
   pub targets : (p : ℕ) (panel : PanelParts) (aid : Aid) (target : ℕ) → IsKey aid → slice_get set.panels p ≡ Some panel → target_of panel aid ≡ Some target → target < length set.panels
 
--- the cursor of each panel is on the screen
-abbrev pub CursorsAreOnTheScreen : Panels → Type 0
-CursorsAreOnTheScreen set = (number : ℕ) (panel : PanelParts) → slice_get set.panels number ≡ Some panel → panel.cursor < cell_count
+-- a panel of model 2 has none in its place; any other has one, which is there and of model 2
+abbrev pub IsOtherwise : List PanelParts → Model → Option ℕ → Type 0
+IsOtherwise panels model None = model ≡ M2
+IsOtherwise panels model (Some q) = (model ≢ M2) × (other : PanelParts) × (slice_get panels q ≡ Some other) × (other.model ≡ M2)
+
+abbrev pub HaveOtherwise : Panels → Type 0
+HaveOtherwise set = (number : ℕ) (panel : PanelParts) → slice_get set.panels number ≡ Some panel → IsOtherwise set.panels panel.model panel.otherwise
+
+-- an item lies above the row for messages of a screen
+abbrev pub IsAbove : Shape → Extent → Type 0
+IsAbove shape extent = extent.first + extent.length ≤ message_start shape
+
+-- so do a panel's items, on the panel's screen, and its cursor is on that
+pub record IsLaidOut (panel : PanelParts) : Type 0 where
+  pub texts : All (λ text. IsAbove (shape_of panel) text.extent) panel.texts
+  pub fields : All (λ field. IsAbove (shape_of panel) field.extent) panel.fields
+  pub cursor : panel.cursor < cells_in (shape_of panel)
+
+abbrev pub AreLaidOut : Panels → Type 0
+AreLaidOut set = (number : ℕ) (panel : PanelParts) → slice_get set.panels number ≡ Some panel → IsLaidOut panel
 
 -- what a text shows by itself is characters that a cell can hold
 abbrev pub HasCharacters : Content → Type 0
@@ -65,7 +108,7 @@ pub record HasItemsApart (panel : PanelParts) : Type 0 where
   pub fields : (i : ℕ) (j : ℕ) (one : Field) (other : Field) → i < j → slice_get panel.fields i ≡ Some one → slice_get panel.fields j ≡ Some other → ShareNoCell one.extent other.extent
   pub both : (i : ℕ) (j : ℕ) (text : TextItem) (field : Field) → slice_get panel.texts i ≡ Some text → slice_get panel.fields j ≡ Some field → ShareNoCell text.extent field.extent
 
--- so each panel's items lie apart (and above the row for messages, as each extent does)
+-- so each panel's items lie apart
 abbrev pub AreApart : Panels → Type 0
 AreApart set = (number : ℕ) (panel : PanelParts) → slice_get set.panels number ≡ Some panel → HasItemsApart panel
 
@@ -79,7 +122,8 @@ NumbersAreApart set = (number : ℕ) (panel : PanelParts) → slice_get set.pane
 -- what holds of the panels of each text
 pub record AreSound (set : Panels) : Type 0 where
   pub linked : AreLinked set
-  pub cursors : CursorsAreOnTheScreen set
+  pub otherwise : HaveOtherwise set
+  pub laid_out : AreLaidOut set
   pub characters : AreOfCharacters set
   pub apart : AreApart set
   pub numbers : NumbersAreApart set

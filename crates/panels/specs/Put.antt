@@ -1,17 +1,26 @@
 -- What is put on a wanted screen, one thing over another (our profile; only for the contracts of private functions).
-use Rattle.std.specs.Prelude.{◌≡◌, codes, ℕ, ◌-◌, ◌<◌, nat_lt, true, List, [], ◌++◌, Option, Some, None, unwrap_or, slice_index_or, if◌then◌else◌}
-use Rattle.codes3270.specs.Size.{cell_count}
+use Rattle.std.specs.Prelude.{◌≡◌, codes, ℕ, ◌+◌, ◌-◌, ◌<◌, nat_lt, true, List, [], ◌++◌, Option, Some, None, unwrap_or, slice_index_or, if◌then◌else◌}
+use Rattle.codes3270.specs.Size.{Shape, cells_in}
 use Rattle.codes3270.specs.declared.attribute.Attr.{Attr}
+use Rattle.datastream.specs.Wanted.{WantedScreen}
 use Rattle.datastream.specs.declared.wanted.Want.{Want}
+use Rattle.panels.specs.declared.extent.Extent.{Extent}
 use Rattle.panels.specs.declared.message.Message.{Message}
 use Rattle.panels.specs.declared.message.Message.TheVariants.{Fresh, Plain, KeyNotActive, Required}
 use Rattle.panels.specs.declared.panel.Field.{Field}
-use Rattle.panels.specs.Size.{message_start}
 use Rattle.panels.specs.Screen.{autoskip_attr, item_cell, kept_cell, coded, field_numbered}
 
--- the cells of a screen are as before, but for those in which something is put
-abbrev pub IsPut : (ℕ → Option Want) → List Want → List Want → Type 0
-IsPut put old new = (cell : ℕ) (default : Want) → cell < cell_count → slice_index_or new cell default ≡ unwrap_or (put cell) (slice_index_or old cell default)
+-- the first cells of a list are as before, but for those in which something is put
+abbrev pub ArePut : ℕ → (ℕ → Option Want) → List Want → List Want → Type 0
+ArePut count put old new = (cell : ℕ) (default : Want) → cell < count → slice_index_or new cell default ≡ unwrap_or (put cell) (slice_index_or old cell default)
+
+-- the size of a screen stays, and all its cells are as before, but for those
+abbrev pub IsPut : (ℕ → Option Want) → WantedScreen → WantedScreen → Type 0
+IsPut put old new = (new.size ≡ old.size) × ArePut (cells_in old.size) put old.cells new.cells
+
+-- an item and the cell behind it are on a screen
+abbrev pub FitsOn : Shape → Extent → Type 0
+FitsOn shape extent = extent.first + extent.length < cells_in shape
 
 -- the cells of an item with a content, or of a kept field
 abbrev pub cell_with : Attr → Option (List ℕ) → ℕ → Want
@@ -25,9 +34,9 @@ field_spoken fields Fresh = None
 field_spoken fields Plain = None
 field_spoken fields KeyNotActive = None
 
--- the cells of the message's row, with a text
-abbrev pub row_cell : List ℕ → ℕ → Option Want
-row_cell text cell = if nat_lt cell message_start then None else Some (item_cell (autoskip_attr true) text (cell - message_start))
+-- the cells of the message's row, which starts at an address, with a text
+abbrev pub row_cell : ℕ → List ℕ → ℕ → Option Want
+row_cell start text cell = if nat_lt cell start then None else Some (item_cell (autoskip_attr true) text (cell - start))
 
 -- the text of a message that speaks of a field with a name
 abbrev pub text_with : List ℕ → Message → List ℕ

@@ -3,7 +3,7 @@ use Rattle.std.specs.Prelude.{◌≡◌, codes, ℕ, ◌+◌, ◌-◌, ◌<◌, 
 use Rattle.std.specs.List.{range_with_len}
 use Rattle.std.specs.Option.{option_or, option_map_or}
 use Rattle.std.specs.Int.{is_in_range}
-use Rattle.codes3270.specs.Size.{cell_count}
+use Rattle.codes3270.specs.Size.{cells_in}
 use Rattle.codes3270.specs.CodePage.{code_of}
 use Rattle.codes3270.specs.declared.attribute.Attr.{Attr}
 use Rattle.codes3270.specs.declared.attribute.Display.TheVariants.{Normal, Bright, Hidden}
@@ -18,7 +18,7 @@ use Rattle.panels.specs.declared.panel.Field.{Field}
 use Rattle.panels.specs.declared.message.Message.{Message}
 use Rattle.panels.specs.declared.message.Message.TheVariants.{Fresh, Plain, KeyNotActive, Required}
 use Rattle.panels.specs.Size.{message_start}
-use Rattle.panels.specs.Panel.{PanelParts}
+use Rattle.panels.specs.Panel.{PanelParts, shape_of}
 use Rattle.panels.specs.Values.{value_of}
 
 abbrev pub Values : Type 0
@@ -97,10 +97,10 @@ message_text fields Plain = []
 message_text fields KeyNotActive = coded (codes "KEY NOT ACTIVE")
 message_text fields (Required number) = coded (codes "REQUIRED: " ++ option_map_or (λ field. field.name) (field_numbered number fields) [])
 
--- the message takes the last row
-abbrev pub message_cell : List Field → Message → ℕ → Option Want
-message_cell fields message cell =
-    if nat_lt cell message_start then None else Some (item_cell (autoskip_attr true) (message_text fields message) (cell - message_start))
+-- the message takes the last row, from an address on
+abbrev pub message_cell : ℕ → List Field → Message → ℕ → Option Want
+message_cell start fields message cell =
+    if nat_lt cell start then None else Some (item_cell (autoskip_attr true) (message_text fields message) (cell - start))
 
 -- the first answer that a list's elements give
 abbrev pub first_some : {X Y : Type 0} → (X → Option Y) → List X → Option Y
@@ -113,7 +113,7 @@ wanted_cell panel values message keep cell =
     unwrap_or
     (option_or (first_some (text_cell values cell) panel.texts)
     (option_or (first_some (field_cell values message keep cell) panel.fields)
-    (option_or (message_cell panel.fields message cell) (first_some (stopper_cell cell) panel.fields))))
+    (option_or (message_cell (message_start (shape_of panel)) panel.fields message cell) (first_some (stopper_cell cell) panel.fields))))
     (want.Char 0)
 
 -- the cursor is at the panel's own place, or at the first cell of the field that must be filled in
@@ -123,14 +123,16 @@ wanted_cursor panel _ = panel.cursor
 
 -- the screen that a panel asks for
 pub record IsWantedOf (panel : PanelParts) (values : Values) (message : Message) (keep : Bool) (screen : WantedScreen) : Type 0 where
-  pub cells : (cell : ℕ) → cell < cell_count → slice_get screen.cells cell ≡ Some (wanted_cell panel values message keep cell)
+  pub size : screen.size ≡ shape_of panel
+  pub cells : (cell : ℕ) → cell < cells_in (shape_of panel) → slice_get screen.cells cell ≡ Some (wanted_cell panel values message keep cell)
   pub cursor : screen.cursor ≡ wanted_cursor panel message
   pub reset : screen.reset ≡ is_fresh message
 
 -- that screen itself
 abbrev pub screen_of : PanelParts → Values → Message → Bool → WantedScreen
 screen_of panel values message keep = record {
-  cells = map (wanted_cell panel values message keep) (range_with_len 0 cell_count);
+  size = shape_of panel;
+  cells = map (wanted_cell panel values message keep) (range_with_len 0 (cells_in (shape_of panel)));
   cursor = wanted_cursor panel message;
   reset = is_fresh message;
 }

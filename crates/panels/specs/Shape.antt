@@ -1,8 +1,9 @@
 -- Which keys each table has, and the types of their values (our profile).
-use Rattle.std.specs.Prelude.{codes, ℕ, Bool, true, false, not, ◌&&◌, List, [], ◌∷◌, Option, Some, None, is_some, bytes_eq, if◌then◌else◌}
+use Rattle.std.specs.Prelude.{codes, ℕ, Bool, true, false, not, ◌&&◌, List, [], ◌∷◌, Option, Some, None, is_some, option_map, bytes_eq, ℤ, pos, if◌then◌else◌}
+use Rattle.std.specs.Ordering.{int_eq}
 use Rattle.std.specs.List.{list_any}
 use Rattle.toml.specs.Data as tree
-use Rattle.toml.specs.Data.{Data, Items, no_items, item, Members, no_members, member, get_member, as_str, as_table}
+use Rattle.toml.specs.Data.{Data, Items, no_items, item, Members, no_members, member, get_member, as_integer, as_str, as_table}
 use Rattle.panels.specs.declared.fault.TreeFault.{TreeFault}
 use Rattle.panels.specs.declared.fault.TreeFault.TheVariants.{UnknownKey, Missing, BadKind}
 use Rattle.panels.specs.declared.rules.Kind.{Kind}
@@ -48,10 +49,28 @@ may key kind = record { key = key; kind = kind; needed = false }
 abbrev pub top_rules : List Rule
 top_rules = must (codes "start") kind.Text ∷ must (codes "lus") kind.Texts ∷ must (codes "panel") kind.Tables ∷ []
 
-abbrev pub panel_rules : List Rule
-panel_rules =
-    must (codes "name") kind.Text ∷ may (codes "cursor") kind.Text ∷ may (codes "text") kind.Tables ∷ may (codes "field") kind.Tables
-    ∷ may (codes "keys") kind.Table ∷ []
+-- of a panel of model 2, which is shown in each session
+abbrev pub base_rules : List Rule
+base_rules =
+    must (codes "name") kind.Text ∷ may (codes "model") kind.Integer ∷ may (codes "cursor") kind.Text ∷ may (codes "text") kind.Tables
+    ∷ may (codes "field") kind.Tables ∷ may (codes "keys") kind.Table ∷ []
+
+-- of a panel of another model, which says what is shown otherwise
+abbrev pub alternate_rules : List Rule
+alternate_rules = must (codes "otherwise") kind.Text ∷ base_rules
+
+-- of a panel whose model isn't known, as its `model` is no whole number
+abbrev pub unclear_rules : List Rule
+unclear_rules = may (codes "otherwise") kind.Text ∷ base_rules
+
+-- by the value at `model`, and the number that it is
+abbrev pub rules_by_model : Option (Option ℤ) → List Rule
+rules_by_model None = base_rules
+rules_by_model (Some None) = unclear_rules
+rules_by_model (Some (Some number)) = if int_eq number (pos 2) then base_rules else alternate_rules
+
+abbrev pub panel_rules : Members → List Rule
+panel_rules table = rules_by_model (option_map as_integer (get_member (codes "model") table))
 
 abbrev pub literal_rules : List Rule
 literal_rules =

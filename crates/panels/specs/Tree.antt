@@ -14,9 +14,13 @@ text_under key table = option_and_then as_str (get_member key table)
 abbrev pub text_or_empty : List ℕ → Members → List ℕ
 text_or_empty key table = unwrap_or (text_under key table) []
 
--- the number at a key, 0 where there is none
+-- the whole number at a key
+abbrev pub number_under : List ℕ → Members → Option ℤ
+number_under key table = option_and_then as_integer (get_member key table)
+
+-- the same, 0 where there is none
 abbrev pub number : List ℕ → Members → ℤ
-number key table = unwrap_or (option_and_then as_integer (get_member key table)) (pos 0)
+number key table = unwrap_or (number_under key table) (pos 0)
 
 abbrev pub is_set : List ℕ → Members → Bool
 is_set key table = unwrap_or (option_and_then as_bool (get_member key table)) false

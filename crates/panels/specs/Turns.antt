@@ -4,7 +4,7 @@ use Rattle.toml.specs.Data.{Members}
 use Rattle.panels.specs.Draft.{DraftText, draft_of}
 use Rattle.toml.specs.Parse.{parse_document}
 use Rattle.panels.specs.declared.fault.TreeFault.{TreeFault}
-use Rattle.panels.specs.declared.fault.TreeFault.TheVariants.{UnknownKey, Missing, BadKind, BadName, TwiceNamed, OutOfPlace, Overlap, NoCode, NoTarget, BadKey, TooMany}
+use Rattle.panels.specs.declared.fault.TreeFault.TheVariants.{UnknownKey, Missing, BadKind, BadName, TwiceNamed, OutOfPlace, Overlap, NoCode, NoTarget, BadKey, TooMany, BadModel}
 use Rattle.panels.specs.declared.fault.PanelFault.{PanelFault}
 use Rattle.panels.specs.declared.fault.PanelFault.TheVariants.{Tree}
 use Rattle.panels.specs.declared.fault.Part.{Part}
@@ -21,6 +21,7 @@ pass_of TooMany = 2
 pass_of BadName = 3
 pass_of BadKey = 3
 pass_of TwiceNamed = 3
+pass_of BadModel = 4
 pass_of OutOfPlace = 4
 pass_of NoCode = 4
 pass_of Overlap = 5
@@ -57,8 +58,9 @@ fault_turn TooMany = 0
 fault_turn BadName = 0
 fault_turn BadKey = 1
 fault_turn TwiceNamed = 2
-fault_turn OutOfPlace = 0
-fault_turn NoCode = 1
+fault_turn BadModel = 0
+fault_turn OutOfPlace = 1
+fault_turn NoCode = 2
 fault_turn Overlap = 0
 fault_turn NoTarget = 0
 

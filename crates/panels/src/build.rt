@@ -1,8 +1,9 @@
 //! The panels of a draft in which no fault stands.
 ghost use Rattle.std.specs.Prelude.{◌≡◌, ◌+◌, ◌<◌, Some, None, All, Contains, IfOk, IfSome, option_map, slice_get, length};
+ghost use Rattle.panels.specs.Draft.{draft_shape, otherwise_of};
 ghost use Rattle.panels.specs.Keys.{key_names};
 ghost use Rattle.panels.specs.Passes.{IsFaultless};
-ghost use Rattle.panels.specs.Defines.{fields_before, IsContentOf, IsTextOf, IsEachOf, IsCursorBy, IsPanelOf, IsTargetBy, Defines, text_at_key};
+ghost use Rattle.panels.specs.Defines.{fields_before, IsContentOf, IsTextOf, IsEachOf, IsCursorBy, IsOtherwiseBy, IsPanelOf, IsTargetBy, Defines, text_at_key};
 ghost use Rattle.panels.specs.Building.{IsTextIn, AreTargetsOf};
 
 use crate::characters::Characters;
@@ -44,11 +45,12 @@ impl<'a> Draft<'a> {
     fn texts(&self, alloc: Global, panel: &PanelDraft) -> Result<Vec<TextItem>, AllocError>
         requires faultless { IsFaultless self.now }
         requires there { Contains self.now.panels panel.now }
-        ensures { IfOk result (λ texts. IsEachOf (λ i. IsTextOf self.now.panels) panel.now.texts texts.items) }
+        ensures { IfOk result (λ texts. IsEachOf (λ i. IsTextOf (draft_shape panel.now) self.now.panels) panel.now.texts texts.items) }
     {
         let mut texts = Vec::new(alloc);
+        let size = panel.size();
         for text in &panel.texts {
-            let Some(extent) = text.extent() else {
+            let Some(extent) = text.extent(size) else {
                 continue;
             };
             texts.push(TextItem {
@@ -66,11 +68,12 @@ impl<'a> Draft<'a> {
         requires there { slice_get self.now.panels index ≡ Some panel.now }
         ensures { IfOk result (IsPanelOf self.now.panels index panel.now) }
     {
+        let size = panel.size();
         let first = self.fields_before(index);
         let mut fields = Vec::new(alloc);
         for place in 0..panel.fields.len() {
             let field = &panel.fields[place];
-            let Some(extent) = field.extent() else {
+            let Some(extent) = field.extent(size) else {
                 continue;
             };
             fields.push(Field {
@@ -85,11 +88,22 @@ impl<'a> Draft<'a> {
             })?;
         }
         Ok(Panel {
+            model: panel.model(),
+            otherwise: self.otherwise(panel),
             texts: self.texts(alloc, panel)?,
             cursor: cursor_of(panel.cursor, fields.as_slice()),
             targets: self.targets(alloc, panel)?,
             fields,
         })
+    }
+
+    /// The panel that is shown in a panel's place.
+    fn otherwise(&self, panel: &PanelDraft) -> Option<usize>
+        requires faultless { IsFaultless self.now }
+        requires there { Contains self.now.panels panel.now }
+        ensures { IsOtherwiseBy self.now.panels (otherwise_of panel.now) result }
+    {
+        self.base_panel_named(panel.otherwise()?)
     }
 
     /// The panel that a key leads to.

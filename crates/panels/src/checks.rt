@@ -38,13 +38,21 @@ impl<'a> Draft<'a> {
                 .is_some_and(|panel| panel.has_strange_key()),
             (TwiceNamed, Part::Panel(_)) => is_later(&self.panel_names, self.name(part), part),
             (TwiceNamed, Part::Field(_, _)) => is_later(&self.field_names, self.name(part), part),
-            (OutOfPlace, _) => self.item(part).is_some_and(|item| !item.stands_in_place()),
+            (BadModel, Part::Panel(panel)) => {
+                self.panel(panel).is_some_and(|panel| panel.has_bad_model())
+            }
+            (OutOfPlace, _) => {
+                let size = self.size(part);
+                self.item(part)
+                    .is_some_and(|item| !item.stands_in_place(size))
+            }
             (NoCode, _) => self.item(part).is_some_and(|item| item.has_no_codes()),
             (Overlap, _) => self.is_overlapping(part),
             (NoTarget, Part::Top) => self.panel_named(self.start).is_none(),
-            (NoTarget, Part::Panel(panel)) => self
-                .panel(panel)
-                .is_some_and(|panel| panel.has_lost_cursor()),
+            (NoTarget, Part::Panel(panel)) => match self.panel(panel) {
+                Some(panel) => panel.has_lost_cursor() || self.has_lost_otherwise(panel),
+                None => false,
+            },
             (NoTarget, Part::Text(_, _)) => match self.item(part) {
                 Some(text) => text.text.is_none() && self.field_named(text.show).is_none(),
                 None => false,
@@ -128,7 +136,7 @@ fn faults_in(pass: usize) -> &'static [TreeFault]
         1 => &[UnknownKey, Missing, BadKind],
         2 => &[TooMany],
         3 => &[BadName, BadKey, TwiceNamed],
-        4 => &[OutOfPlace, NoCode],
+        4 => &[BadModel, OutOfPlace, NoCode],
         5 => &[Overlap],
         6 => &[NoTarget],
         _ => &[],

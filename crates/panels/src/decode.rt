@@ -10,8 +10,8 @@ use crate::draft::{Draft, ItemDraft, PanelDraft};
 use crate::fault::TreeFault;
 use crate::index::name_indexes;
 use crate::items::characters_in;
-use crate::rules::{PANEL_RULES, TOP_RULES, item_rules, wrong_by};
-use crate::tree::{is_true_at, number_at, text_at, value_at, values_at};
+use crate::rules::{TOP_RULES, item_rules, panel_rules, wrong_by};
+use crate::tree::{is_true_at, number_at, number_or, text_at, text_or_empty, value_at, values_at};
 use std::alloc::{AllocError, Global};
 use toml::Table;
 
@@ -26,9 +26,9 @@ fn item_draft<'a>(array: &str, table: &'a Table) -> ItemDraft<'a>
         column: number_at(table, "col"),
         length: text.map_or_else(|| number_at(table, "length"), |text| characters_in(text)),
         text,
-        show: text_at(table, "show").unwrap_or(""),
-        name: text_at(table, "name").unwrap_or(""),
-        fill: text_at(table, "fill").unwrap_or(""),
+        show: text_or_empty(table, "show"),
+        name: text_or_empty(table, "name"),
+        fill: text_or_empty(table, "fill"),
         bright: is_true_at(table, "bright"),
         numeric: is_true_at(table, "numeric"),
         hidden: is_true_at(table, "hidden"),
@@ -80,8 +80,10 @@ fn panel_draft<'a>(alloc: Global, panel: &'a Table) -> Result<PanelDraft<'a>, Al
 {
     let keys = value_at(panel, "keys").and_then(|value| value.as_table());
     Ok(PanelDraft {
-        wrong: wrong_by(&PANEL_RULES, panel),
-        name: text_at(panel, "name").unwrap_or(""),
+        wrong: wrong_by(panel_rules(panel), panel),
+        name: text_or_empty(panel, "name"),
+        model: number_or(panel, "model", 2),
+        otherwise: text_or_empty(panel, "otherwise"),
         cursor: text_at(panel, "cursor"),
         texts: item_drafts(alloc, panel, "text")?,
         fields: item_drafts(alloc, panel, "field")?,
@@ -126,7 +128,7 @@ pub(crate) fn decode<'a>(alloc: Global, top: &'a Table) -> Result<Draft<'a>, All
     let (panel_names, field_names) = name_indexes(alloc, panels.as_slice())?;
     Ok(Draft {
         wrong: wrong_by(&TOP_RULES, top),
-        start: text_at(top, "start").unwrap_or(""),
+        start: text_or_empty(top, "start"),
         lus: texts_at(alloc, top, "lus")?,
         panels,
         panel_names,

@@ -1,10 +1,14 @@
 //! A panel text as it stands: what its tables say, by the types of their keys.
-ghost use Rattle.std.specs.Prelude.{◌≡◌, option_copied, option_map, slice_get};
-ghost use Rattle.panels.specs.Faults.{item_at, name_at, wrong_at};
+ghost use Rattle.std.specs.Prelude.{◌≡◌, not, option_copied, option_map, slice_get};
+ghost use Rattle.panels.specs.Draft.{draft_shape, otherwise_of};
+ghost use Rattle.panels.specs.Faults.{item_at, name_at, shape_at, wrong_at};
+ghost use Rattle.panels.specs.Size.{is_model_number, model_numbered};
 
 use crate::fault::{Part, TreeFault};
 use crate::index::NameIndex;
-use std::marker::Model;
+use crate::size::model_numbered;
+use codes3270::{Model, Size};
+use std::marker;
 
 /// A text or a field. What is absent is 0, unset, or no text.
 #[derive(Drop)]
@@ -27,7 +31,7 @@ pub(crate) struct ItemDraft<'a> {
     pub marked: bool,
 }
 
-impl<'a> Model for ItemDraft<'a> {
+impl<'a> marker::Model for ItemDraft<'a> {
     ghost use Rattle.std.specs.Prelude.{option_map};
     ghost use Rattle.panels.specs.Draft.{DraftItem};
 
@@ -55,6 +59,10 @@ impl<'a> Model for ItemDraft<'a> {
 pub(crate) struct PanelDraft<'a> {
     pub wrong: Option<TreeFault>,
     pub name: &'a str,
+    /// Its `model`, 2 where it has none.
+    pub model: i64,
+    /// The name of the panel that is shown in its place; empty where it has none.
+    pub otherwise: &'a str,
     pub cursor: Option<&'a str>,
     pub texts: Vec<ItemDraft<'a>>,
     pub fields: Vec<ItemDraft<'a>>,
@@ -64,7 +72,7 @@ pub(crate) struct PanelDraft<'a> {
     pub keys: Vec<(&'a str, &'a str)>,
 }
 
-impl<'a> Model for PanelDraft<'a> {
+impl<'a> marker::Model for PanelDraft<'a> {
     ghost use Rattle.std.specs.Prelude.{map, option_map};
     ghost use Rattle.panels.specs.Draft.{DraftPanel};
 
@@ -73,6 +81,8 @@ impl<'a> Model for PanelDraft<'a> {
     ghost view = { λ panel. record {
       wrong = panel.wrong;
       name = panel.name.now;
+      model = panel.model;
+      otherwise = panel.otherwise.now;
       cursor = option_map (λ name. name.now) panel.cursor;
       texts = panel.texts.items;
       fields = panel.fields.items;
@@ -92,7 +102,7 @@ pub(crate) struct Draft<'a> {
     pub field_names: NameIndex,
 }
 
-impl<'a> Model for Draft<'a> {
+impl<'a> marker::Model for Draft<'a> {
     ghost use Rattle.std.specs.Prelude.{map};
     ghost use Rattle.panels.specs.Draft.{DraftText};
     ghost use Rattle.panels.specs.Index.{AreIndexes};
@@ -102,6 +112,40 @@ impl<'a> Model for Draft<'a> {
     ghost view = { λ draft. record { wrong = draft.wrong; start = draft.start.now; lus = map (λ lu. lu.now) draft.lus.items; panels = draft.panels.items } };
 
     ghost invariant = { λ draft. AreIndexes draft.panels.items draft.panel_names draft.field_names };
+}
+
+impl<'a> PanelDraft<'a> {
+    /// Its model, if that is one of 2 to 5.
+    pub(crate) fn model(&self) -> Model
+        ensures { result ≡ model_numbered self.now.model }
+    {
+        model_numbered(self.model)
+    }
+
+    /// The size of the screen on which it is laid out.
+    pub(crate) fn size(&self) -> Size
+        ensures { result ≡ draft_shape self.now }
+    {
+        self.model().alternate()
+    }
+
+    /// The name of the panel that is shown in its place; one of model 2 is shown in each session.
+    pub(crate) fn otherwise(&self) -> Option<&'a str>
+        ensures { option_map (λ name. name.now) result ≡ otherwise_of self.now }
+    {
+        if self.model == 2 {
+            None
+        } else {
+            Some(self.otherwise)
+        }
+    }
+
+    /// Whether its model is none of 2 to 5.
+    pub(crate) fn has_bad_model(&self) -> bool
+        ensures { result ≡ not (is_model_number self.now.model) }
+    {
+        !(2..=5).contains(&self.model)
+    }
 }
 
 impl<'a> Draft<'a> {
@@ -119,6 +163,18 @@ impl<'a> Draft<'a> {
             Part::Text(panel, text) => self.panel(panel)?.texts.as_slice().get(text),
             Part::Field(panel, field) => self.panel(panel)?.fields.as_slice().get(field),
             Part::Top | Part::Panel(_) | Part::Keys(_) => None,
+        }
+    }
+
+    /// The size of the screen on which that text or field is laid out; that of model 2 where there is none.
+    pub(crate) fn size(&self, part: Part) -> Size
+        ensures { result ≡ shape_at part self.now.panels }
+    {
+        match part {
+            Part::Text(panel, _) | Part::Field(panel, _) => {
+                self.panel(panel).map_or(Size::base(), |panel| panel.size())
+            }
+            Part::Top | Part::Panel(_) | Part::Keys(_) => Size::base(),
         }
     }
 

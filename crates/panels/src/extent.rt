@@ -1,18 +1,18 @@
 //! Where an item of a panel stands.
-ghost use Rattle.std.specs.Prelude.{◌≡◌, ◌≤◌, ◌+◌, ◌&&◌, nat_le};
-ghost use Rattle.panels.specs.Size.{message_start};
+ghost use Rattle.std.specs.Prelude.{◌≡◌, ◌<◌, ◌≤◌, ◌+◌, ◌&&◌, nat_le};
+ghost use Rattle.codes3270.specs.Size.{most_cells};
 
-use codes3270::Addr;
+use codes3270::{Addr, Model};
 
 /// Where an item stands: the address of its first character, before which its attribute stands, and how many
-/// characters it has. It ends before the row for messages.
+/// characters it has. It ends before the row for messages of its panel's screen, and so within the largest screen.
 #[derive(Clone, Copy, Debug, PartialEq, Eq)]
 pub struct Extent {
     pub first: u16,
     pub length: u16,
     ghost after_attribute: { 1 ≤ first },
     ghost has_cells: { 1 ≤ length },
-    ghost above_message: { first + length ≤ message_start },
+    ghost on_screen: { first + length < most_cells },
 }
 
 impl Extent {
@@ -20,14 +20,14 @@ impl Extent {
     pub fn attr(self) -> Addr
         ensures { result + 1 ≡ self.first }
     {
-        Addr::first().forward(self.first - 1)
+        Addr::first().forward(self.first - 1, Model::M5.alternate())
     }
 
     /// The address of its first character.
     pub fn first_cell(self) -> Addr
         ensures { result ≡ self.first }
     {
-        Addr::first().forward(self.first)
+        Addr::first().forward(self.first, Model::M5.alternate())
     }
 
     /// Whether it shares a cell with another, each with its attribute.

@@ -16,18 +16,20 @@ pub enum TreeFault {
     BadName,
     /// An earlier panel, or an earlier field of the whole text, has the name.
     TwiceNamed,
-    /// The item doesn't lie on the screen above the last row, or its fill is longer than it.
+    /// The item doesn't lie on the panel's screen above the last row, or its fill is longer than it.
     OutOfPlace,
     /// The item shares a cell with an earlier one of its panel; texts count before fields.
     Overlap,
     /// A character has no code.
     NoCode,
-    /// A name is of no panel or field.
+    /// A name is of no panel or field, or `otherwise` names no panel of model 2.
     NoTarget,
     /// A name in the table of keys is of no key.
     BadKey,
     /// More than 64 panels, or 256 texts or 128 fields of one.
     TooMany,
+    /// A panel's model is none of 2 to 5.
+    BadModel,
 }
 
 /// The place of a table in a panel text. Panels, texts and fields count from 0, in the order of the text.
@@ -108,6 +110,7 @@ impl fmt::Display for TreeFault {
             TreeFault::NoTarget => "NoTarget",
             TreeFault::BadKey => "BadKey",
             TreeFault::TooMany => "TooMany",
+            TreeFault::BadModel => "BadModel",
         })
     }
 }

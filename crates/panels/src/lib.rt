@@ -16,7 +16,7 @@
 //! // What the first panel asks the screen to be, where no field has a value yet.
 //! if let Some(panel) = panels.panel(panels.start()) {
 //!     let wanted = panel.wanted(&Values::new(alloc), Message::Fresh, false);
-//!     assert!(rt; wanted.want(Addr::first().next()) == Want::Char(0xe6));
+//!     assert!(rt; wanted.want(Addr::first().next(wanted.size())) == Want::Char(0xe6));
 //!
 //!     // Where Enter leads.
 //!     assert!(rt; panel.next(Aid::Enter) == Next::Go(panels.start()));

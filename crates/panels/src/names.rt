@@ -1,10 +1,10 @@
 //! The names of a panel text, and what they stand for.
-ghost use Rattle.std.specs.Prelude.{◌≡◌, ◌↔◌, List, ℕ, Some, IsTrue, Contains, MatchOption, bytes_eq, not, option_map};
+ghost use Rattle.std.specs.Prelude.{◌≡◌, ◌↔◌, List, ℕ, Some, IsTrue, Contains, MatchOption, bytes_eq, not, option_map, pos};
 ghost use Rattle.std.specs.List.{list_any};
 ghost use Rattle.panels.specs.Items.{is_name as is_name_by};
 ghost use Rattle.panels.specs.Keys.{is_key_name};
 ghost use Rattle.panels.specs.declared.fault.Part.TheVariants as part;
-ghost use Rattle.panels.specs.Faults.{HasFieldNamed, NamesPanel, NamesField, name_at};
+ghost use Rattle.panels.specs.Faults.{HasFieldNamed, HasLostCursor, HasLostOtherwise, IsBasePanelNamed, NamesBasePanel, NamesPanel, NamesField, name_at};
 ghost use Rattle.panels.specs.Index.{IsLater};
 ghost use Rattle.panels.specs.Walk.{is_letter_of};
 
@@ -62,6 +62,28 @@ impl<'a> Draft<'a> {
         }
     }
 
+    /// The first panel of model 2 with a name.
+    pub(crate) fn base_panel_named(&self, name: &str) -> Option<usize>
+        ensures { MatchOption result (¬ NamesBasePanel name.now self.now.panels) (IsBasePanelNamed self.now.panels name.now) }
+    {
+        for index in 0..self.panels.len() {
+            if self.panels[index].is_base_named(name) {
+                return Some(index);
+            }
+        }
+        None
+    }
+
+    /// Whether the panel that is shown in a panel's place is none of model 2.
+    pub(crate) fn has_lost_otherwise(&self, panel: &PanelDraft) -> bool
+        ensures { IsTrue result ↔ HasLostOtherwise panel.now self.now.panels }
+    {
+        match panel.otherwise() {
+            Some(name) => self.base_panel_named(name).is_none(),
+            None => false,
+        }
+    }
+
     /// The first field with a name: its panel, and its position there.
     pub(crate) fn field_named(&self, name: &str) -> Option<(usize, usize)>
         ensures { MatchOption result (¬ NamesField name.now self.now.panels) (λ at. name_at (part.Field at.0 at.1) self.now.panels ≡ Some name.now) }
@@ -94,6 +116,13 @@ impl<'a> ItemDraft<'a> {
 }
 
 impl<'a> PanelDraft<'a> {
+    /// Whether it is of model 2, and has a name.
+    fn is_base_named(&self, name: &str) -> bool
+        ensures { IsTrue result ↔ ((self.now.model ≡ pos 2) × (self.now.name ≡ name.now)) }
+    {
+        self.model == 2 && self.name == name
+    }
+
     /// Whether a name among its keys is of no key.
     pub(crate) fn has_strange_key(&self) -> bool
         ensures { result ≡ list_any (λ key. not (is_key_name key.0)) self.now.keys }
@@ -114,7 +143,7 @@ impl<'a> PanelDraft<'a> {
 
     /// Whether `cursor` names no field of it.
     pub(crate) fn has_lost_cursor(&self) -> bool
-        ensures { IsTrue result ↔ ((name : List ℕ) × (self.now.cursor ≡ Some name) × (¬ HasFieldNamed name self.now)) }
+        ensures { IsTrue result ↔ HasLostCursor self.now }
     {
         match self.cursor {
             Some(name) => !self.has_field_named(name),

@@ -1,11 +1,13 @@
 //! What a panel has.
 ghost use Rattle.std.specs.Prelude.{◌≡◌};
+ghost use Rattle.panels.specs.Panel.{is_shown, shape_of};
 
 use crate::characters::Characters;
 use crate::extent::Extent;
 use crate::field_name::FieldName;
-use codes3270::Addr;
-use std::marker::Model;
+use codes3270::Model::{M2, M3, M4, M5};
+use codes3270::{Addr, Model, Size};
+use std::marker;
 
 /// What a text item shows.
 #[derive(Debug, Drop)]
@@ -41,9 +43,12 @@ pub struct Field {
     pub fill: Characters,
 }
 
-/// A panel: a screen's texts, its fields, and where each key leads.
+/// A panel: a screen's texts, its fields, and where each key leads. It is laid out on the alternate size of its model.
 #[derive(Debug, Drop)]
 pub struct Panel {
+    pub(crate) model: Model,
+    /// The panel that is shown in its place in a session of another model, if its own isn't 2.
+    pub(crate) otherwise: Option<usize>,
     pub(crate) texts: Vec<TextItem>,
     pub(crate) fields: Vec<Field>,
     pub(crate) cursor: Addr,
@@ -51,15 +56,41 @@ pub struct Panel {
     pub(crate) targets: Vec<Option<usize>>,
 }
 
-impl Model for Panel {
-    ghost use Rattle.panels.specs.Panel.{PanelParts};
+impl marker::Model for Panel {
+    ghost use Rattle.panels.specs.Panel.{PanelParts, IsLaidOut};
 
     ghost Value = { PanelParts };
 
-    ghost view = { λ panel. record { texts = panel.texts.items; fields = panel.fields.items; cursor = panel.cursor; targets = panel.targets.items } };
+    ghost view = { λ panel. record { model = panel.model; otherwise = panel.otherwise; texts = panel.texts.items; fields = panel.fields.items; cursor = panel.cursor; targets = panel.targets.items } };
+
+    ghost invariant = { λ panel. IsLaidOut (record { model = panel.model; otherwise = panel.otherwise; texts = panel.texts.items; fields = panel.fields.items; cursor = panel.cursor; targets = panel.targets.items }) };
 }
 
 impl Panel {
+    /// The model of the sessions in which it is shown; one of model 2 is shown in all.
+    pub fn model(&self) -> Model
+        ensures { result ≡ self.now.model }
+    {
+        self.model
+    }
+
+    /// The size of its screen: the alternate size of its model.
+    pub fn size(&self) -> Size
+        ensures { result ≡ shape_of self.now }
+    {
+        self.model.alternate()
+    }
+
+    /// Whether it is shown in a session of a model: if it is of model 2, or of that one.
+    pub(crate) fn is_shown(&self, session: Model) -> bool
+        ensures { result ≡ is_shown self.now.model session }
+    {
+        match (self.model, session) {
+            (M2, _) | (M3, M3) | (M4, M4) | (M5, M5) => true,
+            _ => false,
+        }
+    }
+
     /// Its fields, in the order of the text.
     pub fn fields(&self) -> &[Field]
         ensures { result.now ≡ self.now.fields }

@@ -1,12 +1,14 @@
 //! The panels of a text.
-ghost use Rattle.std.specs.Prelude.{◌≡◌, ◌<◌, ℕ, map, length, string_bytes, option_copied, slice_get, IfSome, Some};
-ghost use Rattle.codes3270.specs.Size.{cell_count};
+ghost use Rattle.std.specs.Prelude.{◌≡◌, ◌<◌, ℕ, map, length, string_bytes, option_copied, slice_get, option_map, IfSome, Some, ◌⊎◌, IsTrue};
+ghost use Rattle.codes3270.specs.Size.{cells_in};
+ghost use Rattle.codes3270.specs.declared.size.Model.TheVariants.{M2};
 ghost use Rattle.codes3270.specs.declared.attention.Aid.{Aid};
 ghost use Rattle.panels.specs.Keys.{IsKey};
-ghost use Rattle.panels.specs.Panel.{Panels, AreSound, target_of};
+ghost use Rattle.panels.specs.Panel.{Panels, AreSound, is_shown, shape_of, shown_in, target_of};
 
 use crate::panel::Panel;
-use std::marker::Model;
+use codes3270::Model;
+use std::marker;
 
 /// The panels of a text. The first panel and each key's target are there.
 #[derive(Debug, Drop)]
@@ -16,7 +18,7 @@ pub struct PanelSet {
     pub(crate) panels: Vec<Panel>,
 }
 
-impl Model for PanelSet {
+impl marker::Model for PanelSet {
     ghost Value = { Panels };
 
     ghost view = { λ set. record { start = set.start; lus = map string_bytes set.lus.items; panels = set.panels.items } };
@@ -54,15 +56,32 @@ impl PanelSet {
         // Its keys lead to panels of the set.
         ensures targets { IfSome result (λ panel. (aid : Aid) (target : ℕ) → IsKey aid → target_of panel.now aid ≡ Some target → target < length self.now.panels) }
 
-        // Its cursor is on the screen.
-        ensures cursor { IfSome result (λ panel. panel.now.cursor < cell_count) }
+        // Its cursor is on its screen.
+        ensures cursor { IfSome result (λ panel. panel.now.cursor < cells_in (shape_of panel.now)) }
     {
         self.panels.as_slice().get(index)
     }
 
-    /// Law: the first panel and each key's target are there, that each panel's cursor is on the
-    /// screen, that all its texts and fills are characters that a cell can hold, that no two of its
-    /// items share a cell, and that no two of its fields have the same number.
+    /// The panel that is shown, in a session of a model, where the one at an index is asked for: that one if it is of model 2 or
+    /// of the session's, else its `otherwise`, which is of model 2.
+    pub fn shown(&self, index: usize, session: Model) -> usize
+        requires { index < length self.now.panels }
+        ensures shown { result ≡ shown_in self.now session index }
+        ensures in_range { result < length self.now.panels }
+        // It is shown as it is, and on no other panel's account.
+        ensures fits { IfSome (slice_get self.now.panels result) (λ panel. IsTrue (is_shown panel.model session)) }
+    {
+        let panel = &self.panels[index];
+        if panel.is_shown(session) {
+            return index;
+        }
+        panel.otherwise.unwrap_or(index)
+    }
+
+    /// Law: the first panel and each key's target are there; each panel that isn't of model 2 has one of model 2 in its place; on
+    /// the screen of its model each panel's items lie above the row for messages, and its cursor on the screen; all its texts and
+    /// fills are characters that a cell can hold; no two of its items share a cell, and no two of its fields have the same
+    /// number.
     pub fn panels_are_sound(&self)
         ensures { AreSound self.now }
     {

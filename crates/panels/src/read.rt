@@ -27,7 +27,7 @@ fn read_tree(alloc: Global, top: &Table) -> Result<PanelSet, PanelFault>
 
 impl PanelSet {
     /// The panels that a TOML text defines. Faults are looked for in passes: that it is TOML, then keys and types, numbers,
-    /// names, places and characters, overlaps, and targets. A pass goes from table to table: the text's own, then panel by panel
+    /// names, models, places and characters, overlaps, and targets. A pass goes from table to table: the text's own, then panel by panel
     /// the panel's, its texts', its fields' and its keys'. The first fault is answered. `Memory` is answered where a growth was
     /// refused.
     pub fn read(alloc: Global, text: &str) -> Result<PanelSet, PanelFault>

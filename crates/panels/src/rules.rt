@@ -2,7 +2,7 @@
 ghost use Rattle.std.specs.Prelude.{◌≡◌, map, option_map};
 ghost use Rattle.toml.specs.View.{view, table_view};
 ghost use Rattle.panels.specs.Rules.{rule_of, rules_of_item};
-ghost use Rattle.panels.specs.Shape.{is_of_kind, is_known, is_lacking, breaks_needs, breaks_kinds, wrong_by as fault_by};
+ghost use Rattle.panels.specs.Shape.{is_of_kind, is_known, is_lacking, breaks_needs, breaks_kinds, panel_rules, wrong_by as fault_by};
 
 use crate::fault::TreeFault;
 use crate::tree::value_at;
@@ -44,8 +44,32 @@ pub(crate) static TOP_RULES: [KeyRule; 3] = [
     KeyRule::Must("panel", Kind::Tables),
 ];
 
-pub(crate) static PANEL_RULES: [KeyRule; 5] = [
+// Of a panel of model 2.
+static BASE_RULES: [KeyRule; 6] = [
     KeyRule::Must("name", Kind::Text),
+    KeyRule::May("model", Kind::Integer),
+    KeyRule::May("cursor", Kind::Text),
+    KeyRule::May("text", Kind::Tables),
+    KeyRule::May("field", Kind::Tables),
+    KeyRule::May("keys", Kind::Table),
+];
+
+// Of a panel of another model.
+static ALTERNATE_RULES: [KeyRule; 7] = [
+    KeyRule::Must("otherwise", Kind::Text),
+    KeyRule::Must("name", Kind::Text),
+    KeyRule::May("model", Kind::Integer),
+    KeyRule::May("cursor", Kind::Text),
+    KeyRule::May("text", Kind::Tables),
+    KeyRule::May("field", Kind::Tables),
+    KeyRule::May("keys", Kind::Table),
+];
+
+// Of a panel whose `model` is no whole number.
+static UNCLEAR_RULES: [KeyRule; 7] = [
+    KeyRule::May("otherwise", Kind::Text),
+    KeyRule::Must("name", Kind::Text),
+    KeyRule::May("model", Kind::Integer),
     KeyRule::May("cursor", Kind::Text),
     KeyRule::May("text", Kind::Tables),
     KeyRule::May("field", Kind::Tables),
@@ -78,6 +102,17 @@ static FIELD_RULES: [KeyRule; 9] = [
     KeyRule::May("required", Kind::Truth),
     KeyRule::May("marked", Kind::Truth),
 ];
+
+/// The rules for a panel, by its model, 2 where it has none.
+pub(crate) fn panel_rules(table: &Table) -> &'static [KeyRule]
+    ensures { map rule_of result.now ≡ panel_rules (table_view table.now) }
+{
+    match value_at(table, "model").map(|value| value.as_integer()) {
+        None | Some(Some(2)) => &BASE_RULES,
+        Some(Some(_)) => &ALTERNATE_RULES,
+        Some(None) => &UNCLEAR_RULES,
+    }
+}
 
 /// The rules for an item of an array: of fields, or of texts, which have their own text, or show a field.
 pub(crate) fn item_rules(array: &str, table: &Table) -> &'static [KeyRule]

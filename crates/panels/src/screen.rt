@@ -1,6 +1,6 @@
 //! The screen that a panel asks for.
-ghost use Rattle.std.specs.Prelude.{◌≡◌, ◌<◌, ℕ, true, false, IfSome, option_map, slice_index_or, option_copied};
-ghost use Rattle.codes3270.specs.Size.{cell_count};
+ghost use Rattle.std.specs.Prelude.{◌≡◌, ◌<◌, ℕ, All, true, false, IfSome, option_map, slice_index_or, option_copied};
+ghost use Rattle.codes3270.specs.Size.{cells_in};
 ghost use Rattle.codes3270.specs.Storable.{is_storable};
 ghost use Rattle.datastream.specs.Wanted.{IsProper};
 ghost use Rattle.datastream.specs.declared.wanted.Want.{Want as Wish};
@@ -8,22 +8,26 @@ ghost use Rattle.datastream.specs.declared.wanted.Want.TheVariants.{Char};
 ghost use Rattle.panels.specs.Characters.{AreCharacters};
 ghost use Rattle.panels.specs.Screen.{distance_in, autoskip_attr, text_cell, first_some, field_cell, stopper_cell, IsWantedOf, screen_of};
 ghost use Rattle.panels.specs.declared.message.Message.TheVariants.{Fresh};
-ghost use Rattle.panels.specs.Put.{IsPut, cell_with, field_spoken, row_cell, text_with};
+ghost use Rattle.panels.specs.Panel.{shape_of};
+ghost use Rattle.panels.specs.Put.{FitsOn, IsPut, cell_with, field_spoken, row_cell, text_with};
+ghost use Rattle.panels.specs.Size.{message_start};
 
 use crate::extent::Extent;
 use crate::message::Message;
 use crate::panel::{Content, Field, Panel, TextItem};
-use crate::size::MESSAGE_START;
+use crate::size::message_start;
 use crate::values::Values;
 use codes3270::Display::{Bright, Hidden, Normal};
-use codes3270::{Attr, CELL_COUNT, from_latin1};
+use codes3270::{Attr, from_latin1};
 use datastream::{Want, Wanted};
 
 /// Puts nulls into all cells.
 fn put_nulls(wanted: &mut Wanted)
-    ensures { (cell : ℕ) (default : Wish) → cell < cell_count → slice_index_or wanted.new.cells cell default ≡ Char 0 }
+    ensures size { wanted.new.size ≡ wanted.old.size }
+    ensures nulls { (cell : ℕ) (default : Wish) → cell < cells_in wanted.old.size → slice_index_or wanted.new.cells cell default ≡ Char 0 }
 {
-    for cell in 0..CELL_COUNT {
+    let cells = usize::from(wanted.size().cells());
+    for cell in 0..cells {
         wanted.put(cell, Want::Char(0));
     }
 }
@@ -43,8 +47,9 @@ fn cell_of(attr: Attr, content: Option<&[u8]>, distance: u16) -> Want
 
 /// Puts the cells of an item, its attribute first, over what stood there.
 fn put_item(wanted: &mut Wanted, extent: Extent, attr: Attr, content: Option<&[u8]>)
-    requires { IfSome content (λ bytes. AreCharacters bytes.now) }
-    ensures { IsPut (λ cell. option_map (cell_with attr (option_map (λ bytes. bytes.now) content.entry)) (distance_in extent cell)) wanted.old.cells wanted.new.cells }
+    requires fits { FitsOn wanted.old.size extent }
+    requires characters { IfSome content (λ bytes. AreCharacters bytes.now) }
+    ensures { IsPut (λ cell. option_map (cell_with attr (option_map (λ bytes. bytes.now) content.entry)) (distance_in extent cell)) wanted.old wanted.new }
 {
     let start = extent.first - 1;
     for distance in 0..extent.length + 1 {
@@ -67,7 +72,8 @@ fn skipped_attr(bright: bool) -> Attr
 
 /// Puts the cells of texts, the first over all others.
 fn put_texts(wanted: &mut Wanted, values: &Values, texts: &[TextItem])
-    ensures { IsPut (λ cell. first_some (text_cell values.now cell) texts.now) wanted.old.cells wanted.new.cells }
+    requires { All (λ text. FitsOn wanted.old.size text.extent) texts.now }
+    ensures { IsPut (λ cell. first_some (text_cell values.now cell) texts.now) wanted.old wanted.new }
 {
     for index in (0..texts.len()).rev() {
         let text = &texts[index];
@@ -82,7 +88,8 @@ fn put_texts(wanted: &mut Wanted, values: &Values, texts: &[TextItem])
 
 /// Puts the cells of a field: its attribute, and after it its value, or its fill; with `keep` the attribute alone.
 fn put_field(wanted: &mut Wanted, values: &Values, message: Message, keep: bool, field: &Field)
-    ensures { IsPut (λ cell. field_cell values.now message keep cell field.now) wanted.old.cells wanted.new.cells }
+    requires { FitsOn wanted.old.size field.now.extent }
+    ensures { IsPut (λ cell. field_cell values.now message keep cell field.now) wanted.old wanted.new }
 {
     let value = match message {
         Message::Fresh => None,
@@ -101,7 +108,8 @@ fn put_field(wanted: &mut Wanted, values: &Values, message: Message, keep: bool,
 
 /// Puts the cells of fields, the first over all others.
 fn put_fields(wanted: &mut Wanted, values: &Values, message: Message, keep: bool, fields: &[Field])
-    ensures { IsPut (λ cell. first_some (field_cell values.now message keep cell) fields.now) wanted.old.cells wanted.new.cells }
+    requires { All (λ field. FitsOn wanted.old.size field.extent) fields.now }
+    ensures { IsPut (λ cell. first_some (field_cell values.now message keep cell) fields.now) wanted.old wanted.new }
 {
     for index in (0..fields.len()).rev() {
         put_field(wanted, values, message, keep, &fields[index]);
@@ -110,7 +118,8 @@ fn put_fields(wanted: &mut Wanted, values: &Values, message: Message, keep: bool
 
 /// Puts the attributes behind fields, where they end.
 fn put_stoppers(wanted: &mut Wanted, fields: &[Field])
-    ensures { IsPut (λ cell. first_some (stopper_cell cell) fields.now) wanted.old.cells wanted.new.cells }
+    requires { All (λ field. FitsOn wanted.old.size field.extent) fields.now }
+    ensures { IsPut (λ cell. first_some (stopper_cell cell) fields.now) wanted.old wanted.new }
 {
     for index in (0..fields.len()).rev() {
         let extent = fields[index].extent;
@@ -138,11 +147,13 @@ fn message_byte(message: Message, name: &[u8], index: usize) -> u8
 
 /// Puts the message's row; `name` is that of the field that the message speaks of.
 fn put_message(wanted: &mut Wanted, message: Message, name: &[u8])
-    ensures { IsPut (row_cell (text_with name.now message)) wanted.old.cells wanted.new.cells }
+    ensures { IsPut (row_cell (message_start wanted.old.size) (text_with name.now message)) wanted.old wanted.new }
 {
-    let start = MESSAGE_START as usize;
+    let size = wanted.size();
+    let start = usize::from(message_start(size));
+    let room = usize::from(size.cols()) - 1;
     wanted.put(start, Want::Attr(skipped_attr(true)));
-    for index in 0..CELL_COUNT - start - 1 {
+    for index in 0..room {
         let byte = message_byte(message, name, index);
         wanted.put(start + 1 + index, Want::Char(byte));
     }
@@ -159,21 +170,22 @@ impl Panel {
         }
     }
 
-    /// The screen that the panel asks for, with the values of fields and a message. With `keep` the fields that the
+    /// The screen that the panel asks for, of the panel's size, with the values of fields and a message. With `keep` the fields that the
     /// operator sees are left as they are; a fresh panel has none of these.
     pub fn wanted(&self, values: &Values, message: Message, keep: bool) -> Wanted
         requires { (message ≡ Fresh) → keep ≡ false }
         ensures wanted { IsWantedOf self.now values.now message keep result }
         ensures screen { result ≡ screen_of self.now values.now message keep }
     {
-        let mut wanted = Wanted::filled(Want::Keep);
+        let mut wanted = Wanted::filled(Want::Keep, self.size());
         self.put_wanted(&mut wanted, values, message, keep);
         wanted
     }
 
-    /// Puts that screen in place of another. Where it is put into one that is there, none is copied.
+    /// Puts that screen in place of another of its size. Where it is put into one that is there, none is copied.
     pub fn put_wanted(&self, wanted: &mut Wanted, values: &Values, message: Message, keep: bool)
-        requires { (message ≡ Fresh) → keep ≡ false }
+        requires size { wanted.old.size ≡ shape_of self.now }
+        requires fresh { (message ≡ Fresh) → keep ≡ false }
         ensures wanted { IsWantedOf self.now values.now message keep wanted.new }
         ensures screen { wanted.new ≡ screen_of self.now values.now message keep }
     {

@@ -1,8 +1,8 @@
 //! The values of a table's keys.
-ghost use Rattle.std.specs.Prelude.{◌≡◌, option_map};
+ghost use Rattle.std.specs.Prelude.{◌≡◌, option_map, unwrap_or};
 ghost use Rattle.toml.specs.View.{view, items_view, table_view};
 ghost use Rattle.toml.specs.Data.{get_member};
-ghost use Rattle.panels.specs.Tree.{text_under, number, is_set, items_under};
+ghost use Rattle.panels.specs.Tree.{text_under, text_or_empty, number_under, number, is_set, items_under};
 
 use toml::{Table, Value};
 
@@ -18,13 +18,27 @@ pub(crate) fn text_at<'a>(table: &'a Table, key: &str) -> Option<&'a str>
     value_at(table, key)?.as_str()
 }
 
-/// The number at a key, 0 where there is none.
-pub(crate) fn number_at(table: &Table, key: &str) -> i64
-    ensures { result ≡ number key.now (table_view table.now) }
+/// The same, empty where there is none.
+pub(crate) fn text_or_empty<'a>(table: &'a Table, key: &str) -> &'a str
+    ensures { result.now ≡ text_or_empty key.now (table_view table.now) }
+{
+    text_at(table, key).unwrap_or("")
+}
+
+/// The whole number at a key, another where there is none.
+pub(crate) fn number_or(table: &Table, key: &str, other: i64) -> i64
+    ensures { result ≡ unwrap_or (number_under key.now (table_view table.now)) other }
 {
     value_at(table, key)
         .and_then(|value| value.as_integer())
-        .unwrap_or(0)
+        .unwrap_or(other)
+}
+
+/// The same, 0 where there is none.
+pub(crate) fn number_at(table: &Table, key: &str) -> i64
+    ensures { result ≡ number key.now (table_view table.now) }
+{
+    number_or(table, key, 0)
 }
 
 /// Whether the truth value at a key is set.

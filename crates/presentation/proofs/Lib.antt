@@ -1,8 +1,10 @@
 pub mod Starts
+pub mod Walks
 pub mod Texts
 pub mod Storable
 pub mod FieldLists
 pub mod Sent
+pub mod Sized
 pub mod AttributePlaces
 pub mod Nearest
 pub mod FieldLengths

@@ -1,5 +1,6 @@
 -- The nearest of ascending places before an address, as a binary search finds it.
-use Rattle.std.proofs.Common.{◌≡◌, ℕ, ◌+◌, ◌-◌, ◌%◌, ◌<◌, ◌≤◌, List, length, get_or, Option, Some, None, Err, arith, inl, inr}
+use Rattle.std.proofs.Common.{◌≡◌, ℕ, ◌+◌, ◌-◌, ◌%◌, ◌<◌, ◌≤◌, List, length, get_or, Option, Some, None, Ok, Err, arith, inl, inr}
+use Rattle.std.proofs.Math.Nat.{mod_self}
 use Rattle.std.specs.Option.{SomeIff, IfSome}
 use Rattle.std.proofs.lemmas.Bool.{cases_lt, cases_eq}
 use Rattle.std.proofs.lemmas.List.Sorted.{searched}
@@ -18,6 +19,17 @@ rising size places ascending i j le below = elim (cases_eq i j) [
   | inl same ↦ rw same (omega arith)
   | inr apart ↦ omega (arith, ascending.order i j (omega arith) below)
 ]
+
+-- a place at the address itself is the nearest
+pub nearest_is_here : (size : ℕ) (places : List ℕ) (at index : ℕ) → AreAscending size places → IsBinarySearchResult (λ y. nat_cmp y at) places (Ok index) → IsNearest size places at index
+nearest_is_here size places at index ascending found =
+    let here = searched places at (Ok index) found (rising size places ascending) in
+    let whole : at + size - at ≡ size = omega arith in
+    let none : (at + size - get_or places index 0) % size ≡ 0 = rw (here.1, whole) (mod_self size) in
+    record {
+      listed = here.0;
+      nearest = λ other below. rw none (omega arith);
+    }
 
 -- all places lie behind the address: the last is the nearest, round the end
 pub nearest_is_last : (size : ℕ) (places : List ℕ) (at : ℕ) → at < size → AreAscending size places → IsBinarySearchResult (λ y. nat_cmp y at) places (Err 0) → 0 < length places → IsNearest size places at (length places - 1)

@@ -1,9 +1,8 @@
 -- Changes that keep the characters of a screen storable, and its size.
-use Rattle.std.proofs.Common.{◌≡◌, ℕ, ◌<◌, true, false, not, cond, Bool, List, length, map, set, ◌∙◌}
+use Rattle.std.proofs.Common.{◌≡◌, ℕ, ◌<◌, true, false, not, cond, Bool, List, length, map, set, arith}
 use Rattle.std.specs.List.{All}
 use Rattle.std.proofs.lemmas.List.{length-set, length-map}
 use Rattle.std.proofs.lemmas.List.Elements.{All-set, All-map}
-use Rattle.codes3270.specs.Size.{cell_count}
 use Rattle.codes3270.specs.declared.attribute.Cell.{Cell}
 use Rattle.codes3270.specs.declared.attribute.Cell.TheVariants.{Char, Attr}
 use Rattle.datastream.specs.Screen.{Screen, is_protected}
@@ -49,7 +48,12 @@ storable_across from count rule cells keeps each k d below =
 -- ---- a screen with other cells
 
 pub with_cells : (screen : Screen) (cells : List Cell) → length cells ≡ length screen.cells → All IsStorableCell cells → IsSendable screen → IsSendable (record screen { cells = cells })
-with_cells screen cells same each proper = record { size = same ∙ proper.size; cursor = proper.cursor; aid = proper.aid; storable = each }
+with_cells screen cells same each proper = record {
+  few = omega (arith, same, proper.few);
+  cursor = omega (arith, same, proper.cursor);
+  aid = proper.aid;
+  storable = each;
+}
 
 pub with_filled : (screen : Screen) (from count : ℕ) (new : Cell) → IsStorableCell new → IsSendable screen → IsSendable (record screen { cells = filled from count new screen.cells })
 with_filled screen from count new p proper =
@@ -77,5 +81,5 @@ with_stored screen at cell p proper =
     (All-set IsStorableCell screen.cells at cell p proper.storable)
     proper
 
-pub with_cursor : (screen : Screen) (at : ℕ) → at < cell_count → IsSendable screen → IsSendable (record screen { cursor = at })
-with_cursor screen at below proper = record { size = proper.size; cursor = below; aid = proper.aid; storable = proper.storable }
+pub with_cursor : (screen : Screen) (at : ℕ) → at < length screen.cells → IsSendable screen → IsSendable (record screen { cursor = at })
+with_cursor screen at below proper = record { few = proper.few; cursor = below; aid = proper.aid; storable = proper.storable }

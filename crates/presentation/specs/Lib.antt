@@ -1,3 +1,4 @@
+pub mod Sizes
 pub mod Applied
 pub mod Places
 pub mod Index

@@ -1,34 +1,36 @@
-//! The character buffer of a screen, with its cursor and its AID.
-ghost use Rattle.std.specs.Prelude.{◌≡◌, replicate};
-ghost use Rattle.codes3270.specs.Size.{cell_count};
+//! The character buffer of a screen, with its model, its size, its cursor and its AID.
+ghost use Rattle.std.specs.Prelude.{◌≡◌, ◌<◌, Some, length, replicate, slice_get, slice_set};
+ghost use Rattle.codes3270.specs.Size.{cells_in, most_cells};
 ghost use Rattle.codes3270.specs.declared.attribute.Cell.TheVariants.{Char};
 ghost use Rattle.codes3270.specs.Aid.{IsRealAid};
-ghost use Rattle.datastream.specs.Screen.{blank_screen};
+ghost use Rattle.datastream.specs.InboundFields.{IsStorableCell};
+ghost use Rattle.presentation.specs.Sizes.{IsSized, blank_of};
 
 use crate::packed_cell::PackedCell;
-use codes3270::{Addr, Aid, CELL_COUNT};
-use std::marker::Model;
+use codes3270::{Addr, Aid, MOST_CELLS, Model, Size};
+use std::marker;
 
-/// The cells of a screen (GA23-0059-07 on the character buffer), the cursor and the AID. Its characters are storable. Contracts
-/// see it as the list of its cells, the cursor's address and the AID.
-#[derive(Clone, Debug, Drop, PartialEq, Eq)]
+/// The cells of a screen (GA23-0059-07 on the character buffer), with room for the largest; its model and its size, the
+/// cursor and the AID. Its characters are storable. Contracts see the cells that a screen of its size has.
+#[derive(Clone, Debug, Drop)]
 pub(crate) struct Buffer {
-    pub(crate) cells: [PackedCell; CELL_COUNT],
+    pub(crate) cells: [PackedCell; MOST_CELLS],
+    pub(crate) model: Model,
+    pub(crate) size: Size,
     pub(crate) cursor: Addr,
     pub(crate) aid: Aid,
 }
 
-impl Model for Buffer {
-    ghost use Rattle.datastream.specs.Screen.{Screen as Shown};
-    ghost use Rattle.datastream.specs.InboundFields.{IsSendable};
+impl marker::Model for Buffer {
+    ghost use Rattle.std.specs.Prelude.{take};
+    ghost use Rattle.codes3270.specs.Size.{cells_in};
+    ghost use Rattle.presentation.specs.Sizes.{SizedScreen, IsSized};
 
-    ghost Value = { Shown };
+    ghost Value = { SizedScreen };
 
-    ghost view = { λ s. record { cells = s.cells; cursor = s.cursor; aid = s.aid } };
+    ghost view = { λ s. record { model = s.model; size = s.size; screen = record { cells = take (cells_in s.size) s.cells; cursor = s.cursor; aid = s.aid } } };
 
-    ghost invariant = { λ s. IsSendable (record { cells = s.cells; cursor = s.cursor; aid = s.aid }) };
-
-    ghost inverse = { λ shown. record { cells = shown.cells; cursor = shown.cursor; aid = shown.aid } };
+    ghost invariant = { λ s. IsSized (record { model = s.model; size = s.size; screen = record { cells = take (cells_in s.size) s.cells; cursor = s.cursor; aid = s.aid } }) };
 }
 
 /// The AID itself. That the number of its key is in range is known once the number was asked for.
@@ -53,22 +55,62 @@ pub(crate) fn with_real_key(aid: Aid) -> Aid
     }
 }
 
-/// A null in each cell.
-pub(crate) fn nulls() -> [PackedCell; CELL_COUNT]
-    ensures { result ≡ replicate cell_count (Char 0) }
+/// A null in each cell of the largest screen.
+fn nulls() -> [PackedCell; MOST_CELLS]
+    ensures { result ≡ replicate most_cells (Char 0) }
 {
-    [PackedCell::character(0); CELL_COUNT]
+    [PackedCell::character(0); MOST_CELLS]
 }
 
 impl Buffer {
-    /// All cells null, the cursor at 0, no AID.
-    pub(crate) fn blank() -> Buffer
-        ensures { result ≡ blank_screen cell_count }
+    /// All cells null, in the size that all models have, the cursor at 0, no AID.
+    pub(crate) fn blank(model: Model) -> Buffer
+        ensures { result ≡ blank_of model }
     {
         Buffer {
             cells: nulls(),
+            model,
+            size: Size::base(),
             cursor: Addr::first(),
             aid: Aid::NoAid,
         }
+    }
+
+    /// The cells, by address.
+    pub(crate) fn cells(&self) -> &[PackedCell]
+        ensures cells { result.now ≡ self.now.screen.cells }
+        ensures count { length result.now ≡ cells_in self.now.size }
+        ensures sized { IsSized self.now }
+    {
+        let count = usize::from(self.size.cells());
+        &self.cells[..count]
+    }
+
+    /// What a cell holds.
+    pub(crate) fn cell(&self, at: Addr) -> PackedCell
+        requires { at < cells_in self.now.size }
+        ensures value { slice_get self.now.screen.cells at ≡ Some result }
+        ensures storable { IsStorableCell result }
+        ensures sized { IsSized self.now }
+    {
+        self.cells[at.get() as usize]
+    }
+
+    /// Stores a cell.
+    pub(crate) fn set_cell(&mut self, at: Addr, cell: PackedCell)
+        requires address { at < cells_in self.old.size }
+        requires storable { IsStorableCell cell }
+        ensures { self.new ≡ record self.old { screen = record self.old.screen { cells = slice_set self.old.screen.cells at cell } } }
+    {
+        self.cells[at.get() as usize] = cell;
+    }
+
+    /// Where the cursor is.
+    pub(crate) fn cursor(&self) -> Addr
+        ensures cursor { result ≡ self.now.screen.cursor }
+        ensures in_range { result < cells_in self.now.size }
+        ensures sized { IsSized self.now }
+    {
+        self.cursor
     }
 }

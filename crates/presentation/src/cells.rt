@@ -1,6 +1,6 @@
 //! What is read off cells, and what is changed in them.
-ghost use Rattle.std.specs.Prelude.{◌≡◌, ◌<◌, ◌≤◌, ◌-◌, drop, map, zip, length, position, IfSome, if◌then◌else◌};
-ghost use Rattle.codes3270.specs.Size.{cell_count};
+ghost use Rattle.std.specs.Prelude.{◌≡◌, ◌<◌, ◌≤◌, ◌-◌, drop, map, zip, length, position, replicate, IfSome, if◌then◌else◌};
+ghost use Rattle.codes3270.specs.Size.{cells_in, most_cells};
 ghost use Rattle.codes3270.specs.declared.attribute.Cell.TheVariants.{Char};
 ghost use Rattle.std.specs.List.{list_all, prefix_len};
 ghost use Rattle.datastream.specs.Span.{distance};
@@ -8,7 +8,14 @@ ghost use Rattle.datastream.specs.Screen.{last_attribute, is_char, is_open_attri
 ghost use Rattle.datastream.specs.Meaning.{filled, opened, erased, unmodified, modified, open_unmodified, tab_stop, home, is_start};
 
 use crate::packed_cell::PackedCell;
-use codes3270::{Addr, Attr, CELLS, Cell};
+use codes3270::{Addr, Attr, Cell, Size};
+
+/// A null in each cell.
+pub(crate) fn clear(cells: &mut [PackedCell])
+    ensures { cells.new ≡ replicate (length cells.old) (Char 0) }
+{
+    cells.fill(PackedCell::character(0));
+}
 
 /// Turns MDT off in each attribute.
 pub(crate) fn reset_mdt(cells: &mut [PackedCell])
@@ -38,26 +45,34 @@ pub(crate) fn with_mdt(cell: PackedCell) -> PackedCell
     }
 }
 
-/// The distance from one address up to another, round the end; all cells where they are equal.
-pub(crate) fn distance_to(from: Addr, stop: Addr) -> u16
-    ensures value { result ≡ distance cell_count from stop }
-    ensures in_range { result ≤ cell_count }
+/// The distance from one address up to another on a screen of a size, round the end; all cells where they are equal.
+pub(crate) fn distance_to(from: Addr, stop: Addr, size: Size) -> u16
+    requires from { from < cells_in size }
+    requires stop { stop < cells_in size }
+    ensures value { result ≡ distance (cells_in size) from stop }
+    ensures in_range { result ≤ cells_in size }
 {
+    let cells = size.cells();
     if from == stop {
-        CELLS
+        cells
+    } else if from.get() < stop.get() {
+        stop.get() - from.get()
     } else {
-        (stop.get() + CELLS - from.get()) % CELLS
+        stop.get() + cells - from.get()
     }
 }
 
 /// Writes a character into `count` places from `from` on, round the end.
-pub(crate) fn fill(cells: &mut [PackedCell], from: Addr, count: u16, code: u8)
-    requires size { length cells.old ≡ cell_count }
-    requires count { count ≤ cell_count }
+pub(crate) fn fill(cells: &mut [PackedCell], from: Addr, count: u16, code: u8, size: Size)
+    requires size { length cells.old ≡ cells_in size }
+    requires from { from < cells_in size }
+    requires count { count ≤ cells_in size }
     ensures { cells.new ≡ filled from count (Char code) cells.old }
 {
-    for step in 0..count {
-        cells[from.forward(step).get() as usize] = PackedCell::character(code);
+    let mut place = from;
+    for _step in 0..count {
+        cells[place.get() as usize] = PackedCell::character(code);
+        place = place.next(size);
     }
 }
 
@@ -74,9 +89,8 @@ pub(crate) fn last_attribute_in(cells: &[PackedCell]) -> Option<Attr>
 
 /// The attribute that governs a cell at `at`, unless that cell holds one.
 pub(crate) fn attribute_before(cells: &[PackedCell], at: Addr) -> Option<Attr>
-    requires { length cells.now ≡ cell_count }
-    ensures value { result ≡ last_attribute (ring at cells.now) }
-    ensures in_range { at < cell_count }
+    requires { at < length cells.now }
+    ensures { result ≡ last_attribute (ring at cells.now) }
 {
     let (front, back) = cells.split_at(at.get() as usize);
     last_attribute_in(front).or(last_attribute_in(back))
@@ -113,17 +127,20 @@ fn opened_under(over: Option<Attr>, cell: PackedCell) -> PackedCell
 }
 
 /// Nulls the unprotected cells among `count` places from `from` on, round the end.
-pub(crate) fn erase_unprotected_in(cells: &mut [PackedCell], from: Addr, count: u16)
-    requires size { length cells.old ≡ cell_count }
-    requires count { count ≤ cell_count }
+pub(crate) fn erase_unprotected_in(cells: &mut [PackedCell], from: Addr, count: u16, size: Size)
+    requires size { length cells.old ≡ cells_in size }
+    requires from { from < cells_in size }
+    requires count { count ≤ cells_in size }
     ensures { cells.new ≡ opened from count cells.old }
 {
     let mut over = attribute_before(cells, from);
-    for step in 0..count {
-        let place = from.forward(step).get() as usize;
+    let mut at = from;
+    for _step in 0..count {
+        let place = at.get() as usize;
         let cell = cells[place];
         over = cell.attribute().or(over);
         cells[place] = opened_under(over, cell);
+        at = at.next(size);
     }
 }
 
@@ -146,12 +163,16 @@ fn first_open(cells: &[PackedCell]) -> Option<usize>
 }
 
 /// Where a PT goes from `at`: behind the next unprotected attribute up to the last cell, else 0.
-pub(crate) fn tab_stop_from(cells: &[PackedCell], at: Addr) -> Addr
-    requires { length cells.now ≡ cell_count }
-    ensures { result ≡ tab_stop cells.now at }
+pub(crate) fn tab_stop_from(cells: &[PackedCell], at: Addr, size: Size) -> Addr
+    requires size { length cells.now ≡ cells_in size }
+    requires address { at < cells_in size }
+    ensures value { result ≡ tab_stop cells.now at }
+    ensures in_range { result < cells_in size }
 {
+    // For the contract: the screen has a first cell.
+    let _cells = size.cells();
     match first_open(&cells[at.get() as usize..]) {
-        Some(distance) => at.forward(distance as u16 + 1),
+        Some(distance) => at.forward(distance as u16 + 1, size),
         None => Addr::first(),
     }
 }
@@ -165,7 +186,7 @@ pub(crate) fn has_only_characters(cells: &[PackedCell]) -> bool
 
 /// Whether no attribute stands from `at` through the last cell.
 pub(crate) fn has_only_characters_from(cells: &[PackedCell], at: Addr) -> bool
-    requires { length cells.now ≡ cell_count }
+    requires { at < length cells.now }
     ensures { result ≡ list_all is_char (drop at cells.now) }
 {
     has_only_characters(&cells[at.get() as usize..])
@@ -173,9 +194,10 @@ pub(crate) fn has_only_characters_from(cells: &[PackedCell], at: Addr) -> bool
 
 /// How many characters come from `at` on, before an attribute or the end.
 pub(crate) fn characters_ahead(cells: &[PackedCell], at: Addr) -> u16
-    requires { length cells.now ≡ cell_count }
+    requires address { at < length cells.now }
+    requires few { length cells.now ≤ most_cells }
     ensures value { result ≡ prefix_len is_char (drop at cells.now) }
-    ensures bound { result ≤ cell_count }
+    ensures bound { result ≤ length cells.now }
 {
     characters_before_attribute(&cells[at.get() as usize..]) as u16
 }
@@ -200,13 +222,15 @@ fn without_open_mdt(cell: PackedCell) -> PackedCell
 }
 
 /// The least start: a character behind the attribute of an unprotected field, round the end; else 0.
-pub(crate) fn home_of(cells: &[PackedCell]) -> Addr
-    requires { length cells.now ≡ cell_count }
+pub(crate) fn home_of(cells: &[PackedCell], size: Size) -> Addr
+    requires { length cells.now ≡ cells_in size }
     ensures value { result ≡ home cells.now }
-    ensures in_range { result < cell_count }
+    ensures in_range { result < cells_in size }
 {
+    // For the contract: the screen has a first cell.
+    let _cells = size.cells();
     match first_start(cells) {
-        Some(place) => Addr::first().forward(place as u16),
+        Some(place) => Addr::first().forward(place as u16, size),
         None => Addr::first(),
     }
 }

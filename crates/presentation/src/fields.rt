@@ -1,6 +1,6 @@
 //! The fields of a screen.
 ghost use Rattle.std.specs.Prelude.{◌≡◌, ◌-◌, ◌<◌, ◌≤◌, ◌%◌, ◌+◌, [], length, slice_get, slice_index_or, false, IsTrue, IfSome, IfNone};
-ghost use Rattle.codes3270.specs.Size.{cell_count};
+ghost use Rattle.codes3270.specs.Size.{cells_in, most_cells};
 ghost use Rattle.std.specs.List.{list_all};
 ghost use Rattle.codes3270.specs.declared.attribute.Cell.TheVariants.{Char};
 ghost use Rattle.datastream.specs.Screen.{field_text, is_char, attribute_in, attribute_over, IsGoverned};
@@ -35,7 +35,7 @@ impl<'a> Model for Fields<'a> {
 
     ghost Value = { List Field };
 
-    ghost view = { λ fields. drop fields.next (fields_from fields.screen.now.cells 0) };
+    ghost view = { λ fields. drop fields.next (fields_from fields.screen.now.screen.cells 0) };
 }
 
 impl<'a> Iterator for Fields<'a> {
@@ -62,10 +62,10 @@ impl<'a> Iterator for Fields<'a> {
 impl Screen {
     /// The addresses of the attributes, ascending.
     fn places(&self) -> &[u16]
-        ensures value { result.now ≡ attribute_places self.now.cells 0 }
-        ensures ascending { AreAscending cell_count result.now }
-        ensures bound { length result.now ≤ cell_count }
-        ensures size { length self.now.cells ≡ cell_count }
+        ensures value { result.now ≡ attribute_places self.now.screen.cells 0 }
+        ensures ascending { AreAscending (cells_in self.now.size) result.now }
+        ensures bound { length result.now ≤ most_cells }
+        ensures size { length self.now.screen.cells ≡ cells_in self.now.size }
     {
         let buffer = &self.buffer;
         // For the contract: the list of attributes agrees with the cells.
@@ -75,48 +75,51 @@ impl Screen {
 
     /// How many fields there are.
     fn field_count(&self) -> usize
-        ensures count { result ≡ length (attribute_places self.now.cells 0) }
-        ensures bound { result ≤ cell_count }
-        ensures size { length self.now.cells ≡ cell_count }
+        ensures count { result ≡ length (attribute_places self.now.screen.cells 0) }
+        ensures bound { result ≤ most_cells }
+        ensures size { length self.now.screen.cells ≡ cells_in self.now.size }
     {
         self.places().len()
     }
 
     /// Where the attribute of a field stands, by the field's number in the list of fields, from 0 on.
     fn field_place(&self, number: usize) -> Addr
-        requires { number < length (attribute_places self.now.cells 0) }
-        ensures { result ≡ place_of self.now.cells number }
+        requires { number < length (attribute_places self.now.screen.cells 0) }
+        ensures place { result ≡ place_of self.now.screen.cells number }
+        ensures in_range { result < cells_in self.now.size }
     {
-        Addr::first().forward(self.places()[number])
+        let place = self.places()[number];
+        Addr::new(place, self.size()).unwrap_or(Addr::first())
     }
 
     /// A field by its number.
     fn field_number(&self, number: usize) -> Field
-        requires { number < length (attribute_places self.now.cells 0) }
-        ensures { result ≡ field_of self.now.cells (place_of self.now.cells number) }
+        requires { number < length (attribute_places self.now.screen.cells 0) }
+        ensures { result ≡ field_of self.now.screen.cells (place_of self.now.screen.cells number) }
     {
         let count = self.field_count();
         let attr = self.field_place(number);
         let next = self.field_place((number + 1) % count);
         Field {
             attr,
-            length: cells::distance_to(attr, next) - 1,
+            length: cells::distance_to(attr, next, self.size()) - 1,
         }
     }
 
     /// The number of the field that a cell lies in, or whose attribute it holds; None on an unformatted screen.
     fn field_number_at(&self, at: Addr) -> Option<usize>
-        ensures none { IfNone result (attribute_places self.now.cells 0 ≡ []) }
-        ensures nearest { IfSome result (λ number. IsNearest cell_count (attribute_places self.now.cells 0) at number) }
-        ensures size { length self.now.cells ≡ cell_count }
-        ensures in_range { at < cell_count }
+        requires { at < cells_in self.now.size }
+        ensures none { IfNone result (attribute_places self.now.screen.cells 0 ≡ []) }
+        ensures nearest { IfSome result (λ number. IsNearest (cells_in self.now.size) (attribute_places self.now.screen.cells 0) at number) }
+        ensures size { length self.now.screen.cells ≡ cells_in self.now.size }
     {
         index::nearest_before(self.places(), at)
     }
 
     /// The attribute that governs a cell: its own, or the nearest before it, round the end; None on an unformatted screen.
     pub fn attribute_over(&self, at: Addr) -> Option<Attr>
-        ensures { result ≡ attribute_over self.now.cells at }
+        requires { at < cells_in self.now.size }
+        ensures { result ≡ attribute_over self.now.screen.cells at }
     {
         let number = self.field_number_at(at)?;
         self.cell(self.field_place(number)).attribute()
@@ -124,7 +127,7 @@ impl Screen {
 
     /// The fields, by the addresses of their attributes, each once. An unformatted screen has none.
     pub fn fields(&self) -> Fields<'_>
-        ensures { result ≡ listed_fields self.now.cells }
+        ensures { result ≡ listed_fields self.now.screen.cells }
     {
         Fields {
             screen: self,
@@ -134,17 +137,17 @@ impl Screen {
 
     /// The field that a cell lies in, or whose attribute it holds; None on an unformatted screen.
     pub fn field_at(&self, at: Addr) -> Option<Field>
-        ensures none { IfNone result (IsTrue (list_all is_char self.now.cells)) }
-        ensures formatted { IfSome result (λ _. list_all is_char self.now.cells ≡ false) }
+        requires { at < cells_in self.now.size }
+        ensures none { IfNone result (IsTrue (list_all is_char self.now.screen.cells)) }
+        ensures formatted { IfSome result (λ _. list_all is_char self.now.screen.cells ≡ false) }
 
         // Its attribute is the nearest before the cell, round the end, and governs it.
-        ensures nearest { IfSome result (λ field. IsGoverned self.now.cells at field.attr) }
+        ensures nearest { IfSome result (λ field. IsGoverned self.now.screen.cells at field.attr) }
         ensures governs { IfSome result (λ field.
-            attribute_over self.now.cells at ≡ attribute_in (slice_index_or self.now.cells field.attr (Char 0))) }
+            attribute_over self.now.screen.cells at ≡ attribute_in (slice_index_or self.now.screen.cells field.attr (Char 0))) }
 
         // Its cells run to the next attribute, round the end.
-        ensures length { IfSome result (λ field. field.length ≡ length (field_text self.now.cells field.attr)) }
-        ensures in_range { at < cell_count }
+        ensures length { IfSome result (λ field. field.length ≡ length (field_text self.now.screen.cells field.attr)) }
     {
         let number = self.field_number_at(at)?;
         Some(self.field_number(number))

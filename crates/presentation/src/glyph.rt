@@ -1,6 +1,6 @@
 //! What is printed of a screen.
-ghost use Rattle.std.specs.Prelude.{◌≡◌};
-ghost use Rattle.codes3270.specs.Size.{cell_count};
+ghost use Rattle.std.specs.Prelude.{◌≡◌, ◌<◌};
+ghost use Rattle.codes3270.specs.Size.{cells_in};
 ghost use Rattle.presentation.specs.Glyph.{glyph_at, glyph_of, glyph_of_code, is_hidden, hidden_from, shown, all_glyphs};
 
 use crate::Screen;
@@ -95,12 +95,13 @@ impl<'a> Iterator for Glyphs<'a> {
 impl Screen {
     /// The characters that are printed for all cells, by address: `glyph_at` of each. It goes over the cells once.
     pub fn glyphs(&self) -> Glyphs<'_>
-        ensures { result ≡ all_glyphs self.now.cells }
+        ensures { result ≡ all_glyphs self.now.screen.cells }
     {
-        let hidden = is_hidden(self.attribute_over(Addr::first().backward(1)));
+        let last = Addr::first().backward(1, self.size());
+        let hidden = is_hidden(self.attribute_over(last));
         let buffer = &self.buffer;
         Glyphs {
-            cells: &buffer.cells,
+            cells: buffer.cells(),
             hidden,
         }
     }
@@ -108,7 +109,8 @@ impl Screen {
     /// The character that is printed for a cell (our profile): that of code page 037 for the codes from 40 to FE, `*` for
     /// 1C (DUP), `;` for 1E (FM), and a blank for all else, for attributes, and for every cell of a hidden field.
     pub fn glyph_at(&self, at: Addr) -> char
-        ensures { result ≡ glyph_at self.now.cells at }
+        requires { at < cells_in self.now.size }
+        ensures { result ≡ glyph_at self.now.screen.cells at }
     {
         if is_hidden(self.attribute_over(at)) {
             ' '

@@ -1,6 +1,6 @@
 //! What reads answer.
 ghost use Rattle.std.specs.Prelude.{◌≡◌, ◌+◌, ◌%◌, ◌<◌, ◌∷◌, [], ◌++◌, length, take, drop, OnOk, OnErr, ◌&&◌, not};
-ghost use Rattle.codes3270.specs.Size.{cell_count};
+ghost use Rattle.codes3270.specs.Size.{cells_in};
 ghost use Rattle.std.specs.List.{flat_map};
 ghost use Rattle.codes3270.specs.Address.{address_bytes};
 ghost use Rattle.codes3270.specs.Aid.{is_short_aid};
@@ -8,13 +8,14 @@ ghost use Rattle.codes3270.specs.Appending.{Appends, AppendsSome};
 ghost use Rattle.datastream.specs.Screen.{text_before_attribute, field_text, places_from};
 ghost use Rattle.datastream.specs.Inbound.{without_nulls, modified_field, modified_text, read_modified, is_modified, cell_bytes, read_buffer};
 ghost use Rattle.datastream.specs.InboundText.{IsInbound};
-ghost use Rattle.datastream.specs.InboundFields.{IsSendable, modified_data, buffer_data};
+ghost use Rattle.datastream.specs.InboundFields.{modified_data, buffer_data};
 ghost use Rattle.presentation.specs.Answering.{form_of};
+ghost use Rattle.presentation.specs.Sizes.{IsSized};
 
 use crate::buffer::Buffer;
 use crate::packed_cell::PackedCell;
 use crate::{Screen, cells};
-use codes3270::{Addr, Aid, CELLS, Cell, addr_to_bytes, aid_byte, attr_code};
+use codes3270::{Addr, Aid, Cell, Size, addr_to_bytes, aid_byte, attr_code};
 use datastream::{Memory, SET_BUFFER_ADDRESS, START_FIELD};
 
 fn put_byte(out: &mut Vec<u8>, byte: u8) -> Result<(), Memory>
@@ -55,7 +56,7 @@ fn put_text(out: &mut Vec<u8>, cells: &[PackedCell]) -> Result<(), Memory>
 
 /// The text of the field whose attribute is at `at`, round the end, without nulls.
 fn put_field_text(out: &mut Vec<u8>, cells: &[PackedCell], at: Addr) -> Result<(), Memory>
-    requires { length cells.now ≡ cell_count }
+    requires { at < length cells.now }
     ensures { AppendsSome out.old out.new result (without_nulls (field_text cells.now at)) }
 {
     let (front, back) = cells.split_at(at.get() as usize + 1);
@@ -68,11 +69,12 @@ fn put_field_text(out: &mut Vec<u8>, cells: &[PackedCell], at: Addr) -> Result<(
 }
 
 /// SBA, the field's first address and its text.
-fn put_field(out: &mut Vec<u8>, cells: &[PackedCell], at: Addr) -> Result<(), Memory>
-    requires { length cells.now ≡ cell_count }
+fn put_field(out: &mut Vec<u8>, cells: &[PackedCell], at: Addr, size: Size) -> Result<(), Memory>
+    requires size { length cells.now ≡ cells_in size }
+    requires address { at < cells_in size }
     ensures { AppendsSome out.old out.new result (modified_field cells.now at) }
 {
-    let [high, low] = addr_to_bytes(at.next());
+    let [high, low] = addr_to_bytes(at.next(size));
     put_bytes(out, &[SET_BUFFER_ADDRESS, high, low])?;
     put_field_text(out, cells, at)
 }
@@ -86,38 +88,45 @@ fn is_modified_attribute(cell: PackedCell) -> bool
     }
 }
 
-fn put_field_if_modified(out: &mut Vec<u8>, cells: &[PackedCell], at: Addr) -> Result<(), Memory>
-    requires { length cells.now ≡ cell_count }
-    ensures { let places = places_from is_modified at (take 1 (drop at cells.now)) in
+#[inline(always)]
+fn put_field_if_modified(
+    out: &mut Vec<u8>,
+    cells: &[PackedCell],
+    place: u16,
+    size: Size,
+) -> Result<(), Memory>
+    requires size { length cells.now ≡ cells_in size }
+    requires place { place < cells_in size }
+    ensures { let places = places_from is_modified place (take 1 (drop place cells.now)) in
         AppendsSome out.old out.new result (flat_map (modified_field cells.now) places) }
 {
-    if is_modified_attribute(cells[at.get() as usize]) {
-        put_field(out, cells, at)
+    if is_modified_attribute(cells[usize::from(place)]) {
+        put_field(out, cells, Addr::first().forward(place, size), size)
     } else {
         Ok(())
     }
 }
 
 /// The modified fields, by the addresses of their attributes.
-fn put_modified_fields(out: &mut Vec<u8>, cells: &[PackedCell]) -> Result<(), Memory>
-    requires { length cells.now ≡ cell_count }
+fn put_modified_fields(out: &mut Vec<u8>, cells: &[PackedCell], size: Size) -> Result<(), Memory>
+    requires { length cells.now ≡ cells_in size }
     ensures { let places = places_from is_modified 0 cells.now in
         AppendsSome out.old out.new result (flat_map (modified_field cells.now) places) }
 {
-    for place in 0..CELLS {
-        put_field_if_modified(out, cells, Addr::first().forward(place))?;
+    for place in 0..size.cells() {
+        put_field_if_modified(out, cells, place, size)?;
     }
     Ok(())
 }
 
-fn put_modified_text(out: &mut Vec<u8>, cells: &[PackedCell]) -> Result<(), Memory>
-    requires { length cells.now ≡ cell_count }
+fn put_modified_text(out: &mut Vec<u8>, cells: &[PackedCell], size: Size) -> Result<(), Memory>
+    requires { length cells.now ≡ cells_in size }
     ensures { AppendsSome out.old out.new result (modified_text cells.now) }
 {
     if cells::has_only_characters(cells) {
         put_text(out, cells)
     } else {
-        put_modified_fields(out, cells)
+        put_modified_fields(out, cells, size)
     }
 }
 
@@ -148,32 +157,32 @@ fn put_cells(out: &mut Vec<u8>, cells: &[PackedCell]) -> Result<(), Memory>
 
 impl Buffer {
     fn put_cursor_and_cells(&self, out: &mut Vec<u8>) -> Result<(), Memory>
-        ensures { let bytes = address_bytes self.now.cursor ++ flat_map cell_bytes self.now.cells in
+        ensures { let bytes = address_bytes self.now.screen.cursor ++ flat_map cell_bytes self.now.screen.cells in
             AppendsSome out.old out.new result bytes }
     {
         put_bytes(out, &addr_to_bytes(self.cursor))?;
-        put_cells(out, &self.cells)
+        put_cells(out, self.cells())
     }
 
     fn put_buffer(&self, out: &mut Vec<u8>) -> Result<(), Memory>
-        ensures bytes { AppendsSome out.old out.new result (read_buffer self.now) }
-        ensures sendable { IsSendable self.now }
+        ensures bytes { AppendsSome out.old out.new result (read_buffer self.now.screen) }
+        ensures sized { IsSized self.now }
     {
         put_byte(out, aid_byte(self.aid))?;
         self.put_cursor_and_cells(out)
     }
 
     fn put_cursor_and_fields(&self, out: &mut Vec<u8>) -> Result<(), Memory>
-        ensures { let bytes = address_bytes self.now.cursor ++ modified_text self.now.cells in
+        ensures { let bytes = address_bytes self.now.screen.cursor ++ modified_text self.now.screen.cells in
             AppendsSome out.old out.new result bytes }
     {
         put_bytes(out, &addr_to_bytes(self.cursor))?;
-        put_modified_text(out, &self.cells)
+        put_modified_text(out, self.cells(), self.size)
     }
 
     fn put_modified(&self, out: &mut Vec<u8>, all: bool) -> Result<(), Memory>
-        ensures bytes { AppendsSome out.old out.new result (read_modified all self.now) }
-        ensures sendable { IsSendable self.now }
+        ensures bytes { AppendsSome out.old out.new result (read_modified all self.now.screen) }
+        ensures sized { IsSized self.now }
     {
         put_byte(out, aid_byte(self.aid))?;
         if is_short_form(self.aid, all) {
@@ -189,9 +198,9 @@ impl Screen {
     /// address 0 on, an attribute as SF and its code. It succeeds where `out` has room; where memory is refused nothing is
     /// appended.
     pub fn put_read_buffer(&self, out: &mut Vec<u8>) -> Result<(), Memory>
-        ensures appends { Appends out.old out.new result (read_buffer self.now) }
+        ensures appends { Appends out.old out.new result (read_buffer self.now.screen) }
         // It is read as this screen's cells.
-        ensures inbound { IsInbound (buffer_data self.now) (read_buffer self.now) }
+        ensures inbound { IsInbound (buffer_data self.now.size self.now.screen) (read_buffer self.now.screen) }
     {
         let before = out.len();
         let put = self.buffer.put_buffer(out);
@@ -206,9 +215,9 @@ impl Screen {
     /// characters without nulls. On an unformatted screen all characters without nulls follow the cursor. After PA or Clear
     /// Read Modified answers the AID alone. It succeeds where `out` has room; where memory is refused nothing is appended.
     pub fn put_read_modified(&self, out: &mut Vec<u8>, all: bool) -> Result<(), Memory>
-        ensures appends { Appends out.old out.new result (read_modified all self.now) }
+        ensures appends { Appends out.old out.new result (read_modified all self.now.screen) }
         // It is read as this screen's modified fields.
-        ensures inbound { IsInbound (modified_data (form_of all) self.now) (read_modified all self.now) }
+        ensures inbound { IsInbound (modified_data (form_of all) self.now.size self.now.screen) (read_modified all self.now.screen) }
     {
         let start = out.len();
         let put = self.buffer.put_modified(out, all);

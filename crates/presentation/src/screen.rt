@@ -1,87 +1,105 @@
 //! The screen, and the changes to it that keys are made of.
 ghost use Rattle.std.specs.Prelude.{◌≡◌, ◌<◌, false, true, length, slice_get, slice_index_or, slice_set, Some, IsTrue};
-ghost use Rattle.codes3270.specs.Size.{cell_count};
+ghost use Rattle.codes3270.specs.Size.{cells_in};
 ghost use Rattle.codes3270.specs.Storable.{is_storable};
 ghost use Rattle.codes3270.specs.declared.attribute.Cell.TheVariants.{Char};
-ghost use Rattle.datastream.specs.Meaning.{modified, home, cleared, unprotected_erased, after_command};
-ghost use Rattle.datastream.specs.Screen.{is_char_at, blank_screen};
+ghost use Rattle.datastream.specs.Meaning.{modified, home, cleared, unprotected_erased};
+ghost use Rattle.datastream.specs.Screen.{is_char_at};
 ghost use Rattle.codes3270.specs.Aid.{IsRealAid};
 ghost use Rattle.datastream.specs.InboundFields.{IsSendable, IsStorableCell};
 ghost use Rattle.presentation.specs.Applied.{asked_by};
+ghost use Rattle.presentation.specs.Sizes.{HasSize, IsReadFor, applied, blank_of};
 
 use crate::buffer::{Buffer, with_real_key};
 use crate::packed_cell::PackedCell;
 use crate::{Applied, cells, index};
 use arrayvec::ArrayVec;
-use codes3270::{Addr, Aid, CELL_COUNT, Cell};
+use codes3270::{Addr, Aid, Cell, MOST_CELLS, Model, Size};
 use datastream::Command;
-use std::marker::Model;
+use std::marker;
 
-/// The screen of a 3278 model 2 (GA23-0059-07 on the character buffer): its cells, the cursor and the AID. Its characters are
-/// storable. Contracts see it as the list of its cells, the cursor's address and the AID.
-#[derive(Clone, Debug, Drop, PartialEq, Eq)]
+/// The screen of a terminal of a model (GA23-0059-07 on the character buffer and on screen sizes): its size, its cells, the
+/// cursor and the AID. Its characters are storable. Contracts see the model, the size, and the screen as the list of its
+/// cells, the cursor's address and the AID.
+///
+/// An address that is handed to a screen must be below its number of cells.
+#[derive(Clone, Debug, Drop)]
 pub struct Screen {
     pub(crate) buffer: Buffer,
     /// The addresses of its attributes, ascending.
-    pub(crate) attributes: ArrayVec<u16, CELL_COUNT>,
+    pub(crate) attributes: ArrayVec<u16, MOST_CELLS>,
 }
 
-impl Model for Screen {
+impl marker::Model for Screen {
     ghost use Rattle.std.specs.Prelude.{◌≡◌};
-    ghost use Rattle.std.proofs.Common.{ap, sym};
-    ghost use Rattle.datastream.specs.Screen.{Screen as Shown};
+    ghost use Rattle.presentation.specs.Sizes.{SizedScreen};
     ghost use Rattle.presentation.specs.Places.{attribute_places};
 
-    ghost Value = { Shown };
+    ghost Value = { SizedScreen };
 
     ghost view = { λ s. s.buffer };
 
-    ghost invariant = { λ s. s.attributes.items ≡ attribute_places s.buffer.cells 0 };
-
-    ghost inverse = { λ shown. record { buffer = shown; attributes = record { items = attribute_places shown.cells 0 } } };
-
-    ghost inverse_ok = { λ s indexed. ap (λ places. record { buffer = s.buffer; attributes = record { items = places } }) (sym indexed) };
+    ghost invariant = { λ s. s.attributes.items ≡ attribute_places s.buffer.screen.cells 0 };
 }
 
 impl Screen {
-    /// All cells null, the cursor at 0, no AID.
-    pub fn blank() -> Screen
-        ensures { result ≡ blank_screen cell_count }
+    /// The screen of a terminal of this model as every connection begins: all cells null, 24 rows of 80 cells, the cursor at
+    /// 0, no AID.
+    pub fn blank(model: Model) -> Screen
+        ensures { result ≡ blank_of model }
     {
         Screen {
-            buffer: Buffer::blank(),
+            buffer: Buffer::blank(model),
             attributes: ArrayVec::new(),
         }
     }
 
-    /// What a cell holds.
-    pub fn cell(&self, at: Addr) -> Cell
-        ensures value { slice_get self.now.cells at ≡ Some result }
-        ensures storable { IsStorableCell result }
-        ensures in_range { at < cell_count }
-        ensures sendable { IsSendable self.now }
+    /// The terminal's model.
+    pub fn model(&self) -> Model
+        ensures { result ≡ self.now.model }
     {
         let buffer = &self.buffer;
-        buffer.cells[at.get() as usize].get()
+        buffer.model
+    }
+
+    /// The size that it has now: that of the last erase, and 24 rows of 80 cells before any.
+    pub fn size(&self) -> Size
+        ensures size { result ≡ self.now.size }
+        // It is one of the model's two sizes, and there is a cell for each of its addresses.
+        ensures one_of_two { HasSize self.now.model result }
+        ensures cells { length self.now.screen.cells ≡ cells_in self.now.size }
+        ensures sendable { IsSendable self.now.screen }
+    {
+        let buffer = &self.buffer;
+        buffer.size
+    }
+
+    /// What a cell holds.
+    pub fn cell(&self, at: Addr) -> Cell
+        requires { at < cells_in self.now.size }
+        ensures value { slice_get self.now.screen.cells at ≡ Some result }
+        ensures storable { IsStorableCell result }
+        ensures sendable { IsSendable self.now.screen }
+    {
+        self.buffer.cell(at).get()
     }
 
     /// Where the cursor is.
     pub fn cursor(&self) -> Addr
-        ensures value { result ≡ self.now.cursor }
-        ensures in_range { result < cell_count }
-        ensures size { length self.now.cells ≡ cell_count }
-        ensures sendable { IsSendable self.now }
+        ensures value { result ≡ self.now.screen.cursor }
+        ensures in_range { result < cells_in self.now.size }
+        ensures size { length self.now.screen.cells ≡ cells_in self.now.size }
+        ensures sendable { IsSendable self.now.screen }
     {
-        let buffer = &self.buffer;
-        buffer.cursor
+        self.buffer.cursor()
     }
 
     /// The AID of the key that was pressed last, if no write has restored the keyboard since.
     pub fn aid(&self) -> Aid
-        ensures value { result ≡ self.now.aid }
+        ensures value { result ≡ self.now.screen.aid }
         // A program function key has a number from 1 to 24, a program attention key one from 1 to 3.
         ensures real { IsRealAid result }
-        ensures sendable { IsSendable self.now }
+        ensures sendable { IsSendable self.now.screen }
     {
         let buffer = &self.buffer;
         buffer.aid
@@ -90,57 +108,55 @@ impl Screen {
     /// Stores a character in a cell that holds no attribute; `cell` tells, and `codes3270::storable` whether a byte can
     /// be stored.
     pub fn set_char(&mut self, at: Addr, byte: u8)
-        requires free { IsTrue (is_char_at self.old.cells at) }
+        requires address { at < cells_in self.old.size }
+        requires free { IsTrue (is_char_at self.old.screen.cells at) }
         requires storable { is_storable byte ≡ true }
-        ensures { self.new ≡ record self.old { cells = slice_set self.old.cells at (Char byte) } }
+        ensures { self.new ≡ record self.old { screen = record self.old.screen { cells = slice_set self.old.screen.cells at (Char byte) } } }
     {
-        let place = at.get() as usize;
-        let buffer = &mut self.buffer;
-        buffer.cells[place] = PackedCell::character(byte);
+        self.buffer.set_cell(at, PackedCell::character(byte));
     }
 
     /// Turns MDT on in a cell that holds an attribute; `cell` tells.
     pub fn set_mdt(&mut self, at: Addr)
-        requires { is_char_at self.old.cells at ≡ false }
-        ensures { let old = slice_index_or self.old.cells at (Char 0) in
-            self.new ≡ record self.old { cells = slice_set self.old.cells at (modified old) } }
+        requires address { at < cells_in self.old.size }
+        requires attribute { is_char_at self.old.screen.cells at ≡ false }
+        ensures { let old = slice_index_or self.old.screen.cells at (Char 0) in
+            self.new ≡ record self.old { screen = record self.old.screen { cells = slice_set self.old.screen.cells at (modified old) } } }
     {
-        let place = at.get() as usize;
-        let buffer = &mut self.buffer;
-        buffer.cells[place] = cells::with_mdt(buffer.cells[place]);
+        let cell = cells::with_mdt(self.buffer.cell(at));
+        self.buffer.set_cell(at, cell);
     }
 
     /// The first place to type at (our profile): the lowest address of a character that directly follows the attribute of
     /// an unprotected field, round the end; 0 where there is none.
     pub fn home(&self) -> Addr
-        ensures value { result ≡ home self.now.cells }
-        ensures in_range { result < cell_count }
+        ensures value { result ≡ home self.now.screen.cells }
+        ensures in_range { result < cells_in self.now.size }
     {
         let buffer = &self.buffer;
-        cells::home_of(&buffer.cells)
+        cells::home_of(buffer.cells(), buffer.size)
     }
 
     /// Moves the cursor.
     pub fn set_cursor(&mut self, at: Addr)
-        ensures { self.new ≡ record self.old { cursor = at } }
+        requires { at < cells_in self.old.size }
+        ensures { self.new ≡ record self.old { screen = record self.old.screen { cursor = at } } }
     {
-        // For the contract: the address is on the screen.
-        let _in_range = at.get();
         let buffer = &mut self.buffer;
         buffer.cursor = at;
     }
 
     /// Sets the AID.
     pub fn set_aid(&mut self, aid: Aid)
-        ensures { self.new ≡ record self.old { aid = aid } }
+        ensures { self.new ≡ record self.old { screen = record self.old.screen { aid = aid } } }
     {
         let buffer = &mut self.buffer;
         buffer.aid = with_real_key(aid);
     }
 
-    /// What the Clear key does to the screen: all cells null, the cursor at 0; the AID stays.
+    /// What the Clear key does to the screen: all cells null, the cursor at 0; the size (our profile) and the AID stay.
     pub fn clear(&mut self)
-        ensures { self.new ≡ cleared self.old }
+        ensures { self.new ≡ record self.old { screen = cleared (cells_in self.old.size) self.old.screen } }
     {
         self.buffer.clear();
         self.attributes.clear();
@@ -149,20 +165,24 @@ impl Screen {
     /// What the Erase Input key does to the screen: the characters of unprotected fields null, MDT off in their attributes,
     /// the cursor at `home`.
     pub fn erase_unprotected(&mut self)
-        ensures { self.new ≡ unprotected_erased self.old }
+        ensures { self.new ≡ record self.old { screen = unprotected_erased self.old.screen } }
     {
         self.buffer.erase_unprotected();
     }
 
     /// Does what a command says to the screen (GA23-0059-07, "3270 Data Stream Commands" and "Buffer Control Orders and Order
-    /// Codes"); a read changes nothing. Answers what the command asks of the keyboard and the alarm.
+    /// Codes"); a read changes nothing. Erase/Write sets 24 rows of 80 cells, Erase/Write Alternate the model's alternate size;
+    /// any other command keeps the size. Answers what the command asks of the keyboard and the alarm.
+    ///
+    /// The command must have been read for this screen, as by `read_command(bytes, screen.size(),
+    /// screen.model().alternate())`.
     pub fn apply(&mut self, command: &Command<'_>) -> Applied
-        ensures screen { self.new ≡ after_command command.now self.old }
+        requires { IsReadFor self.old command.now }
+        ensures screen { self.new ≡ applied command.now self.old }
         ensures applied { result ≡ asked_by command.now }
     {
         let applied = self.buffer.apply(command);
-        let buffer = &self.buffer;
-        index::list_attributes(&buffer.cells, &mut self.attributes);
+        index::list_attributes(self.buffer.cells(), &mut self.attributes);
         applied
     }
 }

@@ -1,16 +1,21 @@
 //! What commands make of the screen.
-ghost use Rattle.std.specs.Prelude.{◌≡◌, All, false, true};
+ghost use Rattle.std.specs.Prelude.{◌≡◌, ◌<◌, All, drop, false, true};
+ghost use Rattle.std.specs.List.{prefix_len};
+ghost use Rattle.codes3270.specs.Size.{cells_in};
 ghost use Rattle.codes3270.specs.Storable.{is_storable};
+ghost use Rattle.codes3270.specs.declared.attribute.Cell.TheVariants.{Char};
+ghost use Rattle.datastream.specs.Screen.{is_char};
 ghost use Rattle.datastream.specs.Grammar.{IsProper};
 ghost use Rattle.datastream.specs.declared.order.Order.TheVariants.{Sba, Ic, Ra, Eua, Pt};
-ghost use Rattle.datastream.specs.Meaning.{WriteProgress, stored, executed, all_executed, prepared, restored, cleared, written, unprotected_erased, after_command};
+ghost use Rattle.datastream.specs.Meaning.{WriteProgress, filled, stored, executed, all_executed, prepared, restored, cleared, written, unprotected_erased};
 ghost use Rattle.presentation.specs.Applied.{asked_by, asked_by_wcc};
+ghost use Rattle.presentation.specs.Sizes.{HasSize, IsReadFor, applied};
 ghost use Rattle.datastream.specs.InboundFields.{IsStorableCell};
 
-use crate::buffer::{Buffer, nulls};
+use crate::buffer::Buffer;
 use crate::cells;
 use crate::packed_cell::PackedCell;
-use codes3270::{Addr, Aid, CELLS, Cell, Wcc};
+use codes3270::{Addr, Aid, Cell, Size, Wcc};
 use datastream::{Command, CommandCode, Order, Orders};
 
 /// What a command asks of the keyboard and the alarm (GA23-0059-07, "Write Control Character (WCC)").
@@ -64,32 +69,46 @@ impl WritePosition {
 }
 
 impl Buffer {
-    /// All cells null, the cursor at 0; the AID stays.
-    pub(crate) fn clear(&mut self)
-        ensures { self.new ≡ cleared self.old }
+    /// All cells of a screen of a size null, the cursor at 0; the AID stays.
+    pub(crate) fn erase(&mut self, size: Size)
+        requires { HasSize self.old.model size }
+        ensures { self.new ≡ record self.old { size = size; screen = cleared (cells_in size) self.old.screen } }
     {
-        self.cells = nulls();
+        let count = usize::from(size.cells());
+        cells::clear(&mut self.cells[..count]);
+        self.size = size;
         self.cursor = Addr::first();
+    }
+
+    /// All cells null, the cursor at 0; the size and the AID stay.
+    pub(crate) fn clear(&mut self)
+        ensures { self.new ≡ record self.old { screen = cleared (cells_in self.old.size) self.old.screen } }
+    {
+        self.erase(self.size);
     }
 
     /// The characters of unprotected fields null, MDT off in their attributes, the cursor at `home`.
     pub(crate) fn erase_unprotected(&mut self)
-        ensures { self.new ≡ unprotected_erased self.old }
+        ensures { self.new ≡ record self.old { screen = unprotected_erased self.old.screen } }
     {
-        self.cursor = cells::home_of(&self.cells);
-        cells::erase_unprotected_in(&mut self.cells, Addr::first(), CELLS);
-        cells::reset_open_mdt(&mut self.cells);
+        let size = self.size;
+        let count = size.cells();
+        let cells = &mut self.cells[..usize::from(count)];
+        self.cursor = cells::home_of(cells, size);
+        cells::erase_unprotected_in(cells, Addr::first(), count, size);
+        cells::reset_open_mdt(cells);
     }
 
     /// What a command says, and what it asks of the keyboard and the alarm.
     pub(crate) fn apply(&mut self, command: &Command<'_>) -> Applied
-        ensures screen { self.new ≡ after_command command.now self.old }
+        requires { IsReadFor self.old command.now }
+        ensures screen { self.new ≡ applied command.now self.old }
         ensures applied { result ≡ asked_by command.now }
     {
         match command.code() {
             CommandCode::Write => self.write(command.wcc(), command.orders()),
             CommandCode::EraseWrite | CommandCode::EraseWriteAlternate => {
-                self.clear();
+                self.erase(command.size());
                 self.write(command.wcc(), command.orders())
             }
             CommandCode::EraseAllUnprotected => {
@@ -108,15 +127,15 @@ impl Buffer {
 
     /// A write from the cursor on.
     fn write(&mut self, wcc: Option<Wcc>, orders: Orders<'_>) -> Applied
-        requires { All IsProper orders }
-        ensures screen { self.new ≡ written wcc orders.entry self.old }
+        requires { All (IsProper (cells_in self.old.size)) orders }
+        ensures screen { self.new ≡ record self.old { screen = written wcc orders.entry self.old.screen } }
         ensures applied { result ≡ asked_by_wcc wcc }
     {
         let Some(wcc) = wcc else {
             return Applied::nothing();
         };
         self.prepare(wcc);
-        self.obey_all(orders);
+        self.execute_all(orders);
         self.restore(wcc);
         Applied {
             restore: wcc.restore,
@@ -125,15 +144,16 @@ impl Buffer {
     }
 
     fn prepare(&mut self, wcc: Wcc)
-        ensures { self.new ≡ prepared wcc self.old }
+        ensures { self.new ≡ record self.old { screen = prepared wcc self.old.screen } }
     {
         if wcc.reset {
-            cells::reset_mdt(&mut self.cells);
+            let count = usize::from(self.size.cells());
+            cells::reset_mdt(&mut self.cells[..count]);
         }
     }
 
     fn restore(&mut self, wcc: Wcc)
-        ensures { self.new ≡ restored wcc self.old }
+        ensures { self.new ≡ record self.old { screen = restored wcc self.old.screen } }
     {
         if wcc.restore {
             self.aid = Aid::NoAid;
@@ -141,12 +161,12 @@ impl Buffer {
     }
 
     /// The orders of a write, from the cursor on.
-    fn obey_all(&mut self, orders: Orders<'_>)
-        requires { All IsProper orders }
-        ensures { let start : WriteProgress = record { screen = self.old; address = self.old.cursor; after_data = false } in
-            self.new ≡ (all_executed orders.entry start).screen }
+    fn execute_all(&mut self, orders: Orders<'_>)
+        requires { All (IsProper (cells_in self.old.size)) orders }
+        ensures { let start : WriteProgress = record { screen = self.old.screen; address = self.old.screen.cursor; after_data = false } in
+            self.new ≡ record self.old { screen = (all_executed orders.entry start).screen } }
     {
-        let mut position = WritePosition::moved_to(self.cursor);
+        let mut position = WritePosition::moved_to(self.cursor());
         for order in orders {
             position = self.execute(order, position);
         }
@@ -154,9 +174,12 @@ impl Buffer {
 
     /// One order of a write.
     fn execute(&mut self, order: Order, position: WritePosition) -> WritePosition
-        requires { IsProper order }
-        ensures { let write : WriteProgress = record { screen = self.old; address = position.address; after_data = position.nulls } in
-            record { screen = self.new; address = result.address; after_data = result.nulls } ≡ executed order write }
+        requires proper { IsProper (cells_in self.old.size) order }
+        requires address { position.address < cells_in self.old.size }
+        ensures write { let write : WriteProgress = record { screen = self.old.screen; address = position.address; after_data = position.nulls } in
+            record { screen = self.new.screen; address = result.address; after_data = result.nulls } ≡ executed order write }
+        ensures in_range { result.address < cells_in self.old.size }
+        ensures size { self.new ≡ record self.old { screen = self.new.screen } }
     {
         let address = position.address;
         match order {
@@ -186,53 +209,82 @@ impl Buffer {
     }
 
     fn store(&mut self, address: Addr, cell: PackedCell) -> Addr
-        requires { IsStorableCell cell }
-        ensures { let write : WriteProgress = record { screen = self.old; address = address; after_data = false } in
-            record { screen = self.new; address = result; after_data = false } ≡ stored write cell }
+        requires storable { IsStorableCell cell }
+        requires address { address < cells_in self.old.size }
+        ensures write { let write : WriteProgress = record { screen = self.old.screen; address = address; after_data = false } in
+            record { screen = self.new.screen; address = result; after_data = false } ≡ stored write cell }
+        ensures in_range { result < cells_in self.old.size }
+        ensures size { self.new ≡ record self.old { screen = self.new.screen } }
     {
-        self.cells[address.get() as usize] = cell;
-        address.next()
+        self.set_cell(address, cell);
+        address.next(self.size)
     }
 
     fn place_cursor(&mut self, address: Addr)
-        ensures { let write : WriteProgress = record { screen = self.old; address = address; after_data = false } in
-            record { screen = self.new; address = address; after_data = false } ≡ executed Ic write }
+        requires { address < cells_in self.old.size }
+        ensures write { let write : WriteProgress = record { screen = self.old.screen; address = address; after_data = false } in
+            record { screen = self.new.screen; address = address; after_data = false } ≡ executed Ic write }
+        ensures size { self.new ≡ record self.old { screen = self.new.screen } }
     {
-        // For the contract: the address is on the screen.
-        let _in_range = address.get();
         self.cursor = address;
     }
 
     fn repeat(&mut self, address: Addr, stop: Addr, byte: u8)
-        requires { is_storable byte ≡ true }
-        ensures { let write : WriteProgress = record { screen = self.old; address = address; after_data = false } in
-            record { screen = self.new; address = stop; after_data = false } ≡ executed (Ra stop byte) write }
+        requires storable { is_storable byte ≡ true }
+        requires address { address < cells_in self.old.size }
+        requires stop { stop < cells_in self.old.size }
+        ensures write { let write : WriteProgress = record { screen = self.old.screen; address = address; after_data = false } in
+            record { screen = self.new.screen; address = stop; after_data = false } ≡ executed (Ra stop byte) write }
+        ensures size { self.new ≡ record self.old { screen = self.new.screen } }
     {
-        let count = cells::distance_to(address, stop);
-        cells::fill(&mut self.cells, address, count, byte);
+        let size = self.size;
+        let count = cells::distance_to(address, stop, size);
+        let cells = usize::from(size.cells());
+        cells::fill(&mut self.cells[..cells], address, count, byte, size);
     }
 
     fn erase_up_to(&mut self, address: Addr, stop: Addr)
-        ensures { let write : WriteProgress = record { screen = self.old; address = address; after_data = false } in
-            record { screen = self.new; address = stop; after_data = false } ≡ executed (Eua stop) write }
+        requires address { address < cells_in self.old.size }
+        requires stop { stop < cells_in self.old.size }
+        ensures write { let write : WriteProgress = record { screen = self.old.screen; address = address; after_data = false } in
+            record { screen = self.new.screen; address = stop; after_data = false } ≡ executed (Eua stop) write }
+        ensures size { self.new ≡ record self.old { screen = self.new.screen } }
     {
-        let count = cells::distance_to(address, stop);
-        cells::erase_unprotected_in(&mut self.cells, address, count);
+        let size = self.size;
+        let count = cells::distance_to(address, stop, size);
+        let cells = usize::from(size.cells());
+        cells::erase_unprotected_in(&mut self.cells[..cells], address, count, size);
     }
 
     fn tab(&mut self, position: WritePosition) -> WritePosition
-        ensures { let write : WriteProgress = record { screen = self.old; address = position.address; after_data = position.nulls } in
-            record { screen = self.new; address = result.address; after_data = result.nulls } ≡ executed Pt write }
+        requires { position.address < cells_in self.old.size }
+        ensures write { let write : WriteProgress = record { screen = self.old.screen; address = position.address; after_data = position.nulls } in
+            record { screen = self.new.screen; address = result.address; after_data = result.nulls } ≡ executed Pt write }
+        ensures in_range { result.address < cells_in self.old.size }
+        ensures size { self.new ≡ record self.old { screen = self.new.screen } }
     {
-        let stop = cells::tab_stop_from(&self.cells, position.address);
-        let to_end = cells::has_only_characters_from(&self.cells, position.address);
+        let address = position.address;
+        let stop = cells::tab_stop_from(self.cells(), address, self.size);
+        let to_end = cells::has_only_characters_from(self.cells(), address);
         if position.nulls {
-            let count = cells::characters_ahead(&self.cells, position.address);
-            cells::fill(&mut self.cells, position.address, count, 0);
+            self.null_field_from(address);
         }
         WritePosition {
             address: stop,
             nulls: position.nulls && to_end,
         }
+    }
+
+    /// Nulls from an address up to the next attribute or the last cell.
+    fn null_field_from(&mut self, address: Addr)
+        requires { address < cells_in self.old.size }
+        ensures { let old = self.old.screen.cells in
+            self.new ≡ record self.old { screen = record self.old.screen { cells = filled address (prefix_len is_char (drop address old)) (Char 0) old } } }
+    {
+        let size = self.size;
+        let count = usize::from(size.cells());
+        let cells = &mut self.cells[..count];
+        let ahead = cells::characters_ahead(cells, address);
+        cells::fill(cells, address, ahead, 0, size);
     }
 }

@@ -1,35 +1,30 @@
 -- Where a shadow's fields are laid out, what is known of the cells behind an attribute is what is known of its field's characters.
 use Rattle.std.proofs.Common.{◌≡◌, ◌+◌, ◌-◌, ℕ, zero, suc, ◌≤◌, ◌<◌, Bool, true, false, ◌&&◌, List, [], ◌∷◌, ◌++◌, length, map, flat_map, take, drop, Option, Some, refl, ap, sym, subst, arith, ◌∙◌, append_assoc, if◌then◌else◌, nat_eq, eqb-true, length-append}
 use Rattle.std.proofs.lemmas.Bool.{and_parts}
-use Rattle.std.proofs.lemmas.List.{length-map, length-take-le, take-append-drop, drop-append-le}
+use Rattle.std.proofs.lemmas.List.{length-take-le, take-append-drop, drop-append-le}
 use Rattle.std.proofs.Math.Seq.{drop-append-add}
 use Rattle.codes3270.specs.declared.attribute.Attr.{Attr as Attribute}
 use Rattle.codes3270.specs.declared.attribute.Cell.{Cell}
 use Rattle.codes3270.specs.declared.attribute.Cell.TheVariants.{Char, Attr}
 use Rattle.datastream.specs.Screen.{text_before_attribute}
-use Rattle.datastream.specs.Fields.{Field, fields}
+use Rattle.datastream.specs.Fields.{fields}
 use Rattle.datastream.proofs.FieldWalk.{fields_walked, fields_are_walked}
 use Rattle.shadow.specs.declared.mdt_state.MdtState.{MdtState}
 use Rattle.shadow.specs.declared.known.Known.{Known}
 use Rattle.shadow.specs.declared.known.Known.TheVariants.{Attr as KnownAttr}
 use Rattle.shadow.specs.Pairs.{Pairwise}
 use Rattle.shadow.specs.Belief.{Fact, Belief}
-use Rattle.shadow.specs.Meets.{FieldMeets, KnownIs}
+use Rattle.shadow.specs.Meets.{FieldMeets}
 use Rattle.shadow.specs.Seen.{known_chars}
 use Rattle.shadow.specs.Taken.{old_char, field_cells, first_place, laid_out, known_ahead, fact_before}
 use Rattle.shadow.proofs.Pairs.{pairwise-length}
-use Rattle.shadow.proofs.HeardOthers.{chars_known}
-use Rattle.shadow.proofs.LaidOut.{CellFits, laid_out_fits, first_at}
+use Rattle.shadow.proofs.LaidOut.{CellFits, laid_out_fits, first_at, length-field_cells}
 
 -- where an attribute stands ahead, what follows doesn't matter
 text_inner : (whole more : List Cell) (n : ℕ) (rest : List Cell) → (fields_walked whole n rest ≡ [] → ⊥) → text_before_attribute (rest ++ more) ≡ text_before_attribute rest
 text_inner whole more n [] h = absurd (h refl)
 text_inner whole more n (Char c ∷ rest) h = ap (λ (cs : List ℕ). c ∷ cs) (text_inner whole more (n + 1) rest h)
 text_inner whole more n (Attr a ∷ rest) h = refl
-
-length-field_cells : (b : Belief) (f : Field) → FieldMeets b f → length (field_cells b) ≡ suc b.length
-length-field_cells b f h =
-    ap suc (length-map (known_chars b.length b.fact) old_char ∙ sym (pairwise-length KnownIs _ _ (chars_known b.length b.fact f.text h.same_length h.holds)) ∙ h.same_length)
 
 -- the cells of a field stand in a list of cells, whose first has an address
 record Stands (first : ℕ) (flat : List Known) (place len : ℕ) (fact : Fact) : Type 0 where

@@ -1,22 +1,17 @@
 -- CellBeliefs that hold nothing but nulls.
-use Rattle.std.proofs.Common.{◌≡◌, ℕ, zero, suc, ◌+◌, true, List, [], ◌∷◌, map, replicate, Option, Some, None, refl, ap, ◌∙◌}
+use Rattle.std.proofs.Common.{◌≡◌, ℕ, zero, suc, ◌+◌, true, List, [], ◌∷◌, map, replicate, Option, Some, refl, ap, ◌∙◌}
 use Rattle.codes3270.specs.declared.attribute.Cell.TheVariants.{Char}
 use Rattle.shadow.specs.declared.known.Known.{Known}
 use Rattle.shadow.specs.declared.known.Known.TheVariants.{Char as KnownChar}
 use Rattle.shadow.specs.declared.cell_belief.CellBelief.{CellBelief}
-use Rattle.shadow.specs.declared.cell_belief.CellBelief.TheVariants.{Known as KnownPlace}
-use Rattle.shadow.specs.declared.cell_belief.BeforeWrite.{BeforeWrite}
+use Rattle.shadow.specs.declared.cell_belief.CellBelief.TheVariants.{Known as KnownPlace, Unknown}
 use Rattle.shadow.specs.Belief.{Belief, Shadow}
 use Rattle.shadow.specs.InPlace.{beliefs_held, chars_known, shadow_held, AreHeld, IsHeld}
-use Rattle.shadow.specs.Since.{cells_written, Since}
+use Rattle.shadow.specs.Since.{cells_written, Since, stored_past}
 use Rattle.shadow.specs.Taken.{new_cell, formatted_as}
 
 abbrev pub null_place : CellBelief
 null_place = KnownPlace 0
-
--- what is kept of a place that was just stored, where none was before
-abbrev pub stored_past : BeforeWrite
-stored_past = record { knowledge = None; fresh = true }
 
 pub since_nulls : (n : ℕ) → Since (replicate n null_place) (replicate n null_place) (replicate n stored_past)
 since_nulls zero = tt
@@ -28,6 +23,13 @@ are_held whole (suc n) = are_held whole n
 
 pub held_nulls : (n : ℕ) → IsHeld (replicate n null_place)
 held_nulls n = are_held (replicate n null_place) n
+
+are_held_unknown : (whole : List CellBelief) (n : ℕ) → AreHeld whole (replicate n Unknown)
+are_held_unknown whole zero = tt
+are_held_unknown whole (suc n) = are_held_unknown whole n
+
+pub held_unknown : (n : ℕ) → IsHeld (replicate n Unknown)
+held_unknown n = are_held_unknown (replicate n Unknown) n
 
 none_believed : (whole : List CellBelief) (at n : ℕ) → beliefs_held whole at (replicate n null_place) ≡ []
 none_believed whole at zero = refl

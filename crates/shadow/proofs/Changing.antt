@@ -4,7 +4,6 @@ use Rattle.std.specs.Prelude.{⊤, nat_eq, nat_lt, bytes_eq}
 use Rattle.std.proofs.lemmas.List.{length-replicate}
 use Rattle.std.proofs.lemmas.Bool.{ltb-false}
 use Rattle.std.proofs.lemmas.Bool.Decides.{nat_tests}
-use Rattle.codes3270.specs.Size.{cell_count}
 use Rattle.codes3270.specs.declared.attribute.Attr.{Attr as Attribute}
 use Rattle.datastream.specs.InboundFields.{Returned}
 use Rattle.shadow.specs.declared.hearing.Unreturned.{Unreturned}
@@ -179,11 +178,11 @@ belief_long erased n a m t old ring text h =
 
 -- ---- what is possible fits
 
-possible_parts : (b : Belief) (bs : List Belief) (rs : List Returned) → is_possible (b ∷ bs) rs ≡ true
-    → (contradicts_text b (text_at (next_address cell_count b.place) rs) ≡ false) × (is_possible bs (came_past (next_address cell_count b.place) rs) ≡ true)
-possible_parts b bs rs e = parts (contradicts_text b (text_at (next_address cell_count b.place) rs)) (is_possible bs (came_past (next_address cell_count b.place) rs)) (by_list rs e)
+possible_parts : (size : ℕ) (b : Belief) (bs : List Belief) (rs : List Returned) → is_possible size (b ∷ bs) rs ≡ true
+    → (contradicts_text b (text_at (next_address size b.place) rs) ≡ false) × (is_possible size bs (came_past (next_address size b.place) rs) ≡ true)
+possible_parts size b bs rs e = parts (contradicts_text b (text_at (next_address size b.place) rs)) (is_possible size bs (came_past (next_address size b.place) rs)) (by_list rs e)
   where
-    by_list : (rs : List Returned) → is_possible (b ∷ bs) rs ≡ true → (not (contradicts_text b (text_at (next_address cell_count b.place) rs)) && is_possible bs (came_past (next_address cell_count b.place) rs)) ≡ true
+    by_list : (rs : List Returned) → is_possible size (b ∷ bs) rs ≡ true → (not (contradicts_text b (text_at (next_address size b.place) rs)) && is_possible size bs (came_past (next_address size b.place) rs)) ≡ true
     by_list [] h = h
     by_list (r ∷ rs) h = h
 
@@ -201,14 +200,14 @@ text_fits b (Some text) e = cases (nat_lt b.length (length text)) refl e
 
 -- ---- all fields
 
-pub length-long : (erased : Bool) (n : ℕ) (rs : List Returned) (whole ps : List CellBelief) → length (long_changes erased n rs ps (unreturned_from whole ps)) ≡ length ps
-length-long erased n rs whole [] = refl
-length-long erased n rs whole (p ∷ ps) = ap suc (length-long erased (n + 1) (came_behind p n rs) whole ps)
+pub length-long : (size : ℕ) (erased : Bool) (n : ℕ) (rs : List Returned) (whole ps : List CellBelief) → length (long_changes size erased n rs ps (unreturned_from whole ps)) ≡ length ps
+length-long size erased n rs whole [] = refl
+length-long size erased n rs whole (p ∷ ps) = ap suc (length-long size erased (n + 1) (came_behind size p n rs) whole ps)
 
 module _ (erased : Bool) (whole after : List CellBelief) (g : Fill) (goes_on : Alike after (fills g whole)) where
-  long_each : (n : ℕ) (rs : List Returned) (f : Fill) (ps : List CellBelief) → AreHeld whole ps → is_possible (beliefs_held whole n ps) rs ≡ true → last_fill f (long_changes erased n rs ps (unreturned_from whole ps)) ps ≡ g
-      → (beliefs_held after n (all_changed f (long_changes erased n rs ps (unreturned_from whole ps)) ps) ≡ long_after erased (beliefs_held whole n ps) rs)
-      × AreHeld after (all_changed f (long_changes erased n rs ps (unreturned_from whole ps)) ps)
+  long_each : (n : ℕ) (rs : List Returned) (f : Fill) (ps : List CellBelief) → AreHeld whole ps → is_possible (length whole) (beliefs_held whole n ps) rs ≡ true → last_fill f (long_changes (length whole) erased n rs ps (unreturned_from whole ps)) ps ≡ g
+      → (beliefs_held after n (all_changed f (long_changes (length whole) erased n rs ps (unreturned_from whole ps)) ps) ≡ long_after (length whole) erased (beliefs_held whole n ps) rs)
+      × AreHeld after (all_changed f (long_changes (length whole) erased n rs ps (unreturned_from whole ps)) ps)
   long_each n rs f [] held possible last = (refl, tt)
   long_each n rs f (Known c ∷ ps) held possible last =
       let more = long_each (n + 1) rs (fill_next f) ps held possible last in
@@ -222,14 +221,14 @@ module _ (erased : Bool) (whole after : List CellBelief) (g : Fill) (goes_on : A
   long_each n rs f (Attr a m t ∷ ps) held possible last =
       let old : List CellBelief = ps ++ whole in
       let b = belief_held n a m t old in
-      let text = text_at (next_address cell_count n) rs in
-      let rest = came_past (next_address cell_count n) rs in
-      let parts = possible_parts b (beliefs_held whole (n + 1) ps) rs possible in
+      let text = text_at (next_address (length whole) n) rs in
+      let rest = came_past (next_address (length whole) n) rs in
+      let parts = possible_parts (length whole) b (beliefs_held whole (n + 1) ps) rs possible in
       let change = field_change a.protected erased t (unreturned_by t old) text in
-      let changes = long_changes erased (n + 1) rest ps (unreturned_from whole ps) in
+      let changes = long_changes (length whole) erased (n + 1) rest ps (unreturned_from whole ps) in
       let more = long_each (n + 1) rest change.fill ps held.1 parts.1 last in
       let ring : List CellBelief = all_changed change.fill changes ps ++ after in
-      let alike = walk_alike change.fill changes ps whole after (length-long erased (n + 1) rest whole ps) (subst (λ (h : Fill). Alike after (fills h whole)) (sym last) goes_on) in
+      let alike = walk_alike change.fill changes ps whole after (length-long (length whole) erased (n + 1) rest whole ps) (subst (λ (h : Fill). Alike after (fills h whole)) (sym last) goes_on) in
       let becomes = becomes_alike change.knowledge ring (fills change.fill old) (length (chars_known old)) (FieldFact a.protected erased (length (chars_known old)) (fact_held t old) text) alike
       (field_becomes a.protected erased t old text held.0 (text_fits b text parts.0)) in (
         ap (λ (x : Belief). x ∷ beliefs_held after (n + 1) (all_changed change.fill changes ps)) (belief_long erased n a m t old ring text becomes)
@@ -242,15 +241,15 @@ goes_round g cs ps even =
     subst (λ (qs : List CellBelief). Alike qs (fills g ps)) (append-nil (all_changed g cs ps))
     (subst (λ (qs : List CellBelief). Alike (all_changed g cs ps ++ []) (fills g qs)) (append-nil ps) (walk_alike g cs ps [] [] even (refl, refl)))
 
-pub long_changed : (erased : Bool) (rs : List Returned) (ps after : List CellBelief) → IsHeld ps → is_possible (beliefs_held ps 0 ps) rs ≡ true
-    → (let cs = long_changes erased 0 rs ps (unreturned_from ps ps) in after ≡ front_filled (last_fill Fill.Same cs ps) (all_changed Fill.Same cs ps))
-    → (beliefs_held after 0 after ≡ long_after erased (beliefs_held ps 0 ps) rs) × IsHeld after
+pub long_changed : (erased : Bool) (rs : List Returned) (ps after : List CellBelief) → IsHeld ps → is_possible (length ps) (beliefs_held ps 0 ps) rs ≡ true
+    → (let cs = long_changes (length ps) erased 0 rs ps (unreturned_from ps ps) in after ≡ front_filled (last_fill Fill.Same cs ps) (all_changed Fill.Same cs ps))
+    → (beliefs_held after 0 after ≡ long_after (length ps) erased (beliefs_held ps 0 ps) rs) × IsHeld after
 long_changed erased rs ps after held possible is =
-    let cs = long_changes erased 0 rs ps (unreturned_from ps ps) in
+    let cs = long_changes (length ps) erased 0 rs ps (unreturned_from ps ps) in
     let g = last_fill Fill.Same cs ps in
-    let even = length-long erased 0 rs ps ps in
+    let even = length-long (length ps) erased 0 rs ps ps in
     let whole : after ≡ all_changed g cs ps = is ∙ front_walk g cs ps even in
-    subst (λ (qs : List CellBelief). (beliefs_held qs 0 qs ≡ long_after erased (beliefs_held ps 0 ps) rs) × IsHeld qs) (sym whole)
+    subst (λ (qs : List CellBelief). (beliefs_held qs 0 qs ≡ long_after (length ps) erased (beliefs_held ps 0 ps) rs) × IsHeld qs) (sym whole)
     (long_each erased ps (all_changed g cs ps) g (goes_round g cs ps even) 0 rs g ps held possible (last_again cs ps even))
 
 -- ---- a key that sends no fields

@@ -2,7 +2,7 @@
 use Rattle.std.proofs.Common.{◌≡◌, ℕ, zero, suc, Bool, true, false, ◌&&◌, List, ◌∷◌, length, map, replicate, Option, Some, None, refl, ap, ◌∙◌, if◌then◌else◌}
 use Rattle.std.specs.List.{list_all}
 use Rattle.std.proofs.lemmas.List.{length-replicate}
-use Rattle.codes3270.specs.Size.{cell_count}
+use Rattle.codes3270.specs.Size.{cells_in}
 use Rattle.codes3270.specs.declared.attribute.Cell.{Cell}
 use Rattle.codes3270.specs.declared.attribute.Cell.TheVariants.{Char}
 use Rattle.codes3270.specs.declared.write_control.Wcc.{Wcc}
@@ -33,17 +33,15 @@ cells_from_nulls size wcc orders screen plain nulls start =
     ∙ ap (λ (n : ℕ). stored (stores n 0 orders) (if wcc.reset then map unmodified (replicate size (Char 0)) else replicate size (Char 0))) (length-replicate size (Char 0))
     ∙ ap (stored (stores size 0 orders)) (same_nulls wcc.reset size)
 
-erase_cells : (size : ℕ) (command : CommandParts) → IsSpelt command → is_plain command ≡ true → (after_command command (blank_screen size)).cells ≡ stored (stores size 0 command.orders) (replicate size (Char 0))
-erase_cells size command spelt plain = go command.code command.wcc (has_wcc command spelt) plain
+erase_cells : (command : CommandParts) → IsSpelt command → is_plain command ≡ true
+    → (after_command command (blank_screen (cells_in command.size))).cells ≡ stored (stores (cells_in command.size) 0 command.orders) (replicate (cells_in command.size) (Char 0))
+erase_cells command spelt plain = go command.code command.wcc (has_wcc command spelt) plain
   where
-    again : replicate (length (replicate size (Char 0))) (Char 0) ≡ replicate size (Char 0)
-    again = ap (λ (n : ℕ). replicate n (Char 0)) (length-replicate size (Char 0))
-
     go : (code : CommandCode) (wcc : Option Wcc) → (is_write code ≡ true → (w : Wcc) × (wcc ≡ Some w)) → (is_write code && list_all is_plain_order command.orders) ≡ true
-        → (after_code code wcc command.orders (blank_screen size)).cells ≡ stored (stores size 0 command.orders) (replicate size (Char 0))
-    go Write (Some wcc) has p = cells_from_nulls size wcc command.orders (blank_screen size) p refl refl
-    go EraseWrite (Some wcc) has p = cells_from_nulls size wcc command.orders (cleared (blank_screen size)) p again refl
-    go EraseWriteAlternate (Some wcc) has p = cells_from_nulls size wcc command.orders (cleared (blank_screen size)) p again refl
+        → (after_code code (cells_in command.size) wcc command.orders (blank_screen (cells_in command.size))).cells ≡ stored (stores (cells_in command.size) 0 command.orders) (replicate (cells_in command.size) (Char 0))
+    go Write (Some wcc) has p = cells_from_nulls (cells_in command.size) wcc command.orders (blank_screen (cells_in command.size)) p refl refl
+    go EraseWrite (Some wcc) has p = cells_from_nulls (cells_in command.size) wcc command.orders (cleared (cells_in command.size) (blank_screen (cells_in command.size))) p refl refl
+    go EraseWriteAlternate (Some wcc) has p = cells_from_nulls (cells_in command.size) wcc command.orders (cleared (cells_in command.size) (blank_screen (cells_in command.size))) p refl refl
     go Write None has p = absurd (let w = has refl in cc)
     go EraseWrite None has p = absurd (let w = has refl in cc)
     go EraseWriteAlternate None has p = absurd (let w = has refl in cc)
@@ -52,13 +50,6 @@ erase_cells size command spelt plain = go command.code command.wcc (has_wcc comm
     go ReadModifiedAll wcc has p = absurd (cc)
     go EraseAllUnprotected wcc has p = absurd (cc)
 
-pub null_screen : List Cell
-null_screen = replicate cell_count (Char 0)
-
-pub erase_seen : (command : CommandParts) → IsSpelt command → is_plain command ≡ true → taken_erase cell_count command ≡ seen (stored (stores cell_count 0 command.orders) null_screen)
-unfolding null_screen
-erase_seen command spelt plain = ap seen (erase_cells cell_count command spelt plain)
-
-pub null_screen_is : null_screen ≡ replicate cell_count (Char 0)
-unfolding null_screen
-null_screen_is = refl
+pub erase_seen : (command : CommandParts) → IsSpelt command → is_plain command ≡ true
+    → taken_erase command ≡ seen (stored (stores (cells_in command.size) 0 command.orders) (replicate (cells_in command.size) (Char 0)))
+erase_seen command spelt plain = ap seen (erase_cells command spelt plain)

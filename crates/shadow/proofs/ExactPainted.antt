@@ -1,14 +1,14 @@
--- A paint that fits makes each protected field exact.
+-- A paint makes each protected field exact.
 use Rattle.std.proofs.Common.{◌≡◌, ℕ, ◌+◌, Bool, true, false, not, ◌||◌, ◌&&◌, List, [], ◌∷◌, ◌++◌, length, map, drop, Option, Some, None, unwrap_or, refl, ap, sym, subst, arith, ◌∙◌, append_assoc, if◌then◌else◌, nat_eq, eqb-true, All}
-use Rattle.std.specs.Prelude.{⊤}
+use Rattle.std.specs.Prelude.{⊤, ◌==◌}
 use Rattle.std.specs.List.{list_any}
 use Rattle.std.proofs.lemmas.Bool.{and_parts}
 use Rattle.std.proofs.lemmas.List.{drop-map}
 use Rattle.std.proofs.lemmas.List.Elements.{All-nil, All-cons}
+use Rattle.codes3270.specs.Size.{cells_in}
 use Rattle.codes3270.specs.declared.attribute.Attr.{Attr as Attribute}
 use Rattle.codes3270.specs.declared.attribute.Cell.{Cell}
 use Rattle.codes3270.specs.declared.attribute.Cell.TheVariants.{Char, Attr}
-use Rattle.codes3270.specs.declared.write_control.Wcc.{Wcc}
 use Rattle.datastream.specs.Fields.{fields, fields_from}
 use Rattle.datastream.specs.Held.{without_mdt}
 use Rattle.datastream.specs.declared.order.Order.{Order}
@@ -18,21 +18,21 @@ use Rattle.shadow.specs.declared.mdt_state.MdtState.{MdtState}
 use Rattle.shadow.specs.declared.known.Known.{Known}
 use Rattle.shadow.specs.declared.known.Known.TheVariants.{Attr as KnownAttr, Char as KnownChar}
 use Rattle.shadow.specs.Pairs.{Pairwise}
-use Rattle.shadow.specs.Belief.{Fact, Belief, Shadow}
+use Rattle.shadow.specs.Belief.{Fact, Belief, Shadow, cells_of_fields}
 use Rattle.shadow.specs.Meets.{FieldMeets}
 use Rattle.shadow.specs.Seen.{known_chars, same_attr}
 use Rattle.shadow.specs.Stores.{Store, store_also}
-use Rattle.shadow.specs.Taken.{laid_out, new_cell, known_stored, mark_off, marks_off_if, known_ahead, fresh_ahead, exact_or_any, fact_known, fact_before, fact_after, belief_after, beliefs_from, known_after}
+use Rattle.shadow.specs.Taken.{laid_out, new_cell, known_stored, mark_off, marks_off_if, known_ahead, fresh_ahead, exact_or_any, fact_known, fact_before, fact_after, belief_after, beliefs_from, known_after, taken}
 use Rattle.shadow.specs.Painted.{keeps_ahead, count_ahead}
-use Rattle.shadow.specs.Fits.{is_field, fits_field, fits_from}
+use Rattle.shadow.specs.Fits.{is_field, fits_field, fits_from, fields_fit}
 use Rattle.shadow.specs.Paint.{is_char, is_there, unless, cell_to_store, to_store, painting, paint}
-use Rattle.shadow.specs.Exactness.{IsExact, FieldIsExact, IsExactIfProtected, PaintedIsExact}
+use Rattle.shadow.specs.Exactness.{IsExact, FieldIsExact, IsExactIfProtected, ProtectedIsExact, PaintedIsExact}
 use Rattle.shadow.proofs.Pairs.{pairwise-append, pairwise_weaken, pairwise-length, drop_tail, empty}
 use Rattle.shadow.proofs.FieldPlaces.{both_false}
-use Rattle.shadow.proofs.LaidOut.{CellFits, laid_out_fits}
+use Rattle.shadow.proofs.LaidOut.{CellFits, laid_out_fits, fields_size}
 use Rattle.shadow.proofs.Seen.{whole_fresh}
-use Rattle.shadow.proofs.Keeps.{KeepsChars, keeps_chars}
-use Rattle.shadow.proofs.Paints.{same_attr_true, put_at, length_more, paints_stores}
+use Rattle.shadow.proofs.Keeps.{KeepsChars, keeps_chars, paintable_fits}
+use Rattle.shadow.proofs.Paints.{same_attr_true, put_at, length_more, paints_stores, paint_wcc, erase_erases, painted_if}
 use Rattle.shadow.proofs.Behind.{behind}
 use Rattle.shadow.proofs.ExactTaken.{found_exact, write_has, erased_exact}
 
@@ -343,31 +343,34 @@ all_protected bs wants olds news exact was w o n (WantAttr a ∷ rest) (old ∷ 
 pub no_address : (k : ℕ) → None ≡ Some k → 0 ≡ k
 no_address k e = absurd (cc)
 
--- a paint's write control character
-abbrev pub paint_wcc : Bool → Wcc
-paint_wcc reset = record { alarm = false; restore = true; reset = reset }
-
 pub painted_exact : PaintedIsExact
-painted_exact Shadow.NothingKnown wanted s same fits meets exact = erased_exact (length s.cells) (paint (length s.cells) Shadow.NothingKnown wanted) Shadow.NothingKnown refl
-painted_exact (Shadow.Unformatted known) wanted s same fits meets exact =
-    erased_exact (length s.cells) (paint (length s.cells) (Shadow.Unformatted known) wanted) (Shadow.Unformatted known) refl
-painted_exact (Shadow.Formatted bs) wanted s same fits meets exact =
-    let size : ℕ = length s.cells in
-    let wants : List Want = wanted.cells in
-    let laid : List Known = laid_out size bs in
-    let olds : List Known = marks_off_if wanted.reset laid in
-    let more : List Store = to_store wants 0 wants olds in
-    let orders : List Order = painting size wanted.cursor None more in
-    let news : List Known = known_painted wants wants olds in
-    let shape : Pairwise Shaped olds s.cells = all_shaped wanted.reset laid s.cells (laid_out_fits size s.cells bs refl meets.1 meets.0) in
-    let free : KeptIsFree wants wants s.cells = kept_free bs wants s.cells meets.1 0 wants s.cells refl (and_parts _ _ fits).1 in
-    let keeps : KeepsChars wants s.cells = keeps_chars bs wants s.cells same meets.1 fits in
-    let long : length wants ≡ length olds = same ∙ pairwise-length Shaped olds s.cells shape in
-    let is : known_after size (Some (paint_wcc wanted.reset)) orders laid ≡ news =
-    ap (λ (stored : List Store). known_stored stored olds) (paints_stores size wanted.cursor more 0 None no_address) ∙ stores_painted wants 0 wants olds [] refl long in
-    let w : Pairwise WantedIs wants news = all_wanted wants wants olds s.cells long shape keeps free in
-    let o : Pairwise OldIs olds news = all_old wants wants olds long in
-    let was : WasKnown bs olds = off_known wanted.reset bs laid (behind size s.cells bs refl meets.1 meets.0) in
-    write_has IsExactIfProtected size (Some (paint_wcc wanted.reset)) orders bs laid
-    (subst (λ (cells : List Known). All IsExactIfProtected (beliefs_from bs cells 0 cells)) (sym is)
-    (all_protected bs wants olds news exact was w o 0 wants olds news w o (all_put wants wants olds s.cells shape free) refl))
+painted_exact Shadow.NothingKnown wanted s whole can meets exact = erased_exact (cells_in wanted.size) (paint (cells_in wanted.size) Shadow.NothingKnown wanted) Shadow.NothingKnown (erase_erases wanted.size)
+painted_exact (Shadow.Unformatted known) wanted s whole can meets exact =
+    erased_exact (cells_in wanted.size) (paint (cells_in wanted.size) (Shadow.Unformatted known) wanted) (Shadow.Unformatted known) (erase_erases wanted.size)
+painted_exact (Shadow.Formatted bs) wanted s whole can meets exact = cases (cells_of_fields bs == cells_in wanted.size) refl
+  where
+    cases : (t : Bool) → (cells_of_fields bs == cells_in wanted.size) ≡ t → ProtectedIsExact (taken (cells_in wanted.size) (painted_if t (cells_in wanted.size) bs wanted) (Shadow.Formatted bs))
+    cases false e = erased_exact (cells_in wanted.size) (painted_if false (cells_in wanted.size) bs wanted) (Shadow.Formatted bs) (erase_erases wanted.size)
+    cases true e =
+        let size : ℕ = cells_in wanted.size in
+        let there : length s.cells ≡ size = sym (fields_size s.cells bs meets.1 meets.0) ∙ eqb-true (cells_of_fields bs) size e in
+        let same : length wanted.cells ≡ length s.cells = whole ∙ sym there in
+        let fits : fields_fit bs wanted.cells ≡ true = paintable_fits (Shadow.Formatted bs) wanted can in
+        let wants : List Want = wanted.cells in
+        let laid : List Known = laid_out size bs in
+        let olds : List Known = marks_off_if wanted.reset laid in
+        let more : List Store = to_store wants 0 wants olds in
+        let orders : List Order = painting size wanted.cursor None more in
+        let news : List Known = known_painted wants wants olds in
+        let shape : Pairwise Shaped olds s.cells = all_shaped wanted.reset laid s.cells (laid_out_fits size s.cells bs there meets.1 meets.0) in
+        let free : KeptIsFree wants wants s.cells = kept_free bs wants s.cells meets.1 0 wants s.cells refl (and_parts _ _ fits).1 in
+        let keeps : KeepsChars wants s.cells = keeps_chars bs wants s.cells same meets.1 fits in
+        let long : length wants ≡ length olds = same ∙ pairwise-length Shaped olds s.cells shape in
+        let is : known_after size (Some (paint_wcc wanted.reset)) orders laid ≡ news =
+        ap (λ (stored : List Store). known_stored stored olds) (paints_stores size wanted.cursor more 0 None no_address) ∙ stores_painted wants 0 wants olds [] refl long in
+        let w : Pairwise WantedIs wants news = all_wanted wants wants olds s.cells long shape keeps free in
+        let o : Pairwise OldIs olds news = all_old wants wants olds long in
+        let was : WasKnown bs olds = off_known wanted.reset bs laid (behind size s.cells bs there meets.1 meets.0) in
+        write_has IsExactIfProtected size (Some (paint_wcc wanted.reset)) orders bs laid
+        (subst (λ (cells : List Known). All IsExactIfProtected (beliefs_from bs cells 0 cells)) (sym is)
+        (all_protected bs wants olds news exact was w o 0 wants olds news w o (all_put wants wants olds s.cells shape free) refl))

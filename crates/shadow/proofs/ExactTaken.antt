@@ -13,6 +13,7 @@ use Rattle.shadow.specs.declared.known.Known.TheVariants.{Attr as KnownAttr, Cha
 use Rattle.shadow.specs.Belief.{Fact, Belief, Shadow, fields_of}
 use Rattle.shadow.specs.Stores.{stores_unplaced}
 use Rattle.shadow.specs.Taken.{old_char, laid_out, known_ahead, fresh_ahead, and_char, whole_text, exact_or_any, fact_known, fact_before, fact_after, belief_after, beliefs_from, formatted_as, believed, known_after, after_write, taken_write, taken}
+use Rattle.codes3270.specs.Size.{cells_in}
 use Rattle.datastream.specs.Screen.{blank_screen}
 use Rattle.shadow.specs.Exactness.{is_erase, IsExactWhereKnown, FieldIsExact, IsExactIfProtected, TakenStaysExact, ErasedIsExact}
 use Rattle.shadow.proofs.Seen.{whole_fresh}
@@ -92,8 +93,8 @@ taken_exact size command shadow h = cases command.code
   where
     cases : (code : CommandCode) → All FieldIsExact (fields_of (taken size (record command { code = code }) shadow))
     cases Write = written_exact size command.wcc command.orders shadow h
-    cases EraseWrite = seen_exact (after_command (record command { code = EraseWrite }) (blank_screen size)).cells
-    cases EraseWriteAlternate = seen_exact (after_command (record command { code = EraseWriteAlternate }) (blank_screen size)).cells
+    cases EraseWrite = seen_exact (after_command (record command { code = EraseWrite }) (blank_screen (cells_in command.size))).cells
+    cases EraseWriteAlternate = seen_exact (after_command (record command { code = EraseWriteAlternate }) (blank_screen (cells_in command.size))).cells
     cases ReadBuffer = h
     cases ReadModified = h
     cases ReadModifiedAll = h
@@ -106,8 +107,8 @@ erased_exact size command shadow = cases command.code
   where
     cases : (code : CommandCode) → is_erase code ≡ true → All IsExactIfProtected (fields_of (taken size (record command { code = code }) shadow))
     cases Write e = absurd (cc)
-    cases EraseWrite e = seen_protected (after_command (record command { code = EraseWrite }) (blank_screen size)).cells
-    cases EraseWriteAlternate e = seen_protected (after_command (record command { code = EraseWriteAlternate }) (blank_screen size)).cells
+    cases EraseWrite e = seen_protected (after_command (record command { code = EraseWrite }) (blank_screen (cells_in command.size))).cells
+    cases EraseWriteAlternate e = seen_protected (after_command (record command { code = EraseWriteAlternate }) (blank_screen (cells_in command.size))).cells
     cases ReadBuffer e = absurd (cc)
     cases ReadModified e = absurd (cc)
     cases ReadModifiedAll e = absurd (cc)

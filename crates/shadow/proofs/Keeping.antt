@@ -1,8 +1,8 @@
 -- CellBeliefs that are kept by bits and bytes.
-use Rattle.std.proofs.Common.{◌≡◌, ℕ, ◌<◌, Bool, true, false, List, length, replicate, set, get_or, refl, ap, sym, subst, arith, ◌∙◌, ne_eqb, eq-eqb, inl, inr, if◌then◌else◌}
+use Rattle.std.proofs.Common.{◌≡◌, ℕ, ◌+◌, ◌<◌, ◌≤◌, Bool, true, false, List, ◌++◌, length, length-append, append_assoc, replicate, take, drop, set, get_or, refl, ap, sym, subst, arith, ◌∙◌, ne_eqb, eq-eqb, inl, inr, if◌then◌else◌}
 use Rattle.std.specs.Prelude.{nat_eq}
 use Rattle.std.proofs.lemmas.Bool.{cases_eq}
-use Rattle.std.proofs.lemmas.List.{get_or-set_other, get_or-set_same, get_or-replicate, get_or_default, set-get_or, length-set, length-replicate}
+use Rattle.std.proofs.lemmas.List.{get_or-set_other, get_or-set_same, get_or-replicate, get_or_default, set-get_or, length-set, length-replicate, length-take-le, length-drop, take_at, take-append-drop, take-append-le, drop-append-le, get_or-take}
 use Rattle.codes3270.specs.declared.attribute.Attr.{Attr as Attribute}
 use Rattle.codes3270.specs.Attribute.{attr_of}
 use Rattle.shadow.specs.declared.mdt_state.MdtState.{MdtState}
@@ -88,31 +88,41 @@ module _ (heads : List Head) (attributes known told bytes : List ℕ) (at : ℕ)
       let before : at < length old_places = subst (λ n. at < n) (sym (length_kept (place_by heads attributes known told) 0 bytes)) within in
       subst (MarksKnown known_) (sym put_kept) (marked_set known known_ old_places at p before marked (bits_by (is_known p) k is_k known known_ at k_bits))
 
--- the same place everywhere
-module _ (n : ℕ) (attributes known told : List ℕ) (p : CellBelief) (byte : ℕ)
-    (attribute_bits : (cell : ℕ) → cell < n → has_bit attributes cell ≡ is_attribute p)
-    (known_bits : (cell : ℕ) → cell < n → has_bit known cell ≡ is_known p)
-    (told_bits : (cell : ℕ) → cell < n → has_bit told cell ≡ is_told p)
-    (is : place_kept (head_of p) (is_attribute p) (is_known p) (is_told p) byte ≡ p) where
-  each_is : (cell : ℕ) → cell < n → place_by (replicate n (head_of p)) attributes known told cell byte ≡ p
-  each_is cell few =
-      ap (λ h. place_kept h (has_bit attributes cell) (has_bit known cell) (has_bit told cell) byte) (get_or-replicate n cell (head_of p) no_head few)
-      ∙ ap (λ b. place_kept (head_of p) b (has_bit known cell) (has_bit told cell) byte) (attribute_bits cell few)
-      ∙ ap (λ b. place_kept (head_of p) (is_attribute p) b (has_bit told cell) byte) (known_bits cell few)
-      ∙ ap (λ b. place_kept (head_of p) (is_attribute p) (is_known p) b byte) (told_bits cell few)
-      ∙ is
+-- a known null, or nothing known
+abbrev pub blank : Bool → CellBelief
+blank true = Known 0
+blank false = Unknown
 
-  module _ (heads : List Head) (bytes : List ℕ) (is_heads : heads ≡ replicate n (head_of p)) (is_bytes : bytes ≡ replicate n byte) where
-    pub new_kept : kept (place_by heads attributes known told) 0 bytes ≡ replicate n p
-    new_kept =
-        ap (λ (xs : List ℕ). kept (place_by heads attributes known told) 0 xs) is_bytes
-        ∙ ap (λ (hs : List Head). kept (place_by hs attributes known told) 0 (replicate n byte)) is_heads
-        ∙ kept_all (place_by (replicate n (head_of p)) attributes known told) 0 n byte p (λ j later before. each_is j (omega arith))
+blank_known : (b : Bool) → is_known (blank b) ≡ b
+blank_known true = refl
+blank_known false = refl
 
-    pub new_marked : MarksKnown known (kept (place_by heads attributes known told) 0 bytes)
-    new_marked = subst (MarksKnown known) (sym new_kept) (λ cell inside.
-        let few : cell < n = subst (λ m. cell < m) (length-replicate n p) inside in
-        known_bits cell few ∙ sym (ap is_known (get_or-replicate n cell p Unknown few)))
+blank_kept : (h : Head) (b : Bool) → place_kept h false b false 0 ≡ blank b
+blank_kept h true = refl
+blank_kept h false = refl
+
+-- the same everywhere, and no attribute; whatever the heads are
+module _ (n : ℕ) (heads : List Head) (attributes known told bytes : List ℕ) (b : Bool)
+    (attribute_bits : (cell : ℕ) → cell < n → has_bit attributes cell ≡ false)
+    (known_bits : (cell : ℕ) → cell < n → has_bit known cell ≡ b)
+    (told_bits : (cell : ℕ) → cell < n → has_bit told cell ≡ false)
+    (is_bytes : bytes ≡ replicate n 0) where
+  each_blank : (cell : ℕ) → cell < n → place_by heads attributes known told cell 0 ≡ blank b
+  each_blank cell few =
+      ap (λ x. place_kept (get_or heads cell no_head) x (has_bit known cell) (has_bit told cell) 0) (attribute_bits cell few)
+      ∙ ap (λ x. place_kept (get_or heads cell no_head) false x (has_bit told cell) 0) (known_bits cell few)
+      ∙ ap (λ x. place_kept (get_or heads cell no_head) false b x 0) (told_bits cell few)
+      ∙ blank_kept (get_or heads cell no_head) b
+
+  pub all_blank : kept (place_by heads attributes known told) 0 bytes ≡ replicate n (blank b)
+  all_blank =
+      ap (λ (xs : List ℕ). kept (place_by heads attributes known told) 0 xs) is_bytes
+      ∙ kept_all (place_by heads attributes known told) 0 n 0 (blank b) (λ j later before. each_blank j (omega arith))
+
+  pub blank_marked : MarksKnown known (kept (place_by heads attributes known told) 0 bytes)
+  blank_marked = subst (MarksKnown known) (sym all_blank) (λ cell inside.
+      let few : cell < n = subst (λ m. cell < m) (length-replicate n (blank b)) inside in
+      known_bits cell few ∙ sym (ap is_known (get_or-replicate n cell (blank b) Unknown few) ∙ blank_known b))
 
 -- ---- what is read at an address
 
@@ -154,6 +164,59 @@ module _ (heads : List Head) (attributes known told bytes : List ℕ) (at : ℕ)
       ∙ kept_at (place_by heads attributes known told) bytes at (get_or bytes at 0) Unknown within (get_or_default bytes at 0 (get_or bytes at 0) within)
       ∙ ap (λ b. place_kept (get_or heads at no_head) b (has_bit known at) (has_bit told at) (get_or bytes at 0)) a
       ∙ ap (λ b. place_kept (get_or heads at no_head) false b (has_bit told at) (get_or bytes at 0)) k
+
+-- ---- the places that a screen of n cells has
+
+pub size_kept : (f : ℕ → ℕ → CellBelief) (n : ℕ) (bytes : List ℕ) (now : List CellBelief) → kept f 0 (take n bytes) ≡ now → n ≤ length bytes → length now ≡ n
+size_kept f n bytes now view few = sym (ap length view) ∙ length_kept f 0 (take n bytes) ∙ length-take-le n bytes few
+
+-- what is put between two of them
+pub taken_between : (n from to : ℕ) (mid bytes : List ℕ) → from + length mid ≡ to → to ≤ n → n ≤ length bytes
+    → take n (take from bytes ++ (mid ++ drop to bytes)) ≡ take from (take n bytes) ++ (mid ++ drop to (take n bytes))
+taken_between n from to mid bytes there inside few =
+    let front : List ℕ = take n bytes in
+    let back : List ℕ = drop n bytes in
+    let both : front ++ back ≡ bytes = take-append-drop n bytes in
+    let long : length front ≡ n = length-take-le n bytes few in
+    let first : take from bytes ≡ take from front = ap (take from) (sym both) ∙ take-append-le from front back (omega (arith, long, there, inside)) in
+    let last : drop to bytes ≡ drop to front ++ back = ap (drop to) (sym both) ∙ drop-append-le to front back (omega (arith, long, inside)) in
+    let whole : List ℕ = take from front ++ (mid ++ drop to front) in
+    let size : length whole ≡ n =
+    omega (arith, long, there, inside, length-append (take from front) (mid ++ drop to front), length-append mid (drop to front), length-take-le from front (omega (arith, long, there, inside)), length-drop to front) in
+    ap (λ (bs : List ℕ). take n (bs ++ (mid ++ drop to bytes))) first
+    ∙ ap (λ (bs : List ℕ). take n (take from front ++ (mid ++ bs))) last
+    ∙ ap (λ (bs : List ℕ). take n (take from front ++ bs)) (sym (append_assoc mid (drop to front) back))
+    ∙ ap (take n) (sym (append_assoc (take from front) (mid ++ drop to front) back))
+    ∙ take_at whole back n size
+
+pub spliced_size : (from to : ℕ) (mid bytes : List ℕ) → from + length mid ≡ to → to ≤ length bytes → length (take from bytes ++ (mid ++ drop to bytes)) ≡ length bytes
+spliced_size from to mid bytes there inside =
+    omega (arith, there, inside, length-append (take from bytes) (mid ++ drop to bytes), length-append mid (drop to bytes), length-take-le from bytes (omega (arith, there, inside)), length-drop to bytes)
+
+-- what is read of them
+module _ (heads : List Head) (attributes known told bytes : List ℕ) (n at : ℕ) (few : n ≤ length bytes) (within : at < n) (now : List CellBelief)
+    (view : kept (place_by heads attributes known told) 0 (take n bytes) ≡ now) where
+  low : at < length (take n bytes)
+  low = let long = length-take-le n bytes few in omega (arith, long, within)
+
+  same_byte : get_or (take n bytes) at 0 ≡ get_or bytes at 0
+  same_byte = get_or-take n bytes at 0 within
+
+  pub attribute_there : at < length heads → (d : Head) (attribute : Attribute) → attribute ≡ attr_of (get_or bytes at 0) → has_bit attributes at ≡ true
+      → Attr attribute (get_or heads at d).mark (get_or heads at d).knowledge ≡ get_or now at (Attr attribute (get_or heads at d).mark (get_or heads at d).knowledge)
+  attribute_there inside d attribute is a = attribute_read heads attributes known told (take n bytes) at low now view inside d attribute (is ∙ ap attr_of (sym same_byte)) a
+
+  pub known_there : has_bit attributes at ≡ false → has_bit known at ≡ true → Known (get_or bytes at 0) ≡ get_or now at (Known (get_or bytes at 0))
+  known_there a k = subst (λ (b : ℕ). Known b ≡ get_or now at (Known b)) same_byte (known_read heads attributes known told (take n bytes) at low now view a k)
+
+  pub told_there : has_bit attributes at ≡ false → has_bit known at ≡ false → has_bit told at ≡ true → Told (get_or bytes at 0) ≡ get_or now at (Told (get_or bytes at 0))
+  told_there a k t = subst (λ (b : ℕ). Told b ≡ get_or now at (Told b)) same_byte (told_read heads attributes known told (take n bytes) at low now view a k t)
+
+  pub unknown_there : has_bit attributes at ≡ false → has_bit known at ≡ false → has_bit told at ≡ false → Unknown ≡ get_or now at Unknown
+  unknown_there a k t = unknown_read heads attributes known told (take n bytes) at low now view a k t
+
+  pub character_there : has_bit attributes at ≡ false → has_bit known at ≡ true → get_or now at Unknown ≡ Known (get_or bytes at 0)
+  character_there a k = character_seen heads attributes known told (take n bytes) at low now view a k ∙ ap Known same_byte
 
 -- ---- the head of an attribute is held anew
 

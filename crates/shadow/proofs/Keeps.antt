@@ -1,23 +1,25 @@
 -- Keep stands over characters alone, where it fits.
 use Rattle.std.proofs.Common.{◌≡◌, ℕ, suc, ◌+◌, ◌≤◌, Bool, true, false, not, ◌&&◌, ◌||◌, List, [], ◌∷◌, ◌++◌, length, drop, map, Some, refl, ap, sym, subst, arith, ◌∙◌, if◌then◌else◌, nat_eq}
-use Rattle.std.specs.Prelude.{⊤}
+use Rattle.std.specs.Prelude.{⊤, ◌==◌}
 use Rattle.std.specs.List.{list_any}
 use Rattle.std.proofs.lemmas.Bool.{and_parts}
+use Rattle.codes3270.specs.Size.{cells_in}
 use Rattle.codes3270.specs.declared.attribute.Attr.{Attr as Attribute}
 use Rattle.codes3270.specs.declared.attribute.Cell.{Cell}
 use Rattle.codes3270.specs.declared.attribute.Cell.TheVariants.{Char, Attr}
 use Rattle.codes3270.specs.declared.attribute.Display.TheVariants.{Normal}
 use Rattle.datastream.specs.Screen.{text_before_attribute}
 use Rattle.datastream.specs.Fields.{fields}
+use Rattle.datastream.specs.Wanted.{WantedScreen}
 use Rattle.datastream.specs.declared.wanted.Want.{Want}
 use Rattle.datastream.specs.declared.wanted.Want.TheVariants.{Char as WantChar, Attr as WantAttr, Keep}
 use Rattle.shadow.specs.Pairs.{Pairwise}
-use Rattle.shadow.specs.Belief.{Fact, Belief}
+use Rattle.shadow.specs.Belief.{Fact, Belief, Shadow, fields_of, cells_of_fields}
 use Rattle.shadow.specs.Meets.{FieldMeets}
 use Rattle.shadow.specs.Seen.{same_attr}
 use Rattle.shadow.specs.Taken.{fact_before}
 use Rattle.shadow.specs.Painted.{keeps_ahead, count_ahead}
-use Rattle.shadow.specs.Fits.{is_keep, is_attribute, is_field, fits_field, fits_from}
+use Rattle.shadow.specs.Fits.{is_keep, is_attribute, is_field, fits_field, fits_from, fields_fit, fits, is_paintable}
 use Rattle.shadow.proofs.Pairs.{drop_tail}
 use Rattle.shadow.proofs.TakenMeets.{Before, old_fact}
 
@@ -186,3 +188,38 @@ no_keep wants e =
     keeps_none wants
     (keeps_fields wants (all_attributes wants) (sym (length-all_attributes wants)) parts.0
     (fits_room [] wants (all_attributes wants) (λ place len fact e. absurd (cc)) 0 wants (all_attributes wants) refl parts.1))
+
+pub no_keep_ahead : (xs ys : List Want) → HasNoKeep xs → HasNoKeep ys → keeps_ahead (xs ++ ys) ≡ false
+no_keep_ahead [] [] h k = refl
+no_keep_ahead [] (WantAttr a ∷ ys) h k = refl
+no_keep_ahead [] (WantChar c ∷ ys) h k = no_keep_ahead [] ys h k
+no_keep_ahead [] (Keep ∷ ys) h k = absurd (cc)
+no_keep_ahead (WantAttr a ∷ xs) ys h k = refl
+no_keep_ahead (WantChar c ∷ xs) ys h k = no_keep_ahead xs ys h k
+no_keep_ahead (Keep ∷ xs) ys h k = absurd (cc)
+
+-- ---- what can be painted
+
+none_fits : (bs : List Belief) (whole : List Want) (n : ℕ) (rest : List Want) → HasNoKeep whole → HasNoKeep rest → fits_from bs whole n rest ≡ true
+none_fits bs whole n [] h k = refl
+none_fits bs whole n (WantChar c ∷ rest) h k = none_fits bs whole (n + 1) rest h k
+none_fits bs whole n (Keep ∷ rest) h k = absurd (cc)
+none_fits bs whole n (WantAttr a ∷ rest) h k = rw (no_keep_ahead rest whole k h) (none_fits bs whole (n + 1) rest h k)
+
+-- it fits the fields that are believed
+pub paintable_fits : (shadow : Shadow) (wanted : WantedScreen) → is_paintable shadow wanted ≡ true → fields_fit (fields_of shadow) wanted.cells ≡ true
+paintable_fits shadow wanted can = cases (list_any is_keep wanted.cells) refl can
+  where
+    cases : (t : Bool) → list_any is_keep wanted.cells ≡ t → (not t || fits shadow wanted) ≡ true → fields_fit (fields_of shadow) wanted.cells ≡ true
+    cases true is e = (and_parts _ _ e).1
+    cases false is e =
+        ap (λ (u : Bool). (not u || list_any is_attribute wanted.cells) && fits_from (fields_of shadow) wanted.cells 0 wanted.cells) is
+        ∙ none_fits (fields_of shadow) wanted.cells 0 wanted.cells is is
+
+-- where the sizes differ, nothing is kept
+pub paintable_apart : (bs : List Belief) (wanted : WantedScreen) → is_paintable (Shadow.Formatted bs) wanted ≡ true → (cells_of_fields bs == cells_in wanted.size) ≡ false → HasNoKeep wanted.cells
+paintable_apart bs wanted can apart = cases (list_any is_keep wanted.cells) refl can
+  where
+    cases : (t : Bool) → list_any is_keep wanted.cells ≡ t → (not t || fits (Shadow.Formatted bs) wanted) ≡ true → HasNoKeep wanted.cells
+    cases true is e = absurd (let same = (and_parts _ _ e).0 in let both : false ≡ true = sym apart ∙ same in cc)
+    cases false is e = is

@@ -1,5 +1,5 @@
 -- What is known of cells stands on the screen.
-use Rattle.std.proofs.Common.{◌≡◌, ℕ, zero, suc, List, [], ◌∷◌, length, map, Some, None, refl, ap, subst}
+use Rattle.std.proofs.Common.{◌≡◌, ℕ, zero, suc, List, [], ◌∷◌, map, Some, None, refl, ap, sym, subst}
 use Rattle.std.specs.Prelude.{slice_get, option_and_then}
 use Rattle.std.proofs.lemmas.Option.{same_Some}
 use Rattle.codes3270.specs.declared.attribute.Attr.{Attr as Attribute}
@@ -10,18 +10,18 @@ use Rattle.datastream.specs.Screen.{Screen}
 use Rattle.shadow.specs.declared.known.Known.{Known}
 use Rattle.shadow.specs.declared.known.Known.TheVariants.{Attr as KnownAttr, Char as KnownChar}
 use Rattle.shadow.specs.Asked.{known_cell, known_cells}
-use Rattle.shadow.specs.Belief.{Shadow}
+use Rattle.shadow.specs.Belief.{Shadow, cells_of_fields}
 use Rattle.shadow.specs.Heard.{is_on}
 use Rattle.shadow.specs.Laws.{IsSameCell, KnownIsThere, AttributesAreKnown}
 use Rattle.shadow.specs.Meets.{Meets, Knows}
 use Rattle.shadow.specs.Pairs.{Pairwise}
 use Rattle.shadow.specs.Taken.{old_char, laid_out}
-use Rattle.shadow.proofs.LaidOut.{CellFits, laid_out_fits, bare_fits}
+use Rattle.shadow.proofs.LaidOut.{CellFits, laid_out_fits, bare_fits, fields_size}
 
-cells_fit : (shadow : Shadow) (s : Screen) → Knows shadow → Meets shadow s → Pairwise CellFits (known_cells (length s.cells) shadow) s.cells
+cells_fit : (shadow : Shadow) (s : Screen) → Knows shadow → Meets shadow s → Pairwise CellFits (known_cells shadow) s.cells
 cells_fit Shadow.NothingKnown s knows meets = absurd knows
 cells_fit (Shadow.Unformatted known) s knows meets = bare_fits s.cells 0 known s.cells meets.0 meets.1
-cells_fit (Shadow.Formatted bs) s knows meets = laid_out_fits (length s.cells) s.cells bs refl meets.1 meets.0
+cells_fit (Shadow.Formatted bs) s knows meets = laid_out_fits (cells_of_fields bs) s.cells bs (sym (fields_size s.cells bs meets.1 meets.0)) meets.1 meets.0
 
 is_same : (k : Known) (there cell : Cell) → CellFits k there → known_cell k ≡ Some cell → IsSameCell cell there
 is_same (KnownAttr a m) (Attr b) cell fits is =
@@ -41,7 +41,7 @@ known_here (k ∷ ks) (c ∷ cells) (suc at) cell fits is = known_here ks cells 
 pub known_there : KnownIsThere
 known_there Shadow.NothingKnown s at cell meets is = absurd (cc)
 known_there (Shadow.Unformatted known) s at cell meets is = known_here (map old_char known) s.cells at cell (cells_fit (Shadow.Unformatted known) s tt meets) is
-known_there (Shadow.Formatted bs) s at cell meets is = known_here (laid_out (length s.cells) bs) s.cells at cell (cells_fit (Shadow.Formatted bs) s tt meets) is
+known_there (Shadow.Formatted bs) s at cell meets is = known_here (laid_out (cells_of_fields bs) bs) s.cells at cell (cells_fit (Shadow.Formatted bs) s tt meets) is
 
 is_known : (k : Known) (there : Cell) (attribute : Attribute) → CellFits k there → there ≡ Attr attribute → (cell : Cell) × (known_cell k ≡ Some cell)
 is_known (KnownAttr a m) there attribute fits is = (_, refl)
@@ -56,4 +56,4 @@ attribute_here (k ∷ ks) (c ∷ cells) zero attribute fits is = is_known k c at
 attribute_here (k ∷ ks) (c ∷ cells) (suc at) attribute fits is = attribute_here ks cells at attribute fits.1 is
 
 pub attributes_known : AttributesAreKnown
-attributes_known shadow s at attribute knows meets is = attribute_here (known_cells (length s.cells) shadow) s.cells at attribute (cells_fit shadow s knows meets) is
+attributes_known shadow s at attribute knows meets is = attribute_here (known_cells shadow) s.cells at attribute (cells_fit shadow s knows meets) is

@@ -1,7 +1,8 @@
 -- The cells of a shadow's fields, laid out, are those of each screen that meets it; so is what a plain write makes of both.
-use Rattle.std.proofs.Common.{◌≡◌, ◌+◌, ◌-◌, ℕ, suc, Bool, true, false, ◌&&◌, List, [], ◌∷◌, ◌++◌, length, map, flat_map, drop, replicate, Option, Some, None, refl, ap, sym, subst, arith, ◌∙◌, append_assoc, append-nil, if◌then◌else◌, length-append, drop_at, take_at}
+use Rattle.std.proofs.Common.{◌≡◌, ◌+◌, ◌-◌, ℕ, suc, Bool, true, false, ◌&&◌, List, [], ◌∷◌, ◌++◌, length, map, flat_map, take, drop, Option, Some, None, refl, ap, sym, subst, arith, ◌∙◌, append_assoc, append-nil, if◌then◌else◌, length-append, drop_at, take_at}
 use Rattle.std.specs.List.{list_all}
-use Rattle.std.proofs.lemmas.List.{length-replicate, length-map}
+use Rattle.std.proofs.lemmas.List.{length-map, take-append-drop}
+use Rattle.codes3270.specs.Size.{cells_in}
 use Rattle.codes3270.specs.declared.attribute.Cell.{Cell}
 use Rattle.codes3270.specs.declared.attribute.Cell.TheVariants.{Char, Attr}
 use Rattle.codes3270.specs.declared.write_control.Wcc.{Wcc}
@@ -16,13 +17,14 @@ use Rattle.datastream.specs.declared.command_code.CommandCode.{CommandCode}
 use Rattle.datastream.specs.declared.command_code.CommandCode.TheVariants.{Write, EraseWrite, EraseWriteAlternate, ReadBuffer, ReadModified, ReadModifiedAll, EraseAllUnprotected}
 use Rattle.shadow.specs.declared.known.Known.{Known}
 use Rattle.shadow.specs.Pairs.{Pairwise}
-use Rattle.shadow.specs.Belief.{Belief, Shadow}
+use Rattle.shadow.specs.Belief.{Belief, Shadow, cells_of_fields}
 use Rattle.shadow.specs.Meets.{FieldMeets, KnownIs, Meets}
 use Rattle.shadow.specs.Seen.{known_chars, seen}
 use Rattle.shadow.specs.Stores.{stores, stores_unplaced, is_plain_order, is_plain}
 use Rattle.shadow.specs.Taken.{old_char, field_cells, first_place, laid_out, marks_off_if, believed, known_after, after_write, taken_write, taken}
 use Rattle.shadow.specs.Laws.{WrittenIsTaken}
-use Rattle.shadow.proofs.Pairs.{pairwise-append, pairwise-drop, pairwise-take}
+use Rattle.shadow.specs.Sized.{MeetsIsOfSize}
+use Rattle.shadow.proofs.Pairs.{pairwise-length, pairwise-append, pairwise-drop, pairwise-take}
 use Rattle.shadow.proofs.HeardMeets.{none_left}
 use Rattle.shadow.proofs.HeardOthers.{chars_known, seen_meets}
 use Rattle.shadow.proofs.Stored.{stored, plain_orders}
@@ -42,11 +44,11 @@ cells_written wcc orders s plain =
 
 -- each write has a write control character
 pub has_wcc : (command : CommandParts) → IsSpelt command → is_write command.code ≡ true → (wcc : Wcc) × (command.wcc ≡ Some wcc)
-has_wcc command spelt writes = by_spelling spelt.1
+has_wcc command spelt writes = by_spelling spelt.3
   where
-    by_spelling : IsCommand command spelt.0 → (wcc : Wcc) × (command.wcc ≡ Some wcc)
-    by_spelling (write byte wcc text is code has orders bytes) = (wcc_of wcc, has)
-    by_spelling (other byte ignored is code has orders bytes) = absurd (cc)
+    by_spelling : IsCommand spelt.0 spelt.1 command spelt.2 → (wcc : Wcc) × (command.wcc ≡ Some wcc)
+    by_spelling (write byte wcc text is code sized has orders bytes) = (wcc_of wcc, has)
+    by_spelling (other byte ignored is code sized has orders bytes) = absurd (cc)
 
 abbrev pub CellFits : Known → Cell → Type 0
 CellFits slot cell = SlotIs slot cell cell
@@ -173,39 +175,61 @@ write_meets wcc orders (Shadow.Unformatted known) s plain meets =
 write_meets wcc orders (Shadow.Formatted bs) s plain meets =
     after_write_meets wcc orders bs (laid_out (length s.cells) bs) s plain (slotted _ s.cells (laid_out_fits (length s.cells) s.cells bs refl meets.1 meets.0)) (λ place. old_fact s.cells 0 s.cells bs meets.1 refl place)
 
--- what an erase leaves doesn't depend on the screen
-erase_meets : (wcc : Wcc) (orders : List Order) (s : Screen) → list_all is_plain_order orders ≡ true → Meets (seen (written (Some wcc) orders (cleared (blank_screen (length s.cells)))).cells) (written (Some wcc) orders (cleared s))
-erase_meets wcc orders s plain =
-    subst (λ (cells : List Cell). Meets (seen cells) (written (Some wcc) orders (cleared s)))
-    (cells_written wcc orders (cleared s) plain ∙ same ∙ sym (cells_written wcc orders (cleared (blank_screen (length s.cells))) plain))
-    (seen_meets (written (Some wcc) orders (cleared s)))
-  where
-    blank : List Cell
-    blank = replicate (length s.cells) (Char 0)
+-- what an erase leaves doesn't depend on the screen, nor on its size
+erase_meets : (size : ℕ) (wcc : Wcc) (orders : List Order) (blank s : Screen) → list_all is_plain_order orders ≡ true → Meets (seen (written (Some wcc) orders (cleared size blank)).cells) (written (Some wcc) orders (cleared size s))
+erase_meets size wcc orders blank s plain =
+    subst (λ (cells : List Cell). Meets (seen cells) (written (Some wcc) orders (cleared size s)))
+    (cells_written wcc orders (cleared size s) plain ∙ sym (cells_written wcc orders (cleared size blank) plain))
+    (seen_meets (written (Some wcc) orders (cleared size s)))
 
-    same_size : (replicate (length (replicate (length s.cells) (Char 0))) (Char 0)) ≡ replicate (length s.cells) (Char 0)
-    same_size = ap (λ n. replicate n (Char 0)) (length-replicate (length s.cells) (Char 0))
+-- a command that is no Write, or is one for a screen of this size
+abbrev pub IsFor : CommandCode → ℕ → List Cell → Type 0
+IsFor code size cells = code ≡ Write → length cells ≡ size
 
-    same : stored (stores (length (cleared s).cells) 0 orders) (prepared wcc (cleared s)).cells
-        ≡ stored (stores (length (cleared (blank_screen (length s.cells))).cells) 0 orders) (prepared wcc (cleared (blank_screen (length s.cells)))).cells
-    same = ap (λ (cells : List Cell). stored (stores (length cells) 0 orders) (if wcc.reset then map unmodified cells else cells)) (sym same_size)
-
-pub written_with : (command : CommandParts) → (is_write command.code ≡ true → (wcc : Wcc) × (command.wcc ≡ Some wcc)) → (shadow : Shadow) (s : Screen) → is_plain command ≡ true → Meets shadow s
-    → Meets (taken (length s.cells) command shadow) (after_command command s)
-written_with command control shadow s plain meets = go command.code command.wcc control plain
+pub written_with : (n : ℕ) (command : CommandParts) → (is_write command.code ≡ true → (wcc : Wcc) × (command.wcc ≡ Some wcc)) → (shadow : Shadow) (s : Screen) → is_plain command ≡ true
+    → IsFor command.code n s.cells → Meets shadow s → Meets (taken n command shadow) (after_command command s)
+written_with n command control shadow s plain for meets = go command.code command.wcc control plain for
   where
     go : (code : CommandCode) (wcc : Option Wcc) → (is_write code ≡ true → (w : Wcc) × (wcc ≡ Some w)) → (is_write code && list_all is_plain_order command.orders) ≡ true
-        → Meets (taken (length s.cells) (record { code = code; wcc = wcc; orders = command.orders }) shadow) (after_code code wcc command.orders s)
-    go Write (Some wcc) has p = write_meets wcc command.orders shadow s p meets
-    go EraseWrite (Some wcc) has p = erase_meets wcc command.orders s p
-    go EraseWriteAlternate (Some wcc) has p = erase_meets wcc command.orders s p
-    go Write None has p = absurd (let w = has refl in cc)
-    go EraseWrite None has p = absurd (let w = has refl in cc)
-    go EraseWriteAlternate None has p = absurd (let w = has refl in cc)
-    go ReadBuffer wcc has p = absurd (cc)
-    go ReadModified wcc has p = absurd (cc)
-    go ReadModifiedAll wcc has p = absurd (cc)
-    go EraseAllUnprotected wcc has p = absurd (cc)
+        → IsFor code n s.cells
+        → Meets (taken n (record { code = code; size = command.size; wcc = wcc; orders = command.orders }) shadow) (after_code code (cells_in command.size) wcc command.orders s)
+    go Write (Some wcc) has p is =
+        subst (λ (m : ℕ). Meets (taken_write m (Some wcc) command.orders shadow) (written (Some wcc) command.orders s)) (is refl) (write_meets wcc command.orders shadow s p meets)
+    go EraseWrite (Some wcc) has p is = erase_meets (cells_in command.size) wcc command.orders (blank_screen (cells_in command.size)) s p
+    go EraseWriteAlternate (Some wcc) has p is = erase_meets (cells_in command.size) wcc command.orders (blank_screen (cells_in command.size)) s p
+    go Write None has p is = absurd (let w = has refl in cc)
+    go EraseWrite None has p is = absurd (let w = has refl in cc)
+    go EraseWriteAlternate None has p is = absurd (let w = has refl in cc)
+    go ReadBuffer wcc has p is = absurd (cc)
+    go ReadModified wcc has p is = absurd (cc)
+    go ReadModifiedAll wcc has p is = absurd (cc)
+    go EraseAllUnprotected wcc has p is = absurd (cc)
 
 pub written_taken : WrittenIsTaken
-written_taken command shadow s spelt plain meets = written_with command (has_wcc command spelt) shadow s plain meets
+written_taken command shadow s spelt plain for meets = written_with (cells_in command.size) command (has_wcc command spelt) shadow s plain for meets
+
+-- ---- the size of what is believed
+
+pub length-field_cells : (b : Belief) (f : Field) → FieldMeets b f → length (field_cells b) ≡ suc b.length
+length-field_cells b f h =
+    ap suc (length-map (known_chars b.length b.fact) old_char ∙ sym (pairwise-length KnownIs _ _ (chars_known b.length b.fact f.text h.same_length h.holds)) ∙ h.same_length)
+
+flat_length : (bs : List Belief) (fs : List Field) → Pairwise FieldMeets bs fs → length (flat_map field_cells bs) ≡ cells_of_fields bs
+flat_length [] [] h = refl
+flat_length [] (f ∷ fs) h = absurd h
+flat_length (b ∷ bs) [] h = absurd h
+flat_length (b ∷ bs) (f ∷ fs) h =
+    omega (arith, length-append (field_cells b) (flat_map field_cells bs), length-field_cells b f h.0, flat_length bs fs h.1)
+
+pub fields_size : (cells : List Cell) (bs : List Belief) → Pairwise FieldMeets bs (fields cells) → (fields cells ≡ [] → ⊥) → cells_of_fields bs ≡ length cells
+fields_size cells bs h some =
+    let flat : List Known = flat_map field_cells bs in
+    let k : ℕ = length cells - first_place bs in
+    let laid = pairwise-length CellFits (laid_out (length cells) bs) cells (laid_out_fits (length cells) cells bs refl h some) in
+    omega (arith, flat_length bs (fields cells) h, laid, length-append (drop k flat) (take k flat), length-append (take k flat) (drop k flat), ap length (take-append-drop k flat))
+
+pub meets_size : MeetsIsOfSize
+meets_size Shadow.NothingKnown s meets = tt
+meets_size (Shadow.Unformatted known) s meets =
+    sym (length-map known old_char) ∙ sym (pairwise-length CellFits (map old_char known) s.cells (bare_fits s.cells 0 known s.cells meets.0 meets.1))
+meets_size (Shadow.Formatted bs) s meets = fields_size s.cells bs meets.1 meets.0

@@ -48,3 +48,4 @@ pub mod KeyWalks
 pub mod Ranges
 pub mod Settles
 pub mod ShorterTexts
+pub mod Sizes

@@ -7,7 +7,6 @@ use Rattle.std.proofs.lemmas.Bool.{cases_lt}
 use Rattle.std.proofs.lemmas.Nat.{pow-add}
 use Rattle.std.proofs.lemmas.Nat.Bits.{bit_at-zero, bit_at-lt, bit_at-trailing_zeros, bit_at_above, bit_at_or, bit_at_and, bit_at_not}
 use Rattle.std.proofs.lemmas.List.{get_or-map, get_or_default, length-map, length-replicate}
-use Rattle.codes3270.specs.Size.{cell_count}
 use Rattle.codes3270.specs.declared.attribute.Cell.{Cell}
 use Rattle.codes3270.specs.declared.attribute.Cell.TheVariants.{Char}
 use Rattle.datastream.specs.CellBits.{bit_of, AreBits}
@@ -100,18 +99,18 @@ right ahead (WantAttr a) known none is = absurd (let both : 1 ≡ 0 = none in om
 right ahead (WantChar byte) known none is = ap (cell_to_store ahead (WantChar byte)) (is refl) ∙ there_already ahead byte
 right ahead Keep known none is = refl
 
-pub covered : (wants : List Want) (known : List Known) (bytes : List ℕ) (word attributes characters unlike : ℕ) → length wants ≡ cell_count → bytes ≡ map byte_of wants
-    → AreBits (λ cell. is_attribute (get_or wants cell Keep)) word attributes → AreBits (λ cell. is_character (get_or wants cell Keep)) word characters
-    → SetUnless (λ cell. get_or known cell (KnownChar None false) ≡ KnownChar (Some (get_or bytes cell 0)) false) word unlike
-    → SetUnless (IsRight wants known) word (bit_or attributes (bit_and characters unlike))
-covered wants known bytes word attributes characters unlike size is_bytes is_attributes are_characters alike = λ place low inside clear.
+pub covered : (wants : List Want) (known : List Known) (bytes : List ℕ) (word attributes characters unlike : ℕ) → bytes ≡ map byte_of wants
+    → AreBits (length wants) (λ cell. is_attribute (get_or wants cell Keep)) word attributes → AreBits (length wants) (λ cell. is_character (get_or wants cell Keep)) word characters
+    → SetUnless (length wants) (λ cell. get_or known cell (KnownChar None false) ≡ KnownChar (Some (get_or bytes cell 0)) false) word unlike
+    → SetUnless (length wants) (IsRight wants known) word (bit_or attributes (bit_and characters unlike))
+covered wants known bytes word attributes characters unlike is_bytes is_attributes are_characters alike = λ place low inside clear.
     let cell = 64 * word + place in
     let parts = or_clear attributes (bit_and characters unlike) place clear in
     right (drop (cell + 1) wants ++ wants) (get_or wants cell Keep) (get_or known cell (KnownChar None false))
     (sym (is_attributes place low inside) ∙ parts.0)
     (λ character.
     alike place low inside (and_clear characters unlike place parts.1 (are_characters place low inside ∙ character))
-    ∙ ap (λ (b : ℕ). KnownChar (Some b) false) (ap (λ (bs : List ℕ). get_or bs cell 0) is_bytes ∙ get_or-map byte_of wants cell Keep 0 (omega (arith, size))))
+    ∙ ap (λ (b : ℕ). KnownChar (Some b) false) (ap (λ (bs : List ℕ). get_or bs cell 0) is_bytes ∙ get_or-map byte_of wants cell Keep 0 (omega (arith, inside))))
 
 -- ---- how it goes on
 
@@ -138,16 +137,16 @@ skip wants known (suc n) from in_wants in_known is_right =
     ∙ ap (stores_from wants known) next
 
 -- the cells up to a place are right
-pub passed : (wants : List Want) (known : List Known) (look from place : ℕ) → place ≤ length wants → place ≤ length known → length wants ≡ cell_count → from ≤ place
-    → SetUnless (IsRight wants known) (from / 64) look → ((cell : ℕ) → from ≤ cell → cell < place → cell / 64 ≡ from / 64)
+pub passed : (wants : List Want) (known : List Known) (look from place : ℕ) → place ≤ length wants → place ≤ length known → from ≤ place
+    → SetUnless (length wants) (IsRight wants known) (from / 64) look → ((cell : ℕ) → from ≤ cell → cell < place → cell / 64 ≡ from / 64)
     → ((cell : ℕ) → from ≤ cell → cell < place → bit_at look (cell % 64) ≡ 0)
     → stores_from wants known from ≡ stores_from wants known place
-passed wants known look from place in_wants in_known size onward covers same_word clear =
+passed wants known look from place in_wants in_known onward covers same_word clear =
     let there : from + (place - from) ≡ place = omega arith in
     skip wants known (place - from) from (omega arith) (omega arith) (λ cell later before.
     let word = same_word cell later (omega arith) in
     let whole : 64 * (from / 64) + cell % 64 ≡ cell = omega (arith, word) in
-    subst (IsRight wants known) whole (covers (cell % 64) (omega arith) (omega (arith, whole, size)) (clear cell later (omega arith))))
+    subst (IsRight wants known) whole (covers (cell % 64) (omega arith) (omega (arith, whole, before)) (clear cell later (omega arith))))
     ∙ ap (stores_from wants known) there
 
 pub some_left : (n : ℕ) → (n ≡ 0 → ⊥) → 0 < n
@@ -163,9 +162,9 @@ off_char : (reset : Bool) (byte : ℕ) → mark_off_if reset (cell_known (KnownP
 off_char true byte = refl
 off_char false byte = refl
 
-pub base_length : (formatted reset : Bool) (places : List CellBelief) → length places ≡ cell_count → length (if formatted then marks_off_if reset (cells_known places) else known_nulls cell_count) ≡ cell_count
-base_length true reset places size = length_reset reset places ∙ size
-base_length false reset places size = nulls_length cell_count
+pub base_length : (cells : ℕ) (formatted reset : Bool) (places : List CellBelief) → (formatted ≡ true → length places ≡ cells) → length (if formatted then marks_off_if reset (cells_known places) else known_nulls cells) ≡ cells
+base_length cells true reset places size = length_reset reset places ∙ size refl
+base_length cells false reset places size = nulls_length cells
 
 pub char_there : (reset : Bool) (places : List CellBelief) (cell byte : ℕ) → cell < length places → get_or places cell Unknown ≡ KnownPlace byte
     → get_or (marks_off_if reset (cells_known places)) cell (KnownChar None false) ≡ KnownChar (Some byte) false

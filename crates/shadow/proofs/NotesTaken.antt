@@ -4,6 +4,7 @@ use Rattle.std.specs.Prelude.{⊤}
 use Rattle.std.specs.Option.{option_or}
 use Rattle.std.specs.List.{list_all}
 use Rattle.std.proofs.lemmas.List.Elements.{All-head, All-tail, All-nil, All-cons, All-weaker}
+use Rattle.codes3270.specs.Size.{Shape}
 use Rattle.codes3270.specs.declared.attribute.Attr.{Attr as Attribute}
 use Rattle.codes3270.specs.declared.attribute.Cell.{Cell}
 use Rattle.codes3270.specs.declared.attribute.Cell.TheVariants.{Char, Attr}
@@ -33,7 +34,7 @@ use Rattle.shadow.proofs.Pairs.{pairwise-append, pairwise-length, drop_tail}
 use Rattle.shadow.proofs.HeardOthers.{chars_known}
 use Rattle.shadow.proofs.Stored.{stored}
 use Rattle.shadow.proofs.TakenMeets.{placed}
-use Rattle.shadow.proofs.LaidOut.{CellFits, cells_written, has_wcc, laid_out_fits, bare_fits, written_taken}
+use Rattle.shadow.proofs.LaidOut.{CellFits, cells_written, has_wcc, laid_out_fits, bare_fits, written_with}
 use Rattle.shadow.proofs.Behind.{behind}
 use Rattle.shadow.proofs.ExactTaken.{taken_exact}
 use Rattle.shadow.proofs.ExactPainted.{Shaped, all_shaped, WasKnown}
@@ -233,8 +234,8 @@ record Plainly (wcc : Wcc) (orders : List Order) (s : Screen) : Type 0 where
   plain : list_all is_plain_order orders ≡ true
   over : All (IsOverProtected s.cells) (stores (length s.cells) 0 orders)
 
-abbrev write_of : Wcc → List Order → CommandParts
-write_of wcc orders = record { code = Write; wcc = Some wcc; orders = orders }
+abbrev write_of : Shape → Wcc → List Order → CommandParts
+write_of size wcc orders = record { code = Write; size = size; wcc = Some wcc; orders = orders }
 
 over_characters : (cells : List Cell) (more : List Store) → All (IsOverProtected cells) more → All (IsOverCharacter cells) more
 over_characters cells = All-weaker (IsOverProtected cells) (IsOverCharacter cells) (λ (store : Store) (h : IsOverProtected cells store). h.0)
@@ -338,7 +339,7 @@ write_opens wcc orders (Shadow.Formatted bs) s h meets none = open_after wcc ord
 -- a command over protected characters is a write of a control character and orders
 record Split (command : CommandParts) (s : Screen) : Type 0 where
   wcc : Wcc
-  is : write_of wcc command.orders ≡ command
+  is : write_of command.size wcc command.orders ≡ command
   plainly : Plainly wcc command.orders s
 
 split : (command : CommandParts) (s : Screen) → OverwritesProtected command s → Split command s
@@ -346,7 +347,7 @@ split command s h =
     let has = has_wcc command h.spelt (ap is_write h.writes) in
     record {
       wcc = has.0;
-      is = λ i. record { code = sym h.writes i; wcc = sym has.1 i; orders = command.orders };
+      is = λ i. record { code = sym h.writes i; size = command.size; wcc = sym has.1 i; orders = command.orders };
       plainly = record {
         keeps = ap resets (sym has.1) ∙ h.keeps_mdt;
         at_once = h.placed;
@@ -404,7 +405,7 @@ stays_listed command shadow s h meets lists = cases shadow meets lists
 
     known : (shadow : Shadow) → Meets shadow s → Knows shadow → ListsFields (taken (length s.cells) command shadow) (after_command command s)
     known shadow meets knows =
-        lists_known (taken (length s.cells) command shadow) (after_command command s) (written_taken command shadow s h.spelt h.plain meets)
+        lists_known (taken (length s.cells) command shadow) (after_command command s) (written_with (length s.cells) command (has_wcc command h.spelt) shadow s h.plain (λ _. refl) meets)
         (stays_known (length s.cells) command shadow h.writes h.placed knows)
 
     cases : (shadow : Shadow) → Meets shadow s → ListsFields shadow s → ListsFields (taken (length s.cells) command shadow) (after_command command s)
@@ -415,7 +416,7 @@ stays_listed command shadow s h meets lists = cases shadow meets lists
 pub stays_told : NoteStaysTold
 stays_told command shadow s h meets was =
     let it = split command s h in
-    let now : Meets (taken (length s.cells) command shadow) (after_command command s) = written_taken command shadow s h.spelt h.plain meets in
+    let now : Meets (taken (length s.cells) command shadow) (after_command command s) = written_with (length s.cells) command (has_wcc command h.spelt) shadow s h.plain (λ _. refl) meets in
     subst (λ (c : CommandParts). Meets (taken (length s.cells) c shadow) (after_command c s) → IsTold (taken (length s.cells) c shadow) (after_command c s)) it.is
     (write_told it.wcc command.orders shadow s it.plainly meets was) now
 

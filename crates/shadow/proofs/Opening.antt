@@ -6,6 +6,7 @@ use Rattle.datastream.specs.Fields.{Field}
 use Rattle.datastream.specs.InboundFields.{leading_text, returned, cells_sent}
 use Rattle.datastream.specs.InboundText.{InboundParts}
 use Rattle.datastream.specs.Meaning.{after_command}
+use Rattle.codes3270.specs.Size.{cells_in}
 use Rattle.datastream.specs.Screen.{blank_screen}
 use Rattle.datastream.specs.declared.command_code.CommandCode.{CommandCode}
 use Rattle.datastream.specs.declared.command_code.CommandCode.TheVariants.{Write, EraseWrite, EraseWriteAlternate, ReadBuffer, ReadModified, ReadModifiedAll, EraseAllUnprotected}
@@ -88,8 +89,8 @@ erase_leaves_nothing_open size command shadow = cases command.code
   where
     cases : (code : CommandCode) → is_erase code ≡ true → NothingIsOpen (taken size (record command { code = code }) shadow)
     cases Write e = absurd (cc)
-    cases EraseWrite e = seen_open (after_command (record command { code = EraseWrite }) (blank_screen size)).cells
-    cases EraseWriteAlternate e = seen_open (after_command (record command { code = EraseWriteAlternate }) (blank_screen size)).cells
+    cases EraseWrite e = seen_open (after_command (record command { code = EraseWrite }) (blank_screen (cells_in command.size))).cells
+    cases EraseWriteAlternate e = seen_open (after_command (record command { code = EraseWriteAlternate }) (blank_screen (cells_in command.size))).cells
     cases ReadBuffer e = absurd (cc)
     cases ReadModified e = absurd (cc)
     cases ReadModifiedAll e = absurd (cc)

@@ -1,9 +1,10 @@
 -- A paint that keeps whole fields alone opens none.
 use Rattle.std.proofs.Common.{◌≡◌, ℕ, suc, ◌+◌, Bool, true, false, not, ◌||◌, ◌&&◌, List, [], ◌∷◌, ◌++◌, length, map, drop, Some, None, refl, ap, sym, subst, arith, ◌∙◌, if◌then◌else◌, nat_eq, eqb-true, All}
-use Rattle.std.specs.Prelude.{⊤}
+use Rattle.std.specs.Prelude.{⊤, ◌==◌}
 use Rattle.std.specs.List.{list_any}
 use Rattle.std.proofs.lemmas.Bool.{and_parts}
 use Rattle.std.proofs.lemmas.List.Elements.{All-head, All-tail, All-nil, All-cons}
+use Rattle.codes3270.specs.Size.{cells_in}
 use Rattle.codes3270.specs.declared.attribute.Attr.{Attr as Attribute}
 use Rattle.codes3270.specs.declared.attribute.Cell.{Cell}
 use Rattle.codes3270.specs.declared.attribute.Cell.TheVariants.{Char, Attr}
@@ -14,22 +15,22 @@ use Rattle.datastream.specs.declared.wanted.Want.TheVariants.{Char as WantChar, 
 use Rattle.shadow.specs.declared.known.Known.{Known}
 use Rattle.shadow.specs.declared.known.Known.TheVariants.{Attr as KnownAttr, Char as KnownChar}
 use Rattle.shadow.specs.Pairs.{Pairwise}
-use Rattle.shadow.specs.Belief.{Fact, Belief, Shadow}
+use Rattle.shadow.specs.Belief.{Fact, Belief, Shadow, cells_of_fields}
 use Rattle.shadow.specs.Exactness.{IsExact, FieldIsExact}
-use Rattle.shadow.specs.Fits.{is_field, fits_field, fits_from}
+use Rattle.shadow.specs.Fits.{is_field, fits_field, fits_from, fields_fit}
 use Rattle.shadow.specs.Meets.{FieldMeets}
-use Rattle.shadow.specs.Openness.{is_any, IsNotOpen, keeps_alone, keeps_whole, PaintOpensNothing}
+use Rattle.shadow.specs.Openness.{is_any, IsNotOpen, NothingIsOpen, keeps_alone, keeps_whole, PaintOpensNothing}
 use Rattle.shadow.specs.Paint.{to_store, painting, paint}
 use Rattle.shadow.specs.Painted.{keeps_ahead, count_ahead}
 use Rattle.shadow.specs.Stores.{Store}
-use Rattle.shadow.specs.Taken.{laid_out, mark_off, marks_off_if, known_stored, known_ahead, fresh_ahead, fact_before, fact_after, belief_after, beliefs_from, known_after}
+use Rattle.shadow.specs.Taken.{laid_out, mark_off, marks_off_if, known_stored, known_ahead, fresh_ahead, fact_before, fact_after, belief_after, beliefs_from, known_after, taken}
 use Rattle.shadow.proofs.Pairs.{pairwise-append, pairwise-length, drop_tail}
-use Rattle.shadow.proofs.LaidOut.{laid_out_fits}
-use Rattle.shadow.proofs.Keeps.{KeepsChars, keeps_chars, field_found}
-use Rattle.shadow.proofs.Paints.{paints_stores}
+use Rattle.shadow.proofs.LaidOut.{laid_out_fits, fields_size}
+use Rattle.shadow.proofs.Keeps.{KeepsChars, keeps_chars, field_found, paintable_fits}
+use Rattle.shadow.proofs.Paints.{paints_stores, paint_wcc, erase_erases, painted_if}
 use Rattle.shadow.proofs.Behind.{behind}
 use Rattle.shadow.proofs.ExactTaken.{write_has}
-use Rattle.shadow.proofs.ExactPainted.{OldIs, WantedIs, Shaped, IsFree, KeptIsFree, WasKnown, known_painted, paint_wcc, stores_painted, all_old, all_wanted_known, all_shaped, kept_free, all_wanted, off_known, field_put, no_address}
+use Rattle.shadow.proofs.ExactPainted.{OldIs, WantedIs, Shaped, IsFree, KeptIsFree, WasKnown, known_painted, stores_painted, all_old, all_wanted_known, all_shaped, kept_free, all_wanted, off_known, field_put, no_address}
 use Rattle.shadow.proofs.StoredClosed.{IsStale, stale_laid}
 use Rattle.shadow.proofs.NotesTaken.{fact_kept}
 use Rattle.shadow.proofs.Opening.{erase_leaves_nothing_open}
@@ -208,29 +209,37 @@ all_shut bs wants whole olds news all n (WantAttr a ∷ rest) (x ∷ cells) (old
     }))
 
 pub paint_opens_nothing : PaintOpensNothing
-paint_opens_nothing Shadow.NothingKnown wanted s same fits whole meets exact shut = erase_leaves_nothing_open (length s.cells) (paint (length s.cells) Shadow.NothingKnown wanted) Shadow.NothingKnown refl
-paint_opens_nothing (Shadow.Unformatted known) wanted s same fits whole meets exact shut =
-    erase_leaves_nothing_open (length s.cells) (paint (length s.cells) (Shadow.Unformatted known) wanted) (Shadow.Unformatted known) refl
-paint_opens_nothing (Shadow.Formatted bs) wanted s same fits whole meets exact shut =
-    let size : ℕ = length s.cells in
-    let wants : List Want = wanted.cells in
-    let laid : List Known = laid_out size bs in
-    let olds : List Known = marks_off_if wanted.reset laid in
-    let more : List Store = to_store wants 0 wants olds in
-    let orders : List Order = painting size wanted.cursor None more in
-    let news : List Known = known_painted wants wants olds in
-    let shape : Pairwise Shaped olds s.cells = all_shaped wanted.reset laid s.cells (laid_out_fits size s.cells bs refl meets.1 meets.0) in
-    let fitting : fits_from bs wants 0 wants ≡ true = (and_parts _ _ fits).1 in
-    let free : KeptIsFree wants wants s.cells = kept_free bs wants s.cells meets.1 0 wants s.cells refl fitting in
-    let keeps : KeepsChars wants s.cells = keeps_chars bs wants s.cells same meets.1 fits in
-    let long : length wants ≡ length olds = same ∙ pairwise-length Shaped olds s.cells shape in
-    let is : known_after size (Some (paint_wcc wanted.reset)) orders laid ≡ news =
-    ap (λ (stored : List Store). known_stored stored olds) (paints_stores size wanted.cursor more 0 None no_address) ∙ stores_painted wants 0 wants olds [] refl long in
-    let w : Pairwise WantedIs wants news = all_wanted wants wants olds s.cells long shape keeps free in
-    let o : Pairwise OldIs olds news = all_old wants wants olds long in
-    let t : Pairwise StaleIfKept wants news = all_stale wants wants olds long (marks_stale wanted.reset laid (stale_laid size bs)) in
-    let was : WasKnown bs olds = off_known wanted.reset bs laid (behind size s.cells bs refl meets.1 meets.0) in
-    write_has IsNotOpen size (Some (paint_wcc wanted.reset)) orders bs laid
-    (subst (λ (cells : List Known). All IsNotOpen (beliefs_from bs cells 0 cells)) (sym is)
-    (all_shut bs wants s.cells olds news (record { exact = exact; shut = shut; was = was; meets = meets.1; wanted = w; old = o; stale = t })
-    0 wants s.cells olds news (record { same = same; wanted = w; old = o; stale = t; free = free; alone = whole; fits = fitting; is = refl; at = refl })))
+paint_opens_nothing Shadow.NothingKnown wanted s long_ can whole meets exact shut =
+    erase_leaves_nothing_open (cells_in wanted.size) (paint (cells_in wanted.size) Shadow.NothingKnown wanted) Shadow.NothingKnown (erase_erases wanted.size)
+paint_opens_nothing (Shadow.Unformatted known) wanted s long_ can whole meets exact shut =
+    erase_leaves_nothing_open (cells_in wanted.size) (paint (cells_in wanted.size) (Shadow.Unformatted known) wanted) (Shadow.Unformatted known) (erase_erases wanted.size)
+paint_opens_nothing (Shadow.Formatted bs) wanted s long_ can whole meets exact shut = cases (cells_of_fields bs == cells_in wanted.size) refl
+  where
+    cases : (t : Bool) → (cells_of_fields bs == cells_in wanted.size) ≡ t → NothingIsOpen (taken (cells_in wanted.size) (painted_if t (cells_in wanted.size) bs wanted) (Shadow.Formatted bs))
+    cases false e = erase_leaves_nothing_open (cells_in wanted.size) (painted_if false (cells_in wanted.size) bs wanted) (Shadow.Formatted bs) (erase_erases wanted.size)
+    cases true e =
+        let size : ℕ = cells_in wanted.size in
+        let there : length s.cells ≡ size = sym (fields_size s.cells bs meets.1 meets.0) ∙ eqb-true (cells_of_fields bs) size e in
+        let same : length wanted.cells ≡ length s.cells = long_ ∙ sym there in
+        let fits : fields_fit bs wanted.cells ≡ true = paintable_fits (Shadow.Formatted bs) wanted can in
+        let wants : List Want = wanted.cells in
+        let laid : List Known = laid_out size bs in
+        let olds : List Known = marks_off_if wanted.reset laid in
+        let more : List Store = to_store wants 0 wants olds in
+        let orders : List Order = painting size wanted.cursor None more in
+        let news : List Known = known_painted wants wants olds in
+        let shape : Pairwise Shaped olds s.cells = all_shaped wanted.reset laid s.cells (laid_out_fits size s.cells bs there meets.1 meets.0) in
+        let fitting : fits_from bs wants 0 wants ≡ true = (and_parts _ _ fits).1 in
+        let free : KeptIsFree wants wants s.cells = kept_free bs wants s.cells meets.1 0 wants s.cells refl fitting in
+        let keeps : KeepsChars wants s.cells = keeps_chars bs wants s.cells same meets.1 fits in
+        let long : length wants ≡ length olds = same ∙ pairwise-length Shaped olds s.cells shape in
+        let is : known_after size (Some (paint_wcc wanted.reset)) orders laid ≡ news =
+        ap (λ (stored : List Store). known_stored stored olds) (paints_stores size wanted.cursor more 0 None no_address) ∙ stores_painted wants 0 wants olds [] refl long in
+        let w : Pairwise WantedIs wants news = all_wanted wants wants olds s.cells long shape keeps free in
+        let o : Pairwise OldIs olds news = all_old wants wants olds long in
+        let t : Pairwise StaleIfKept wants news = all_stale wants wants olds long (marks_stale wanted.reset laid (stale_laid size bs)) in
+        let was : WasKnown bs olds = off_known wanted.reset bs laid (behind size s.cells bs there meets.1 meets.0) in
+        write_has IsNotOpen size (Some (paint_wcc wanted.reset)) orders bs laid
+        (subst (λ (cells : List Known). All IsNotOpen (beliefs_from bs cells 0 cells)) (sym is)
+        (all_shut bs wants s.cells olds news (record { exact = exact; shut = shut; was = was; meets = meets.1; wanted = w; old = o; stale = t })
+        0 wants s.cells olds news (record { same = same; wanted = w; old = o; stale = t; free = free; alone = whole; fits = fitting; is = refl; at = refl })))

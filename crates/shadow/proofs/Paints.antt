@@ -1,6 +1,8 @@
 -- A paint gives the wanted screen on every screen that meets the shadow.
-use Rattle.std.proofs.Common.{◌≡◌, ℕ, zero, suc, ◌+◌, Bool, true, false, ◌||◌, List, [], ◌∷◌, ◌++◌, length, map, set, replicate, Option, Some, None, refl, ap, sym, subst, ◌∙◌, eqb-true, append_assoc, length-append, arith, if◌then◌else◌}
+use Rattle.std.proofs.Common.{◌≡◌, ℕ, zero, suc, ◌+◌, Bool, true, false, ◌&&◌, ◌||◌, List, [], ◌∷◌, ◌++◌, length, map, set, replicate, Option, Some, None, refl, ap, sym, subst, ◌∙◌, eq-eqb, eqb-true, append_assoc, length-append, arith, if◌then◌else◌}
+use Rattle.std.specs.Prelude.{◌==◌}
 use Rattle.std.specs.List.{list_all}
+use Rattle.codes3270.specs.Size.{Shape, cells_in}
 use Rattle.std.proofs.lemmas.Bool.{and_parts}
 use Rattle.std.proofs.lemmas.List.{length-map, length-replicate}
 use Rattle.codes3270.specs.declared.attention.Aid.TheVariants.{NoAid}
@@ -14,7 +16,9 @@ use Rattle.datastream.specs.Screen.{Screen}
 use Rattle.datastream.specs.Fields.{Field}
 use Rattle.datastream.specs.Held.{without_mdt}
 use Rattle.datastream.specs.Wanted.{WantedScreen}
-use Rattle.datastream.specs.Meaning.{WriteProgress, unmodified, prepared, restored, written, cleared}
+use Rattle.datastream.specs.Grammar.{CommandParts, is_write}
+use Rattle.datastream.specs.Meaning.{WriteProgress, unmodified, prepared, restored, written, cleared, after_code}
+use Rattle.datastream.specs.declared.command_code.CommandCode.TheVariants.{Write, EraseWrite, EraseWriteAlternate}
 use Rattle.datastream.specs.declared.order.Order.{Order}
 use Rattle.datastream.specs.declared.wanted.Want.{Want}
 use Rattle.datastream.specs.declared.wanted.Want.TheVariants.{Char as WantChar, Attr as WantAttr, Keep}
@@ -23,18 +27,19 @@ use Rattle.shadow.specs.declared.known.Known.TheVariants.{Attr as KnownAttr, Cha
 use Rattle.shadow.specs.declared.mdt_state.MdtState.{MdtState}
 use Rattle.shadow.specs.declared.mdt_state.MdtState.TheVariants.{On, Off, Unknown}
 use Rattle.shadow.specs.Pairs.{Pairwise}
-use Rattle.shadow.specs.Belief.{Belief, Shadow, next_address}
+use Rattle.shadow.specs.Belief.{Belief, Shadow, cells_of_fields, next_address}
+use Rattle.shadow.specs.Exactness.{is_erase}
 use Rattle.shadow.specs.Meets.{MarkIs, KnownIs, Knows, Meets}
 use Rattle.shadow.specs.Seen.{same_attr, formatted_or}
 use Rattle.shadow.specs.Stores.{Store, store_also, stores, stores_unplaced, is_plain_order}
-use Rattle.shadow.specs.Taken.{laid_out, marks_off_if, mark_off, formatted_as, taken}
-use Rattle.shadow.specs.Painted.{keeps_ahead, attr_or_kept, painted_from, plainly_painted}
-use Rattle.shadow.specs.Paint.{is_char, marks, is_there, unless, to_store, order_of, is_at, sba_unless, painting, known_nulls, paint}
+use Rattle.shadow.specs.Taken.{laid_out, marks_off_if, mark_off, formatted_as, taken_code, taken}
+use Rattle.shadow.specs.Painted.{keeps_ahead, attr_or_kept, painted_from, cells_under, plainly_painted}
+use Rattle.shadow.specs.Paint.{is_char, marks, is_there, unless, to_store, order_of, is_at, sba_unless, painting, known_nulls, known_before, writes_over, is_base_size, erase_code, paint_code, paint}
 use Rattle.shadow.specs.Laws.{WantedIsPainted, PaintIsTaken, PaintedIsKnown, PaintIsPlain}
-use Rattle.shadow.proofs.LaidOut.{CellFits, laid_out_fits, written_with}
+use Rattle.shadow.proofs.LaidOut.{CellFits, laid_out_fits, fields_size, written_with}
 use Rattle.shadow.proofs.Stored.{stored, cursor_after, plain_orders}
 use Rattle.shadow.proofs.Erasing.{same_nulls}
-use Rattle.shadow.proofs.Keeps.{KeepsChars, HasNoKeep, keeps_chars, no_keep}
+use Rattle.shadow.proofs.Keeps.{KeepsChars, HasNoKeep, keeps_chars, no_keep, no_keep_ahead, paintable_fits, paintable_apart}
 
 marked : (mark : MdtState) (m mdt : Bool) → MarkIs mark mdt → marks mark m ≡ true → mdt ≡ m
 marked On true mdt h e = h
@@ -186,15 +191,6 @@ null_fits zero = tt
 null_fits (suc size) = ((refl, λ _. refl), null_fits size)
 
 -- where nothing is kept the screen before doesn't matter
-no_keep_ahead : (xs ys : List Want) → HasNoKeep xs → HasNoKeep ys → keeps_ahead (xs ++ ys) ≡ false
-no_keep_ahead [] [] h k = refl
-no_keep_ahead [] (WantAttr a ∷ ys) h k = refl
-no_keep_ahead [] (WantChar c ∷ ys) h k = no_keep_ahead [] ys h k
-no_keep_ahead [] (Keep ∷ ys) h k = absurd (cc)
-no_keep_ahead (WantAttr a ∷ xs) ys h k = refl
-no_keep_ahead (WantChar c ∷ xs) ys h k = no_keep_ahead xs ys h k
-no_keep_ahead (Keep ∷ xs) ys h k = absurd (cc)
-
 none_kept : (r q : Bool) (whole rest : List Want) (cells others : List Cell) → HasNoKeep whole → HasNoKeep rest → length cells ≡ length others → painted_from r whole rest cells ≡ painted_from q whole rest others
 none_kept r q whole [] cells others h k e = refl
 none_kept r q whole (want ∷ rest) [] [] h k e = refl
@@ -214,7 +210,7 @@ kept_as_is false whole known cells same k h = stores_plain whole 0 whole known c
 -- ---- the whole screen
 
 -- a paint's write control character
-abbrev paint_wcc : Bool → Wcc
+abbrev pub paint_wcc : Bool → Wcc
 paint_wcc reset = record { alarm = false; restore = true; reset = reset }
 
 -- what a paint's orders make of a screen
@@ -235,27 +231,110 @@ paint_orders size cursor reset more s whole =
     length-prepared true = length-map s.cells unmodified ∙ whole
     length-prepared false = whole
 
-erased_paint : (wanted : WantedScreen) (s : Screen) → length wanted.cells ≡ length s.cells → HasNoKeep wanted.cells
-    → written (Some (paint_wcc wanted.reset)) (painting (length s.cells) wanted.cursor None (to_store wanted.cells 0 wanted.cells (known_nulls (length s.cells)))) (cleared s) ≡ plainly_painted wanted s
-erased_paint wanted s same none =
-    let size : ℕ = length s.cells in
+-- the cells under a paint
+length-under : (n : ℕ) (cells : List Cell) → length (cells_under n cells) ≡ n
+length-under n cells = cases (length cells == n) refl
+  where
+    cases : (t : Bool) → (length cells == n) ≡ t → length (if t then cells else replicate n (Char 0)) ≡ n
+    cases true e = eqb-true (length cells) n e
+    cases false e = length-replicate n (Char 0)
+
+under_same : (n : ℕ) (cells : List Cell) → length cells ≡ n → cells_under n cells ≡ cells
+under_same n cells e = ap (λ (t : Bool). if t then cells else replicate n (Char 0)) (eq-eqb (length cells) n e)
+
+erased_paint : (size : ℕ) (wanted : WantedScreen) (s : Screen) → length wanted.cells ≡ size → HasNoKeep wanted.cells
+    → written (Some (paint_wcc wanted.reset)) (painting size wanted.cursor None (to_store wanted.cells 0 wanted.cells (known_nulls size))) (cleared size s) ≡ plainly_painted wanted s
+erased_paint size wanted s same none =
     let blank : List Cell = replicate size (Char 0) in
+    let under : List Cell = cells_under (length wanted.cells) s.cells in
     let more : List Store = to_store wanted.cells 0 wanted.cells (known_nulls size) in
-    paint_orders size wanted.cursor wanted.reset more (cleared s) (length-replicate size (Char 0))
+    paint_orders size wanted.cursor wanted.reset more (cleared size s) (length-replicate size (Char 0))
     ∙ ap (λ (cells : List Cell). record { cells = cells; cursor = wanted.cursor; aid = NoAid })
     (ap (stored more) (same_nulls wanted.reset size)
     ∙ stores_plain wanted.cells 0 wanted.cells (known_nulls size) blank [] refl (same ∙ sym (length-replicate size (Char 0))) (null_fits size)
-    ∙ none_kept false wanted.reset wanted.cells wanted.cells blank s.cells none none (length-replicate size (Char 0)))
+    ∙ none_kept false wanted.reset wanted.cells wanted.cells blank under none none (length-replicate size (Char 0) ∙ sym same ∙ sym (length-under (length wanted.cells) s.cells)))
+
+-- ---- the code of a paint
+
+erase_is_write : (size : Shape) → is_write (erase_code size) ≡ true
+erase_is_write size = cases (is_base_size size)
+  where
+    cases : (t : Bool) → is_write (if t then EraseWrite else EraseWriteAlternate) ≡ true
+    cases true = refl
+    cases false = refl
+
+pub code_writes : (size : ℕ) (shadow : Shadow) (wanted : WantedScreen) → is_write (paint_code size shadow wanted) ≡ true
+code_writes size shadow wanted = cases (writes_over size shadow)
+  where
+    cases : (t : Bool) → is_write (if t then Write else erase_code wanted.size) ≡ true
+    cases true = refl
+    cases false = erase_is_write wanted.size
+
+pub erase_erases : (size : Shape) → is_erase (erase_code size) ≡ true
+erase_erases size = cases (is_base_size size)
+  where
+    cases : (t : Bool) → is_erase (if t then EraseWrite else EraseWriteAlternate) ≡ true
+    cases true = refl
+    cases false = refl
+
+no_write : (size : Shape) → erase_code size ≡ Write → ⊥
+no_write size e = absurd (let erases : is_erase Write ≡ true = ap is_erase (sym e) ∙ erase_erases size in cc)
+
+-- what is then written on
+erase_after : (size : Shape) (n : ℕ) (wcc : Option Wcc) (orders : List Order) (s : Screen) → after_code (erase_code size) n wcc orders s ≡ written wcc orders (cleared n s)
+erase_after size n wcc orders s = cases (is_base_size size)
+  where
+    cases : (t : Bool) → after_code (if t then EraseWrite else EraseWriteAlternate) n wcc orders s ≡ written wcc orders (cleared n s)
+    cases true = refl
+    cases false = refl
+
+-- a Write is for a screen of the wanted size
+pub write_for : (n : ℕ) (shadow : Shadow) (wanted : WantedScreen) (s : Screen) → Meets shadow s → paint_code n shadow wanted ≡ Write → length s.cells ≡ n
+write_for n Shadow.NothingKnown wanted s meets is = absurd (no_write wanted.size is)
+write_for n (Shadow.Unformatted known) wanted s meets is = absurd (no_write wanted.size is)
+write_for n (Shadow.Formatted bs) wanted s meets is = cases (cells_of_fields bs == n) refl is
+  where
+    cases : (t : Bool) → (cells_of_fields bs == n) ≡ t → (if t then Write else erase_code wanted.size) ≡ Write → length s.cells ≡ n
+    cases true e code = sym (fields_size s.cells bs meets.1 meets.0) ∙ eqb-true (cells_of_fields bs) n e
+    cases false e code = absurd (no_write wanted.size code)
 
 pub wanted_painted : WantedIsPainted
-wanted_painted Shadow.NothingKnown wanted s same fits meets = erased_paint wanted s same (no_keep wanted.cells fits)
-wanted_painted (Shadow.Unformatted known) wanted s same fits meets = erased_paint wanted s same (no_keep wanted.cells fits)
-wanted_painted (Shadow.Formatted bs) wanted s same fits meets =
-    let size : ℕ = length s.cells in
-    let more : List Store = to_store wanted.cells 0 wanted.cells (marks_off_if wanted.reset (laid_out size bs)) in
-    paint_orders size wanted.cursor wanted.reset more s refl
-    ∙ ap (λ (cells : List Cell). record { cells = cells; cursor = wanted.cursor; aid = NoAid })
-    (kept_as_is wanted.reset wanted.cells (laid_out size bs) s.cells same (keeps_chars bs wanted.cells s.cells same meets.1 fits) (laid_out_fits size s.cells bs refl meets.1 meets.0))
+wanted_painted Shadow.NothingKnown wanted s same can meets =
+    let size : ℕ = cells_in wanted.size in
+    erase_after wanted.size size (Some (paint_wcc wanted.reset)) (painting size wanted.cursor None (to_store wanted.cells 0 wanted.cells (known_nulls size))) s
+    ∙ erased_paint size wanted s same (no_keep wanted.cells (paintable_fits Shadow.NothingKnown wanted can))
+wanted_painted (Shadow.Unformatted known) wanted s same can meets =
+    let size : ℕ = cells_in wanted.size in
+    erase_after wanted.size size (Some (paint_wcc wanted.reset)) (painting size wanted.cursor None (to_store wanted.cells 0 wanted.cells (known_nulls size))) s
+    ∙ erased_paint size wanted s same (no_keep wanted.cells (paintable_fits (Shadow.Unformatted known) wanted can))
+wanted_painted (Shadow.Formatted bs) wanted s same can meets = cases (cells_of_fields bs == cells_in wanted.size) refl
+  where
+    cases : (t : Bool) → (cells_of_fields bs == cells_in wanted.size) ≡ t
+        → after_code (if t then Write else erase_code wanted.size) (cells_in wanted.size) (Some (paint_wcc wanted.reset))
+        (painting (cells_in wanted.size) wanted.cursor None (to_store wanted.cells 0 wanted.cells (if t then marks_off_if wanted.reset (laid_out (cells_in wanted.size) bs) else known_nulls (cells_in wanted.size)))) s
+        ≡ plainly_painted wanted s
+    cases true e =
+        let n : ℕ = cells_in wanted.size in
+        let there : length s.cells ≡ n = sym (fields_size s.cells bs meets.1 meets.0) ∙ eqb-true (cells_of_fields bs) n e in
+        let long : length wanted.cells ≡ length s.cells = same ∙ sym there in
+        let more : List Store = to_store wanted.cells 0 wanted.cells (marks_off_if wanted.reset (laid_out n bs)) in
+        paint_orders n wanted.cursor wanted.reset more s there
+        ∙ ap (λ (cells : List Cell). record { cells = cells; cursor = wanted.cursor; aid = NoAid })
+        (kept_as_is wanted.reset wanted.cells (laid_out n bs) s.cells long (keeps_chars bs wanted.cells s.cells long meets.1 (paintable_fits (Shadow.Formatted bs) wanted can)) (laid_out_fits n s.cells bs there meets.1 meets.0)
+        ∙ ap (painted_from wanted.reset wanted.cells wanted.cells) (sym (under_same (length wanted.cells) s.cells (sym long))))
+    cases false e =
+        let n : ℕ = cells_in wanted.size in
+        erase_after wanted.size n (Some (paint_wcc wanted.reset)) (painting n wanted.cursor None (to_store wanted.cells 0 wanted.cells (known_nulls n))) s
+        ∙ erased_paint n wanted s same (paintable_apart bs wanted can e)
+
+-- a paint of a belief with fields, by whether it writes over them
+abbrev pub painted_if : Bool → ℕ → List Belief → WantedScreen → CommandParts
+painted_if over size bs wanted = record {
+  code = if over then Write else erase_code wanted.size;
+  size = wanted.size;
+  wcc = Some (paint_wcc wanted.reset);
+  orders = painting size wanted.cursor None (to_store wanted.cells 0 wanted.cells (if over then marks_off_if wanted.reset (laid_out size bs) else known_nulls size));
+}
 
 -- ---- something is known after a paint
 
@@ -271,21 +350,33 @@ paints_placed : (size cursor : ℕ) (more : List Store) → stores_unplaced (pai
 paints_placed size cursor [] = refl
 paints_placed size cursor (store ∷ more) = refl
 
+erase_knows : (size : Shape) (n : ℕ) (command : CommandParts) (shadow : Shadow) → Knows (taken_code (erase_code size) n command shadow)
+erase_knows size n command shadow = cases (is_base_size size)
+  where
+    cases : (t : Bool) → Knows (taken_code (if t then EraseWrite else EraseWriteAlternate) n command shadow)
+    cases true = seen_knows _ _
+    cases false = seen_knows _ _
+
 pub painted_known : PaintedIsKnown
-painted_known size Shadow.NothingKnown wanted = seen_knows _ _
-painted_known size (Shadow.Unformatted known) wanted = seen_knows _ _
-painted_known size (Shadow.Formatted bs) wanted =
-    let more : List Store = to_store wanted.cells 0 wanted.cells (marks_off_if wanted.reset (laid_out size bs)) in
-    rw (paints_placed size wanted.cursor more) (formatted_knows _ _)
+painted_known size Shadow.NothingKnown wanted = erase_knows wanted.size size (paint size Shadow.NothingKnown wanted) Shadow.NothingKnown
+painted_known size (Shadow.Unformatted known) wanted = erase_knows wanted.size size (paint size (Shadow.Unformatted known) wanted) (Shadow.Unformatted known)
+painted_known size (Shadow.Formatted bs) wanted = cases (cells_of_fields bs == size)
+  where
+    cases : (t : Bool) → Knows (taken size (painted_if t size bs wanted) (Shadow.Formatted bs))
+    cases true =
+        let more : List Store = to_store wanted.cells 0 wanted.cells (marks_off_if wanted.reset (laid_out size bs)) in
+        rw (paints_placed size wanted.cursor more) (formatted_knows _ _)
+    cases false = erase_knows wanted.size size (painted_if false size bs wanted) (Shadow.Formatted bs)
 
 pub painted_plain : PaintIsPlain
-painted_plain size Shadow.NothingKnown wanted = paints_plain size wanted.cursor _ None
-painted_plain size (Shadow.Unformatted known) wanted = paints_plain size wanted.cursor _ None
-painted_plain size (Shadow.Formatted bs) wanted = paints_plain size wanted.cursor _ None
+painted_plain size shadow wanted =
+    ap (λ (t : Bool). t && list_all is_plain_order (paint size shadow wanted).orders) (code_writes size shadow wanted)
+    ∙ paints_plain size wanted.cursor (to_store wanted.cells 0 wanted.cells (known_before size wanted.reset shadow)) None
 
 -- what a paint leaves meets what is then believed, and is the wanted screen
 pub painted_taken : PaintIsTaken
-painted_taken shadow wanted s same fits meets =
-    let size : ℕ = length s.cells in
-    subst (Meets (taken size (paint size shadow wanted) shadow)) (wanted_painted shadow wanted s same fits meets)
-    (written_with (paint size shadow wanted) (λ _. (record { alarm = false; restore = true; reset = wanted.reset }, refl)) shadow s (painted_plain size shadow wanted) meets)
+painted_taken shadow wanted s same can meets =
+    let size : ℕ = cells_in wanted.size in
+    subst (Meets (taken size (paint size shadow wanted) shadow)) (wanted_painted shadow wanted s same can meets)
+    (written_with size (paint size shadow wanted) (λ _. (record { alarm = false; restore = true; reset = wanted.reset }, refl)) shadow s (painted_plain size shadow wanted)
+    (write_for size shadow wanted s meets) meets)

@@ -1,6 +1,6 @@
 -- What is held place by place, and the fields that it makes.
-use Rattle.std.proofs.Common.{◌≡◌, ℕ, zero, suc, ◌+◌, ◌<◌, ◌≤◌, Bool, true, false, ◌&&◌, ◌||◌, List, [], ◌∷◌, ◌++◌, length, drop, get_or, Option, Some, None, refl, ap, sym, subst, arith, ◌∙◌, ne_eqb, eq-eqb, inl, inr, ◌-◌, ◌%◌, map, flat_map, take, if◌then◌else◌, option_map, append_assoc, append-nil, length-append}
-use Rattle.std.specs.Prelude.{◌==◌, slice_get, option_and_then}
+use Rattle.std.proofs.Common.{◌≡◌, ℕ, zero, suc, ◌+◌, ◌<◌, ◌≤◌, Bool, true, false, ◌&&◌, ◌||◌, List, [], ◌∷◌, ◌++◌, length, drop, get_or, Option, Some, None, refl, ap, sym, subst, arith, ◌∙◌, ne_eqb, eq-eqb, eqb-true, inl, inr, ◌-◌, ◌%◌, map, flat_map, take, if◌then◌else◌, option_map, append_assoc, append-nil, length-append}
+use Rattle.std.specs.Prelude.{◌==◌, slice_get, option_and_then, IfSome}
 use Rattle.std.specs.List.{list_any}
 use Rattle.std.proofs.Math.Nat.{add-mod_right, mod_self, mod-eq_of_lt, mod-lt}
 use Rattle.std.proofs.lemmas.Bool.{cases_lt}
@@ -12,13 +12,13 @@ use Rattle.shadow.specs.declared.cell_belief.TextKnowledge.TheVariants.{Cells}
 use Rattle.shadow.specs.declared.cell_belief.CellBelief.{CellBelief}
 use Rattle.shadow.specs.declared.cell_belief.CellBelief.TheVariants.{Attr, Known, Told, Unknown}
 use Rattle.shadow.specs.Asked.{belief_with, known_cells, known_at, known_cell}
-use Rattle.shadow.specs.Belief.{Fact, Belief, Shadow, fields_of, next_address}
-use Rattle.shadow.specs.Fits.{is_field}
+use Rattle.shadow.specs.Belief.{Fact, Belief, Shadow, fields_of, cells_of_fields, cells_believed, IsOfSize, HasCell, next_address}
+use Rattle.shadow.specs.Fits.{is_field, is_of_size}
 use Rattle.shadow.specs.Seen.{same_attr}
 use Rattle.shadow.specs.InPlace.{chars_known, fact_held, belief_held, beliefs_held, is_whole, known_text, is_attribute, has_attribute, has_fields, cell_known, cells_known, shadow_held, AreHeld, IsHeld}
 use Rattle.shadow.specs.Taken.{whole_text, exact_or_any, old_char, field_cells, first_place, laid_out, formatted_as, after_write, taken_write, mark_off, marks_off_if}
 use Rattle.shadow.specs.Base.{mark_off_if}
-use Rattle.shadow.specs.Paint.{known_nulls, known_before}
+use Rattle.shadow.specs.Paint.{known_nulls, known_before, writes_over}
 use Rattle.shadow.specs.declared.known.Known.{Known as KnownCell}
 use Rattle.shadow.specs.declared.known.Known.TheVariants.{Attr as KnownAttr}
 use Rattle.codes3270.specs.declared.write_control.Wcc.{Wcc}
@@ -310,12 +310,71 @@ has_held places = cases (has_attribute places) refl
     cases true e = ap has_fields (formatted_held places e)
     cases false e = ap has_fields (unformatted_held places e)
 
-pub known_held : (size : ℕ) (places : List CellBelief) → length places ≡ size → IsHeld places → known_cells size (shadow_held true places) ≡ cells_known places
-known_held size places even held = cases (has_attribute places) refl
+-- ---- how many cells the screen has
+
+cells_behind : (whole : List CellBelief) (n : ℕ) (rest : List CellBelief) → has_attribute rest ≡ true → cells_of_fields (beliefs_held whole n rest) ≡ length (cells_known (from_attribute rest)) + length (front_known whole)
+cells_behind whole n [] e = absurd (cc)
+cells_behind whole n (Known c ∷ rest) e = cells_behind whole (n + 1) rest e
+cells_behind whole n (Told c ∷ rest) e = cells_behind whole (n + 1) rest e
+cells_behind whole n (Unknown ∷ rest) e = cells_behind whole (n + 1) rest e
+cells_behind whole n (Attr a m t ∷ rest) e = cases (has_attribute rest) refl (cells_behind whole (n + 1) rest)
   where
-    cases : (t : Bool) → has_attribute places ≡ t → known_cells size (shadow_held true places) ≡ cells_known places
-    cases true e = ap (known_cells size) (formatted_held places e) ∙ cells_laid size places even held e
-    cases false e = ap (known_cells size) (unformatted_held places e) ∙ bare_known places e
+    ahead : length (front_known (rest ++ whole)) ≡ length (chars_known (rest ++ whole))
+    ahead = length-map (chars_known (rest ++ whole)) old_char
+
+    cases : (t : Bool) → has_attribute rest ≡ t → (has_attribute rest ≡ true → cells_of_fields (beliefs_held whole (n + 1) rest) ≡ length (cells_known (from_attribute rest)) + length (front_known whole))
+        → suc (length (chars_known (rest ++ whole))) + cells_of_fields (beliefs_held whole (n + 1) rest) ≡ suc (length (cells_known rest)) + length (front_known whole)
+    cases true is later =
+        let more = later is in
+        omega (arith, ahead, ap length (ring_inner rest whole is), length-append (front_known (rest ++ whole)) (cells_known (from_attribute rest)))
+    cases false is later =
+        let none : cells_of_fields (beliefs_held whole (n + 1) rest) ≡ 0 = ap cells_of_fields (no_beliefs whole (n + 1) rest is) in
+        omega (arith, ahead, ap length (ring_last rest whole is), length-append (cells_known rest) (front_known whole))
+
+pub fields_cells : (places : List CellBelief) → has_attribute places ≡ true → cells_of_fields (beliefs_held places 0 places) ≡ length places
+fields_cells places e =
+    omega (arith, cells_behind places 0 places e, length-append (front_known places) (cells_known (from_attribute places)), ap length (parted places), length-cells places)
+
+bare_cells : (places : List CellBelief) → has_attribute places ≡ false → length (chars_known places) ≡ length places
+bare_cells places e = sym (length-map (chars_known places) old_char) ∙ ap length (bare_known places e) ∙ length-cells places
+
+pub size_held : (places : List CellBelief) → cells_believed (shadow_held true places) ≡ Some (length places)
+size_held places = cases (has_attribute places) refl
+  where
+    cases : (t : Bool) → has_attribute places ≡ t → cells_believed (shadow_held true places) ≡ Some (length places)
+    cases true e = ap cells_believed (formatted_held places e) ∙ ap (λ (n : ℕ). Some n) (fields_cells places e)
+    cases false e = ap cells_believed (unformatted_held places e) ∙ ap (λ (n : ℕ). Some n) (bare_cells places e)
+
+pub known_size : (places : List CellBelief) (n : ℕ) → IsOfSize n (shadow_held true places) → length places ≡ n
+known_size places n is = subst (λ (o : Option ℕ). IfSome o (λ cells. cells ≡ n)) (size_held places) is
+
+pub of_size : (knows : Bool) (places : List CellBelief) (n : ℕ) → length places ≡ n → IsOfSize n (shadow_held knows places)
+of_size false places n is = tt
+of_size true places n is = subst (λ (o : Option ℕ). IfSome o (λ cells. cells ≡ n)) (sym (size_held places)) is
+
+-- an address that is handed
+pub cell_of : (places : List CellBelief) (shadow : Shadow) (at n : ℕ) → n ≡ at → shadow ≡ shadow_held true places → HasCell at shadow → n < length places
+cell_of places shadow at n same is has =
+    let there : at < length places = subst (λ (o : Option ℕ). IfSome o (λ cells. at < cells)) (size_held places) (subst (HasCell at) is has) in
+    omega (arith, same, there)
+
+-- whether they are of a screen of a size
+pub has_size : (places : List CellBelief) (n : ℕ) → is_of_size n (shadow_held true places) ≡ (length places == n)
+has_size places n = cases (has_attribute places) refl
+  where
+    cases : (t : Bool) → has_attribute places ≡ t → is_of_size n (shadow_held true places) ≡ (length places == n)
+    cases true e = ap (is_of_size n) (formatted_held places e) ∙ ap (λ (m : ℕ). m == n) (fields_cells places e)
+    cases false e = ap (is_of_size n) (unformatted_held places e) ∙ ap (λ (m : ℕ). m == n) (bare_cells places e)
+
+pub known_held : (places : List CellBelief) → IsHeld places → known_cells (shadow_held true places) ≡ cells_known places
+known_held places held = cases (has_attribute places) refl
+  where
+    cases : (t : Bool) → has_attribute places ≡ t → known_cells (shadow_held true places) ≡ cells_known places
+    cases true e =
+        ap known_cells (formatted_held places e)
+        ∙ ap (λ (n : ℕ). laid_out n (beliefs_held places 0 places)) (fields_cells places e)
+        ∙ cells_laid (length places) places refl held e
+    cases false e = ap known_cells (unformatted_held places e) ∙ bare_known places e
 
 pub taken_held : (size : ℕ) (wcc : Option Wcc) (orders : List Order) (places : List CellBelief) → length places ≡ size → IsHeld places
     → taken_write size wcc orders (shadow_held true places) ≡ after_write size wcc orders (beliefs_held places 0 places) (cells_known places)
@@ -335,9 +394,9 @@ cell_there [] at p within is = absurd (omega arith)
 cell_there (x ∷ places) zero p within is = ap (λ y. Some (cell_known y false)) (sym is)
 cell_there (x ∷ places) (suc at) p within is = cell_there places at p (omega arith) is
 
-pub known_there : (size : ℕ) (places : List CellBelief) (at : ℕ) (p : CellBelief) → length places ≡ size → IsHeld places → at < length places → p ≡ get_or places at p → known_at size (shadow_held true places) at ≡ known_cell (cell_known p false)
-known_there size places at p even held within is =
-    ap (λ ks. option_and_then known_cell (slice_get ks at)) (known_held size places even held) ∙ ap (option_and_then known_cell) (cell_there places at p within is)
+pub known_there : (places : List CellBelief) (at : ℕ) (p : CellBelief) → IsHeld places → at < length places → p ≡ get_or places at p → known_at (shadow_held true places) at ≡ known_cell (cell_known p false)
+known_there places at p held within is =
+    ap (λ ks. option_and_then known_cell (slice_get ks at)) (known_held places held) ∙ ap (option_and_then known_cell) (cell_there places at p within is)
 
 cell_or : (places : List CellBelief) (at : ℕ) (p : CellBelief) (d : KnownCell) → at < length places → p ≡ get_or places at p → get_or (cells_known places) at d ≡ cell_known p false
 cell_or [] at p d within is = absurd (omega arith)
@@ -362,10 +421,32 @@ null_there zero at d within = absurd (omega arith)
 null_there (suc n) zero d within = refl
 null_there (suc n) (suc at) d within = null_there n at d (omega arith)
 
-pub base_known : (size : ℕ) (resets : Bool) (places : List CellBelief) → length places ≡ size → IsHeld places
-    → known_before size resets (shadow_held true places) ≡ (if has_attribute places then marks_off_if resets (cells_known places) else known_nulls size)
-base_known size resets places even held = cases (has_attribute places) refl
+-- ---- what a paint writes over
+
+-- the fields that are believed fill the wanted screen
+pub over_held : (size : ℕ) (places : List CellBelief) → writes_over size (shadow_held true places) ≡ (has_attribute places && length places == size)
+over_held size places = cases (has_attribute places) refl
   where
-    cases : (t : Bool) → has_attribute places ≡ t → known_before size resets (shadow_held true places) ≡ (if t then marks_off_if resets (cells_known places) else known_nulls size)
-    cases true e = ap (known_before size resets) (formatted_held places e) ∙ ap (marks_off_if resets) (cells_laid size places even held e)
+    cases : (t : Bool) → has_attribute places ≡ t → writes_over size (shadow_held true places) ≡ (t && length places == size)
+    cases true e = ap (writes_over size) (formatted_held places e) ∙ ap (λ (n : ℕ). n == size) (fields_cells places e)
+    cases false e = ap (writes_over size) (unformatted_held places e)
+
+pub base_known : (size : ℕ) (resets : Bool) (places : List CellBelief) → IsHeld places
+    → known_before size resets (shadow_held true places) ≡ (if has_attribute places && length places == size then marks_off_if resets (cells_known places) else known_nulls size)
+base_known size resets places held = cases (has_attribute places) refl
+  where
+    before : List Belief
+    before = beliefs_held places 0 places
+
+    fits : has_attribute places ≡ true → (u : Bool) → (length places == size) ≡ u
+        → (if u then marks_off_if resets (laid_out size before) else known_nulls size) ≡ (if u then marks_off_if resets (cells_known places) else known_nulls size)
+    fits e true same = ap (marks_off_if resets) (cells_laid size places (eqb-true (length places) size same) held e)
+    fits e false other = refl
+
+    cases : (t : Bool) → has_attribute places ≡ t
+        → known_before size resets (shadow_held true places) ≡ (if t && length places == size then marks_off_if resets (cells_known places) else known_nulls size)
+    cases true e =
+        ap (known_before size resets) (formatted_held places e)
+        ∙ ap (λ (n : ℕ). if n == size then marks_off_if resets (laid_out size before) else known_nulls size) (fields_cells places e)
+        ∙ fits e (length places == size) refl
     cases false e = ap (known_before size resets) (unformatted_held places e)

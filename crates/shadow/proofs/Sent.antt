@@ -72,10 +72,10 @@ cleared_length : (size : ℕ) (cells : List Cell) → cells ≡ replicate size (
 cleared_length size cells e = ap length e ∙ length-replicate size (CharCell 0)
 
 pub hears_modified : HearsModified
-hears_modified erased shadow left now knows meets sent = cases now.aid sent
+hears_modified size erased shadow left now knows meets sent = cases now.aid sent
   where
     cases : (aid : Aid) → IsSentFrom erased left.cells now.cells aid
-        → IsOkAnd (heard (length now.cells) shadow (if stands_alone Modified aid then record { form = Modified; aid = aid; cursor = None; parts = [] } else record { form = Modified; aid = aid; cursor = Some now.cursor; parts = parts_of_fields (lead_of now.cells) (returned_of now.cells) })) (Believed (is_short_aid aid) now)
+        → IsOkAnd (heard (length now.cells) shadow (if stands_alone Modified aid then record { form = Modified; size = size; aid = aid; cursor = None; parts = [] } else record { form = Modified; size = size; aid = aid; cursor = Some now.cursor; parts = parts_of_fields (lead_of now.cells) (returned_of now.cells) })) (Believed (is_short_aid aid) now)
     cases NoAid sent = believed_long now _ (long_believed (length now.cells) erased shadow left now knows refl meets sent)
     cases Enter sent = believed_long now _ (long_believed (length now.cells) erased shadow left now knows refl meets sent)
     cases (Pf key) sent = believed_long now _ (long_believed (length now.cells) erased shadow left now knows refl meets sent)
@@ -85,8 +85,8 @@ hears_modified erased shadow left now knows meets sent = cases now.aid sent
         (cleared_meets _ now null, (λ some. absurd (some (cleared_meets _ now null).0)), λ e. absurd (cc))
 
 pub hears_all : HearsAll
-hears_all erased shadow left now knows meets held = believed_long now _ (long_believed (length now.cells) erased shadow left now knows refl meets held)
+hears_all size erased shadow left now knows meets held = believed_long now _ (long_believed (length now.cells) erased shadow left now knows refl meets held)
 
 pub hears_buffer : HearsBuffer
-hears_buffer shadow now meets =
+hears_buffer size shadow now meets =
     rw (cells_back now.cells, not_denied shadow now meets) (seen_meets now, seen_lists now, λ _. seen_told now)

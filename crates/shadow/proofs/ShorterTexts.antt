@@ -1,5 +1,5 @@
 -- The text of a field is shorter than the screen, since the field's attribute takes a cell.
-use Rattle.std.proofs.Common.{◌≡◌, ℕ, ◌+◌, ◌-◌, ◌<◌, ◌≤◌, Bool, true, false, List, [], ◌∷◌, ◌++◌, length, drop, take, get_or, Option, Some, None, refl, ap, sym, subst, arith, ◌∙◌, append_assoc, length-append}
+use Rattle.std.proofs.Common.{◌≡◌, ℕ, ◌+◌, ◌<◌, ◌≤◌, Bool, true, false, List, [], ◌∷◌, ◌++◌, length, drop, take, get_or, Option, Some, None, refl, ap, sym, subst, arith, ◌∙◌, append_assoc, length-append}
 use Rattle.std.specs.Prelude.{slice_get, IfSome}
 use Rattle.std.proofs.lemmas.List.{drop_more, length-drop, length-take, take-append-drop}
 use Rattle.std.proofs.lemmas.Option.{slice_get_within}
@@ -82,7 +82,7 @@ index_within whole p a m t index char within is there =
     omega arith
 
 pub few_within : (whole : List CellBelief) (p : ℕ) (a : Attribute) (m : MdtState) (t : TextKnowledge) (index size : ℕ) (found : Option ℕ) → p < length whole → Attr a m t ≡ get_or whole p (Attr a m t)
-    → length whole ≡ size → found ≡ slice_get (value_of (fact_held t (drop (p + 1) whole ++ whole))) index → IfSome found (λ char. index < size)
+    → length whole ≤ size → found ≡ slice_get (value_of (fact_held t (drop (p + 1) whole ++ whole))) index → IfSome found (λ char. index < size)
 few_within whole p a m t index size None within is sized found = tt
 few_within whole p a m t index size (Some char) within is sized found =
-    subst (λ (n : ℕ). index < n) sized (index_within whole p a m t index char within is (sym found))
+    omega (arith, sized, index_within whole p a m t index char within is (sym found))

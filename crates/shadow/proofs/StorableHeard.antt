@@ -6,6 +6,7 @@ use Rattle.std.proofs.lemmas.Bool.{and_from}
 use Rattle.std.proofs.lemmas.List.Elements.{All-head, All-tail, All-nil, All-cons, All-map, All-replicate}
 use Rattle.codes3270.specs.declared.attention.Aid.{Aid}
 use Rattle.codes3270.specs.declared.attention.Aid.TheVariants.{NoAid, Enter, Clear, Pf, Pa}
+use Rattle.codes3270.specs.Size.{cells_in}
 use Rattle.codes3270.specs.declared.attribute.Cell.{Cell}
 use Rattle.codes3270.specs.declared.attribute.Cell.TheVariants.{Char, Attr}
 use Rattle.codes3270.specs.Aid.{is_short_aid}
@@ -111,87 +112,89 @@ one_answer erased b text (Some more) found e h came rest =
     subst (AfterLong erased) same
     (All-cons FieldCanBeStored (after_long erased (record { field = b; text = text })) (map (after_long erased) more) (long_storable erased b text h came) (rest more refl))
 
-each_answer : (erased : Bool) (size : ℕ) (bs : List Belief) (rs : List Returned) (found : List Answer) → answers size bs rs ≡ Some found
-    → All FieldCanBeStored bs → All IsProperReturned rs → AfterLong erased found
-each_answer erased size [] [] found e h came = let same : [] ≡ found = cc in subst (AfterLong erased) same (All-nil FieldCanBeStored)
-each_answer erased size [] (r ∷ rs) found e h came = absurd (cc)
-each_answer erased size (b ∷ bs) [] found e h came =
-    one_answer erased b None (answers size bs []) found e (All-head FieldCanBeStored b bs h) tt (λ more is. each_answer erased size bs [] more is (All-tail FieldCanBeStored b bs h) came)
-each_answer erased size (b ∷ bs) (r ∷ rs) found e h came =
-    let others : All FieldCanBeStored bs = All-tail FieldCanBeStored b bs h in
-    cases (starts_at size b r.first) e (λ more is. each_answer erased size bs rs more is others (All-tail IsProperReturned r rs came)) (λ more is. each_answer erased size bs (r ∷ rs) more is others came)
-  where
-    cases : (t : Bool) → (if t then answer_and b (Some r.text) (answers size bs rs) else answer_and b None (answers size bs (r ∷ rs))) ≡ Some found
-        → ((more : List Answer) → answers size bs rs ≡ Some more → AfterLong erased more) → ((more : List Answer) → answers size bs (r ∷ rs) ≡ Some more → AfterLong erased more) → AfterLong erased found
-    cases true e there later = one_answer erased b (Some r.text) (answers size bs rs) found e (All-head FieldCanBeStored b bs h) (All-head IsProperReturned r rs came).text there
-    cases false e there later = one_answer erased b None (answers size bs (r ∷ rs)) found e (All-head FieldCanBeStored b bs h) tt later
+-- `n` is the number of cells of the screen for which the data was read
+module _ (n : ℕ) where
+  each_answer : (erased : Bool) (size : ℕ) (bs : List Belief) (rs : List Returned) (found : List Answer) → answers size bs rs ≡ Some found
+      → All FieldCanBeStored bs → All (IsProperReturned n) rs → AfterLong erased found
+  each_answer erased size [] [] found e h came = let same : [] ≡ found = cc in subst (AfterLong erased) same (All-nil FieldCanBeStored)
+  each_answer erased size [] (r ∷ rs) found e h came = absurd (cc)
+  each_answer erased size (b ∷ bs) [] found e h came =
+      one_answer erased b None (answers size bs []) found e (All-head FieldCanBeStored b bs h) tt (λ more is. each_answer erased size bs [] more is (All-tail FieldCanBeStored b bs h) came)
+  each_answer erased size (b ∷ bs) (r ∷ rs) found e h came =
+      let others : All FieldCanBeStored bs = All-tail FieldCanBeStored b bs h in
+      cases (starts_at size b r.first) e (λ more is. each_answer erased size bs rs more is others (All-tail (IsProperReturned n) r rs came)) (λ more is. each_answer erased size bs (r ∷ rs) more is others came)
+    where
+      cases : (t : Bool) → (if t then answer_and b (Some r.text) (answers size bs rs) else answer_and b None (answers size bs (r ∷ rs))) ≡ Some found
+          → ((more : List Answer) → answers size bs rs ≡ Some more → AfterLong erased more) → ((more : List Answer) → answers size bs (r ∷ rs) ≡ Some more → AfterLong erased more) → AfterLong erased found
+      cases true e there later = one_answer erased b (Some r.text) (answers size bs rs) found e (All-head FieldCanBeStored b bs h) (All-head (IsProperReturned n) r rs came).text there
+      cases false e there later = one_answer erased b None (answers size bs (r ∷ rs)) found e (All-head FieldCanBeStored b bs h) tt later
 
-settled_storable : (found : Option (List Answer)) → ((erased : Bool) (ans : List Answer) → found ≡ Some ans → AfterLong erased ans) → IfOk (settled found) CanBeStored
-settled_storable None each = tt
-settled_storable (Some ans) each = cases (list_any contradicts ans)
-  where
-    cases : (t : Bool) → IfOk (if t then Err Contradiction else Ok (Shadow.Formatted (map (after_long (list_any was_erased ans)) ans))) CanBeStored
-    cases true = tt
-    cases false = each (list_any was_erased ans) ans refl
+  settled_storable : (found : Option (List Answer)) → ((erased : Bool) (ans : List Answer) → found ≡ Some ans → AfterLong erased ans) → IfOk (settled found) CanBeStored
+  settled_storable None each = tt
+  settled_storable (Some ans) each = cases (list_any contradicts ans)
+    where
+      cases : (t : Bool) → IfOk (if t then Err Contradiction else Ok (Shadow.Formatted (map (after_long (list_any was_erased ans)) ans))) CanBeStored
+      cases true = tt
+      cases false = each (list_any was_erased ans) ans refl
 
-fields_heard : (size : ℕ) (shadow : Shadow) (ahead : List ℕ) (rs : List Returned) → CanBeStored shadow → All IsProperReturned rs → IfOk (heard_long size shadow ahead rs) CanBeStored
-fields_heard size Shadow.NothingKnown ahead [] h came = tt
-fields_heard size Shadow.NothingKnown ahead (r ∷ rs) h came = tt
-fields_heard size (Shadow.Unformatted known) ahead [] h came = cases (nat_lt (length known) (length ahead))
-  where
-    cases : (t : Bool) → IfOk (if t then Err Contradiction else Ok Shadow.NothingKnown) CanBeStored
-    cases true = tt
-    cases false = tt
-fields_heard size (Shadow.Unformatted known) ahead (r ∷ rs) h came = tt
-fields_heard size (Shadow.Formatted bs) ahead rs h came = cases (list_any (is_nowhere size bs) rs) (nat_lt 0 (length ahead))
-  where
-    cases : (t u : Bool) → IfOk (if t then Err NoSuchField else if u then Err Contradiction else settled (answers size bs rs)) CanBeStored
-    cases true u = tt
-    cases false true = tt
-    cases false false = settled_storable (answers size bs rs) (λ erased ans e. each_answer erased size bs rs ans e h came)
+  fields_heard : (size : ℕ) (shadow : Shadow) (ahead : List ℕ) (rs : List Returned) → CanBeStored shadow → All (IsProperReturned n) rs → IfOk (heard_long size shadow ahead rs) CanBeStored
+  fields_heard size Shadow.NothingKnown ahead [] h came = tt
+  fields_heard size Shadow.NothingKnown ahead (r ∷ rs) h came = tt
+  fields_heard size (Shadow.Unformatted known) ahead [] h came = cases (nat_lt (length known) (length ahead))
+    where
+      cases : (t : Bool) → IfOk (if t then Err Contradiction else Ok Shadow.NothingKnown) CanBeStored
+      cases true = tt
+      cases false = tt
+  fields_heard size (Shadow.Unformatted known) ahead (r ∷ rs) h came = tt
+  fields_heard size (Shadow.Formatted bs) ahead rs h came = cases (list_any (is_nowhere size bs) rs) (nat_lt 0 (length ahead))
+    where
+      cases : (t u : Bool) → IfOk (if t then Err NoSuchField else if u then Err Contradiction else settled (answers size bs rs)) CanBeStored
+      cases true u = tt
+      cases false true = tt
+      cases false false = settled_storable (answers size bs rs) (λ erased ans e. each_answer erased size bs rs ans e h came)
 
--- ---- a key alone
+  -- ---- a key alone
 
-each_attention : (bs : List Belief) → All FieldCanBeStored bs → All FieldCanBeStored (map after_attention bs)
-each_attention [] h = All-nil FieldCanBeStored
-each_attention (b ∷ bs) h =
-    All-cons FieldCanBeStored (after_attention b) (map after_attention bs) (attention_storable b (All-head FieldCanBeStored b bs h)) (each_attention bs (All-tail FieldCanBeStored b bs h))
+  each_attention : (bs : List Belief) → All FieldCanBeStored bs → All FieldCanBeStored (map after_attention bs)
+  each_attention [] h = All-nil FieldCanBeStored
+  each_attention (b ∷ bs) h =
+      All-cons FieldCanBeStored (after_attention b) (map after_attention bs) (attention_storable b (All-head FieldCanBeStored b bs h)) (each_attention bs (All-tail FieldCanBeStored b bs h))
 
-attention_heard : (shadow : Shadow) → CanBeStored shadow → CanBeStored (heard_attention shadow)
-attention_heard Shadow.NothingKnown h = tt
-attention_heard (Shadow.Unformatted known) h = tt
-attention_heard (Shadow.Formatted bs) h = each_attention bs h
+  attention_heard : (shadow : Shadow) → CanBeStored shadow → CanBeStored (heard_attention shadow)
+  attention_heard Shadow.NothingKnown h = tt
+  attention_heard (Shadow.Unformatted known) h = tt
+  attention_heard (Shadow.Formatted bs) h = each_attention bs h
 
-short_heard : (size : ℕ) (aid : Aid) (shadow : Shadow) → CanBeStored shadow → CanBeStored (heard_short size aid shadow)
-short_heard size Clear shadow h = All-replicate IsStorableIfKnown size (Some 0) refl
-short_heard size (Pa key) shadow h = attention_heard shadow h
-short_heard size NoAid shadow h = attention_heard shadow h
-short_heard size Enter shadow h = attention_heard shadow h
-short_heard size (Pf key) shadow h = attention_heard shadow h
+  short_heard : (size : ℕ) (aid : Aid) (shadow : Shadow) → CanBeStored shadow → CanBeStored (heard_short size aid shadow)
+  short_heard size Clear shadow h = All-replicate IsStorableIfKnown size (Some 0) refl
+  short_heard size (Pa key) shadow h = attention_heard shadow h
+  short_heard size NoAid shadow h = attention_heard shadow h
+  short_heard size Enter shadow h = attention_heard shadow h
+  short_heard size (Pf key) shadow h = attention_heard shadow h
 
--- ---- any of the three
+  -- ---- any of the three
 
-parts_heard : (size : ℕ) (shadow : Shadow) (inbound : InboundParts) → CanBeStored shadow → All (IsProperPart inbound.form) inbound.parts → IfOk (heard size shadow inbound) CanBeStored
-parts_heard size shadow inbound h proper = cases inbound.form proper
-  where
-    long : (form : Form) → All (IsProperPart form) inbound.parts → IfOk (heard_parts size shadow inbound.parts) CanBeStored
-    long form proper = fields_heard size shadow (leading_text inbound.parts) (returned inbound.parts) h (any_returned_proper form inbound.parts proper)
+  parts_heard : (size : ℕ) (shadow : Shadow) (inbound : InboundParts) → CanBeStored shadow → All (IsProperPart n inbound.form) inbound.parts → IfOk (heard size shadow inbound) CanBeStored
+  parts_heard size shadow inbound h proper = cases inbound.form proper
+    where
+      long : (form : Form) → All (IsProperPart n form) inbound.parts → IfOk (heard_parts size shadow inbound.parts) CanBeStored
+      long form proper = fields_heard size shadow (leading_text inbound.parts) (returned inbound.parts) h (any_returned_proper n form inbound.parts proper)
 
-    short : (t : Bool) → All (IsProperPart Modified) inbound.parts → IfOk (if t then Ok (heard_short size inbound.aid shadow) else heard_parts size shadow inbound.parts) CanBeStored
-    short true proper = short_heard size inbound.aid shadow h
-    short false proper = long Modified proper
+      short : (t : Bool) → All (IsProperPart n Modified) inbound.parts → IfOk (if t then Ok (heard_short size inbound.aid shadow) else heard_parts size shadow inbound.parts) CanBeStored
+      short true proper = short_heard size inbound.aid shadow h
+      short false proper = long Modified proper
 
-    read : (t : Bool) → All (IsProperPart Buffer) inbound.parts → IfOk (if t then Err Contradiction else Ok (seen (cells_sent inbound.parts))) CanBeStored
-    read true proper = tt
-    read false proper = seen_storable (cells_sent inbound.parts) (cells_proper inbound.parts proper)
+      read : (t : Bool) → All (IsProperPart n Buffer) inbound.parts → IfOk (if t then Err Contradiction else Ok (seen (cells_sent inbound.parts))) CanBeStored
+      read true proper = tt
+      read false proper = seen_storable (cells_sent inbound.parts) (cells_proper n inbound.parts proper)
 
-    cases : (form : Form) → All (IsProperPart form) inbound.parts → IfOk (heard size shadow (record inbound { form = form })) CanBeStored
-    cases Modified proper = short (is_short_aid inbound.aid) proper
-    cases AllModified proper = long AllModified proper
-    cases Buffer proper = read (denies_buffer shadow (cells_sent inbound.parts)) proper
+      cases : (form : Form) → All (IsProperPart n form) inbound.parts → IfOk (heard size shadow (record inbound { form = form })) CanBeStored
+      cases Modified proper = short (is_short_aid inbound.aid) proper
+      cases AllModified proper = long AllModified proper
+      cases Buffer proper = read (denies_buffer shadow (cells_sent inbound.parts)) proper
 
 pub heard_stored : HeardCanBeStored
-heard_stored size shadow new inbound h sent e = subst (λ r. IfOk r CanBeStored) e (parts_heard size shadow inbound h (inbound_proper inbound sent))
+heard_stored size shadow new inbound h sent e = subst (λ r. IfOk r CanBeStored) e (parts_heard (cells_in inbound.size) size shadow inbound h (inbound_proper inbound sent))
 
 -- ---- what is told
 

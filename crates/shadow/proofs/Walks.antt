@@ -87,7 +87,7 @@ unreturned_alike Unknown xs ys e = refl
 
 module _ (erased : Bool) (whole : List CellBelief) where
   abbrev changes : ℕ → List Returned → List CellBelief → List Change
-  changes at came ps = long_changes erased at came ps (unreturned_from whole ps)
+  changes at came ps = long_changes (length whole) erased at came ps (unreturned_from whole ps)
 
   -- what is left of it from a place on, and what it ends with
   abbrev pub walk : Fill → ℕ → List Returned → List CellBelief → List CellBelief
@@ -189,16 +189,16 @@ module _ (erased : Bool) (whole : List CellBelief) where
     known_before ys zs n u = known_tail xs (new ∷ ys) (Attr a n u ∷ zs) refl
 
     pub stepped : (f : Fill) (came all : List Returned) (now after : List CellBelief) → Between f at came all now → now ≡ xs ++ Attr a m t ∷ rest → drop at now ≡ Attr a m t ∷ rest
-        → one ≡ long_change erased (Attr a m t) (unreturned_at (Attr a m t) (rest ++ now)) (text_came (Attr a m t) at came) → after ≡ xs ++ new ∷ front_filled one.fill rest → take at now ≡ xs
-        → Between (fill_after k one.fill) (at + 1 + k) (came_behind (Attr a m t) at came) all after
+        → one ≡ long_change erased (Attr a m t) (unreturned_at (Attr a m t) (rest ++ now)) (text_came (length whole) (Attr a m t) at came) → after ≡ xs ++ new ∷ front_filled one.fill rest → take at now ≡ xs
+        → Between (fill_after k one.fill) (at + 1 + k) (came_behind (length whole) (Attr a m t) at came) all after
     stepped f came all now after h is here is_one is_after is_taken =
-        let behind = came_behind (Attr a m t) at came in
+        let behind = came_behind (length whole) (Attr a m t) at came in
         let there : drop at whole ≡ Attr a m t ∷ rest = sym h.left ∙ here in
         let whole_rest : drop (at + 1) whole ≡ rest = sym (drop_drop at 1 whole) ∙ ap (drop 1) there in
         let left : drop (at + 1 + k) after ≡ drop (at + 1 + k) whole = ap (drop (at + 1 + k)) is_after ∙ dropped ∙ ap (drop k) (sym whole_rest) ∙ drop_drop (at + 1) k whole in
         let whole_left : drop (at + 1 + k) whole ≡ drop k rest = sym (drop_drop (at + 1) k whole) ∙ ap (drop k) whole_rest in
-        let change : long_change erased (Attr a m t) (unreturned_at (Attr a m t) (rest ++ whole)) (text_came (Attr a m t) at came) ≡ one =
-        ap (λ (u : Unreturned). long_change erased (Attr a m t) u (text_came (Attr a m t) at came)) (unreturned_alike (Attr a m t) (rest ++ whole) (rest ++ now) (known_tail rest whole now (sym h.front))) ∙ sym is_one in
+        let change : long_change erased (Attr a m t) (unreturned_at (Attr a m t) (rest ++ whole)) (text_came (length whole) (Attr a m t) at came) ≡ one =
+        ap (λ (u : Unreturned). long_change erased (Attr a m t) u (text_came (length whole) (Attr a m t) at came)) (unreturned_alike (Attr a m t) (rest ++ whole) (rest ++ now) (known_tail rest whole now (sym h.front))) ∙ sym is_one in
         record {
           size = ap length is_after ∙ omega (arith, h.size, ap length is, length-append xs (new ∷ front_filled one.fill rest), length-append xs (Attr a m t ∷ rest), ap length (front_parts one.fill rest), length-append (fills one.fill rest) (drop (length (chars_known rest)) rest), length-fills one.fill rest, ap length (take-append-drop (length (chars_known rest)) rest), length-append (take (length (chars_known rest)) rest) (drop (length (chars_known rest)) rest), ap length (same_fills rest), length-fills Fill.Same rest);
           left = left;
@@ -223,9 +223,9 @@ module _ (erased : Bool) (whole : List CellBelief) where
 
   -- the step of the field whose attribute stands at a place
   pub step : (f : Fill) (at k : ℕ) (came all : List Returned) (now after : List CellBelief) (held : CellBelief) (one : Change) → Between f at came all now → at < length now → held ≡ get_or now at held
-      → one ≡ long_change erased held (unreturned_at held (drop (at + 1) now ++ now)) (text_came held at came) → k ≡ length (chars_known (drop (at + 1) now))
+      → one ≡ long_change erased held (unreturned_at held (drop (at + 1) now ++ now)) (text_came (length whole) held at came) → k ≡ length (chars_known (drop (at + 1) now))
       → (let put = set now at (changed held f one) in after ≡ take (at + 1) put ++ front_filled one.fill (drop (at + 1) put))
-      → Between (fill_after k one.fill) (at + 1 + k) (came_behind held at came) all after
+      → Between (fill_after k one.fill) (at + 1 + k) (came_behind (length whole) held at came) all after
   step f at k came all now after held one h within is is_one count is_after = by_place held here h.stands is_one is_after
     where
       rest : List CellBelief
@@ -241,9 +241,9 @@ module _ (erased : Bool) (whole : List CellBelief) where
           ∙ append_assoc (take at now) (p ∷ []) (front_filled g (drop (at + 1) now))
 
       by_place : (p : CellBelief) → drop at now ≡ p ∷ drop (at + 1) now → length (chars_known (drop at now)) ≡ 0
-          → one ≡ long_change erased p (unreturned_at p (drop (at + 1) now ++ now)) (text_came p at came)
+          → one ≡ long_change erased p (unreturned_at p (drop (at + 1) now ++ now)) (text_came (length whole) p at came)
           → (let put = set now at (changed p f one) in after ≡ take (at + 1) put ++ front_filled one.fill (drop (at + 1) put))
-          → Between (fill_after k one.fill) (at + 1 + k) (came_behind p at came) all after
+          → Between (fill_after k one.fill) (at + 1 + k) (came_behind (length whole) p at came) all after
       by_place (Attr a m t) there stands is_one is_after =
           stepped at k (take at now) (drop (at + 1) now) a m t one (length-take-le at now (omega arith)) count f came all now after h
           (sym (take-append-drop at now) ∙ ap (λ (qs : List CellBelief). take at now ++ qs) there) there is_one (is_after ∙ put_parts (Attr a one.mark one.knowledge) one.fill) refl
@@ -274,13 +274,13 @@ same_filled from ps =
 
 -- the step of a field, whose attribute's head is held, and then its characters
 pub passed : (erased : Bool) (whole : List CellBelief) (f : Fill) (at end : ℕ) (came left all : List Returned) (now headed_ after : List CellBelief) (held : CellBelief) (one : Change) → Between erased whole f at came all now
-    → at < length now → held ≡ get_or now at held → one ≡ long_change erased held (unreturned_at held (drop (at + 1) now ++ now)) (text_came held at came)
+    → at < length now → held ≡ get_or now at held → one ≡ long_change erased held (unreturned_at held (drop (at + 1) now ++ now)) (text_came (length whole) held at came)
     → end ≡ at + 1 + length (chars_known (drop (at + 1) now)) → headed_ ≡ set now at (with_head one.mark one.knowledge (get_or now at Unknown))
-    → after ≡ take (at + 1) headed_ ++ front_filled one.fill (drop (at + 1) headed_) → left ≡ came_behind held at came → Between erased whole (fill_after (end - at - 1) one.fill) end left all after
+    → after ≡ take (at + 1) headed_ ++ front_filled one.fill (drop (at + 1) headed_) → left ≡ came_behind (length whole) held at came → Between erased whole (fill_after (end - at - 1) one.fill) end left all after
 passed erased whole f at end came left all now headed_ after held one h within is is_one is_end is_headed is_after is_left =
     let k : ℕ = end - at - 1 in
     let there : at + 1 + k ≡ end = omega arith in
     let set_is = is_headed ∙ head_changed now at held f one within is h.stands in
     let next = step erased whole f at k came all now after held one h within is is_one (omega arith) (is_after ∙ ap (λ (ps : List CellBelief). take (at + 1) ps ++ front_filled one.fill (drop (at + 1) ps)) set_is) in
     subst (λ (rs : List Returned). Between erased whole (fill_after k one.fill) end rs all after) (sym is_left)
-    (subst (λ (n : ℕ). Between erased whole (fill_after k one.fill) n (came_behind held at came) all after) there next)
+    (subst (λ (n : ℕ). Between erased whole (fill_after k one.fill) n (came_behind (length whole) held at came) all after) there next)

@@ -6,17 +6,17 @@ use Rattle.shadow.specs.declared.fact.Fact.{Fact as FactKind}
 use Rattle.shadow.specs.declared.fact.Fact.TheVariants.{Exact, ExactOrNulls, Text, TextOrNulls, Any}
 use Rattle.shadow.specs.declared.known.Known.{Known}
 use Rattle.shadow.specs.declared.known.Known.TheVariants.{Attr as KnownAttr, Char as KnownChar}
-use Rattle.shadow.specs.Belief.{Fact, Belief, Shadow, fields_of}
+use Rattle.shadow.specs.Belief.{Fact, Belief, Shadow, fields_of, cells_of_fields}
 use Rattle.shadow.specs.Heard.{is_on}
 use Rattle.shadow.specs.Taken.{old_char, laid_out}
 
 -- ---- cells
 
 -- what is known of each cell
-abbrev pub known_cells : ℕ → Shadow → List Known
-known_cells size Shadow.NothingKnown = []
-known_cells size (Shadow.Unformatted known) = map old_char known
-known_cells size (Shadow.Formatted beliefs) = laid_out size beliefs
+abbrev pub known_cells : Shadow → List Known
+known_cells Shadow.NothingKnown = []
+known_cells (Shadow.Unformatted known) = map old_char known
+known_cells (Shadow.Formatted beliefs) = laid_out (cells_of_fields beliefs) beliefs
 
 -- an unknown MDT is answered as off
 abbrev pub known_cell : Known → Option Cell
@@ -24,8 +24,8 @@ known_cell (KnownAttr attribute mark) = Some (Attr (record attribute { mdt = is_
 known_cell (KnownChar known stored) = option_map Char known
 
 -- the cell at an address, where it is known
-abbrev pub known_at : ℕ → Shadow → ℕ → Option Cell
-known_at size shadow at = option_and_then known_cell (slice_get (known_cells size shadow) at)
+abbrev pub known_at : Shadow → ℕ → Option Cell
+known_at shadow at = option_and_then known_cell (slice_get (known_cells shadow) at)
 
 -- ---- fields
 

@@ -1,6 +1,5 @@
 -- For proofs alone: what a paint finds on the screen (our profile).
-use Rattle.std.specs.Prelude.{Bool, List, if◌then◌else◌}
-use Rattle.codes3270.specs.Size.{cell_count}
+use Rattle.std.specs.Prelude.{◌≡◌, Bool, true, List, length, if◌then◌else◌}
 use Rattle.shadow.specs.declared.known.Known.{Known}
 use Rattle.shadow.specs.declared.painting.Base.{Base}
 use Rattle.shadow.specs.InPlace.{cells_known}
@@ -11,4 +10,8 @@ abbrev pub mark_off_if : Bool → Known → Known
 mark_off_if resets known = if resets then mark_off known else known
 
 abbrev pub known_base : Base → List Known
-known_base base = if base.formatted then marks_off_if base.reset (cells_known base.places.now) else known_nulls cell_count
+known_base base = if base.formatted then marks_off_if base.reset (cells_known base.places.now) else known_nulls base.cells
+
+-- the places that a paint writes over are those of a screen with as many cells
+abbrev pub IsBase : Base → Type 0
+IsBase base = base.formatted ≡ true → length base.places.now ≡ base.cells

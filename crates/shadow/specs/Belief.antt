@@ -1,5 +1,5 @@
 -- What a host believes of a terminal's screen (our profile): nothing; the characters of an unformatted screen; or its fields.
-use Rattle.std.specs.Prelude.{◌+◌, ◌%◌, ℕ, List, [], Option, replicate}
+use Rattle.std.specs.Prelude.{◌≡◌, ◌<◌, ◌+◌, ◌%◌, suc, ℕ, List, [], ◌∷◌, length, Option, Some, None, IfSome, replicate}
 use Rattle.codes3270.specs.declared.attribute.Attr.{Attr as Attribute}
 use Rattle.shadow.specs.declared.mdt_state.MdtState.{MdtState}
 
@@ -32,6 +32,29 @@ abbrev pub fields_of : Shadow → List Belief
 fields_of Shadow.NothingKnown = []
 fields_of (Shadow.Unformatted known) = []
 fields_of (Shadow.Formatted beliefs) = beliefs
+
+-- ---- the size of the screen that is believed
+
+-- how many cells fields have: each has its attribute and its characters
+abbrev pub cells_of_fields : List Belief → ℕ
+cells_of_fields [] = 0
+cells_of_fields (belief ∷ beliefs) = suc belief.length + cells_of_fields beliefs
+
+-- how many cells the screen has of which something is known; their number tells its size
+abbrev pub cells_believed : Shadow → Option ℕ
+cells_believed Shadow.NothingKnown = None
+cells_believed (Shadow.Unformatted known) = Some (length known)
+cells_believed (Shadow.Formatted beliefs) = Some (cells_of_fields beliefs)
+
+-- a screen of which something is known has `size` cells
+abbrev pub IsOfSize : ℕ → Shadow → Type 0
+IsOfSize size shadow = IfSome (cells_believed shadow) (λ cells. cells ≡ size)
+
+-- a screen of which something is known has a cell at this address
+abbrev pub HasCell : ℕ → Shadow → Type 0
+HasCell address shadow = IfSome (cells_believed shadow) (λ cells. address < cells)
+
+-- ---- addresses and texts
 
 abbrev pub nulls : ℕ → List ℕ
 nulls count = replicate count 0

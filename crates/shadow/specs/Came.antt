@@ -1,11 +1,11 @@
 -- For proofs alone: the fields that came, one after another (our profile).
 use Rattle.std.specs.Prelude.{◌==◌, ℕ, List, [], ◌∷◌, Option, Some, None, if◌then◌else◌}
-use Rattle.codes3270.specs.Size.{cell_count}
+use Rattle.codes3270.specs.Size.{most_cells}
 use Rattle.datastream.specs.InboundFields.{Returned}
 
 -- the returned field at hand, by the address of its first cell and its text, and those after it; none is left if the address is no cell's
 abbrev pub came_of : ℕ → List ℕ → List Returned → List Returned
-came_of first text rest = if first == cell_count then [] else record { first = first; text = text } ∷ rest
+came_of first text rest = if first == most_cells then [] else record { first = first; text = text } ∷ rest
 
 -- the text of the first, if that begins at an address
 abbrev pub text_at : ℕ → List Returned → Option (List ℕ)

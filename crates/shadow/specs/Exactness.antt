@@ -16,7 +16,8 @@ use Rattle.shadow.specs.Heard.{heard}
 use Rattle.shadow.specs.Seen.{known_chars}
 use Rattle.shadow.specs.Stores.{Store, stores}
 use Rattle.shadow.specs.Taken.{taken}
-use Rattle.shadow.specs.Fits.{fits}
+use Rattle.codes3270.specs.Size.{cells_in}
+use Rattle.shadow.specs.Fits.{is_paintable}
 use Rattle.shadow.specs.Paint.{paint}
 
 -- the characters are a text
@@ -72,10 +73,10 @@ is_erase EraseAllUnprotected = false
 abbrev pub ErasedIsExact : Type 0
 ErasedIsExact = (size : ℕ) (command : CommandParts) (shadow : Shadow) → is_erase command.code ≡ true → ProtectedIsExact (taken size command shadow)
 
--- A paint that fits makes each protected field exact, where the belief is one that a screen meets.
+-- A paint makes each protected field exact, where the belief is one that a screen meets.
 abbrev pub PaintedIsExact : Type 0
-PaintedIsExact = (shadow : Shadow) (wanted : WantedScreen) (screen : Screen) → length wanted.cells ≡ length screen.cells → fits shadow wanted ≡ true → Meets shadow screen
-    → KnownIsExact shadow → ProtectedIsExact (taken (length screen.cells) (paint (length screen.cells) shadow wanted) shadow)
+PaintedIsExact = (shadow : Shadow) (wanted : WantedScreen) (screen : Screen) → length wanted.cells ≡ cells_in wanted.size → is_paintable shadow wanted ≡ true → Meets shadow screen
+    → KnownIsExact shadow → ProtectedIsExact (taken (cells_in wanted.size) (paint (cells_in wanted.size) shadow wanted) shadow)
 
 -- a character that is stored over one
 abbrev pub IsOverCharacter : List Cell → Store → Type 0

@@ -1,6 +1,5 @@
 -- For proofs alone: how what a terminal sent changes places where they stand (our profile).
 use Rattle.std.specs.Prelude.{◌+◌, ◌&&◌, ◌||◌, not, ℕ, Bool, true, false, List, [], ◌∷◌, ◌++◌, length, drop, Option, Some, None, bytes_eq, if◌then◌else◌}
-use Rattle.codes3270.specs.Size.{cell_count}
 use Rattle.datastream.specs.InboundFields.{Returned}
 use Rattle.shadow.specs.declared.mdt_state.MdtState.{MdtState}
 use Rattle.shadow.specs.declared.mdt_state.MdtState.TheVariants.{Off, Unknown as UnknownMark}
@@ -19,36 +18,38 @@ use Rattle.shadow.specs.Heard.{contradicts_text, lost_text, after_long, mark_of}
 use Rattle.shadow.specs.Held.{answer}
 use Rattle.shadow.specs.InPlace.{chars_known, belief_held, is_whole, known_text}
 
+-- In what follows, `size` is the number of cells of the screen.
+
 -- ---- what was returned for a place
 
-abbrev pub text_came : CellBelief → ℕ → List Returned → Option (List ℕ)
-text_came (Attr attribute mark knowledge) place came = text_at (next_address cell_count place) came
-text_came (KnownPlace char) place came = None
-text_came (ToldPlace char) place came = None
-text_came UnknownPlace place came = None
+abbrev pub text_came : ℕ → CellBelief → ℕ → List Returned → Option (List ℕ)
+text_came size (Attr attribute mark knowledge) place came = text_at (next_address size place) came
+text_came size (KnownPlace char) place came = None
+text_came size (ToldPlace char) place came = None
+text_came size UnknownPlace place came = None
 
-abbrev pub came_behind : CellBelief → ℕ → List Returned → List Returned
-came_behind (Attr attribute mark knowledge) place came = came_past (next_address cell_count place) came
-came_behind (KnownPlace char) place came = came
-came_behind (ToldPlace char) place came = came
-came_behind UnknownPlace place came = came
+abbrev pub came_behind : ℕ → CellBelief → ℕ → List Returned → List Returned
+came_behind size (Attr attribute mark knowledge) place came = came_past (next_address size place) came
+came_behind size (KnownPlace char) place came = came
+came_behind size (ToldPlace char) place came = came
+came_behind size UnknownPlace place came = came
 
 -- the same of a list of fields
-abbrev pub is_possible : List Belief → List Returned → Bool
-is_possible [] [] = true
-is_possible [] (came ∷ more) = false
-is_possible (belief ∷ beliefs) came =
-    not (contradicts_text belief (text_at (next_address cell_count belief.place) came)) && is_possible beliefs (came_past (next_address cell_count belief.place) came)
+abbrev pub is_possible : ℕ → List Belief → List Returned → Bool
+is_possible size [] [] = true
+is_possible size [] (came ∷ more) = false
+is_possible size (belief ∷ beliefs) came =
+    not (contradicts_text belief (text_at (next_address size belief.place) came)) && is_possible size beliefs (came_past (next_address size belief.place) came)
 
-abbrev pub any_lost : List Belief → List Returned → Bool
-any_lost [] came = false
-any_lost (belief ∷ beliefs) came =
-    lost_text belief (text_at (next_address cell_count belief.place) came) || any_lost beliefs (came_past (next_address cell_count belief.place) came)
+abbrev pub any_lost : ℕ → List Belief → List Returned → Bool
+any_lost size [] came = false
+any_lost size (belief ∷ beliefs) came =
+    lost_text belief (text_at (next_address size belief.place) came) || any_lost size beliefs (came_past (next_address size belief.place) came)
 
-abbrev pub long_after : Bool → List Belief → List Returned → List Belief
-long_after erased [] came = []
-long_after erased (belief ∷ beliefs) came =
-    after_long erased (answer belief (text_at (next_address cell_count belief.place) came)) ∷ long_after erased beliefs (came_past (next_address cell_count belief.place) came)
+abbrev pub long_after : ℕ → Bool → List Belief → List Returned → List Belief
+long_after size erased [] came = []
+long_after size erased (belief ∷ beliefs) came =
+    after_long erased (answer belief (text_at (next_address size belief.place) came)) ∷ long_after size erased beliefs (came_past (next_address size belief.place) came)
 
 -- `ahead`: the places after it
 abbrev pub contradicts_held : CellBelief → ℕ → List CellBelief → Option (List ℕ) → Bool
@@ -228,8 +229,8 @@ long_change erased (ToldPlace char) unreturned text = with_mark Off Cells Fill.S
 long_change erased UnknownPlace unreturned text = with_mark Off Cells Fill.Same
 
 -- of the places from an address on
-abbrev pub long_changes : Bool → ℕ → List Returned → List CellBelief → List Unreturned → List Change
-long_changes erased at came [] unreturned = []
-long_changes erased at came (place ∷ rest) [] = []
-long_changes erased at came (place ∷ rest) (one ∷ more) =
-    long_change erased place one (text_came place at came) ∷ long_changes erased (at + 1) (came_behind place at came) rest more
+abbrev pub long_changes : ℕ → Bool → ℕ → List Returned → List CellBelief → List Unreturned → List Change
+long_changes size erased at came [] unreturned = []
+long_changes size erased at came (place ∷ rest) [] = []
+long_changes size erased at came (place ∷ rest) (one ∷ more) =
+    long_change erased place one (text_came size place at came) ∷ long_changes size erased (at + 1) (came_behind size place at came) rest more

@@ -1,10 +1,12 @@
--- Where Keep may stand (our profile): in unprotected fields that are believed to be there, with the same attribute and length.
-use Rattle.std.specs.Prelude.{◌==◌, ◌+◌, ◌&&◌, ◌||◌, not, ℕ, Bool, true, false, List, [], ◌∷◌, ◌++◌}
+-- Where Keep may stand (our profile): in unprotected fields that are believed to be there, with the same attribute and length, on a
+-- screen of the same size.
+use Rattle.std.specs.Prelude.{◌==◌, ◌+◌, ◌&&◌, ◌||◌, not, ℕ, Bool, true, false, List, [], ◌∷◌, ◌++◌, length}
 use Rattle.std.specs.List.{list_any}
 use Rattle.codes3270.specs.declared.attribute.Attr.{Attr as Attribute}
 use Rattle.datastream.specs.declared.wanted.Want.{Want}
 use Rattle.datastream.specs.declared.wanted.Want.TheVariants.{Char as WantChar, Attr as WantAttr, Keep}
-use Rattle.shadow.specs.Belief.{Belief, Shadow, fields_of}
+use Rattle.codes3270.specs.Size.{cells_in}
+use Rattle.shadow.specs.Belief.{Belief, Shadow, fields_of, cells_of_fields}
 use Rattle.shadow.specs.Seen.{same_attr}
 use Rattle.datastream.specs.Wanted.{WantedScreen}
 use Rattle.shadow.specs.Painted.{keeps_ahead, count_ahead}
@@ -39,7 +41,18 @@ fits_from beliefs whole at (WantAttr attribute ∷ rest) =
     fits_field beliefs at attribute (rest ++ whole) && fits_from beliefs whole (at + 1) rest
 
 -- there is a Keep only in fields, and each of these fits
+abbrev pub fields_fit : List Belief → List Want → Bool
+fields_fit beliefs wants = (not (list_any is_keep wants) || list_any is_attribute wants) && fits_from beliefs wants 0 wants
+
+-- the screen of which something is known has `size` cells; a belief of nothing has no size that could differ
+abbrev pub is_of_size : ℕ → Shadow → Bool
+is_of_size size Shadow.NothingKnown = true
+is_of_size size (Shadow.Unformatted known) = length known == size
+is_of_size size (Shadow.Formatted beliefs) = cells_of_fields beliefs == size
+
 abbrev pub fits : Shadow → WantedScreen → Bool
-fits shadow wanted =
-    (not (list_any is_keep wanted.cells) || list_any is_attribute wanted.cells)
-    && fits_from (fields_of shadow) wanted.cells 0 wanted.cells
+fits shadow wanted = is_of_size (cells_in wanted.size) shadow && fields_fit (fields_of shadow) wanted.cells
+
+-- what can be painted: what fits, and what keeps nothing
+abbrev pub is_paintable : Shadow → WantedScreen → Bool
+is_paintable shadow wanted = not (list_any is_keep wanted.cells) || fits shadow wanted

@@ -1,6 +1,6 @@
 -- How a belief is held place by place, and which one it is (our profile).
 use Rattle.std.specs.Borrow.{Bor}
-use Rattle.std.specs.Prelude.{◌≡◌, ◌==◌, ◌&&◌, ◌||◌, not, is_some, ◌+◌, ⊤, ℕ, Bool, true, false, List, [], ◌∷◌, ◌++◌, length, Option, Some, None}
+use Rattle.std.specs.Prelude.{◌≡◌, ◌==◌, ◌&&◌, ◌||◌, not, is_some, ◌+◌, ⊤, ℕ, Bool, true, false, List, [], ◌∷◌, ◌++◌, length, Option, Some, None, IfSome}
 use Rattle.codes3270.specs.declared.attribute.Attr.{Attr as Attribute}
 use Rattle.shadow.specs.declared.mdt_state.MdtState.{MdtState}
 use Rattle.shadow.specs.declared.known.Known.{Known}
@@ -147,6 +147,10 @@ has_attribute (place ∷ places) = is_attribute place || has_attribute places
 abbrev pub beliefs_of : Option (Bor (List CellBelief)) → List Belief
 beliefs_of None = []
 beliefs_of (Some places) = beliefs_held places.now 0 places.now
+
+-- what is held, if something is, is of a screen with `size` cells
+abbrev pub HoldsCells : ℕ → Option (Bor (List CellBelief)) → Type 0
+HoldsCells size held = IfSome held (λ places. length places.now ≡ size)
 
 abbrev pub has_fields : Shadow → Bool
 has_fields Shadow.NothingKnown = false

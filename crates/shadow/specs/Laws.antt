@@ -1,13 +1,13 @@
 -- What holds of beliefs (our profile): what is heard, taken and painted is so. That Clear leaves nulls, and other keys what was
 -- typed, is GA23-0059-07 on attention keys.
-use Rattle.std.specs.Prelude.{◌≡◌, ◌≤◌, ◌+◌, ◌*◌, ℕ, Bool, true, false, List, length, replicate, Some, slice_get, IsOkAnd}
+use Rattle.std.specs.Prelude.{◌≡◌, ◌⊎◌, ◌≤◌, ◌+◌, ◌*◌, ℕ, Bool, true, false, List, length, replicate, Some, slice_get, IsOkAnd}
 use Rattle.codes3270.specs.declared.attention.Aid.{Aid}
 use Rattle.codes3270.specs.declared.attention.Aid.TheVariants.{NoAid, Enter, Clear, Pf, Pa}
 use Rattle.codes3270.specs.declared.attribute.Cell.{Cell}
 use Rattle.codes3270.specs.declared.attribute.Attr.{Attr as Attribute}
 use Rattle.codes3270.specs.declared.attribute.Cell.TheVariants.{Char, Attr}
 use Rattle.codes3270.specs.Aid.{is_short_aid}
-use Rattle.codes3270.specs.Size.{cell_count}
+use Rattle.codes3270.specs.Size.{Shape, cells_in, model_2}
 use Rattle.datastream.specs.Screen.{Screen}
 use Rattle.datastream.specs.Held.{Held, without_mdt}
 use Rattle.datastream.specs.InboundFields.{modified_data, buffer_data}
@@ -22,8 +22,9 @@ use Rattle.shadow.specs.Stores.{is_plain}
 use Rattle.shadow.specs.Taken.{taken}
 use Rattle.datastream.specs.Wanted.{WantedScreen, IsScreen}
 use Rattle.shadow.specs.Painted.{plainly_painted}
-use Rattle.shadow.specs.Fits.{fits}
-use Rattle.shadow.specs.Paint.{paint, paint_bytes}
+use Rattle.shadow.specs.Fits.{is_paintable}
+use Rattle.shadow.specs.Paint.{paint_code, paint, paint_bytes}
+use Rattle.datastream.specs.declared.command_code.CommandCode.TheVariants.{Write}
 
 -- all null
 abbrev pub IsCleared : List Cell → List Cell → Type 0
@@ -44,32 +45,34 @@ Believed sent screen shadow = Meets shadow screen × ListsFields shadow screen �
 
 -- A key's data is heard, and then believed as it is. A host that knows nothing refuses any field.
 abbrev pub HearsModified : Type 0
-HearsModified = (erased : Bool) (shadow : Shadow) (left now : Screen) → Knows shadow → Meets shadow left → IsSentFrom erased left.cells now.cells now.aid
-    → IsOkAnd (heard (length now.cells) shadow (modified_data Modified now)) (Believed (is_short_aid now.aid) now)
+HearsModified = (size : Shape) (erased : Bool) (shadow : Shadow) (left now : Screen) → Knows shadow → Meets shadow left → IsSentFrom erased left.cells now.cells now.aid
+    → IsOkAnd (heard (length now.cells) shadow (modified_data Modified size now)) (Believed (is_short_aid now.aid) now)
 
 -- so is the answer to Read Modified All
 abbrev pub HearsAll : Type 0
-HearsAll = (erased : Bool) (shadow : Shadow) (left now : Screen) → Knows shadow → Meets shadow left → Held erased left.cells now.cells
-    → IsOkAnd (heard (length now.cells) shadow (modified_data AllModified now)) (Believed false now)
+HearsAll = (size : Shape) (erased : Bool) (shadow : Shadow) (left now : Screen) → Knows shadow → Meets shadow left → Held erased left.cells now.cells
+    → IsOkAnd (heard (length now.cells) shadow (modified_data AllModified size now)) (Believed false now)
 
 -- and to Read Buffer, of a screen that meets what is believed
 abbrev pub HearsBuffer : Type 0
-HearsBuffer = (shadow : Shadow) (now : Screen) → Meets shadow now → IsOkAnd (heard (length now.cells) shadow (buffer_data now)) (Believed false now)
+HearsBuffer = (size : Shape) (shadow : Shadow) (now : Screen) → Meets shadow now → IsOkAnd (heard (length now.cells) shadow (buffer_data size now)) (Believed false now)
 
--- A plain write on a screen that meets what is believed leaves one that meets what is then believed.
+-- A plain write on a screen that meets what is believed leaves one that meets what is then believed. A Write has been read for the
+-- size of that screen; an erase sets its own.
 abbrev pub WrittenIsTaken : Type 0
-WrittenIsTaken = (command : CommandParts) (shadow : Shadow) (screen : Screen) → IsSpelt command → is_plain command ≡ true → Meets shadow screen
-    → Meets (taken (length screen.cells) command shadow) (after_command command screen)
+WrittenIsTaken = (command : CommandParts) (shadow : Shadow) (screen : Screen) → IsSpelt command → is_plain command ≡ true
+    → (command.code ≡ Write → length screen.cells ≡ cells_in command.size) → Meets shadow screen
+    → Meets (taken (cells_in command.size) command shadow) (after_command command screen)
 
--- A paint makes the wanted screen of every screen that meets what is believed.
+-- A paint makes the wanted screen of every screen that meets what is believed, whatever its size.
 abbrev pub WantedIsPainted : Type 0
-WantedIsPainted = (shadow : Shadow) (wanted : WantedScreen) (screen : Screen) → length wanted.cells ≡ length screen.cells → fits shadow wanted ≡ true → Meets shadow screen
-    → after_command (paint (length screen.cells) shadow wanted) screen ≡ plainly_painted wanted screen
+WantedIsPainted = (shadow : Shadow) (wanted : WantedScreen) (screen : Screen) → length wanted.cells ≡ cells_in wanted.size → is_paintable shadow wanted ≡ true → Meets shadow screen
+    → after_command (paint (cells_in wanted.size) shadow wanted) screen ≡ plainly_painted wanted screen
 
 -- Once it is taken, the wanted screen meets what is believed.
 abbrev pub PaintIsTaken : Type 0
-PaintIsTaken = (shadow : Shadow) (wanted : WantedScreen) (screen : Screen) → length wanted.cells ≡ length screen.cells → fits shadow wanted ≡ true → Meets shadow screen
-    → Meets (taken (length screen.cells) (paint (length screen.cells) shadow wanted) shadow) (plainly_painted wanted screen)
+PaintIsTaken = (shadow : Shadow) (wanted : WantedScreen) (screen : Screen) → length wanted.cells ≡ cells_in wanted.size → is_paintable shadow wanted ≡ true → Meets shadow screen
+    → Meets (taken (cells_in wanted.size) (paint (cells_in wanted.size) shadow wanted) shadow) (plainly_painted wanted screen)
 
 -- Once it is taken, something is known.
 abbrev pub PaintedIsKnown : Type 0
@@ -83,9 +86,12 @@ PaintIsPlain = (size : ℕ) (shadow : Shadow) (wanted : WantedScreen) → is_pla
 abbrev pub PaintIsBounded : Type 0
 PaintIsBounded = (size : ℕ) (shadow : Shadow) (wanted : WantedScreen) → length wanted.cells ≤ size → length (paint_bytes size shadow wanted) ≤ 9 + 3 * length wanted.cells
 
--- A paint of a screen of the profile can be spelt, whatever is believed: its bytes are that very command.
+-- A paint of a screen of the profile can be spelt, whatever is believed, for a screen that can have the wanted size, and has it
+-- already where the paint is a Write: its bytes are that very command.
 abbrev pub PaintIsSpelt : Type 0
-PaintIsSpelt = (shadow : Shadow) (wanted : WantedScreen) → IsScreen wanted → IsCommand (paint cell_count shadow wanted) (paint_bytes cell_count shadow wanted)
+PaintIsSpelt = (now alternate : Shape) (shadow : Shadow) (wanted : WantedScreen) → IsScreen wanted → (wanted.size ≡ model_2) ⊎ (wanted.size ≡ alternate)
+    → (paint_code (cells_in wanted.size) shadow wanted ≡ Write → wanted.size ≡ now)
+    → IsCommand now alternate (paint (cells_in wanted.size) shadow wanted) (paint_bytes (cells_in wanted.size) shadow wanted)
 
 -- the same cell, but for the MDT of an attribute
 abbrev pub IsSameCell : Cell → Cell → Type 0
@@ -95,10 +101,10 @@ IsSameCell (Attr attribute) (Attr other) = without_mdt other ≡ without_mdt att
 
 -- A known cell is the cell at its address, on every screen that meets what is believed.
 abbrev pub KnownIsThere : Type 0
-KnownIsThere = (shadow : Shadow) (screen : Screen) (at : ℕ) (cell : Cell) → Meets shadow screen → known_at (length screen.cells) shadow at ≡ Some cell
+KnownIsThere = (shadow : Shadow) (screen : Screen) (at : ℕ) (cell : Cell) → Meets shadow screen → known_at shadow at ≡ Some cell
     → (there : Cell) × (slice_get screen.cells at ≡ Some there) × IsSameCell cell there
 
 -- Where something is known, each attribute of the screen is.
 abbrev pub AttributesAreKnown : Type 0
 AttributesAreKnown = (shadow : Shadow) (screen : Screen) (at : ℕ) (attribute : Attribute) → Knows shadow → Meets shadow screen → slice_get screen.cells at ≡ Some (Attr attribute)
-    → (cell : Cell) × (known_at (length screen.cells) shadow at ≡ Some cell)
+    → (cell : Cell) × (known_at shadow at ≡ Some cell)

@@ -11,6 +11,7 @@ pub mod Paint
 pub mod Looks
 pub mod Laws
 pub mod Exactness
+pub mod Sized
 pub mod Openness
 pub mod Storable
 pub mod Notes

@@ -1,7 +1,6 @@
 -- For proofs alone: how a paint looks for the cells to store, 64 at a time (our profile).
-use Rattle.std.specs.Prelude.{◌≡◌, ◌<◌, ◌+◌, ◌*◌, ◌/◌, ℕ, false, List, [], ◌∷◌, ◌++◌, Option, Some, None, drop, slice_index_or}
+use Rattle.std.specs.Prelude.{◌≡◌, ◌<◌, ◌+◌, ◌*◌, ◌/◌, ℕ, false, List, [], ◌∷◌, ◌++◌, length, Option, Some, None, drop, slice_index_or}
 use Rattle.std.specs.Int.{bit_at}
-use Rattle.codes3270.specs.Size.{cell_count}
 use Rattle.datastream.specs.declared.wanted.Want.{Want}
 use Rattle.datastream.specs.declared.wanted.Want.TheVariants.{Keep}
 use Rattle.shadow.specs.declared.known.Known.{Known}
@@ -11,9 +10,9 @@ use Rattle.shadow.specs.declared.searching.Search.{Search}
 use Rattle.shadow.specs.Paint.{cell_to_store, to_store}
 use Rattle.shadow.specs.Stores.{Store}
 
--- of 64 cells, a bit is set unless this holds of its cell
-abbrev pub SetUnless : (ℕ → Type 0) → ℕ → ℕ → Type 0
-SetUnless Holds word bits = (place : ℕ) → place < 64 → 64 * word + place < cell_count → bit_at bits place ≡ 0 → Holds (64 * word + place)
+-- of 64 cells of a screen with `size` cells, a bit is set unless this holds of its cell
+abbrev pub SetUnless : ℕ → (ℕ → Type 0) → ℕ → ℕ → Type 0
+SetUnless size Holds word bits = (place : ℕ) → place < 64 → 64 * word + place < size → bit_at bits place ≡ 0 → Holds (64 * word + place)
 
 -- what is stored from an address on
 abbrev pub stores_from : List Want → List Known → ℕ → List Store
@@ -25,7 +24,7 @@ IsRight wants known cell = cell_to_store (drop (cell + 1) wants ++ wants) (slice
 
 -- each cell of the search's word is looked at, unless it is right
 abbrev pub IsSearch : List Want → List Known → Search → Type 0
-IsSearch wants known search = SetUnless (IsRight wants known) (search.from / 64) search.look
+IsSearch wants known search = SetUnless (length wants) (IsRight wants known) (search.from / 64) search.look
 
 -- the cell that was found, and those after it
 abbrev pub stored_first : Option ToStore → List Store → List Store

@@ -1,5 +1,5 @@
 -- The screens that a belief allows (our profile).
-use Rattle.std.specs.Prelude.{◌≡◌, ◌⊎◌, ⊤, ℕ, Bool, true, false, List, [], length, Option, Some, None}
+use Rattle.std.specs.Prelude.{◌≡◌, ◌⊎◌, ⊤, ℕ, Bool, true, false, List, length, Option, Some, None}
 use Rattle.datastream.specs.Screen.{Screen, text_before_attribute}
 use Rattle.datastream.specs.Fields.{Field, fields, IsFormatted as IsFormattedScreen, IsUnformatted}
 use Rattle.datastream.specs.Held.{without_mdt}

@@ -14,7 +14,8 @@ use Rattle.datastream.specs.declared.wanted.Want.{Want}
 use Rattle.datastream.specs.declared.wanted.Want.TheVariants.{Char as WantChar, Attr as WantAttr, Keep}
 use Rattle.shadow.specs.Belief.{Fact, Belief, Shadow, fields_of}
 use Rattle.shadow.specs.Exactness.{is_erase, KnownIsExact}
-use Rattle.shadow.specs.Fits.{fits}
+use Rattle.codes3270.specs.Size.{cells_in}
+use Rattle.shadow.specs.Fits.{is_paintable}
 use Rattle.shadow.specs.Heard.{heard}
 use Rattle.shadow.specs.Meets.{Meets}
 use Rattle.shadow.specs.Paint.{paint}
@@ -80,8 +81,8 @@ keeps_whole whole (WantAttr attribute ∷ rest) = (not (keeps_ahead (rest ++ who
 abbrev pub keeps_whole_fields : WantedScreen → Bool
 keeps_whole_fields wanted = keeps_whole wanted.cells wanted.cells
 
--- A paint that fits, and keeps whole fields alone, opens nothing. (One that stores characters in a field that it keeps may: of
+-- A paint that keeps whole fields alone opens nothing. (One that stores characters in a field that it keeps may: of
 -- the others nothing is known then.)
 abbrev pub PaintOpensNothing : Type 0
-PaintOpensNothing = (shadow : Shadow) (wanted : WantedScreen) (screen : Screen) → length wanted.cells ≡ length screen.cells → fits shadow wanted ≡ true → keeps_whole_fields wanted ≡ true
-    → Meets shadow screen → KnownIsExact shadow → NothingIsOpen shadow → NothingIsOpen (taken (length screen.cells) (paint (length screen.cells) shadow wanted) shadow)
+PaintOpensNothing = (shadow : Shadow) (wanted : WantedScreen) (screen : Screen) → length wanted.cells ≡ cells_in wanted.size → is_paintable shadow wanted ≡ true → keeps_whole_fields wanted ≡ true
+    → Meets shadow screen → KnownIsExact shadow → NothingIsOpen shadow → NothingIsOpen (taken (cells_in wanted.size) (paint (cells_in wanted.size) shadow wanted) shadow)

@@ -1,6 +1,7 @@
 -- The write that paints a wanted screen (our profile): which cells it stores, and its orders, which are those of GA23-0059-07,
 -- "Buffer Control Orders and Order Codes".
 use Rattle.std.specs.Prelude.{◌==◌, ◌+◌, ◌&&◌, ◌||◌, ℕ, Bool, true, false, List, [], ◌∷◌, ◌++◌, map, replicate, Option, Some, None, if◌then◌else◌}
+use Rattle.codes3270.specs.Size.{Shape, model_2}
 use Rattle.codes3270.specs.declared.attribute.Cell.{Cell}
 use Rattle.codes3270.specs.declared.attribute.Cell.TheVariants.{Char, Attr}
 use Rattle.datastream.specs.Grammar.{CommandParts}
@@ -8,19 +9,21 @@ use Rattle.datastream.specs.Writing.{write_bytes}
 use Rattle.datastream.specs.declared.order.Order.{Order}
 use Rattle.datastream.specs.declared.order.Order.TheVariants.{Sf, Sba, Ic, Char as Data}
 use Rattle.datastream.specs.declared.command_code.CommandCode.{CommandCode}
-use Rattle.datastream.specs.declared.command_code.CommandCode.TheVariants.{Write, EraseWrite}
+use Rattle.datastream.specs.declared.command_code.CommandCode.TheVariants.{Write, EraseWrite, EraseWriteAlternate}
 use Rattle.shadow.specs.declared.known.Known.{Known}
 use Rattle.shadow.specs.declared.known.Known.TheVariants.{Attr as KnownAttr, Char as KnownChar}
 use Rattle.shadow.specs.declared.mdt_state.MdtState.{MdtState}
 use Rattle.datastream.specs.declared.wanted.Want.{Want}
 use Rattle.datastream.specs.declared.wanted.Want.TheVariants.{Char as WantChar, Attr as WantAttr, Keep}
-use Rattle.shadow.specs.Belief.{Shadow, next_address}
+use Rattle.shadow.specs.Belief.{Shadow, cells_of_fields, next_address}
 use Rattle.shadow.specs.Heard.{is_on, is_off}
 use Rattle.shadow.specs.Seen.{same_attr}
 use Rattle.shadow.specs.Stores.{Store, store_also}
 use Rattle.shadow.specs.Taken.{old_char, laid_out, marks_off_if}
 use Rattle.datastream.specs.Wanted.{WantedScreen}
 use Rattle.shadow.specs.Painted.{keeps_ahead}
+
+-- In what follows, `size` is the number of cells of the wanted screen.
 
 -- ---- which cells are known to be right
 
@@ -45,7 +48,8 @@ known_nulls size = map old_char (replicate size (Some 0))
 abbrev pub known_before : ℕ → Bool → Shadow → List Known
 known_before size reset Shadow.NothingKnown = known_nulls size
 known_before size reset (Shadow.Unformatted known) = known_nulls size
-known_before size reset (Shadow.Formatted beliefs) = marks_off_if reset (laid_out size beliefs)
+known_before size reset (Shadow.Formatted beliefs) =
+    if cells_of_fields beliefs == size then marks_off_if reset (laid_out size beliefs) else known_nulls size
 
 -- ---- which cells are stored
 
@@ -87,15 +91,28 @@ painting size cursor at (store ∷ more) =
     sba_unless (is_at at store.at) store.at
     (order_of store.cell ∷ painting size cursor (Some (next_address size store.at)) more)
 
--- an Erase/Write where nothing is known or the screen is unformatted
-abbrev pub paint_code : Shadow → CommandCode
-paint_code Shadow.NothingKnown = EraseWrite
-paint_code (Shadow.Unformatted known) = EraseWrite
-paint_code (Shadow.Formatted beliefs) = Write
+-- the believed screen has fields, and as many cells as are wanted
+abbrev pub writes_over : ℕ → Shadow → Bool
+writes_over size Shadow.NothingKnown = false
+writes_over size (Shadow.Unformatted known) = false
+writes_over size (Shadow.Formatted beliefs) = cells_of_fields beliefs == size
+
+-- 24 by 80, which Erase/Write sets
+abbrev pub is_base_size : Shape → Bool
+is_base_size size = size.rows == model_2.rows && size.columns == model_2.columns
+
+-- what erases to a size
+abbrev pub erase_code : Shape → CommandCode
+erase_code size = if is_base_size size then EraseWrite else EraseWriteAlternate
+
+-- an erase where nothing is known, the screen is unformatted or the sizes differ
+abbrev pub paint_code : ℕ → Shadow → WantedScreen → CommandCode
+paint_code size shadow wanted = if writes_over size shadow then Write else erase_code wanted.size
 
 abbrev pub paint : ℕ → Shadow → WantedScreen → CommandParts
 paint size shadow wanted = record {
-  code = paint_code shadow;
+  code = paint_code size shadow wanted;
+  size = wanted.size;
   wcc = Some (record { alarm = false; restore = true; reset = wanted.reset });
   orders = painting size wanted.cursor None (to_store wanted.cells 0 wanted.cells (known_before size wanted.reset shadow));
 }
@@ -103,4 +120,4 @@ paint size shadow wanted = record {
 -- the bytes of a paint
 abbrev pub paint_bytes : ℕ → Shadow → WantedScreen → List ℕ
 paint_bytes size shadow wanted =
-    write_bytes (paint_code shadow) (record { alarm = false; restore = true; reset = wanted.reset }) (paint size shadow wanted).orders
+    write_bytes (paint_code size shadow wanted) (record { alarm = false; restore = true; reset = wanted.reset }) (paint size shadow wanted).orders

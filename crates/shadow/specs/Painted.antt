@@ -1,5 +1,5 @@
 -- A screen once what is wanted is painted on it (our profile).
-use Rattle.std.specs.Prelude.{suc, ℕ, Bool, true, false, List, [], ◌∷◌, ◌++◌, if◌then◌else◌}
+use Rattle.std.specs.Prelude.{◌==◌, suc, ℕ, Bool, true, false, List, [], ◌∷◌, ◌++◌, length, replicate, if◌then◌else◌}
 use Rattle.codes3270.specs.declared.attention.Aid.TheVariants.{NoAid}
 use Rattle.codes3270.specs.declared.attribute.Attr.{Attr as Attribute}
 use Rattle.codes3270.specs.declared.attribute.Cell.{Cell}
@@ -37,7 +37,14 @@ painted_from reset whole (Keep ∷ rest) (there ∷ cells) = there ∷ painted_f
 painted_from reset whole (WantAttr attribute ∷ rest) (there ∷ cells) =
     attr_or_kept (keeps_ahead (rest ++ whole)) reset attribute there ∷ painted_from reset whole rest cells
 
--- the screen that is wanted, on a screen
+-- the cells under a paint of `size` cells: those that are there, or nulls if they are more or fewer
+abbrev pub cells_under : ℕ → List Cell → List Cell
+cells_under size cells = if length cells == size then cells else replicate size (Char 0)
+
+-- the screen that is wanted, on a screen of any size
 abbrev pub plainly_painted : WantedScreen → Screen → Screen
-plainly_painted wanted screen =
-    record { cells = painted_from wanted.reset wanted.cells wanted.cells screen.cells; cursor = wanted.cursor; aid = NoAid }
+plainly_painted wanted screen = record {
+  cells = painted_from wanted.reset wanted.cells wanted.cells (cells_under (length wanted.cells) screen.cells);
+  cursor = wanted.cursor;
+  aid = NoAid;
+}

@@ -1,5 +1,5 @@
 -- For proofs alone: how a write that changes places where they stand keeps what was told of the fields that it leaves alone (our profile).
-use Rattle.std.specs.Prelude.{◌≡◌, ⊤, ◌||◌, not, Bool, false, List, [], ◌∷◌, ◌++◌, Option, Some, None, unwrap_or, is_some, if◌then◌else◌}
+use Rattle.std.specs.Prelude.{◌≡◌, ⊤, ◌||◌, not, Bool, true, false, List, [], ◌∷◌, ◌++◌, Option, Some, None, unwrap_or, is_some, if◌then◌else◌}
 use Rattle.codes3270.specs.declared.attribute.Cell.{Cell}
 use Rattle.codes3270.specs.declared.attribute.Cell.TheVariants.{Char, Attr as AttrCell}
 use Rattle.datastream.specs.Held.{without_mdt}
@@ -39,6 +39,10 @@ knowledge_of Unknown = None
 
 abbrev pub never : BeforeWrite
 never = record { knowledge = None; fresh = false }
+
+-- a place that was just stored, where no field's attribute was before
+abbrev pub stored_past : BeforeWrite
+stored_past = record { knowledge = None; fresh = true }
 
 abbrev pub cells_written : List CellBelief → List BeforeWrite → List Known
 cells_written [] pasts = []

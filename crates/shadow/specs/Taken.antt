@@ -4,6 +4,7 @@ use Rattle.std.specs.Prelude.{◌==◌, ◌+◌, ◌-◌, ◌&&◌, ◌||◌, �
 use Rattle.codes3270.specs.declared.attribute.Attr.{Attr as Attribute}
 use Rattle.codes3270.specs.declared.attribute.Cell.{Cell}
 use Rattle.codes3270.specs.declared.attribute.Cell.TheVariants.{Char, Attr}
+use Rattle.codes3270.specs.Size.{cells_in}
 use Rattle.codes3270.specs.declared.write_control.Wcc.{Wcc}
 use Rattle.datastream.specs.Grammar.{CommandParts}
 use Rattle.datastream.specs.Screen.{blank_screen}
@@ -19,6 +20,8 @@ use Rattle.shadow.specs.declared.known.Known.TheVariants.{Attr as KnownAttr, Cha
 use Rattle.shadow.specs.Belief.{Fact, Belief, Shadow}
 use Rattle.shadow.specs.Seen.{known_chars, mark_seen, seen}
 use Rattle.shadow.specs.Stores.{Store, stores, stores_unplaced}
+
+-- In what follows, `size` is the number of cells of the screen that is written on.
 
 -- ---- what is known of each cell
 
@@ -135,14 +138,14 @@ taken_write size wcc orders Shadow.NothingKnown = Shadow.NothingKnown
 taken_write size wcc orders (Shadow.Unformatted known) = after_write size wcc orders [] (map old_char known)
 taken_write size wcc orders (Shadow.Formatted beliefs) = after_write size wcc orders beliefs (laid_out size beliefs)
 
--- after an erase all cells are known
-abbrev pub taken_erase : ℕ → CommandParts → Shadow
-taken_erase size command = seen (after_command command (blank_screen size)).cells
+-- after an erase all cells are known, of a screen of the command's size
+abbrev pub taken_erase : CommandParts → Shadow
+taken_erase command = seen (after_command command (blank_screen (cells_in command.size))).cells
 
 abbrev pub taken_code : CommandCode → ℕ → CommandParts → Shadow → Shadow
 taken_code Write size command shadow = taken_write size command.wcc command.orders shadow
-taken_code EraseWrite size command shadow = taken_erase size command
-taken_code EraseWriteAlternate size command shadow = taken_erase size command
+taken_code EraseWrite size command shadow = taken_erase command
+taken_code EraseWriteAlternate size command shadow = taken_erase command
 taken_code ReadBuffer size command shadow = shadow
 taken_code ReadModified size command shadow = shadow
 taken_code ReadModifiedAll size command shadow = shadow

@@ -1,7 +1,7 @@
 //! What is held of a field.
 ghost use Rattle.std.specs.Prelude.{◌≡◌, ◌<◌, ◌≤◌, ◌+◌, ◌*◌, ◌++◌, length, drop, slice_get, option_map, option_and_then, bytes_eq, [], true, false, IfSome};
 ghost use Rattle.std.specs.Option.{option_map_or};
-ghost use Rattle.codes3270.specs.Size.{cell_count};
+ghost use Rattle.codes3270.specs.Size.{most_cells};
 ghost use Rattle.datastream.specs.Inbound.{without_nulls};
 ghost use Rattle.shadow.specs.Asked.{belief_with, kind_of, value_of, known_at, known_cell as known_of};
 ghost use Rattle.shadow.specs.Belief.{nulls};
@@ -16,7 +16,7 @@ use codes3270::Cell;
 
 /// The number of characters before the first attribute.
 pub(crate) fn count_chars(ahead: Ahead<'_>) -> usize
-    requires few { length ahead ≤ 2 * cell_count }
+    requires few { length ahead ≤ 2 * most_cells }
     ensures { result ≡ length (chars_known ahead.entry) }
 {
     let mut count = 0;
@@ -102,7 +102,7 @@ fn told_char(ahead: Ahead<'_>, index: usize) -> Option<u8>
 
 /// What is believed of the characters of a field; `place` is its attribute's.
 fn kind(places: &CellBeliefs, place: usize, knowledge: TextKnowledge) -> Fact
-    requires { place < cell_count }
+    requires { place < length places.now }
     ensures { result ≡ kind_of (fact_held knowledge (drop (place + 1) places.now ++ places.now)) }
 {
     match knowledge {
@@ -126,7 +126,7 @@ fn character(
     knowledge: TextKnowledge,
     index: usize,
 ) -> Option<u8>
-    requires { place < cell_count }
+    requires { place < length places.now }
     ensures { result ≡ slice_get (value_of (fact_held knowledge (drop (place + 1) places.now ++ places.now))) index }
 {
     match knowledge {
@@ -145,7 +145,7 @@ fn character(
 
 /// What is believed of the characters of the field whose attribute is at an address.
 pub(crate) fn fact_held_at(places: &CellBeliefs, place: usize) -> Option<Fact>
-    requires { place < cell_count }
+    requires { place < length places.now }
     ensures { result ≡ option_map (λ belief. kind_of belief.fact) (belief_with place (beliefs_held places.now 0 places.now)) }
 {
     match places.get(place) {
@@ -158,10 +158,12 @@ pub(crate) fn fact_held_at(places: &CellBeliefs, place: usize) -> Option<Fact>
 
 /// A character of the text that the fact speaks of.
 pub(crate) fn value_held_at(places: &CellBeliefs, place: usize, index: usize) -> Option<u8>
-    requires { place < cell_count }
+    requires { place < length places.now }
     ensures value { result ≡ option_and_then (λ belief. slice_get (value_of belief.fact) index) (belief_with place (beliefs_held places.now 0 places.now)) }
-    ensures few { IfSome result (λ char. index < cell_count) }
+    ensures few { IfSome result (λ char. index < most_cells) }
 {
+    // For the contract: there is room for the screen.
+    let _cells = places.len();
     match places.get(place) {
         CellBelief::Attr(_, _, knowledge) => character(places, place, knowledge, index),
         CellBelief::Known(_) => None,
@@ -196,7 +198,7 @@ pub(crate) fn denies(
     knowledge: TextKnowledge,
     text: &[u8],
 ) -> bool
-    requires { place < cell_count }
+    requires { place < length places.now }
     ensures { result ≡ denies_text (fact_held knowledge (drop (place + 1) places.now ++ places.now)) text.now }
 {
     match knowledge {
@@ -223,9 +225,9 @@ fn known_cell(place: CellBelief) -> Option<Cell>
 
 /// The cell at an address, where it is known.
 pub(crate) fn known_held_at(places: &CellBeliefs, at: usize) -> Option<Cell>
-    requires placed { at < cell_count }
+    requires placed { at < length places.now }
     requires held { IsHeld places.now }
-    ensures { result ≡ known_at cell_count (shadow_held true places.now) at }
+    ensures { result ≡ known_at (shadow_held true places.now) at }
 {
     known_cell(places.get(at))
 }

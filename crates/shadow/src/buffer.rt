@@ -1,6 +1,6 @@
 //! Whether a screen that was read can be the one that is believed.
 ghost use Rattle.std.specs.Prelude.{◌≡◌, ◌<◌, ◌+◌, ◌++◌, ◌∷◌, [], MatchOption, length, drop, slice_index_or};
-ghost use Rattle.codes3270.specs.Size.{cell_count};
+ghost use Rattle.codes3270.specs.Size.{cells_in};
 ghost use Rattle.datastream.specs.Fields.{fields as fields_in};
 ghost use Rattle.shadow.specs.declared.cell_belief.CellBelief.TheVariants.{Unknown};
 ghost use Rattle.shadow.specs.InPlace.{chars_known, beliefs_held, known_text, misses_here, other_here, IsHeld};
@@ -10,7 +10,7 @@ ghost use Rattle.shadow.specs.Seen.{differs, others, same_attr as are_same};
 use crate::cell_belief::CellBelief;
 use crate::cell_beliefs::{Ahead, CellBeliefs};
 use crate::taking::place_of;
-use codes3270::{Attr, Cell, attr_code};
+use codes3270::{Attr, Cell, Size, attr_code};
 use datastream::Cells;
 
 /// Whether two attributes have the same code without MDT.
@@ -83,7 +83,7 @@ fn is_other(
     rest: &Cells<'_>,
     whole: &Cells<'_>,
 ) -> bool
-    requires { place < cell_count }
+    requires { place < length places.now }
     ensures { result ≡ other_here (slice_index_or places.now place Unknown) (place_stored cell) (drop (place + 1) places.now ++ places.now) (places_stored rest.now ++ places_stored whole.now) }
 {
     match (places.get(place), cell) {
@@ -100,7 +100,7 @@ fn is_other(
 /// Whether the fields that were read aren't those that are believed.
 pub(crate) fn any_other(places: &CellBeliefs, cells: Cells<'_>) -> bool
     requires held { IsHeld places.now }
-    requires whole { length cells ≡ cell_count }
+    requires whole { length cells ≡ length places.now }
     ensures { result ≡ others (beliefs_held places.now 0 places.now) (fields_in cells.entry) }
 {
     let mut rest = cells.copy();
@@ -115,13 +115,14 @@ pub(crate) fn any_other(places: &CellBeliefs, cells: Cells<'_>) -> bool
     false
 }
 
-/// Puts the places of a screen that was read.
-pub(crate) fn put_read(places: &mut CellBeliefs, cells: Cells<'_>)
-    requires { length cells ≡ cell_count }
+/// Puts the places of a screen of this size that was read.
+pub(crate) fn put_read(places: &mut CellBeliefs, cells: Cells<'_>, size: Size)
+    requires { length cells ≡ cells_in size }
     ensures { places.new ≡ places_stored cells.entry }
 {
-    // For the contract: there is a belief for each cell.
-    let _count = places.len();
+    places.clear(size);
+    // For the contract: there is room for the screen.
+    let _cells = size.cells();
     let mut at = 0;
     for cell in cells {
         places.set(at, place_of(cell));

@@ -1,9 +1,8 @@
-//! The places of a screen, kept by bits and bytes.
+//! The places of a screen of any size, kept by bits and bytes.
 ghost use Rattle.std.specs.Prelude.{◌≡◌, ◌<◌, ◌≤◌, ◌+◌, ◌++◌, ◌*◌, ◌-◌, length, replicate, slice_index_or, slice_set, take, drop};
-ghost use Rattle.codes3270.specs.Size.{cell_count};
+ghost use Rattle.codes3270.specs.Size.{cells_in, most_cells};
 ghost use Rattle.shadow.specs.Filled.{Fill, front_filled};
 ghost use Rattle.shadow.specs.InPlace.{is_attribute as is_attribute_held, chars_known};
-ghost use Rattle.datastream.specs.CellBits.{word_count};
 ghost use Rattle.shadow.specs.Looks.{SetUnless};
 ghost use Rattle.shadow.specs.declared.cell_belief.CellBelief.TheVariants.{Known, Unknown};
 ghost use Rattle.shadow.specs.PackedBeliefs.{head_of as head_held, with_head, is_known as is_known_held, is_told as is_told_held, place_kept};
@@ -12,7 +11,7 @@ use crate::asking::is_attribute;
 use crate::cell_belief::{CellBelief, TextKnowledge};
 use crate::mdt_state::MdtState;
 use crate::searching::differing;
-use codes3270::{Attr, CELL_COUNT, attr_code};
+use codes3270::{Attr, MOST_CELLS, Size, attr_code};
 use datastream::CellBits;
 use std::marker::Model;
 
@@ -23,30 +22,34 @@ struct Head {
     knowledge: TextKnowledge,
 }
 
-/// What is held of each place of a screen. Contracts see the list, by address.
+/// What is held of each place of a screen. It has room for the largest screen; contracts see the list of the places that a screen of
+/// this size has, by address.
 #[derive(Drop)]
 pub(crate) struct CellBeliefs {
     /// Characters, and the codes of attributes.
-    bytes: [u8; CELL_COUNT],
-    heads: [Head; CELL_COUNT],
+    bytes: [u8; MOST_CELLS],
+    heads: [Head; MOST_CELLS],
     attributes: CellBits,
     /// The attributes, and the characters that are known.
     known: CellBits,
     told: CellBits,
+    size: Size,
 }
 
 impl Model for CellBeliefs {
-    ghost use Rattle.std.specs.Prelude.{◌≡◌, List, length};
-    ghost use Rattle.codes3270.specs.Size.{cell_count};
+    ghost use Rattle.std.specs.Prelude.{◌≡◌, ◌≤◌, List, length, take};
+    ghost use Rattle.codes3270.specs.Size.{cells_in, most_cells};
     ghost use Rattle.shadow.specs.declared.cell_belief.CellBelief.{CellBelief};
     ghost use Rattle.datastream.specs.CellBits.{kept};
     ghost use Rattle.shadow.specs.PackedBeliefs.{place_by, MarksKnown};
 
     ghost Value = { List CellBelief };
 
-    ghost view = { λ places. kept (place_by places.heads places.attributes places.known places.told) 0 places.bytes };
+    ghost view = { λ places. kept (place_by places.heads places.attributes places.known places.told) 0 (take (cells_in places.size) places.bytes) };
 
-    ghost invariant = { λ places. (length places.bytes ≡ cell_count) × (length places.heads ≡ cell_count) × MarksKnown places.known (kept (place_by places.heads places.attributes places.known places.told) 0 places.bytes) };
+    ghost invariant = { λ places.
+        (length places.bytes ≡ most_cells) × (length places.heads ≡ most_cells) × (cells_in places.size ≤ most_cells)
+        × MarksKnown places.known (kept (place_by places.heads places.attributes places.known places.told) 0 (take (cells_in places.size) places.bytes)) };
 }
 
 /// What is kept of a place in its byte.
@@ -100,16 +103,16 @@ fn is_told(place: CellBelief) -> bool
     }
 }
 
-fn same_bytes(byte: u8) -> [u8; CELL_COUNT]
-    ensures { result ≡ replicate cell_count byte }
+fn null_bytes() -> [u8; MOST_CELLS]
+    ensures { result ≡ replicate most_cells 0 }
 {
-    [byte; CELL_COUNT]
+    [0; MOST_CELLS]
 }
 
-fn same_heads(head: Head) -> [Head; CELL_COUNT]
-    ensures { result ≡ replicate cell_count head }
+fn no_heads() -> [Head; MOST_CELLS]
+    ensures { length result ≡ most_cells }
 {
-    [head; CELL_COUNT]
+    [NO_HEAD; MOST_CELLS]
 }
 
 /// Puts bytes from an index on. One byte is stored, which is then cheaper than a copy.
@@ -134,33 +137,46 @@ fn put_nulls(bytes: &mut [u8], from: usize, to: usize)
 }
 
 impl CellBeliefs {
-    /// The same place everywhere.
-    pub(crate) fn new(place: CellBelief) -> CellBeliefs
-        ensures { result ≡ replicate cell_count place }
+    /// Nothing is known of any place of a screen of this size.
+    pub(crate) fn unknown(size: Size) -> CellBeliefs
+        ensures { result ≡ replicate (cells_in size) Unknown }
     {
+        // For the contract: there is room for the screen.
+        let _cells = size.cells();
         CellBeliefs {
-            bytes: same_bytes(byte_of(place)),
-            heads: same_heads(head_of(place)),
-            attributes: CellBits::all(is_attribute(place)),
-            known: CellBits::all(is_known(place)),
-            told: CellBits::all(is_told(place)),
+            bytes: null_bytes(),
+            heads: no_heads(),
+            attributes: CellBits::all(false),
+            known: CellBits::all(false),
+            told: CellBits::all(false),
+            size,
         }
+    }
+
+    /// The size of the screen.
+    pub(crate) fn size(&self) -> Size
+        ensures cells { cells_in result ≡ length self.now }
+        ensures few { length self.now ≤ most_cells }
+    {
+        self.size
     }
 
     /// How many places there are.
     pub(crate) fn len(&self) -> usize
         ensures len { result ≡ length self.now }
-        ensures whole { result ≡ cell_count }
+        ensures few { result ≤ most_cells }
+        ensures some { 0 < result }
     {
-        self.bytes.as_slice().len()
+        usize::from(self.size.cells())
     }
 
     /// What is held at an address.
     pub(crate) fn get(&self, at: usize) -> CellBelief
-        requires { at < cell_count }
-        ensures place { result ≡ slice_index_or self.now at result }
-        ensures whole { length self.now ≡ cell_count }
+        requires { at < length self.now }
+        ensures { result ≡ slice_index_or self.now at result }
     {
+        // For the contract: there is room for the screen.
+        let _cells = self.len();
         let byte = self.bytes[at];
         if self.attributes.has(at) {
             let head = self.heads[at];
@@ -176,10 +192,12 @@ impl CellBeliefs {
 
     /// Holds a place at an address.
     pub(crate) fn set(&mut self, at: usize, place: CellBelief)
-        requires { at < cell_count }
+        requires { at < length self.old }
         ensures places { self.new ≡ slice_set self.old at place }
-        ensures whole { length self.new ≡ cell_count }
+        ensures size { length self.new ≡ length self.old }
     {
+        // For the contract: there is room for the screen.
+        let _cells = self.len();
         self.bytes[at] = byte_of(place);
         self.heads[at] = head_of(place);
         self.attributes.put(at, is_attribute(place));
@@ -189,45 +207,45 @@ impl CellBeliefs {
 
     /// Keeps what is known of MDT and text with the attribute at an address. At a character nothing changes.
     pub(crate) fn set_head(&mut self, at: usize, mark: MdtState, knowledge: TextKnowledge)
-        requires { at < cell_count }
+        requires { at < length self.old }
         ensures { self.new ≡ slice_set self.old at (with_head mark knowledge (slice_index_or self.old at Unknown)) }
     {
+        // For the contract: there is room for the screen.
+        let _cells = self.len();
         self.heads[at] = Head { mark, knowledge };
     }
 
-    /// Holds the same place everywhere.
-    pub(crate) fn fill(&mut self, place: CellBelief)
-        ensures { self.new ≡ replicate cell_count place }
+    /// Holds nulls in all places of a screen of this size.
+    pub(crate) fn clear(&mut self, size: Size)
+        ensures nulls { self.new ≡ replicate (cells_in size) (Known 0) }
+        ensures size { length self.new ≡ cells_in size }
     {
-        self.bytes
-            .as_mut_slice()
-            .copy_from_slice(&same_bytes(byte_of(place)));
-        self.heads
-            .as_mut_slice()
-            .copy_from_slice(&same_heads(head_of(place)));
-        self.attributes = CellBits::all(is_attribute(place));
-        self.known = CellBits::all(is_known(place));
-        self.told = CellBits::all(is_told(place));
+        let cells = usize::from(size.cells());
+        put_nulls(self.bytes.as_mut_slice(), 0, cells);
+        self.attributes = CellBits::all(false);
+        self.known = CellBits::all(true);
+        self.told = CellBits::all(false);
+        self.size = size;
     }
 
     /// The first attribute from an address on, or the number of places.
     pub(crate) fn attribute_from(&self, from: usize) -> usize
-        requires { from ≤ cell_count }
+        requires { from ≤ length self.now }
         ensures place { result ≡ from + length (chars_known (drop from self.now)) }
         ensures stands { length (chars_known (drop result self.now)) ≡ 0 }
-        ensures within { result ≤ cell_count }
-        ensures whole { length self.now ≡ cell_count }
+        ensures within { result ≤ length self.now }
     {
-        self.attributes.first_from(from)
+        self.attributes.first_from(from, self.len())
     }
 
     /// The attribute at an address.
     pub(crate) fn attribute_at(&self, at: usize) -> CellBelief
-        requires placed { at < cell_count }
+        requires placed { at < length self.now }
         requires stands { length (chars_known (drop at self.now)) ≡ 0 }
-        ensures place { result ≡ slice_index_or self.now at result }
-        ensures whole { length self.now ≡ cell_count }
+        ensures { result ≡ slice_index_or self.now at result }
     {
+        // For the contract: there is room for the screen.
+        let _cells = self.len();
         let head = self.heads[at];
         CellBelief::Attr(Attr::from_code(self.bytes[at]), head.mark, head.knowledge)
     }
@@ -235,38 +253,39 @@ impl CellBeliefs {
     /// The number of characters after an address, round the end, before the first attribute. `next` is that attribute's
     /// address, or the number of places.
     pub(crate) fn count_behind(&self, place: usize, next: usize) -> usize
-        requires placed { place < cell_count }
-        requires within { next ≤ cell_count }
+        requires placed { place < length self.now }
+        requires within { next ≤ length self.now }
         requires next { next ≡ place + 1 + length (chars_known (drop (place + 1) self.now)) }
-        ensures count { result ≡ length (chars_known (drop (place + 1) self.now ++ self.now)) }
-        ensures few { result ≤ 2 * cell_count }
-        ensures whole { length self.now ≡ cell_count }
+        ensures { result ≡ length (chars_known (drop (place + 1) self.now ++ self.now)) }
     {
-        // For the contract: there is a belief for each cell.
-        let _count = self.len();
-        if next < CELL_COUNT {
+        let cells = self.len();
+        if next < cells {
             next - place - 1
         } else {
-            CELL_COUNT - place - 1 + self.attribute_from(0)
+            cells - place - 1 + self.attribute_from(0)
         }
     }
 
     /// Forgets a field's characters from an address to another.
     pub(crate) fn forget(&mut self, from: usize, to: usize)
-        requires few { to ≤ cell_count }
+        requires few { to ≤ length self.old }
         requires chars { to ≡ from + length (chars_known (drop from self.old)) }
         ensures { self.new ≡ take from self.old ++ front_filled Fill.Unknown (drop from self.old) }
     {
+        // For the contract: there is room for the screen.
+        let _cells = self.len();
         self.known.put_range(from, to, false);
         self.told.put_range(from, to, false);
     }
 
     /// Holds nulls as a field's characters from an address to another.
     pub(crate) fn hold_nulls(&mut self, from: usize, to: usize)
-        requires few { to ≤ cell_count }
+        requires few { to ≤ length self.old }
         requires chars { to ≡ from + length (chars_known (drop from self.old)) }
         ensures { self.new ≡ take from self.old ++ front_filled Fill.Null (drop from self.old) }
     {
+        // For the contract: there is room for the screen.
+        let _cells = self.len();
         put_nulls(self.bytes.as_mut_slice(), from, to);
         self.known.put_range(from, to, true);
     }
@@ -274,10 +293,12 @@ impl CellBeliefs {
     /// Lets a field's characters from an address to another tell a text, or as much of it as there is room for.
     #[inline(always)]
     pub(crate) fn tell(&mut self, from: usize, to: usize, text: &[u8])
-        requires few { to ≤ cell_count }
+        requires few { to ≤ length self.old }
         requires chars { to ≡ from + length (chars_known (drop from self.old)) }
         ensures { self.new ≡ take from self.old ++ front_filled (Fill.Chars text.now) (drop from self.old) }
     {
+        // For the contract: there is room for the screen.
+        let _cells = self.len();
         let count = text.len().min(to - from);
         put_bytes(self.bytes.as_mut_slice(), from, &text[..count]);
         self.known.put_range(from, to, false);
@@ -287,24 +308,24 @@ impl CellBeliefs {
 
     /// A bit for each cell of a word, set unless the cell is known to have the character of these bytes.
     pub(crate) fn unlike(&self, bytes: &[u8], word: usize) -> u64
-        requires word { word < word_count }
-        requires whole { length bytes.now ≡ cell_count }
-        ensures { SetUnless (λ cell. slice_index_or self.now cell Unknown ≡ Known (slice_index_or bytes.now cell 0)) word result }
+        requires word { 64 * word ≤ length self.now }
+        requires whole { length bytes.now ≡ length self.now }
+        ensures { SetUnless (length self.now) (λ cell. slice_index_or self.now cell Unknown ≡ Known (slice_index_or bytes.now cell 0)) word result }
     {
+        let cells = self.len();
         let unknown = self.attributes.word(word) | !self.known.word(word);
-        unknown | differing(bytes, &self.bytes, word)
+        unknown | differing(bytes, &self.bytes[..cells], word)
     }
 
     /// The places after an address, and then all places.
     pub(crate) fn ahead(&self, place: usize) -> Ahead<'_>
-        requires { place < cell_count }
+        requires { place < length self.now }
         ensures places { result ≡ drop (place + 1) self.now ++ self.now }
-        ensures few { length result ≤ 2 * cell_count }
+        ensures few { length result ≤ 2 * most_cells }
     {
-        // For the contract: there is a belief for each cell.
-        let _places = self.len();
         Ahead {
             places: self,
+            cells: self.len(),
             next: place + 1,
         }
     }
@@ -314,19 +335,21 @@ impl CellBeliefs {
 #[derive(Drop)]
 pub(crate) struct Ahead<'a> {
     places: &'a CellBeliefs,
+    /// How many places there are.
+    cells: usize,
     next: usize,
 }
 
 impl<'a> Model for Ahead<'a> {
-    ghost use Rattle.std.specs.Prelude.{◌≡◌, ◌++◌, List, length, drop};
-    ghost use Rattle.codes3270.specs.Size.{cell_count};
+    ghost use Rattle.std.specs.Prelude.{◌≡◌, ◌≤◌, ◌++◌, List, length, drop};
+    ghost use Rattle.codes3270.specs.Size.{most_cells};
     ghost use Rattle.shadow.specs.declared.cell_belief.CellBelief.{CellBelief};
 
     ghost Value = { List CellBelief };
 
     ghost view = { λ ahead. drop ahead.next (ahead.places.now ++ ahead.places.now) };
 
-    ghost invariant = { λ ahead. length ahead.places.now ≡ cell_count };
+    ghost invariant = { λ ahead. (length ahead.places.now ≡ ahead.cells) × (ahead.cells ≤ most_cells) };
 }
 
 impl<'a> Iterator for Ahead<'a> {
@@ -340,12 +363,12 @@ impl<'a> Iterator for Ahead<'a> {
 
     fn next(&mut self) -> Option<CellBelief> {
         let at = self.next;
-        if at < CELL_COUNT {
+        if at < self.cells {
             self.next = at + 1;
             Some(self.places.get(at))
-        } else if at < 2 * CELL_COUNT {
+        } else if at < 2 * self.cells {
             self.next = at + 1;
-            Some(self.places.get(at - CELL_COUNT))
+            Some(self.places.get(at - self.cells))
         } else {
             None
         }

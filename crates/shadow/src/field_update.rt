@@ -1,6 +1,5 @@
 //! How inbound data updates the cells of a field.
 ghost use Rattle.std.specs.Prelude.{◌≡◌, ◌≤◌, ◌+◌, ◌++◌, length, take, drop};
-ghost use Rattle.codes3270.specs.Size.{cell_count};
 ghost use Rattle.shadow.specs.InPlace.{chars_known};
 ghost use Rattle.shadow.specs.Filled.{fill_of, filled, place_told, fill_next, fill_after, front_filled};
 
@@ -90,7 +89,7 @@ pub(crate) fn update_after(update: FieldUpdate<'_>, count: usize) -> FieldUpdate
 /// Fills the characters from an address to the next attribute, or to the end, one by one.
 #[inline(never)]
 fn fill_each(places: &mut CellBeliefs, from: usize, update: FieldUpdate<'_>)
-    requires { from ≤ cell_count }
+    requires { from ≤ length places.old }
     ensures { places.new ≡ take from places.old ++ front_filled (fill_of update.entry) (drop from places.old) }
 {
     let mut update = update;
@@ -115,7 +114,7 @@ pub(crate) fn fill_between(
     to: usize,
     update: FieldUpdate<'_>,
 )
-    requires few { to ≤ cell_count }
+    requires few { to ≤ length places.old }
     requires chars { to ≡ from + length (chars_known (drop from places.old)) }
     ensures { places.new ≡ take from places.old ++ front_filled (fill_of update.entry) (drop from places.old) }
 {

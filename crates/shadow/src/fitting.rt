@@ -1,16 +1,16 @@
 //! Whether what is to be kept is believed to be there.
-ghost use Rattle.std.specs.Prelude.{◌≡◌, ◌<◌, ◌≤◌, ◌+◌, ◌&&◌, ◌||◌, ◌*◌, not, length, drop};
+ghost use Rattle.std.specs.Prelude.{◌≡◌, ◌<◌, ◌≤◌, ◌+◌, ◌&&◌, ◌||◌, ◌*◌, ◌==◌, not, length, drop, IfSome};
 ghost use Rattle.std.specs.List.{list_any};
-ghost use Rattle.codes3270.specs.Size.{cell_count};
-ghost use Rattle.shadow.specs.Fits.{is_keep, is_attribute, is_field, fits_from};
-ghost use Rattle.shadow.specs.InPlace.{beliefs_held, beliefs_of};
+ghost use Rattle.codes3270.specs.Size.{cells_in, most_cells};
+ghost use Rattle.shadow.specs.Fits.{is_keep, is_attribute, is_field, fits_from, fields_fit};
+ghost use Rattle.shadow.specs.InPlace.{beliefs_held, beliefs_of, HoldsCells};
 ghost use Rattle.shadow.specs.Painted.{keeps_ahead as keeps_before, count_ahead as count_before};
 
 use crate::asking::count_chars;
 use crate::buffer::same_attr;
 use crate::cell_belief::CellBelief;
 use crate::cell_beliefs::CellBeliefs;
-use codes3270::{Attr, CELL_COUNT};
+use codes3270::Attr;
 use datastream::{Want, Wanted, Wants};
 
 /// Whether there is a Keep before the first attribute.
@@ -29,7 +29,7 @@ pub(crate) fn keeps_ahead(ahead: Wants<'_>) -> bool
 
 /// How many cells stand before the first attribute.
 fn count_ahead(ahead: Wants<'_>) -> usize
-    requires few { length ahead ≤ 2 * cell_count }
+    requires few { length ahead ≤ 2 * most_cells }
     ensures { result ≡ count_before ahead.entry }
 {
     let mut count = 0;
@@ -46,7 +46,7 @@ fn count_ahead(ahead: Wants<'_>) -> usize
 
 /// Whether a field is believed to be.
 fn any_field(held: Option<&CellBeliefs>, place: usize, attr: Attr, count: usize) -> bool
-    requires { place < cell_count }
+    requires { IfSome held (λ places. place < length places.now) }
     ensures { result ≡ list_any (is_field place attr count) (beliefs_of held.entry) }
 {
     match held {
@@ -56,7 +56,7 @@ fn any_field(held: Option<&CellBeliefs>, place: usize, attr: Attr, count: usize)
 }
 
 fn is_field_at(places: &CellBeliefs, place: usize, attr: Attr, count: usize) -> bool
-    requires { place < cell_count }
+    requires { place < length places.now }
     ensures { result ≡ list_any (is_field place attr count) (beliefs_held places.now 0 places.now) }
 {
     match places.get(place) {
@@ -71,7 +71,8 @@ fn is_field_at(places: &CellBeliefs, place: usize, attr: Attr, count: usize) -> 
 
 /// Whether what is wanted of a cell fits.
 fn fits_at(held: Option<&CellBeliefs>, wanted: &Wanted, place: usize) -> bool
-    requires placed { place < cell_count }
+    requires placed { place < cells_in wanted.now.size }
+    requires whole { HoldsCells (cells_in wanted.now.size) held }
     ensures { fits_from (beliefs_of held.entry) wanted.now.cells place (drop place wanted.now.cells) ≡ (result && fits_from (beliefs_of held.entry) wanted.now.cells (place + 1) (drop (place + 1) wanted.now.cells)) }
 {
     match wanted.at(place) {
@@ -86,11 +87,10 @@ fn fits_at(held: Option<&CellBeliefs>, wanted: &Wanted, place: usize) -> bool
 
 /// Whether each wanted field fits.
 fn all_fit(held: Option<&CellBeliefs>, wanted: &Wanted) -> bool
+    requires { HoldsCells (cells_in wanted.now.size) held }
     ensures { result ≡ fits_from (beliefs_of held.entry) wanted.now.cells 0 wanted.now.cells }
 {
-    // For the contract: there is a want for each cell.
-    let _bytes = wanted.bytes();
-    for place in 0..CELL_COUNT {
+    for place in 0..usize::from(wanted.size().cells()) {
         if !fits_at(held, wanted, place) {
             return false;
         }
@@ -128,7 +128,15 @@ fn any_attribute(cells: Wants<'_>) -> bool
 
 /// Whether there is a Keep only in fields, and each of these fits.
 pub(crate) fn fits_fields(held: Option<&CellBeliefs>, wanted: &Wanted) -> bool
-    ensures { result ≡ ((not (list_any is_keep wanted.now.cells) || list_any is_attribute wanted.now.cells) && fits_from (beliefs_of held.entry) wanted.now.cells 0 wanted.now.cells) }
+    requires { HoldsCells (cells_in wanted.now.size) held }
+    ensures { result ≡ fields_fit (beliefs_of held.entry) wanted.now.cells }
 {
     (!any_keep(wanted.cells()) || any_attribute(wanted.cells())) && all_fit(held, wanted)
+}
+
+/// Whether the places are of a screen of the wanted size, there is a Keep only in fields, and each of these fits.
+pub(crate) fn fits_over(places: &CellBeliefs, wanted: &Wanted) -> bool
+    ensures { result ≡ (length places.now == cells_in wanted.now.size && fields_fit (beliefs_held places.now 0 places.now) wanted.now.cells) }
+{
+    places.len() == usize::from(wanted.size().cells()) && fits_fields(Some(places), wanted)
 }

@@ -1,13 +1,13 @@
 //! What a terminal sent, on the places where they stand.
-ghost use Rattle.std.specs.Prelude.{◌≡◌, ◌<◌, ◌+◌, ◌++◌, ◌||◌, true, false, None, Ok, Err, MatchOption, MatchResult, ℕ, List, length, map, drop, if◌then◌else◌};
+ghost use Rattle.std.specs.Prelude.{◌≡◌, ◌<◌, ◌+◌, ◌++◌, ◌||◌, true, false, None, Ok, All, Err, MatchOption, MatchResult, ℕ, List, length, map, drop, if◌then◌else◌};
 ghost use Rattle.std.specs.List.{list_any};
-ghost use Rattle.codes3270.specs.Size.{cell_count};
+ghost use Rattle.codes3270.specs.Size.{cells_in};
 ghost use Rattle.shadow.specs.declared.fault.HeardFault.TheVariants.{NoSuchField, Contradiction};
 ghost use Rattle.shadow.specs.declared.mdt_state.MdtState.TheVariants.{On};
 ghost use Rattle.shadow.specs.declared.cell_belief.CellBelief.{CellBelief as Held};
 ghost use Rattle.shadow.specs.Filled.{is_possible as can_be, any_lost, long_after, contradicts_held, lost_held, change_of, key_change, unreturned_at, unreturned_by as unreturned_of, unreturned_from, or_null_knowledge, long_change, long_changes, input_change as input_by, unreturned_change as unreturned_by, returned_change as returned_by, last_fill, all_changed, front_filled};
 ghost use Rattle.shadow.specs.Filled.Fill.{Same};
-ghost use Rattle.datastream.specs.InboundFields.{returned};
+ghost use Rattle.datastream.specs.InboundFields.{returned, IsProperReturned};
 ghost use Rattle.shadow.specs.Belief.Shadow.{Formatted as FormattedBelief};
 ghost use Rattle.shadow.specs.Heard.{heard_parts, is_off, starts_at, is_nowhere, denies as denies_text, after_attention as attention_one};
 ghost use Rattle.shadow.specs.Held.{text_of};
@@ -20,7 +20,7 @@ use crate::fault::HeardFault;
 use crate::field_update::{Change, FieldUpdate, fill_between, fill_front, update_after};
 use crate::mdt_state::MdtState;
 use crate::returned_cursor::ReturnedCursor;
-use codes3270::{Addr, Attr, CELL_COUNT};
+use codes3270::{Addr, Attr};
 use datastream::{Inbound, ReturnedFields};
 
 /// What becomes of a field that isn't returned.
@@ -35,15 +35,18 @@ pub(crate) enum Unreturned {
 
 /// Whether a field begins at an address.
 fn begins_field(places: &CellBeliefs, first: Addr) -> bool
-    ensures { result ≡ list_any (λ belief. starts_at cell_count belief first) (beliefs_held places.now 0 places.now) }
+    requires { first < length places.now }
+    ensures { result ≡ list_any (λ belief. starts_at (length places.now) belief first) (beliefs_held places.now 0 places.now) }
 {
-    let place = (first.get() as usize + CELL_COUNT - 1) % CELL_COUNT;
+    let cells = places.len();
+    let place = (first.get() as usize + cells - 1) % cells;
     is_attribute(places.get(place))
 }
 
 /// Whether one of the fields that came begins where no field does.
 fn any_nowhere(places: &CellBeliefs, came: ReturnedFields<'_>) -> bool
-    ensures { result ≡ list_any (is_nowhere cell_count (beliefs_held places.now 0 places.now)) came.entry }
+    requires { All (IsProperReturned (length places.now)) came }
+    ensures { result ≡ list_any (is_nowhere (length places.now) (beliefs_held places.now 0 places.now)) came.entry }
 {
     for field in came {
         if !begins_field(places, field.first) {
@@ -62,7 +65,7 @@ fn contradicts_protected(
     knowledge: TextKnowledge,
     text: &[u8],
 ) -> bool
-    requires { place < cell_count }
+    requires { place < length places.now }
     ensures { result ≡ (is_off mark || denies_text (fact_held knowledge (drop (place + 1) places.now ++ places.now)) text.now) }
 {
     mark == MdtState::Off || denies(places, place, knowledge, text)
@@ -76,7 +79,7 @@ fn contradicts(
     held: CellBelief,
     text: Option<&[u8]>,
 ) -> bool
-    requires placed { place < cell_count }
+    requires placed { place < length places.now }
     requires counted { count ≡ length (chars_known (drop (place + 1) places.now ++ places.now)) }
     ensures { result ≡ contradicts_held held place (drop (place + 1) places.now ++ places.now) (text_of text.entry) }
 {
@@ -110,16 +113,17 @@ fn was_erased(held: CellBelief, text: Option<&[u8]>) -> bool
 #[inline(never)]
 fn erased_if_possible(places: &CellBeliefs, returned: ReturnedFields<'_>) -> Option<bool>
     ensures { let beliefs = beliefs_held places.now 0 places.now in
-        MatchOption result (can_be beliefs returned.entry ≡ false) (λ erased. (can_be beliefs returned.entry ≡ true) × (any_lost beliefs returned.entry ≡ erased)) }
+        MatchOption result (can_be (length places.now) beliefs returned.entry ≡ false) (λ erased. (can_be (length places.now) beliefs returned.entry ≡ true) × (any_lost (length places.now) beliefs returned.entry ≡ erased)) }
 {
+    let cells = places.len();
     let mut returned_cursor = ReturnedCursor::new(returned);
     let mut erased = false;
     let mut place = places.attribute_from(0);
-    while place < CELL_COUNT {
+    while place < cells {
         let held = places.attribute_at(place);
         let next = places.attribute_from(place + 1);
         let count = places.count_behind(place, next);
-        let text = returned_cursor.take(held, place);
+        let text = returned_cursor.take(held, place, cells);
         if contradicts(places, place, count, held, text) {
             return None;
         }
@@ -136,7 +140,8 @@ fn erased_if_possible(places: &CellBeliefs, returned: ReturnedFields<'_>) -> Opt
 /// The fault of data that contradicts the belief.
 #[inline(never)]
 fn fault_of(places: &CellBeliefs, returned: ReturnedFields<'_>) -> HeardFault
-    ensures { result ≡ (if list_any (is_nowhere cell_count (beliefs_held places.now 0 places.now)) returned.entry then NoSuchField else Contradiction) }
+    requires { All (IsProperReturned (length places.now)) returned }
+    ensures { result ≡ (if list_any (is_nowhere (length places.now) (beliefs_held places.now 0 places.now)) returned.entry then NoSuchField else Contradiction) }
 {
     if any_nowhere(places, returned) {
         HeardFault::NoSuchField
@@ -147,10 +152,12 @@ fn fault_of(places: &CellBeliefs, returned: ReturnedFields<'_>) -> HeardFault
 
 /// Whether some field's input was erased, if the data can be of a screen with fields that this belief allows.
 pub(crate) fn check_fields(places: &CellBeliefs, inbound: &Inbound<'_>) -> Result<bool, HeardFault>
-    ensures { let beliefs = beliefs_held places.now 0 places.now in
+    requires { cells_in inbound.now.size ≡ length places.now }
+    ensures { let cells = length places.now in
+        let beliefs = beliefs_held places.now 0 places.now in
         let came = returned inbound.now.parts in
-        let heard = heard_parts cell_count (FormattedBelief beliefs) inbound.now.parts in
-        MatchResult result (λ erased. (heard ≡ Ok (FormattedBelief (long_after erased beliefs came))) × (can_be beliefs came ≡ true)) (λ fault. heard ≡ Err fault) }
+        let heard = heard_parts cells (FormattedBelief beliefs) inbound.now.parts in
+        MatchResult result (λ erased. (heard ≡ Ok (FormattedBelief (long_after cells erased beliefs came))) × (can_be cells beliefs came ≡ true)) (λ fault. heard ≡ Err fault) }
 {
     if !inbound.leading_text().is_empty() {
         return Err(fault_of(places, inbound.returned()));
@@ -163,7 +170,7 @@ pub(crate) fn check_fields(places: &CellBeliefs, inbound: &Inbound<'_>) -> Resul
 
 /// What becomes of the field whose attribute is at a place, if it isn't returned.
 fn if_unreturned(places: &CellBeliefs, place: usize, knowledge: TextKnowledge) -> Unreturned
-    requires { place < cell_count }
+    requires { place < length places.now }
     ensures { result ≡ unreturned_of knowledge (drop (place + 1) places.now ++ places.now) }
 {
     let TextKnowledge::Cells = knowledge else {
@@ -230,7 +237,7 @@ fn lost_change<'a>(
     erased: bool,
     knowledge: TextKnowledge,
 ) -> Change<'a>
-    requires { place < cell_count }
+    requires { place < length places.now }
     ensures { change_of result ≡ input_by erased knowledge (unreturned_of knowledge (drop (place + 1) places.now ++ places.now)) None }
 {
     if erased {
@@ -252,7 +259,7 @@ fn input_change<'a>(
     knowledge: TextKnowledge,
     text: Option<&'a [u8]>,
 ) -> Change<'a>
-    requires { place < cell_count }
+    requires { place < length places.now }
     ensures { change_of result ≡ input_by erased knowledge (unreturned_of knowledge (drop (place + 1) places.now ++ places.now)) (text_of text.entry) }
 {
     match text {
@@ -269,7 +276,7 @@ fn change_after<'a>(
     erased: bool,
     text: Option<&'a [u8]>,
 ) -> Change<'a>
-    requires { place < cell_count }
+    requires { place < length places.now }
     ensures { change_of result ≡ long_change erased held (unreturned_at held (drop (place + 1) places.now ++ places.now)) (text_of text.entry) }
 {
     match held {
@@ -295,19 +302,20 @@ fn change_after<'a>(
 /// round the end.
 #[inline(never)]
 fn take_fields<'a>(places: &mut CellBeliefs, erased: bool, returned: ReturnedFields<'a>)
-    ensures { let changes = long_changes erased 0 returned.entry places.old (unreturned_from places.old places.old) in
+    ensures { let changes = long_changes (length places.old) erased 0 returned.entry places.old (unreturned_from places.old places.old) in
         places.new ≡ front_filled (last_fill Same changes places.old) (all_changed Same changes places.old) }
 {
+    let cells = places.len();
     let mut returned_cursor = ReturnedCursor::new(returned);
     let mut place = places.attribute_from(0);
-    while place < CELL_COUNT {
+    while place < cells {
         let held = places.attribute_at(place);
         let end = places.attribute_from(place + 1);
-        let text = returned_cursor.take(held, place);
+        let text = returned_cursor.take(held, place, cells);
         let one = change_after(places, place, held, erased, text);
         places.set_head(place, one.mark, one.knowledge);
         fill_between(places, place + 1, end, one.update);
-        if CELL_COUNT <= end {
+        if cells <= end {
             fill_front(places, update_after(one.update, end - place - 1));
             return;
         }
@@ -318,8 +326,8 @@ fn take_fields<'a>(places: &mut CellBeliefs, erased: bool, returned: ReturnedFie
 /// Takes in data that is possible, of a screen with fields; `erased`: the operator erased the input.
 pub(crate) fn after_long(places: &mut CellBeliefs, erased: bool, returned: ReturnedFields<'_>)
     requires held { IsHeld places.old }
-    requires possible { can_be (beliefs_held places.old 0 places.old) returned ≡ true }
-    ensures fields { beliefs_held places.new 0 places.new ≡ long_after erased (beliefs_held places.old 0 places.old) returned.entry }
+    requires possible { can_be (length places.old) (beliefs_held places.old 0 places.old) returned ≡ true }
+    ensures fields { beliefs_held places.new 0 places.new ≡ long_after (length places.old) erased (beliefs_held places.old 0 places.old) returned.entry }
     ensures held { IsHeld places.new }
 {
     take_fields(places, erased, returned);
@@ -354,10 +362,11 @@ pub(crate) fn after_attention(places: &mut CellBeliefs)
     ensures fields { beliefs_held places.new 0 places.new ≡ map attention_one (beliefs_held places.old 0 places.old) }
     ensures held { IsHeld places.new }
 {
+    let cells = places.len();
     let mut update = FieldUpdate::Same;
     let mut filled = 0;
     let mut place = places.attribute_from(0);
-    while place < CELL_COUNT {
+    while place < cells {
         let held = places.attribute_at(place);
         let end = places.attribute_from(place + 1);
         let one = key_change_of(held);

@@ -4,6 +4,7 @@ ghost use Rattle.shadow.specs.Openness.{LongOpensNothing, ReadLeavesNothingOpen,
 ghost use Rattle.shadow.specs.Notes.{NoteOverwritesProtected, NoteOverwritesBare, PlacedStaysKnown, NoteStaysListed, NoteStaysTold, NoteStaysExact, NoteOpensNothing, NoteStaysWhole};
 ghost use Rattle.shadow.specs.Laws.{HearsModified, HearsAll, HearsBuffer, WrittenIsTaken, WantedIsPainted, PaintIsTaken, PaintedIsKnown, PaintIsBounded, PaintIsPlain, PaintIsSpelt, KnownIsThere, AttributesAreKnown};
 ghost use Rattle.shadow.specs.Exactness.{NothingIsExact, HeardStaysExact, HeardStaysProtected, TakenStaysExact, ErasedIsExact, PaintedIsExact, WrittenStaysProtected, ProtectedIsSeen, ReturnedIsTold};
+ghost use Rattle.shadow.specs.Sized.{MeetsIsOfSize, HeardIsOfSize, TakenIsOfSize};
 ghost use Rattle.shadow.specs.Storable.{HeardCanBeStored, TakenCanBeStored, ToldCanBeStored};
 
 use datastream::laws::written_is_read;
@@ -44,6 +45,14 @@ pub fn what_is_wanted_is_painted()
 pub fn what_is_known_is_there()
     ensures cells { KnownIsThere }
     ensures attributes { AttributesAreKnown }
+{}
+
+/// Law: a screen that meets what is believed has its size; and what is heard, or written, keeps the
+/// size that it was read for.
+pub fn what_is_believed_has_a_size()
+    ensures meets { MeetsIsOfSize }
+    ensures heard { HeardIsOfSize }
+    ensures taken { TakenIsOfSize }
 {}
 
 /// Law: where all characters of a field are known its fact is exact. This stays so, whatever is

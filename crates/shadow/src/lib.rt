@@ -1,6 +1,7 @@
-//! What a host believes of a terminal's screen, and the writes that paint it.
+//! What a host believes of a terminal's screen, which may have any size, and the writes that paint it.
 //!
 //! ```rust
+//! let size = Size::base();
 //! let mut shadow = Shadow::blank();
 //!
 //! // The write that makes the screen that is wanted. Nothing is known yet, so it's an Erase/Write.
@@ -8,11 +9,12 @@
 //! shadow.paint(&mut write, &wanted)?;
 //!
 //! // The terminal's positive response has come. Here WHO? is at row 1 and column 2, and a field after its attribute at 6.
-//! shadow.sent_taken(&read_command(write.as_slice())?);
-//! assert!(rt; shadow.known(Addr::first().next()) == Some(Cell::Char(0xe6)));
+//! shadow.sent_taken(&read_command(write.as_slice(), size, size)?);
+//! assert!(rt; shadow.size() == Some(size));
+//! assert!(rt; shadow.known(Addr::first().next(size)) == Some(Cell::Char(0xe6)));
 //!
 //! // The operator pressed Enter with ANN in that field, which is sent without nulls: where its letters stand isn't known.
-//! let inbound = read_inbound(b"\x7d\x40\xc9\x11\x40\xc7\xc1\xd5\xd5", Form::Modified)?;
+//! let inbound = read_inbound(b"\x7d\x40\xc9\x11\x40\xc7\xc1\xd5\xd5", Form::Modified, size)?;
 //! assert!(rt; shadow.heard(&inbound).is_ok());
 //! assert!(rt; shadow.fact(attr) == Some(Fact::Text));
 //! assert!(rt; shadow.value(attr, 0) == Some(0xc1));

@@ -1,11 +1,10 @@
 //! The bytes of a paint.
-ghost use Rattle.std.specs.Prelude.{◌≡◌, ◌<◌, ◌+◌, ◌∷◌, ◌++◌, [], IfSome, Some, None, false, drop, length, slice_index_or};
-ghost use Rattle.codes3270.specs.Size.{cell_count};
+ghost use Rattle.std.specs.Prelude.{◌≡◌, ◌<◌, ◌≤◌, ◌+◌, ◌*◌, ◌∷◌, ◌++◌, [], IfSome, Some, None, false, drop, length, slice_index_or};
+ghost use Rattle.codes3270.specs.Size.{cells_in};
 ghost use Rattle.datastream.specs.declared.order.Order.TheVariants.{Sba, Ic};
-ghost use Rattle.datastream.specs.CellBits.{word_count};
 ghost use Rattle.datastream.specs.declared.wanted.Want.TheVariants.{Keep};
 ghost use Rattle.shadow.specs.InPlace.{cell_known};
-ghost use Rattle.shadow.specs.Base.{known_base, mark_off_if};
+ghost use Rattle.shadow.specs.Base.{known_base, mark_off_if, IsBase};
 ghost use Rattle.datastream.specs.Writing.{Writes, order_bytes, orders_bytes};
 ghost use Rattle.shadow.specs.Appending.{IsStorableCell, WritesSome};
 ghost use Rattle.shadow.specs.Looks.{SetUnless};
@@ -19,15 +18,17 @@ use crate::fitting::keeps_ahead;
 use crate::known::Known;
 use crate::mdt_state::MdtState;
 use crate::searching::{Search, bits_written};
-use codes3270::{Addr, Cell};
+use codes3270::{Addr, Cell, Size};
 use datastream::{CommandWriter, Memory, Want, Wanted};
 
 /// What a paint finds on the screen, once it has erased it or set marks off.
 #[derive(Drop)]
 pub(crate) struct Base<'a> {
     pub places: &'a CellBeliefs,
-    /// Else it erases.
+    /// Whether it writes over the fields that are there; else it erases.
     pub formatted: bool,
+    /// How many cells are wanted.
+    pub cells: usize,
     /// Whether it sets marks off.
     pub reset: bool,
 }
@@ -50,9 +51,9 @@ fn known_place(place: CellBelief, reset: bool) -> Known
 impl<'a> Base<'a> {
     /// What is known of the cell at an address.
     pub(crate) fn known(&self, place: usize) -> Known
-        requires { place < cell_count }
-        ensures known { result ≡ slice_index_or (known_base self.now) place result }
-        ensures whole { length (known_base self.now) ≡ cell_count }
+        requires placed { place < self.now.cells }
+        requires base { IsBase self.now }
+        ensures { result ≡ slice_index_or (known_base self.now) place result }
     {
         if self.formatted {
             known_place(self.places.get(place), self.reset)
@@ -63,19 +64,22 @@ impl<'a> Base<'a> {
 
     /// How many cells there are.
     pub(crate) fn len(&self) -> usize
-        ensures { length (known_base self.now) ≡ cell_count }
+        requires { IsBase self.now }
+        ensures cells { result ≡ self.now.cells }
+        ensures known { length (known_base self.now) ≡ result }
     {
-        self.places.len()
+        // For the contract: the places that are written over are as many.
+        let _count = self.places.len();
+        self.cells
     }
 
     /// A bit for each cell of a word, set unless the cell is known to have the character of these bytes.
     pub(crate) fn unlike(&self, bytes: &[u8], word: usize) -> u64
-        requires word { word < word_count }
-        requires whole { length bytes.now ≡ cell_count }
-        ensures { SetUnless (λ cell. slice_index_or (known_base self.now) cell (KnownChar None false) ≡ KnownChar (Some (slice_index_or bytes.now cell 0)) false) word result }
+        requires word { 64 * word ≤ self.now.cells }
+        requires whole { length bytes.now ≡ self.now.cells }
+        requires base { IsBase self.now }
+        ensures { SetUnless self.now.cells (λ cell. slice_index_or (known_base self.now) cell (KnownChar None false) ≡ KnownChar (Some (slice_index_or bytes.now cell 0)) false) word result }
     {
-        // For the contract: there is a belief for each cell.
-        let _count = self.places.len();
         if self.formatted {
             self.places.unlike(bytes, word)
         } else {
@@ -104,7 +108,7 @@ fn is_there(known: Known, cell: Cell) -> bool
 
 /// What a paint stores in a cell.
 pub(crate) fn cell_to_store(wanted: &Wanted, place: usize, known: Known) -> Option<Cell>
-    requires { place < cell_count }
+    requires { place < cells_in wanted.now.size }
     ensures stored { result ≡ cell_stored (drop (place + 1) wanted.now.cells ++ wanted.now.cells) (slice_index_or wanted.now.cells place Keep) known }
     ensures storable { IfSome result IsStorableCell }
 {
@@ -174,12 +178,12 @@ fn put_cursor(writer: &mut CommandWriter<'_>, cursor: Addr) -> Result<(), Memory
     }
 }
 
-/// The address of a place on the screen.
-fn address_of(place: u16) -> Addr
-    requires { place < cell_count }
+/// The address of a place on a screen of this size.
+fn address_of(place: u16, size: Size) -> Addr
+    requires { place < cells_in size }
     ensures { result ≡ place }
 {
-    match Addr::new(place) {
+    match Addr::new(place, size) {
         Some(address) => address,
         None => Addr::first(),
     }
@@ -192,14 +196,17 @@ pub(crate) fn put_cells(
     base: &Base<'_>,
     cursor: Addr,
 ) -> Result<(), Memory>
-    ensures { WritesSome writer.old.out writer.new.out result (orders_bytes (painting cell_count cursor None (to_store wanted.now.cells 0 wanted.now.cells (known_base base.now)))) }
+    requires base { IsBase base.now }
+    requires whole { cells_in wanted.now.size ≡ base.now.cells }
+    ensures { WritesSome writer.old.out writer.new.out result (orders_bytes (painting (cells_in wanted.now.size) cursor None (to_store wanted.now.cells 0 wanted.now.cells (known_base base.now)))) }
 {
+    let size = wanted.size();
     let mut at = None;
     let mut search = Search::new(wanted, base);
     while let Some(store) = search.next_to_store(wanted, base) {
-        let address = address_of(store.place);
+        let address = address_of(store.place, size);
         match put_store(writer, at, address, store.cell) {
-            Ok(()) => at = Some(address.next().get()),
+            Ok(()) => at = Some(address.next(size).get()),
             Err(error) => return Err(error),
         }
     }

@@ -1,20 +1,20 @@
 //! A cursor over returned fields.
-ghost use Rattle.std.specs.Prelude.{◌≡◌, ◌<◌, ◌==◌, length};
-ghost use Rattle.codes3270.specs.Size.{cell_count};
+ghost use Rattle.std.specs.Prelude.{◌≡◌, ◌<◌, ◌≤◌, ◌==◌, length};
+ghost use Rattle.codes3270.specs.Size.{most_cells};
 ghost use Rattle.shadow.specs.Belief.{next_address};
 ghost use Rattle.shadow.specs.Came.{came_of, text_at, came_past};
 ghost use Rattle.shadow.specs.Filled.{text_came, came_behind};
 ghost use Rattle.shadow.specs.Held.{text_of};
 
 use crate::cell_belief::CellBelief;
-use codes3270::CELL_COUNT;
+use codes3270::MOST_CELLS;
 use datastream::ReturnedFields;
 use std::marker::Model;
 
 /// A cursor over returned fields: the next one, and those after it. Contracts see their list.
 #[derive(Drop)]
 pub(crate) struct ReturnedCursor<'a> {
-    /// The address of the next one's first cell, `CELL_COUNT` where none is left.
+    /// The address of the next one's first cell, `MOST_CELLS` where none is left.
     first: usize,
     /// Its characters.
     text: &'a [u8],
@@ -31,13 +31,14 @@ impl<'a> Model for ReturnedCursor<'a> {
     ghost view = { λ returned_cursor. came_of returned_cursor.first returned_cursor.text.now returned_cursor.behind };
 }
 
-/// The address behind an attribute's.
-fn first_address(place: usize) -> usize
-    requires { place < cell_count }
-    ensures address { result ≡ next_address cell_count place }
-    ensures in_range { result < cell_count }
+/// The address behind an attribute's, on a screen with this many cells.
+fn first_address(place: usize, cells: usize) -> usize
+    requires placed { place < cells }
+    requires few { cells ≤ most_cells }
+    ensures address { result ≡ next_address cells place }
+    ensures in_range { result < most_cells }
 {
-    (place + 1) % CELL_COUNT
+    if place + 1 < cells { place + 1 } else { 0 }
 }
 
 /// The first of the fields that are left.
@@ -46,7 +47,7 @@ fn next_of<'a>(rest: &mut ReturnedFields<'a>) -> (usize, &'a [u8])
 {
     match rest.next() {
         Some(field) => (field.first.get() as usize, field.text),
-        None => (CELL_COUNT, &[]),
+        None => (MOST_CELLS, &[]),
     }
 }
 
@@ -68,17 +69,19 @@ impl<'a> ReturnedCursor<'a> {
     pub(crate) fn is_empty(&self) -> bool
         ensures { result ≡ (length self.now == 0) }
     {
-        self.first == CELL_COUNT
+        self.first == MOST_CELLS
     }
 
-    /// The text that came for the field whose attribute is held at a place. That field is passed then.
-    pub(crate) fn take(&mut self, held: CellBelief, place: usize) -> Option<&'a [u8]>
-        requires { place < cell_count }
-        ensures text { text_of result ≡ text_came held place self.old }
-        ensures left { self.new ≡ came_behind held place self.old }
+    /// The text that came for the field whose attribute is held at a place, on a screen with this many cells. That field is passed
+    /// then.
+    pub(crate) fn take(&mut self, held: CellBelief, place: usize, cells: usize) -> Option<&'a [u8]>
+        requires placed { place < cells }
+        requires few { cells ≤ most_cells }
+        ensures text { text_of result ≡ text_came cells held place self.old }
+        ensures left { self.new ≡ came_behind cells held place self.old }
     {
         match held {
-            CellBelief::Attr(_, _, _) => self.take_at(first_address(place)),
+            CellBelief::Attr(_, _, _) => self.take_at(first_address(place, cells)),
             CellBelief::Known(_) => None,
             CellBelief::Told(_) => None,
             CellBelief::Unknown => None,
@@ -87,7 +90,7 @@ impl<'a> ReturnedCursor<'a> {
 
     /// The text of the next field, if that begins at an address.
     fn take_at(&mut self, first: usize) -> Option<&'a [u8]>
-        requires { first < cell_count }
+        requires { first < most_cells }
         ensures text { text_of result ≡ text_at first self.old }
         ensures left { self.new ≡ came_past first self.old }
     {

@@ -1,21 +1,17 @@
 //! The search for the cells that a paint stores, 64 at a time.
 ghost use Rattle.std.specs.Prelude.{◌≡◌, ◌<◌, ◌≤◌, ◌+◌, ◌*◌, ◌/◌, ◌%◌, ℕ, IfSome, true, false, length, slice_index_or};
 ghost use Rattle.std.specs.Int.{bit_at};
-ghost use Rattle.codes3270.specs.Size.{cell_count};
-ghost use Rattle.datastream.specs.CellBits.{word_count};
+ghost use Rattle.codes3270.specs.Size.{cells_in, most_cells};
 ghost use Rattle.shadow.specs.Appending.{IsStorableCell};
-ghost use Rattle.shadow.specs.Base.{known_base};
+ghost use Rattle.shadow.specs.Base.{known_base, IsBase};
 ghost use Rattle.shadow.specs.Looks.{stored_first, stores_from, IsRight, IsSearch, SetUnless};
 
 use crate::painting::{Base, cell_to_store};
-use codes3270::{CELL_COUNT, Cell};
+use codes3270::Cell;
 use datastream::Wanted;
 
 /// How many bits a word has.
 const BITS: usize = 64;
-
-/// How many words have a bit for each cell.
-const WORDS: usize = (CELL_COUNT + BITS - 1) / BITS;
 
 /// A cell to store.
 #[derive(Clone, Copy)]
@@ -44,20 +40,18 @@ fn marked(bits: u64, place: usize, differ: bool) -> u64
 
 /// Whether two screens of bytes differ in a cell.
 fn differ(one: &[u8], other: &[u8], cell: usize) -> bool
-    requires one { length one.now ≡ cell_count }
-    requires other { length other.now ≡ cell_count }
-    ensures { result ≡ false → cell < cell_count → slice_index_or one.now cell 0 ≡ slice_index_or other.now cell 0 }
+    requires { length one.now ≡ length other.now }
+    ensures { result ≡ false → cell < length one.now → slice_index_or one.now cell 0 ≡ slice_index_or other.now cell 0 }
 {
-    cell < CELL_COUNT && one[cell] != other[cell]
+    cell < one.len() && one[cell] != other[cell]
 }
 
 /// The bytes of eight cells, or as many as are left.
 fn eight(bytes: &[u8], cell: usize) -> &[u8]
-    requires inside { cell ≤ cell_count }
-    requires whole { length bytes.now ≡ cell_count }
-    ensures { (place : ℕ) → place < 8 → cell + place < cell_count → slice_index_or result.now place 0 ≡ slice_index_or bytes.now (cell + place) 0 }
+    requires { cell ≤ length bytes.now }
+    ensures { (place : ℕ) → place < 8 → cell + place < length bytes.now → slice_index_or result.now place 0 ≡ slice_index_or bytes.now (cell + place) 0 }
 {
-    let end = (cell + 8).min(CELL_COUNT);
+    let end = (cell + 8).min(bytes.len());
     &bytes[cell..end]
 }
 
@@ -69,14 +63,13 @@ fn are_same(one: &[u8], other: &[u8]) -> bool
 
 /// The bits, with one set for each of eight cells of a word whose bytes differ.
 fn marked_eight(one: &[u8], other: &[u8], word: usize, first: usize, bits: u64) -> u64
-    requires word { word < word_count }
+    requires word { 64 * word ≤ length one.now }
     requires first { first + 8 ≤ 64 }
-    requires one { length one.now ≡ cell_count }
-    requires other { length other.now ≡ cell_count }
-    ensures here { (place : ℕ) → first ≤ place → place < first + 8 → 64 * word + place < cell_count → bit_at result place ≡ 0 → slice_index_or one.now (64 * word + place) 0 ≡ slice_index_or other.now (64 * word + place) 0 }
+    requires whole { length one.now ≡ length other.now }
+    ensures here { (place : ℕ) → first ≤ place → place < first + 8 → 64 * word + place < length one.now → bit_at result place ≡ 0 → slice_index_or one.now (64 * word + place) 0 ≡ slice_index_or other.now (64 * word + place) 0 }
     ensures others { (place : ℕ) → bit_at result place ≡ 0 → bit_at bits place ≡ 0 }
 {
-    let cell = (BITS * word + first).min(CELL_COUNT);
+    let cell = (BITS * word + first).min(one.len());
     if are_same(eight(one, cell), eight(other, cell)) {
         return bits;
     }
@@ -89,10 +82,9 @@ fn marked_eight(one: &[u8], other: &[u8], word: usize, first: usize, bits: u64) 
 
 /// A bit for each cell of a word, set where the bytes differ.
 fn bits_differing(one: &[u8], other: &[u8], word: usize) -> u64
-    requires word { word < word_count }
-    requires one { length one.now ≡ cell_count }
-    requires other { length other.now ≡ cell_count }
-    ensures { SetUnless (λ cell. slice_index_or one.now cell 0 ≡ slice_index_or other.now cell 0) word result }
+    requires word { 64 * word ≤ length one.now }
+    requires whole { length one.now ≡ length other.now }
+    ensures { SetUnless (length one.now) (λ cell. slice_index_or one.now cell 0 ≡ slice_index_or other.now cell 0) word result }
 {
     let mut bits = 0;
     for group in 0..BITS / 8 {
@@ -103,20 +95,18 @@ fn bits_differing(one: &[u8], other: &[u8], word: usize) -> u64
 
 /// The bytes of a word's cells.
 fn part(bytes: &[u8], word: usize) -> &[u8]
-    requires word { word < word_count }
-    requires whole { length bytes.now ≡ cell_count }
-    ensures { (place : ℕ) → place < 64 → 64 * word + place < cell_count → slice_index_or result.now place 0 ≡ slice_index_or bytes.now (64 * word + place) 0 }
+    requires { 64 * word ≤ length bytes.now }
+    ensures { (place : ℕ) → place < 64 → 64 * word + place < length bytes.now → slice_index_or result.now place 0 ≡ slice_index_or bytes.now (64 * word + place) 0 }
 {
     let start = BITS * word;
-    let end = (start + BITS).min(CELL_COUNT);
+    let end = (start + BITS).min(bytes.len());
     &bytes[start..end]
 }
 
 /// A bit for each cell of a word, set where its byte isn't null.
 pub(crate) fn bits_written(bytes: &[u8], word: usize) -> u64
-    requires word { word < word_count }
-    requires whole { length bytes.now ≡ cell_count }
-    ensures { SetUnless (λ cell. slice_index_or bytes.now cell 0 ≡ 0) word result }
+    requires { 64 * word ≤ length bytes.now }
+    ensures { SetUnless (length bytes.now) (λ cell. slice_index_or bytes.now cell 0 ≡ 0) word result }
 {
     let mut bits = 0;
     for place in 0..BITS {
@@ -127,18 +117,16 @@ pub(crate) fn bits_written(bytes: &[u8], word: usize) -> u64
 
 /// Whether a cell's byte isn't null.
 fn is_written(bytes: &[u8], cell: usize) -> bool
-    requires { length bytes.now ≡ cell_count }
-    ensures { result ≡ false → cell < cell_count → slice_index_or bytes.now cell 0 ≡ 0 }
+    ensures { result ≡ false → cell < length bytes.now → slice_index_or bytes.now cell 0 ≡ 0 }
 {
-    cell < CELL_COUNT && bytes[cell] != 0
+    cell < bytes.len() && bytes[cell] != 0
 }
 
 /// A bit for each cell of a word, set where the bytes differ. Mostly none do, which is seen at once.
 pub(crate) fn differing(one: &[u8], other: &[u8], word: usize) -> u64
-    requires word { word < word_count }
-    requires one { length one.now ≡ cell_count }
-    requires other { length other.now ≡ cell_count }
-    ensures { SetUnless (λ cell. slice_index_or one.now cell 0 ≡ slice_index_or other.now cell 0) word result }
+    requires word { 64 * word ≤ length one.now }
+    requires whole { length one.now ≡ length other.now }
+    ensures { SetUnless (length one.now) (λ cell. slice_index_or one.now cell 0 ≡ slice_index_or other.now cell 0) word result }
 {
     if part(one, word) == part(other, word) {
         0
@@ -163,9 +151,13 @@ fn clear_bits(bits: u64, place: usize) -> usize
 
 /// A bit for each cell of a word, set unless the cell is right.
 fn word_to_look(wanted: &Wanted, base: &Base<'_>, word: usize) -> u64
-    requires { word < word_count }
-    ensures { SetUnless (IsRight wanted.now.cells (known_base base.now)) word result }
+    requires word { 64 * word ≤ cells_in wanted.now.size }
+    requires whole { cells_in wanted.now.size ≡ base.now.cells }
+    requires base { IsBase base.now }
+    ensures { SetUnless (length wanted.now.cells) (IsRight wanted.now.cells (known_base base.now)) word result }
 {
+    // For the contract: two bytes hold each address.
+    let _size = wanted.size();
     let unlike = base.unlike(wanted.bytes(), word);
     wanted.attribute_word(word) | wanted.character_word(word) & unlike
 }
@@ -173,6 +165,8 @@ fn word_to_look(wanted: &Wanted, base: &Base<'_>, word: usize) -> u64
 impl Search {
     /// The search at the first cell.
     pub(crate) fn new(wanted: &Wanted, base: &Base<'_>) -> Search
+        requires whole { cells_in wanted.now.size ≡ base.now.cells }
+        requires base { IsBase base.now }
         ensures search { IsSearch wanted.now.cells (known_base base.now) result }
         ensures first { result.from ≡ 0 }
     {
@@ -182,25 +176,30 @@ impl Search {
         }
     }
 
-    /// The next cell to look at, or where none is left in the word, the next word's first. The screen's end where that comes first.
-    fn next_look(self) -> usize
-        requires { self.from < cell_count }
+    /// The next cell to look at, or where none is left in the word, the next word's first. The screen's end where that comes first;
+    /// the screen has this many cells.
+    fn next_look(self, cells: usize) -> usize
+        requires from { self.from < cells }
+        requires few { cells ≤ most_cells }
         ensures onward { self.from ≤ result }
-        ensures within { result ≤ cell_count }
+        ensures within { result ≤ cells }
         ensures clear { (cell : ℕ) → self.from ≤ cell → cell < result → cell / 64 ≡ self.from / 64 }
         ensures passed { (cell : ℕ) → self.from ≤ cell → cell < result → bit_at self.look (cell % 64) ≡ 0 }
     {
-        (self.from + clear_bits(self.look, self.from % BITS)).min(CELL_COUNT)
+        (self.from + clear_bits(self.look, self.from % BITS)).min(cells)
     }
 
     /// The search at another cell.
     fn at(self, wanted: &Wanted, base: &Base<'_>, cell: usize) -> Search
-        requires { IsSearch wanted.now.cells (known_base base.now) self }
+        requires search { IsSearch wanted.now.cells (known_base base.now) self }
+        requires placed { cell ≤ cells_in wanted.now.size }
+        requires whole { cells_in wanted.now.size ≡ base.now.cells }
+        requires base { IsBase base.now }
         ensures search { IsSearch wanted.now.cells (known_base base.now) result }
         ensures from { result.from ≡ cell }
     {
         let word = cell / BITS;
-        let look = if word == self.from / BITS || word >= WORDS {
+        let look = if word == self.from / BITS {
             self.look
         } else {
             word_to_look(wanted, base, word)
@@ -210,19 +209,20 @@ impl Search {
 
     /// The next cell to store.
     pub(crate) fn next_to_store(&mut self, wanted: &Wanted, base: &Base<'_>) -> Option<ToStore>
-        requires { IsSearch wanted.now.cells (known_base base.now) self.old }
+        requires search { IsSearch wanted.now.cells (known_base base.now) self.old }
+        requires whole { cells_in wanted.now.size ≡ base.now.cells }
+        requires base { IsBase base.now }
         ensures search { IsSearch wanted.now.cells (known_base base.now) self.new }
         ensures left { stores_from wanted.now.cells (known_base base.now) self.old.from ≡ stored_first result (stores_from wanted.now.cells (known_base base.now) self.new.from) }
-        ensures placed { IfSome result (λ store. store.place < cell_count) }
+        ensures placed { IfSome result (λ store. store.place < cells_in wanted.now.size) }
         ensures storable { IfSome result (λ store. IsStorableCell store.cell) }
     {
-        // For the contract: there is a want for each cell.
-        let _bytes = wanted.bytes();
-        // For the contract: there is a belief for each cell.
-        let _count = base.len();
-        while self.from < CELL_COUNT {
-            let place = self.next_look();
-            if place == CELL_COUNT {
+        // For the contract: there is a want for each cell, and two bytes hold each address.
+        let _size = wanted.size();
+        let cells = base.len();
+        while self.from < cells {
+            let place = self.next_look(cells);
+            if place == cells {
                 return None;
             }
             let cell = cell_to_store(wanted, place, base.known(place));

@@ -1,13 +1,14 @@
 //! A plain write, on the places where they stand.
-ghost use Rattle.std.specs.Prelude.{◌≡◌, ◌<◌, ◌+◌, ◌++◌, ◌∷◌, true, false, List, Some, None, length, map, drop, slice_index_or, slice_set, unwrap_or, if◌then◌else◌};
-ghost use Rattle.codes3270.specs.Size.{cell_count};
+ghost use Rattle.std.specs.Prelude.{◌≡◌, ◌<◌, ◌+◌, ◌++◌, ◌∷◌, true, false, All, List, Some, None, length, map, replicate, drop, slice_index_or, slice_set, unwrap_or, if◌then◌else◌};
+ghost use Rattle.codes3270.specs.Size.{cells_in};
+ghost use Rattle.datastream.specs.Grammar.{IsProper};
 ghost use Rattle.datastream.specs.declared.order.Order.{Order as PlainOrder};
 ghost use Rattle.shadow.specs.declared.known.Known.{Known as KnownCell};
 ghost use Rattle.shadow.specs.declared.cell_belief.CellBelief.{CellBelief as Held};
-ghost use Rattle.shadow.specs.declared.cell_belief.CellBelief.TheVariants.{Unknown};
+ghost use Rattle.shadow.specs.declared.cell_belief.CellBelief.TheVariants.{Unknown, Known as KnownPlace};
 ghost use Rattle.shadow.specs.declared.cell_belief.BeforeWrite.{BeforeWrite as PriorCell};
 ghost use Rattle.shadow.specs.InPlace.{cell_known, cells_known, beliefs_held, shadow_held, IsHeld};
-ghost use Rattle.shadow.specs.Since.{place_stored, place_off, knowledge_of, never, cells_written, Since, is_touched, knowledge_after as telling_then, place_settled, settled};
+ghost use Rattle.shadow.specs.Since.{place_stored, place_off, knowledge_of, never, stored_past, cells_written, Since, is_touched, knowledge_after as telling_then, place_settled, settled};
 ghost use Rattle.shadow.specs.Stores.{is_plain, stores};
 ghost use Rattle.shadow.specs.Taken.{believed, known_after, known_stored, new_cell, resets as resets_marks, taken_erase};
 
@@ -15,7 +16,7 @@ use crate::cell_belief::{BeforeWrite, CellBelief, NO_FIELD, PriorKnowledge, Text
 use crate::cell_beliefs::CellBeliefs;
 use crate::mdt_state::MdtState;
 use crate::writing::{mark_seen, resets};
-use codes3270::{Addr, CELL_COUNT, Cell, Wcc};
+use codes3270::{Addr, Cell, MOST_CELLS, Size, Wcc};
 use datastream::{Command, Order, Orders};
 
 /// A place in which a cell was stored, or read.
@@ -54,30 +55,29 @@ fn past_of(place: CellBelief) -> BeforeWrite
     }
 }
 
-/// What the places are before a write.
-fn pasts_of(places: &CellBeliefs) -> [BeforeWrite; CELL_COUNT]
-    ensures since { Since places.now places.now result }
-    ensures cells { cells_written places.now result ≡ cells_known places.now }
-    ensures size { length result ≡ cell_count }
+/// Notes what the places are before a write.
+fn note_pasts(places: &CellBeliefs, pasts: &mut [BeforeWrite])
+    requires { pasts.old ≡ replicate (length places.now) never }
+    ensures since { Since places.now places.now pasts.new }
+    ensures cells { cells_written places.now pasts.new ≡ cells_known places.now }
+    ensures size { length pasts.new ≡ length places.now }
 {
-    let mut pasts = [BeforeWrite {
-        knowledge: NO_FIELD,
-        fresh: false,
-    }; CELL_COUNT];
+    let cells = places.len();
     let mut place = places.attribute_from(0);
-    while place < CELL_COUNT {
+    while place < cells {
         pasts[place] = past_of(places.get(place));
         place = places.attribute_from(place + 1);
     }
-    pasts
 }
 
 /// Stores a cell.
 fn put(places: &mut CellBeliefs, pasts: &mut [BeforeWrite], at: Addr, cell: Cell)
-    requires { length pasts.old ≡ cell_count }
+    requires placed { at < length places.old }
+    requires size { length pasts.old ≡ length places.old }
     ensures cells { cells_written places.new pasts.new ≡ slice_set (cells_written places.old pasts.old) at (new_cell cell) }
     ensures since { (old : List Held) → Since old places.old pasts.old → Since old places.new pasts.new }
-    ensures size { length pasts.new ≡ cell_count }
+    ensures size { length pasts.new ≡ length places.new }
+    ensures same_size { length places.new ≡ length places.old }
 {
     let place = at.get() as usize;
     places.set(place, place_of(cell));
@@ -87,21 +87,32 @@ fn put(places: &mut CellBeliefs, pasts: &mut [BeforeWrite], at: Addr, cell: Cell
     };
 }
 
-/// Carries out an order at an address, and answers the next address.
-fn store_one(places: &mut CellBeliefs, pasts: &mut [BeforeWrite], at: Addr, order: Order) -> Addr
-    requires { length pasts.old ≡ cell_count }
-    ensures cells { (more : List PlainOrder) → known_stored (stores cell_count at (order ∷ more)) (cells_written places.old pasts.old) ≡ known_stored (stores cell_count result more) (cells_written places.new pasts.new) }
+/// Carries out an order at an address, on a screen of this size, and answers the next address.
+fn store_one(
+    places: &mut CellBeliefs,
+    pasts: &mut [BeforeWrite],
+    at: Addr,
+    order: Order,
+    size: Size,
+) -> Addr
+    requires placed { at < cells_in size }
+    requires proper { IsProper (cells_in size) order }
+    requires whole { length places.old ≡ cells_in size }
+    requires size { length pasts.old ≡ length places.old }
+    ensures cells { (more : List PlainOrder) → known_stored (stores (cells_in size) at (order ∷ more)) (cells_written places.old pasts.old) ≡ known_stored (stores (cells_in size) result more) (cells_written places.new pasts.new) }
     ensures since { (old : List Held) → Since old places.old pasts.old → Since old places.new pasts.new }
-    ensures size { length pasts.new ≡ cell_count }
+    ensures size { length pasts.new ≡ length places.new }
+    ensures same_size { length places.new ≡ length places.old }
+    ensures in_range { result < cells_in size }
 {
     match order {
         Order::Sf(attr) => {
             put(places, pasts, at, Cell::Attr(attr));
-            at.next()
+            at.next(size)
         }
         Order::Char(char) => {
             put(places, pasts, at, Cell::Char(char));
-            at.next()
+            at.next(size)
         }
         Order::Sba(to) => to,
         Order::Ic => at,
@@ -111,16 +122,21 @@ fn store_one(places: &mut CellBeliefs, pasts: &mut [BeforeWrite], at: Addr, orde
     }
 }
 
-/// Stores what the orders store.
-fn store(places: &mut CellBeliefs, pasts: &mut [BeforeWrite], orders: Orders<'_>)
-    requires { length pasts.old ≡ cell_count }
-    ensures cells { cells_written places.new pasts.new ≡ known_stored (stores cell_count 0 orders.entry) (cells_written places.old pasts.old) }
+/// Stores what the orders store, on a screen of this size.
+fn store(places: &mut CellBeliefs, pasts: &mut [BeforeWrite], orders: Orders<'_>, size: Size)
+    requires proper { All (IsProper (cells_in size)) orders }
+    requires whole { length places.old ≡ cells_in size }
+    requires size { length pasts.old ≡ length places.old }
+    ensures cells { cells_written places.new pasts.new ≡ known_stored (stores (cells_in size) 0 orders.entry) (cells_written places.old pasts.old) }
     ensures since { (old : List Held) → Since old places.old pasts.old → Since old places.new pasts.new }
-    ensures size { length pasts.new ≡ cell_count }
+    ensures size { length pasts.new ≡ length places.new }
+    ensures same_size { length places.new ≡ length places.old }
 {
+    // For the contract: the screen has a first cell.
+    let _cells = size.cells();
     let mut at = Addr::first();
     for order in orders {
-        at = store_one(places, pasts, at, order);
+        at = store_one(places, pasts, at, order, size);
     }
 }
 
@@ -137,7 +153,8 @@ fn with_mark_off(place: CellBelief) -> CellBelief
 
 /// Sets what is known of each attribute's MDT to off.
 fn marks_off(places: &mut CellBeliefs)
-    ensures { places.new ≡ map place_off places.old }
+    ensures marks { places.new ≡ map place_off places.old }
+    ensures size { length places.new ≡ length places.old }
 {
     for index in 0..places.len() {
         let place = places.get(index);
@@ -147,7 +164,8 @@ fn marks_off(places: &mut CellBeliefs)
 
 /// Sets what is known of each attribute's MDT to off, if the write resets MDT.
 fn reset_marks(places: &mut CellBeliefs, wcc: Option<Wcc>)
-    ensures { places.new ≡ (if resets_marks wcc then map place_off places.old else places.old) }
+    ensures marks { places.new ≡ (if resets_marks wcc then map place_off places.old else places.old) }
+    ensures size { length places.new ≡ length places.old }
 {
     if resets(wcc) {
         marks_off(places);
@@ -175,8 +193,8 @@ fn fresh_touch(past: BeforeWrite) -> Option<bool>
 
 /// Whether the field of an attribute was touched.
 fn is_field_touched(places: &CellBeliefs, pasts: &[BeforeWrite], place: usize) -> bool
-    requires placed { place < cell_count }
-    requires size { length pasts.now ≡ cell_count }
+    requires placed { place < length places.now }
+    requires size { length pasts.now ≡ length places.now }
     ensures { let cells = cells_written places.now pasts.now in
         result ≡ is_touched (drop (place + 1) cells ++ cells) (drop (place + 1) pasts.now ++ pasts.now) }
 {
@@ -207,8 +225,8 @@ fn knowledge_after(past: BeforeWrite, touched: bool) -> TextKnowledge
 
 /// A place after the write.
 fn settled_at(places: &CellBeliefs, pasts: &[BeforeWrite], at: usize) -> CellBelief
-    requires placed { at < cell_count }
-    requires size { length pasts.now ≡ cell_count }
+    requires placed { at < length places.now }
+    requires size { length pasts.now ≡ length places.now }
     ensures { let cells = cells_written places.now pasts.now in
         result ≡ place_settled (slice_index_or places.now at Unknown) (slice_index_or pasts.now at never) (is_touched (drop (at + 1) cells ++ cells) (drop (at + 1) pasts.now ++ pasts.now)) }
 {
@@ -226,41 +244,75 @@ fn settled_at(places: &CellBeliefs, pasts: &[BeforeWrite], at: usize) -> CellBel
 
 /// Lets each attribute tell its field as it is after the write.
 fn settle(places: &mut CellBeliefs, pasts: &[BeforeWrite])
-    requires { length pasts.now ≡ cell_count }
-    ensures { places.new ≡ settled (cells_written places.old pasts.now) pasts.now places.old pasts.now }
+    requires { length pasts.now ≡ length places.old }
+    ensures size { length places.new ≡ length places.old }
+    ensures settled { places.new ≡ settled (cells_written places.old pasts.now) pasts.now places.old pasts.now }
 {
+    let cells = places.len();
     let mut at = places.attribute_from(0);
-    while at < CELL_COUNT {
+    while at < cells {
         let place = settled_at(places, pasts, at);
         places.set(at, place);
         at = places.attribute_from(at + 1);
     }
 }
 
+/// Carries out a write that doesn't erase. Nothing is noted yet of the places before it.
+fn write_noting(places: &mut CellBeliefs, pasts: &mut [BeforeWrite], command: &Command<'_>)
+    requires held { IsHeld places.old }
+    requires size { cells_in command.now.size ≡ length places.old }
+    requires pasts { pasts.old ≡ replicate (length places.old) never }
+    ensures shadow { shadow_held true places.new ≡ believed (beliefs_held places.old 0 places.old) (known_after (length places.old) command.now.wcc command.now.orders (cells_known places.old)) }
+    ensures held { IsHeld places.new }
+    ensures size { length places.new ≡ length places.old }
+{
+    note_pasts(places, pasts);
+    reset_marks(places, command.wcc());
+    store(places, pasts, command.orders(), command.size());
+    settle(places, pasts);
+}
+
 /// Carries out a write that doesn't erase.
 pub(crate) fn write_over(places: &mut CellBeliefs, command: &Command<'_>)
-    requires { IsHeld places.old }
-    ensures shadow { shadow_held true places.new ≡ believed (beliefs_held places.old 0 places.old) (known_after cell_count command.now.wcc command.now.orders (cells_known places.old)) }
+    requires held { IsHeld places.old }
+    requires size { cells_in command.now.size ≡ length places.old }
+    ensures shadow { shadow_held true places.new ≡ believed (beliefs_held places.old 0 places.old) (known_after (length places.old) command.now.wcc command.now.orders (cells_known places.old)) }
     ensures held { IsHeld places.new }
-    ensures whole { length places.old ≡ cell_count }
+    ensures size { length places.new ≡ length places.old }
 {
-    let mut pasts = pasts_of(places);
-    reset_marks(places, command.wcc());
-    store(places, &mut pasts, command.orders());
-    settle(places, &pasts);
+    let cells = places.len();
+    let mut pasts = [BeforeWrite {
+        knowledge: NO_FIELD,
+        fresh: false,
+    }; MOST_CELLS];
+    write_noting(places, &mut pasts[..cells], command);
+}
+
+/// Carries out a write on nulls, all of which count as stored.
+fn write_on_nulls(places: &mut CellBeliefs, pasts: &mut [BeforeWrite], command: &Command<'_>)
+    requires plain { is_plain command.now ≡ true }
+    requires nulls { places.old ≡ replicate (cells_in command.now.size) (KnownPlace 0) }
+    requires pasts { pasts.old ≡ replicate (cells_in command.now.size) stored_past }
+    ensures shadow { shadow_held true places.new ≡ taken_erase command.now }
+    ensures held { IsHeld places.new }
+    ensures size { length places.new ≡ cells_in command.now.size }
+{
+    store(places, pasts, command.orders(), command.size());
+    settle(places, pasts);
 }
 
 /// Carries out a write that erases.
 pub(crate) fn erase_over(places: &mut CellBeliefs, command: &Command<'_>)
     requires { is_plain command.now ≡ true }
-    ensures shadow { shadow_held true places.new ≡ taken_erase cell_count command.now }
+    ensures shadow { shadow_held true places.new ≡ taken_erase command.now }
     ensures held { IsHeld places.new }
+    ensures size { length places.new ≡ cells_in command.now.size }
 {
-    places.fill(CellBelief::Known(0));
+    places.clear(command.size());
+    let cells = places.len();
     let mut pasts = [BeforeWrite {
         knowledge: NO_FIELD,
         fresh: true,
-    }; CELL_COUNT];
-    store(places, &mut pasts, command.orders());
-    settle(places, &pasts);
+    }; MOST_CELLS];
+    write_on_nulls(places, &mut pasts[..cells], command);
 }

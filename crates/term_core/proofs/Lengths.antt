@@ -3,7 +3,7 @@ use Rattle.std.proofs.Common.{◌≡◌, ℕ, ◌+◌, ◌*◌, ◌≤◌, not, 
 use Rattle.std.specs.List.{flat_map, list_all, sum_by, Contains}
 use Rattle.std.proofs.lemmas.List.Concat.{flat_map-cons}
 use Rattle.std.proofs.lemmas.List.Sums.{sum_by-cons}
-use Rattle.codes3270.specs.Size.{cell_count}
+use Rattle.codes3270.specs.Size.{most_cells}
 use Rattle.codes3270.specs.declared.attribute.Cell.{Cell}
 use Rattle.codes3270.specs.declared.attribute.Cell.TheVariants.{Char, Attr}
 use Rattle.codes3270.specs.Aid.{is_short_aid, byte_of_aid}
@@ -103,13 +103,13 @@ short_or_long : (short : Bool) (aid : ℕ) (behind : List ℕ) (room : ℕ) → 
 short_or_long true aid behind room fit = omega arith
 short_or_long false aid behind room fit = omega arith
 
-pub read_modified_fits : FieldsAscend → FieldsAreListed → FieldsTakeAll → (screen : Screen) → length screen.cells ≡ cell_count
+pub read_modified_fits : FieldsAscend → FieldsAreListed → FieldsTakeAll → (screen : Screen) → length screen.cells ≤ most_cells
     → (all : Bool) → length (read_modified all screen) ≤ longest_reading
-read_modified_fits ascend listed whole screen size all =
+read_modified_fits ascend listed whole screen few all =
     let text : length (modified_text screen.cells) ≤ 3 * length screen.cells = modified_text_fits ascend listed whole screen.cells (list_all is_char screen.cells) refl in
     let behind : length (address_bytes screen.cursor ++ modified_text screen.cells) ≤ 2 + 3 * length screen.cells = omega (arith, text) in
     let fits = short_or_long (is_short_aid screen.aid && not all) (byte_of_aid screen.aid) (address_bytes screen.cursor ++ modified_text screen.cells) (2 + 3 * length screen.cells) behind in
-    omega (arith, fits, size)
+    omega (arith, fits, few)
 
-pub read_buffer_fits : (screen : Screen) → length screen.cells ≡ cell_count → length (read_buffer screen) ≤ longest_reading
-read_buffer_fits screen size = omega (arith, cells_fit screen.cells, size)
+pub read_buffer_fits : (screen : Screen) → length screen.cells ≤ most_cells → length (read_buffer screen) ≤ longest_reading
+read_buffer_fits screen few = omega (arith, cells_fit screen.cells, few)

@@ -1,12 +1,14 @@
 -- What a record, an item, a byte and bytes make of a terminal is determined.
 use Rattle.std.proofs.Common.{◌≡◌, ℕ, List, [], ◌∷◌, ◌++◌, sym, ◌∙◌, ap, subst, refl, Option}
-use Rattle.datastream.specs.Grammar.{CommandParts, IsCommand, IsNoCommand}
+use Rattle.codes3270.specs.Size.{alternate_of}
+use Rattle.datastream.specs.Grammar.{CommandParts}
 use Rattle.datastream.specs.declared.fault.CommandFault.{CommandFault}
 use Rattle.datastream.proofs.Commands.{one_command, command_or_fault, one_command_fault}
 use Rattle.telnet_wire.specs.declared.wire.WireFault.{WireFault}
 use Rattle.telnet_wire.specs.Items.{WireItem, Record, Opt, Sub, Other, sent_bytes}
 use Rattle.telnet_wire.specs.Reading.{Rest, Delivers, GoesWrong}
 use Rattle.telnet_wire.specs.Laws.{OneDelivery, WrongIsFinal}
+use Rattle.codes3270.specs.declared.size.Model.{Model}
 use Rattle.tn3270e_msg.specs.declared.cause.Cause.{Cause}
 use Rattle.tn3270e_msg.specs.declared.header.Header.{Header}
 use Rattle.tn3270e_msg.specs.declared.reply.Reply.{Reply}
@@ -19,7 +21,7 @@ use Rattle.tn3270e_msg.specs.Header.{record_limit}
 use Rattle.term_core.specs.State.{Station, Terminal, Link, Attached}
 use Rattle.datastream.specs.Senses.{sense_of}
 use Rattle.term_core.specs.declared.outcome.Outcome.TheVariants.{Refused}
-use Rattle.term_core.specs.Records.{TakesRecord, refused_response, answer_of, obeyed}
+use Rattle.term_core.specs.Records.{TakesRecord, SpellsCommand, SpellsNoCommand, refused_response, answer_of, obeyed}
 use Rattle.term_core.specs.Items.{TakesItem, TakesItemIn, TalksOn}
 use Rattle.term_core.specs.Bytes.{TakesByte, TakesBytes, before_byte, link_after}
 use Rattle.term_core.specs.Laws.{OneOutcome, PiecesCompose, PiecesPart}
@@ -59,7 +61,7 @@ module _ (one_header : OneHeader) (fault_or_header : FaultIsNoHeader) (one_heari
       absurd (k' (ap (λ (h : Header). h.kind) (sym (one_header bytes header header' body body' begins begins').0) ∙ k))
   one_record old bytes says others closes ends new other (TakesRecord.refused header body fault begins k bad a b c) (TakesRecord.refused header' body' fault' begins' k' bad' d e h) =
       let both = one_header bytes header header' body body' begins begins' in
-      let faults = one_command_fault fault fault' body bad (subst (λ (b : List ℕ). IsNoCommand fault' b) (sym both.1) bad') in
+      let faults = one_command_fault old.screen.size (alternate_of old.screen.model) fault fault' body bad (subst (λ (b : List ℕ). SpellsNoCommand old fault' b) (sym both.1) bad') in
       record {
         said = a ∙ ap (λ (h : Header). refused_response h.flag h.seq (Refused (sense_of fault))) both.0 ∙ ap (λ (f : CommandFault). refused_response header'.flag header'.seq (Refused (sense_of f))) faults ∙ sym d;
         closed = b ∙ sym e;
@@ -67,33 +69,36 @@ module _ (one_header : OneHeader) (fault_or_header : FaultIsNoHeader) (one_heari
       }
   one_record old bytes says others closes ends new other (TakesRecord.refused header body fault begins k bad a b c) (TakesRecord.obeys header' body' command begins' k' good d e h) =
       let both = one_header bytes header header' body body' begins begins' in
-      absurd (command_or_fault command fault body (subst (λ (b : List ℕ). IsCommand command b) (sym both.1) good) bad)
+      absurd (command_or_fault old.screen.size (alternate_of old.screen.model) command fault body (subst (λ (b : List ℕ). SpellsCommand old command b) (sym both.1) good) bad)
   one_record old bytes says others closes ends new other (TakesRecord.obeys header body command begins k right a b c) (TakesRecord.no_header f has d e h) =
       absurd (fault_or_header bytes f header body has begins)
   one_record old bytes says others closes ends new other (TakesRecord.obeys header body command begins k right a b c) (TakesRecord.dropped header' body' begins' k' d e h) =
       absurd (k' (ap (λ (h : Header). h.kind) (sym (one_header bytes header header' body body' begins begins').0) ∙ k))
   one_record old bytes says others closes ends new other (TakesRecord.obeys header body command begins k right a b c) (TakesRecord.refused header' body' fault begins' k' bad d e h) =
       let both = one_header bytes header header' body body' begins begins' in
-      absurd (command_or_fault command fault body right (subst (λ (b : List ℕ). IsNoCommand fault b) (sym both.1) bad))
+      absurd (command_or_fault old.screen.size (alternate_of old.screen.model) command fault body right (subst (λ (b : List ℕ). SpellsNoCommand old fault b) (sym both.1) bad))
   one_record old bytes says others closes ends new other (TakesRecord.obeys header body command begins k right a b c) (TakesRecord.obeys header' body' command' begins' k' right' d e h) =
       let both = one_header bytes header header' body body' begins begins' in
-      let commands = one_command command command' body right (subst (λ (b : List ℕ). IsCommand command' b) (sym both.1) right') in
+      let commands = one_command old.screen.size (alternate_of old.screen.model) command command' body right (subst (λ (b : List ℕ). SpellsCommand old command' b) (sym both.1) right') in
       record {
         said = a ∙ ap (λ (h : Header). answer_of h command old) both.0 ∙ ap (λ (x : CommandParts). answer_of header' x old) commands ∙ sym d;
         closed = b ∙ sym e;
         left = c ∙ ap (λ (x : CommandParts). obeyed x old) commands ∙ sym h;
       }
 
-  term_same : (a b : Term) → a.wanted ≡ b.wanted → a.talk ≡ b.talk → a ≡ b
-  term_same a b wanted talk = ap (λ (w : Option (List ℕ)). record { wanted = w; talk = a.talk }) wanted ∙ ap (λ (t : Talk TermState). record { wanted = b.wanted; talk = t }) talk
+  term_same : (a b : Term) → a.model ≡ b.model → a.wanted ≡ b.wanted → a.talk ≡ b.talk → a ≡ b
+  term_same a b model wanted talk =
+      ap (λ (m : Model). record { model = m; wanted = a.wanted; talk = a.talk }) model
+      ∙ ap (λ (w : Option (List ℕ)). record { model = b.model; wanted = w; talk = a.talk }) wanted
+      ∙ ap (λ (t : Talk TermState). record { model = b.model; wanted = b.wanted; talk = t }) talk
 
   one_reply : (talk after other : Term) (item : WireItem) (reply answer : Reply) → TermTakes talk item reply after → TermTakes talk item answer other
       → (after ≡ other) × (reply ≡ answer)
   one_reply talk after other item reply answer first second =
       let heard = one_hearing item first.comes second.comes first.hears second.hears in
       let both : (after.talk, reply) ≡ (other.talk, answer) =
-      first.gives ∙ ap (λ comes. follow at.Closed talk.talk (term_transition talk.wanted talk.talk.state comes)) heard ∙ sym second.gives in
-      (term_same after other (first.wanted ∙ sym second.wanted) (ap (λ (p : Talk TermState × Reply). p.0) both), ap (λ (p : Talk TermState × Reply). p.1) both)
+      first.gives ∙ ap (λ comes. follow at.Closed talk.talk (term_transition talk.model talk.wanted talk.talk.state comes)) heard ∙ sym second.gives in
+      (term_same after other (first.model ∙ sym second.model) (first.wanted ∙ sym second.wanted) (ap (λ (p : Talk TermState × Reply). p.0) both), ap (λ (p : Talk TermState × Reply). p.1) both)
 
   one_talk : (talk after other : Term) (old new new' : Station) (item : WireItem) (says others : List WireItem) (closes ends : Option Cause)
       → TalksOn talk old item says closes after new → TalksOn talk old item others ends other new'

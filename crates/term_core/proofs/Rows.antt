@@ -1,7 +1,8 @@
 -- Rows of glyphs, one more at a time.
-use Rattle.std.proofs.Common.{◌≡◌, ℕ, ◌+◌, ◌<◌, ◌≤◌, ◌-◌, ◌==◌, Bool, true, false, List, [], ◌∷◌, ◌++◌, length, take, drop, get_or, map, replicate, suc, zero, arith, sym, ◌∙◌, ap, refl, append_assoc, add-one}
+use Rattle.std.proofs.Common.{◌≡◌, ℕ, ◌+◌, ◌*◌, ◌<◌, ◌≤◌, ◌-◌, ◌==◌, Bool, true, false, List, [], ◌∷◌, ◌++◌, length, take, drop, get_or, map, replicate, suc, zero, arith, sym, ◌∙◌, ap, refl, append_assoc, add-one}
 use Rattle.std.specs.Prelude.{Option, Some, None, unwrap_or, MatchOption, Result, Ok, Err, OnOk, is_ok, if◌then◌else◌}
 use Rattle.std.specs.List.{flat_map, range_with_len}
+use Rattle.std.proofs.Math.Nat.{mul-le-mul_right}
 use Rattle.std.specs.Char.{encode_utf8}
 use Rattle.std.proofs.lemmas.Grind.{flat_map-append}
 use Rattle.std.proofs.lemmas.List.{append-nil, replicate-append-replicate, drop_more, drop-drop, length-drop}
@@ -110,17 +111,24 @@ enough_left all gone width within = rw (length-drop gone all) (omega arith)
 pub gone_more : (all : List ℕ) (gone width next : ℕ) → gone + width ≡ next → drop width (drop gone all) ≡ drop next all
 gone_more all gone width next is = drop-drop width gone all ∙ ap (λ (count : ℕ). drop count all) is
 
-pub no_lines : (cells : List Cell) → lines cells 0 ≡ []
+pub no_lines : (columns : ℕ) (cells : List Cell) → lines columns cells 0 ≡ []
 unfolding lines
-no_lines cells = refl
+no_lines columns cells = refl
 
-pub lines_more : (cells : List Cell) (count : ℕ) → lines cells (count + 1) ≡ lines cells count ++ line cells count
+pub lines_more : (columns : ℕ) (cells : List Cell) (count : ℕ) → lines columns cells (count + 1) ≡ lines columns cells count ++ line columns cells count
 unfolding lines
-lines_more cells count = rw add-one refl
+lines_more columns cells count = rw add-one refl
 
 -- a line more
-pub listed_more : (before now after : List ℕ) (cells : List Cell) (row : ℕ) → now ≡ before ++ lines cells row → after ≡ now ++ line cells row
-    → after ≡ before ++ lines cells (row + 1)
-listed_more before now after cells row so_far more =
-    more ∙ ap (λ (bytes : List ℕ). bytes ++ line cells row) so_far ∙ append_assoc before (lines cells row) (line cells row)
-    ∙ ap (λ (bytes : List ℕ). before ++ bytes) (sym (lines_more cells row))
+pub listed_more : (before now after : List ℕ) (columns : ℕ) (cells : List Cell) (row : ℕ) → now ≡ before ++ lines columns cells row → after ≡ now ++ line columns cells row
+    → after ≡ before ++ lines columns cells (row + 1)
+listed_more before now after columns cells row so_far more =
+    more ∙ ap (λ (bytes : List ℕ). bytes ++ line columns cells row) so_far ∙ append_assoc before (lines columns cells row) (line columns cells row)
+    ∙ ap (λ (bytes : List ℕ). before ++ bytes) (sym (lines_more columns cells row))
+
+-- the cells of a row are among those of the screen
+pub row_within : (rows columns row : ℕ) → row < rows → row * columns + columns ≤ rows * columns
+row_within rows columns row lower =
+    let next : (row + 1) * columns ≤ rows * columns = mul-le-mul_right columns (omega (arith, lower)) in
+    let more : (row + 1) * columns ≡ row * columns + columns = omega arith in
+    omega (arith, next, more)

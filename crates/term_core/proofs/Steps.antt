@@ -4,7 +4,7 @@ use Rattle.std.proofs.lemmas.List.{append-nil, take_more}
 use Rattle.std.proofs.lemmas.Bool.{ne_eqb}
 use Rattle.std.specs.Borrow.{Bor}
 use Rattle.std.specs.declared.alloc.Global.{Global}
-use Rattle.datastream.specs.Grammar.{CommandParts, IsCommand, IsNoCommand}
+use Rattle.datastream.specs.Grammar.{CommandParts}
 use Rattle.datastream.specs.declared.fault.CommandFault.{CommandFault}
 use Rattle.telnet_wire.specs.declared.wire.Step.TheVariants.{More}
 use Rattle.telnet_wire.specs.declared.wire.WireFault.{WireFault}
@@ -29,7 +29,7 @@ use Rattle.term_core.specs.declared.outcome.Outcome.{Outcome}
 use Rattle.term_core.specs.Says.{response}
 use Rattle.datastream.specs.Senses.{sense_of}
 use Rattle.term_core.specs.declared.outcome.Outcome.TheVariants.{Refused}
-use Rattle.term_core.specs.Records.{TakesRecord, refused_response, answer_of, obeyed}
+use Rattle.term_core.specs.Records.{TakesRecord, SpellsCommand, SpellsNoCommand, refused_response, answer_of, obeyed}
 use Rattle.term_core.specs.Items.{TakesItem, TakesItemIn, TalksOn}
 use Rattle.term_core.specs.Bytes.{TakesByte, TakesBytes, before_byte, link_after}
 use Rattle.term_core.specs.Over.{RecordTaken, ItemTaken, IsRunning, IsLeft, IsSound, terminal_of}
@@ -52,14 +52,14 @@ of_another_type old bytes out header body begins other =
     record { says = []; takes = TakesRecord.dropped header body begins other refl refl refl; sent = none_sent out.items }
 
 pub with_fault : (old : Station) (bytes : List ℕ) (before after : Vec ℕ Global) (header : Header) (body : List ℕ) (fault : CommandFault)
-    → Begins bytes header body → header.kind ≡ Data3270 → IsNoCommand fault body
+    → Begins bytes header body → header.kind ≡ Data3270 → SpellsNoCommand old fault body
     → after.items ≡ before.items ++ sent_bytes (refused_response header.flag header.seq (Refused (sense_of fault)))
     → RecordTaken old bytes before after None old
 with_fault old bytes before after header body fault begins kind wrong sent =
     record { says = refused_response header.flag header.seq (Refused (sense_of fault)); takes = TakesRecord.refused header body fault begins kind wrong refl refl refl; sent = sent }
 
 pub with_command : (old new : Station) (bytes : List ℕ) (before after : Vec ℕ Global) (header : Header) (body : List ℕ) (command : CommandParts)
-    → Begins bytes header body → header.kind ≡ Data3270 → IsCommand command body → new ≡ obeyed command old
+    → Begins bytes header body → header.kind ≡ Data3270 → SpellsCommand old command body → new ≡ obeyed command old
     → after.items ≡ before.items ++ sent_bytes (answer_of header command old)
     → RecordTaken old bytes before after None new
 with_command old new bytes before after header body command begins kind right done sent =

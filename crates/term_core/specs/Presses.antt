@@ -1,7 +1,6 @@
 -- What a terminal makes of a key: keyboard and screen change as GA23-0059-07 says on the keyboard, and what a key sends goes in
 -- a record (RFC 1647, section 8). That a terminal which isn't bound sends nothing is our profile.
 use Rattle.std.specs.Prelude.{◌≡◌, ◌<◌, ◌+◌, ℕ, Bool, true, false, List, ◌++◌, Option, None, Some, length}
-use Rattle.codes3270.specs.Size.{columns}
 use Rattle.datastream.specs.Screen.{Screen}
 use Rattle.datastream.specs.Inbound.{read_modified}
 use Rattle.keyboard.specs.Keys.{Outcome, pressed}
@@ -22,7 +21,7 @@ data_pressed bound Done screen = None
 data_pressed bound (Refused why) screen = None
 
 abbrev pub key_outcome : Key → Station → Outcome
-key_outcome key station = pressed columns key station.keyboard station.screen
+key_outcome key station = pressed station.screen.size.columns key station.keyboard station.screen.screen
 
 -- what a key makes of a station, and what is sent
 abbrev pub data_of_key : Key → Bool → Station → Option (List ℕ)
@@ -33,7 +32,7 @@ data_of_key key bound old =
 abbrev pub station_after_key : Key → Bool → Station → Station
 station_after_key key bound old =
     let outcome = key_outcome key old in
-    numbered (data_of_key key bound old) (record old { screen = outcome.screen; keyboard = outcome.keyboard })
+    numbered (data_of_key key bound old) (record old { screen = record old.screen { screen = outcome.screen }; keyboard = outcome.keyboard })
 
 abbrev pub says_of_key : Key → Bool → Station → List WireItem
 says_of_key key bound old = data_sent old.number (data_of_key key bound old)

@@ -1,15 +1,16 @@
 -- What a terminal makes of a record, once it is bound (RFC 1647, sections 8.1 and 10.4; for what a command does and which
 -- data it gets GA23-0059-07, "3270 Data Stream Commands"; the refusals of commands are our profile).
 use Rattle.std.specs.Prelude.{◌≡◌, ◌≢◌, ◌==◌, ◌&&◌, ℕ, Bool, true, false, List, [], ◌∷◌, ◌++◌, Option, None, Some, if◌then◌else◌}
+use Rattle.codes3270.specs.Size.{alternate_of}
 use Rattle.datastream.specs.Screen.{Screen}
 use Rattle.datastream.specs.Grammar.{CommandParts, IsCommand, IsNoCommand, is_write}
-use Rattle.datastream.specs.Meaning.{after_command}
 use Rattle.datastream.specs.Inbound.{read_modified, read_buffer}
 use Rattle.datastream.specs.declared.command_code.CommandCode.{CommandCode}
 use Rattle.datastream.specs.declared.command_code.CommandCode.TheVariants.{Write, EraseWrite, EraseWriteAlternate, ReadBuffer, ReadModified, ReadModifiedAll, EraseAllUnprotected}
 use Rattle.datastream.specs.declared.fault.CommandFault.{CommandFault}
 use Rattle.datastream.specs.Senses.{sense_of}
 use Rattle.presentation.specs.Applied.{asked_by}
+use Rattle.presentation.specs.Sizes.{applied as screen_applied}
 use Rattle.keyboard.specs.State.{Keyboard, freed}
 use Rattle.telnet_wire.specs.Items.{WireItem}
 use Rattle.tn3270e_msg.specs.Header.{Begins, HasFault, next_number}
@@ -66,7 +67,7 @@ is_restoring_write command = is_write command.code && (asked_by command).restore
 -- the command is applied
 abbrev pub applied : CommandParts → Station → Station
 applied command old = record old {
-  screen = after_command command old.screen;
+  screen = screen_applied command old.screen;
   keyboard = freed_if (asked_by command).restore old.keyboard;
   took_write = is_restoring_write command;
 }
@@ -74,12 +75,20 @@ applied command old = record old {
 -- what a command that is done gets: first it is applied, then a read gets its data, then comes the response
 abbrev pub answer_of : Header → CommandParts → Station → List WireItem
 answer_of header command old =
-    data_sent old.number (data_read command.code (applied command old).screen) ++ done_response header.flag header.seq
+    data_sent old.number (data_read command.code (applied command old).screen.screen) ++ done_response header.flag header.seq
 
 abbrev pub obeyed : CommandParts → Station → Station
 obeyed command old =
     let done = applied command old in
-    numbered (data_read command.code done.screen) done
+    numbered (data_read command.code done.screen.screen) done
+
+-- the bytes spell the command for the screen's size and its model's alternate size
+abbrev pub SpellsCommand : Station → CommandParts → List ℕ → Type 0
+SpellsCommand station command bytes = IsCommand station.screen.size (alternate_of station.screen.model) command bytes
+
+-- they spell none, and this is the first fault in them
+abbrev pub SpellsNoCommand : Station → CommandFault → List ℕ → Type 0
+SpellsNoCommand station fault bytes = IsNoCommand station.screen.size (alternate_of station.screen.model) fault bytes
 
 -- A record comes to a terminal that is bound; `says` is what it sends, `closes` the cause by which it closes the connection,
 -- if it does. Without a header it closes; other data than 3270-DATA is dropped; a command that is refused changes nothing.
@@ -89,8 +98,8 @@ pub data TakesRecord (old : Station) (bytes : List ℕ) (says : List WireItem) (
   dropped : (header : Header) (body : List ℕ) → Begins bytes header body → header.kind ≢ Data3270
       → says ≡ [] → closes ≡ None → new ≡ old → TakesRecord old bytes says closes new
   refused : (header : Header) (body : List ℕ) (fault : CommandFault) → Begins bytes header body → header.kind ≡ Data3270
-      → IsNoCommand fault body → says ≡ refused_response header.flag header.seq (Refused (sense_of fault)) → closes ≡ None → new ≡ old
+      → SpellsNoCommand old fault body → says ≡ refused_response header.flag header.seq (Refused (sense_of fault)) → closes ≡ None → new ≡ old
       → TakesRecord old bytes says closes new
   obeys : (header : Header) (body : List ℕ) (command : CommandParts) → Begins bytes header body → header.kind ≡ Data3270
-      → IsCommand command body → says ≡ answer_of header command old → closes ≡ None → new ≡ obeyed command old
+      → SpellsCommand old command body → says ≡ answer_of header command old → closes ≡ None → new ≡ obeyed command old
       → TakesRecord old bytes says closes new

@@ -3,12 +3,12 @@
 use Rattle.std.specs.Prelude.{ℕ, ◌+◌, ◌*◌, ◌≤◌, vec_len, Vec}
 use Rattle.std.specs.Vec.{vec_capacity}
 use Rattle.std.specs.declared.alloc.Global.{Global}
-use Rattle.codes3270.specs.Size.{cell_count}
+use Rattle.codes3270.specs.Size.{most_cells}
 use Rattle.tn3270e_msg.specs.Header.{header_length}
 
--- the most bytes that a read gets: an AID, a cursor, and at most three bytes a cell
+-- the most bytes that a read gets on any screen: an AID, a cursor, and at most three bytes a cell
 abbrev pub longest_reading : ℕ
-longest_reading = 3 + 3 * cell_count
+longest_reading = 3 + 3 * most_cells
 
 -- the most bytes of a record that a terminal sends: a header and those
 abbrev pub record_room : ℕ

@@ -3,13 +3,13 @@ use Rattle.std.specs.Prelude.{ℕ, ◌+◌, ◌*◌, ◌/◌, ◌%◌, ◌==◌,
 use Rattle.std.specs.List.{flat_map}
 use Rattle.std.specs.Char.{encode_utf8}
 use Rattle.std.specs.Fmt.{decimal}
-use Rattle.codes3270.specs.Size.{rows, columns}
 use Rattle.codes3270.specs.Aid.{byte_of_aid}
 use Rattle.codes3270.specs.declared.attribute.Cell.{Cell}
 use Rattle.datastream.specs.Screen.{Screen}
 use Rattle.presentation.specs.Glyph.{glyph_at, blank}
 use Rattle.keyboard.specs.State.{Keyboard}
 use Rattle.keyboard.specs.Names.{lock_name}
+use Rattle.presentation.specs.Sizes.{SizedScreen}
 use Rattle.term_core.specs.State.{Station}
 
 abbrev pub newline : ℕ
@@ -34,14 +34,18 @@ trimmed (char ∷ text) = before_trimmed char (trimmed text)
 abbrev pub line_of : List ℕ → List ℕ
 line_of row = flat_map encode_utf8 (trimmed row) ++ newline ∷ []
 
--- a row's line
-abbrev pub line : List Cell → ℕ → List ℕ
-line cells row = line_of (glyphs cells (row * columns) columns)
+-- the line of a row of `columns` cells
+abbrev pub line : ℕ → List Cell → ℕ → List ℕ
+line columns cells row = line_of (glyphs cells (row * columns) columns)
 
 -- the lines of the first rows
-unfoldable pub lines : List Cell → ℕ → List ℕ
-lines cells zero = []
-lines cells (suc count) = lines cells count ++ line cells count
+unfoldable pub lines : ℕ → List Cell → ℕ → List ℕ
+lines columns cells zero = []
+lines columns cells (suc count) = lines columns cells count ++ line columns cells count
+
+-- the lines of all rows
+abbrev pub all_lines : SizedScreen → List ℕ
+all_lines sized = lines sized.size.columns sized.screen.cells sized.size.rows
 
 -- what is added to the lock in insert mode
 abbrev pub insert_word : Bool → List ℕ
@@ -62,7 +66,7 @@ status_line screen keyboard =
     ++ codes " aid " ++ hexadecimal (byte_of_aid screen.aid) ++ newline ∷ []
 
 abbrev pub screen_text : Station → List ℕ
-screen_text station = lines station.screen.cells rows ++ status_line station.screen station.keyboard
+screen_text station = all_lines station.screen ++ status_line station.screen.screen station.keyboard
 
 -- ---- for private functions: the same text, a character at a time; blanks wait until another character comes
 

@@ -1,7 +1,7 @@
 -- A terminal, seen from outside (our profile).
 use Rattle.std.specs.Prelude.{ℕ, Bool, true, false, List, [], Option}
-use Rattle.codes3270.specs.Size.{cell_count}
-use Rattle.datastream.specs.Screen.{Screen, blank_screen}
+use Rattle.codes3270.specs.declared.size.Model.{Model}
+use Rattle.presentation.specs.Sizes.{SizedScreen, blank_of}
 use Rattle.keyboard.specs.State.{Keyboard, fresh}
 use Rattle.telnet_wire.specs.Reading.{Rest, nothing}
 use Rattle.tn3270e_msg.specs.TermTable.{Term, term_start}
@@ -20,7 +20,7 @@ pub data Link : Type 0 where
 
 -- what the operator has before him
 pub record Station : Type 0 where
-  pub screen : Screen
+  pub screen : SizedScreen
   pub keyboard : Keyboard
   pub number : ℕ  -- of the next record of data on this connection
   pub took_write : Bool  -- whether the last byte that came completed a write with restore, which was applied
@@ -37,16 +37,20 @@ pub record Device : Type 0 where
   pub room : ℕ
 
 -- a screen that was left, with a keyboard that waits
-abbrev pub waiting : Screen → Station
+abbrev pub waiting : SizedScreen → Station
 waiting screen = record { screen = screen; keyboard = fresh; number = 0; took_write = false }
 
--- as it begins, also after a restart
-abbrev pub new_terminal : Terminal
-new_terminal = record { link = Detached; station = waiting (blank_screen cell_count); out = [] }
+-- a terminal of a model as it begins, also after a restart
+abbrev pub new_terminal : Model → Terminal
+new_terminal model = record { link = Detached; station = waiting (blank_of model); out = [] }
 
 -- at the begin of a connection, on which it wants this LU, if one
-abbrev pub connected : Option (List ℕ) → Terminal
-connected wanted = record { link = Attached nothing (term_start wanted); station = waiting (blank_screen cell_count); out = [] }
+abbrev pub connected : Model → Option (List ℕ) → Terminal
+connected model wanted = record { link = Attached nothing (term_start model wanted); station = waiting (blank_of model); out = [] }
+
+-- its model
+abbrev pub model_of : Terminal → Model
+model_of terminal = terminal.station.screen.model
 
 -- the connection is lost: the screen stays
 abbrev pub lost : Terminal → Terminal

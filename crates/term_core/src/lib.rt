@@ -2,7 +2,7 @@
 //! and waits for nothing: its caller feeds it bytes, and sends what it has to send.
 //!
 //! ```rust
-//! let mut terminal = Terminal::new(alloc)?;
+//! let mut terminal = Terminal::new(alloc, Model::M2)?;
 //! terminal.connected(Lu::read(b"PNL01"));
 //!
 //! // The host says DO TN3270E; the terminal has WILL TN3270E to send.
@@ -37,6 +37,7 @@ mod screen_text;
 mod station;
 mod terminal;
 
+pub use codes3270::Model;
 pub use keyboard::{Key, Lock, Pressed, Refusal};
 pub use outcome::Outcome;
 pub use phase::TermPhase;

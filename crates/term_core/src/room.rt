@@ -1,9 +1,9 @@
 //! How much room a terminal's output takes.
-use codes3270::CELL_COUNT;
+use codes3270::MOST_CELLS;
 use tn3270e_msg::HEADER_LENGTH;
 
-/// The most bytes that a read gets: an AID, a cursor, and at most three bytes a cell.
-const LONGEST_READING: usize = 3 + 3 * CELL_COUNT;
+/// The most bytes that a read gets on any screen: an AID, a cursor, and at most three bytes a cell.
+const LONGEST_READING: usize = 3 + 3 * MOST_CELLS;
 
 /// The most bytes of a record that a terminal sends: a header and those.
 pub(crate) const RECORD_ROOM: usize = HEADER_LENGTH + LONGEST_READING;

@@ -1,13 +1,12 @@
 //! A terminal's screen as text.
-ghost use Rattle.std.specs.Prelude.{◌≡◌, ◌<◌, ◌≤◌, ◌+◌, ◌++◌, length, take, drop, replicate, IfOk, OnOk, string_bytes};
+ghost use Rattle.std.specs.Prelude.{◌≡◌, ◌<◌, ◌≤◌, ◌+◌, ◌^◌, ◌++◌, length, take, drop, replicate, IfOk, OnOk, string_bytes};
 ghost use Rattle.std.specs.List.{flat_map};
 ghost use Rattle.std.specs.Char.{encode_utf8};
-ghost use Rattle.codes3270.specs.Size.{rows, columns};
 ghost use Rattle.presentation.specs.Glyph.{blank};
-ghost use Rattle.term_core.specs.ScreenText.{let_out, waiting_behind, line_of, lines, insert_word, status_line, screen_text};
+ghost use Rattle.term_core.specs.ScreenText.{let_out, waiting_behind, line_of, all_lines, insert_word, status_line, screen_text};
 
 use crate::Terminal;
-use codes3270::{COLUMNS, ROWS, aid_byte};
+use codes3270::aid_byte;
 use keyboard::Keyboard;
 use presentation::{Glyphs, Screen};
 use std::alloc::Global;
@@ -40,7 +39,7 @@ fn put_glyph(text: &mut String, waiting: u16, glyph: char) -> Result<(), Memory>
 
 /// The number of blanks that wait after a character of a row, if `waiting` wait before it.
 fn waiting_behind(waiting: u16, glyph: char) -> u16
-    requires { waiting < columns }
+    requires { waiting + 1 < 2 ^ 16 }
     ensures count { result ≡ waiting_behind waiting glyph }
     ensures few { result ≤ waiting + 1 }
 {
@@ -48,13 +47,13 @@ fn waiting_behind(waiting: u16, glyph: char) -> u16
 }
 
 /// Adds the row that comes next without the blanks at its end, and a newline.
-fn put_line(text: &mut String, glyphs: &mut Glyphs<'_>) -> Result<(), Memory>
+fn put_line(text: &mut String, glyphs: &mut Glyphs<'_>, columns: u16) -> Result<(), Memory>
     requires { columns ≤ length glyphs.old }
     ensures text { OnOk result (string_bytes text.new ≡ string_bytes text.old ++ line_of (take columns glyphs.old)) }
     ensures left { OnOk result (glyphs.new ≡ drop columns glyphs.old) }
 {
     let mut waiting = 0;
-    for _ in 0..COLUMNS {
+    for _ in 0..columns {
         let glyph = glyphs.next().unwrap_or(' ');
         put_glyph(text, waiting, glyph)?;
         waiting = waiting_behind(waiting, glyph);
@@ -64,20 +63,20 @@ fn put_line(text: &mut String, glyphs: &mut Glyphs<'_>) -> Result<(), Memory>
 
 /// Adds all rows.
 fn put_lines(text: &mut String, screen: &Screen) -> Result<(), Memory>
-    ensures { OnOk result (string_bytes text.new ≡ string_bytes text.old ++ lines screen.now.cells rows) }
+    ensures { OnOk result (string_bytes text.new ≡ string_bytes text.old ++ all_lines screen.now) }
 {
-    // For the contract: the cursor is on the screen.
-    let _cursor = screen.cursor();
+    let size = screen.size();
     let mut glyphs = screen.glyphs();
-    for _ in 0..ROWS {
-        put_line(text, &mut glyphs)?;
+    for _ in 0..size.rows() {
+        put_line(text, &mut glyphs, size.cols())?;
     }
     Ok(())
 }
 
-/// A screen's rows as text (our profile): a line for each, without the blanks at its end. Each line ends with a newline.
+/// A screen's rows as text (our profile): a line for each row of its size, without the blanks at its end. Each line ends
+/// with a newline.
 pub fn screen_lines(alloc: Global, screen: &Screen) -> Result<String, Memory>
-    ensures { IfOk result (λ text. string_bytes text ≡ lines screen.now.cells rows) }
+    ensures { IfOk result (λ text. string_bytes text ≡ all_lines screen.now) }
 {
     let mut text = String::new(alloc);
     put_lines(&mut text, screen)?;
@@ -93,7 +92,7 @@ fn insert_word(inserting: bool) -> &'static str
 
 /// Adds the line on the cursor, the keyboard and the AID.
 fn put_status(text: &mut String, screen: &Screen, keyboard: Keyboard) -> Result<(), Memory>
-    ensures { OnOk result (string_bytes text.new ≡ string_bytes text.old ++ status_line screen.now keyboard) }
+    ensures { OnOk result (string_bytes text.new ≡ string_bytes text.old ++ status_line screen.now.screen keyboard) }
 {
     let cursor = screen.cursor().get();
     let lock = keyboard.lock();

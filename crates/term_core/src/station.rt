@@ -1,9 +1,10 @@
 //! The display station: screen and keyboard, and what records and keys make of them.
-ghost use Rattle.std.specs.Prelude.{◌≡◌, ◌≤◌, ◌+◌, ◌++◌, ◌∷◌, [], Bool, None, Some, IfOk, length, vec_len};
+ghost use Rattle.std.specs.Prelude.{◌≡◌, ◌≤◌, ◌+◌, ◌++◌, ◌∷◌, [], Bool, None, Some, IfOk, MatchResult, length, vec_len};
 ghost use Rattle.std.specs.Vec.{vec_capacity};
-ghost use Rattle.codes3270.specs.Size.{cell_count};
 ghost use Rattle.datastream.specs.Grammar.{is_write};
-ghost use Rattle.datastream.specs.Screen.{Screen as Shown, blank_screen};
+ghost use Rattle.codes3270.specs.Size.{alternate_of};
+ghost use Rattle.presentation.specs.Sizes.{IsReadFor, blank_of};
+ghost use Rattle.datastream.specs.Screen.{Screen as Shown};
 ghost use Rattle.datastream.specs.Inbound.{read_modified, read_buffer};
 ghost use Rattle.term_core.specs.State.{waiting};
 ghost use Rattle.term_core.specs.Bytes.{before_byte};
@@ -11,18 +12,19 @@ ghost use Rattle.telnet_wire.specs.Items.{sent_bytes};
 ghost use Rattle.term_core.specs.Says.{response, data_record};
 ghost use Rattle.term_core.specs.Room.{HasRoom, HasRoomForData, HasRoomForResponse, data_room, longest_reading};
 ghost use Rattle.term_core.specs.Reads.{data_of, data_if};
-ghost use Rattle.term_core.specs.Records.{data_read, numbered, answer_of, obeyed};
+ghost use Rattle.term_core.specs.Records.{data_read, numbered, answer_of, obeyed, SpellsCommand, SpellsNoCommand};
 ghost use Rattle.term_core.specs.Over.{RecordTaken};
 ghost use Rattle.term_core.specs.Presses.{data_of_key, is_sent, key_outcome, room_of, station_after_key, says_of_key};
 
 use crate::outcome::Outcome;
 use crate::room::{DATA_ROOM, RECORD_ROOM};
+use codes3270::{Model, Size};
 use datastream::laws::fields_both_ways;
-use datastream::{Command, CommandCode, Sense, read_command};
+use datastream::{Command, CommandCode, CommandFault, Sense, read_command};
 use keyboard::{Key, Keyboard, Lock, Pressed};
 use presentation::Screen;
 use std::alloc::Global;
-use std::marker::Model;
+use std::marker;
 use telnet_wire::{Memory, put_record};
 use tn3270e_msg::{
     ALWAYS_RESPONSE, Cause, DataType, Header, NEGATIVE, NO_RESPONSE, POSITIVE, header_bytes,
@@ -40,7 +42,7 @@ pub(crate) struct Station {
     room: Vec<u8>,
 }
 
-impl Model for Station {
+impl marker::Model for Station {
     ghost use Rattle.std.specs.Prelude.{◌≤◌};
     ghost use Rattle.std.specs.Vec.{vec_capacity};
     ghost use Rattle.term_core.specs.State.{Station as Kept};
@@ -108,13 +110,13 @@ fn send_response(out: &mut Vec<u8>, number: u16, outcome: Outcome)
 }
 
 impl Station {
-    /// As a terminal begins: a blank screen, and a keyboard that waits.
-    pub(crate) fn new(alloc: Global) -> Result<Station, Memory>
-        ensures { IfOk result (λ station. station ≡ waiting (blank_screen cell_count)) }
+    /// As a terminal of a model begins: a blank screen, and a keyboard that waits.
+    pub(crate) fn new(alloc: Global, model: Model) -> Result<Station, Memory>
+        ensures { IfOk result (λ station. station ≡ waiting (blank_of model)) }
     {
         let room = Vec::with_capacity(alloc, RECORD_ROOM)?;
         Ok(Station {
-            screen: Screen::blank(),
+            screen: Screen::blank(model),
             keyboard: Keyboard::new(),
             number: 0,
             took_write: false,
@@ -133,9 +135,9 @@ impl Station {
 
     /// Resets everything: a blank screen, and a keyboard that waits.
     pub(crate) fn reset(&mut self)
-        ensures { self.new ≡ waiting (blank_screen cell_count) }
+        ensures { self.new ≡ waiting (blank_of self.old.screen.model) }
     {
-        self.screen = Screen::blank();
+        self.screen = Screen::blank(self.screen.model());
         self.wait();
     }
 
@@ -167,8 +169,8 @@ impl Station {
     /// Sends a record of data that wants no response.
     fn send(&mut self, reading: Reading, out: &mut Vec<u8>)
         requires { HasRoomForData out.old }
-        ensures station { self.new ≡ numbered (Some (data_of reading self.old.screen)) self.old }
-        ensures sent { out.new.items ≡ out.old.items ++ sent_bytes (data_record self.old.number (data_of reading self.old.screen) ∷ []) }
+        ensures station { self.new ≡ numbered (Some (data_of reading self.old.screen.screen)) self.old }
+        ensures sent { out.new.items ≡ out.old.items ++ sent_bytes (data_record self.old.number (data_of reading self.old.screen.screen) ∷ []) }
         ensures room { vec_len out.new ≤ vec_len out.old + data_room }
         ensures capacity { vec_capacity out.old ≤ vec_capacity out.new }
     {
@@ -187,7 +189,8 @@ impl Station {
 
     /// Applies a command, and sends the data that it asks for and then the response that its record wants.
     fn obey(&mut self, header: &Header, command: &Command<'_>, out: &mut Vec<u8>)
-        requires { HasRoom out.old }
+        requires room { HasRoom out.old }
+        requires read { IsReadFor self.old.screen command.now }
         ensures station { self.new ≡ obeyed command.now self.old }
         ensures sent { out.new.items ≡ out.old.items ++ sent_bytes (answer_of header.now command.now self.old) }
         ensures capacity { vec_capacity out.old ≤ vec_capacity out.new }
@@ -205,6 +208,28 @@ impl Station {
         }
     }
 
+    /// The size that the screen has now.
+    fn size(&self) -> Size
+        ensures { result ≡ self.now.screen.size }
+    {
+        self.screen.size()
+    }
+
+    /// The size that Erase/Write Alternate sets.
+    fn alternate(&self) -> Size
+        ensures { result ≡ alternate_of self.now.screen.model }
+    {
+        self.screen.model().alternate()
+    }
+
+    /// The command that the bytes spell for the screen, or the first fault in them.
+    fn read<'a>(&self, bytes: &'a [u8]) -> Result<Command<'a>, CommandFault>
+        ensures found { MatchResult result (λ command. SpellsCommand self.now command bytes.now) (λ fault. SpellsNoCommand self.now fault bytes.now) }
+        ensures read { IfOk result (λ command. IsReadFor self.now.screen command) }
+    {
+        read_command(bytes, self.size(), self.alternate())
+    }
+
     /// Takes a record that comes to a bound terminal, and answers the cause by which it closes the connection, if it does.
     pub(crate) fn take_record(&mut self, bytes: &[u8], out: &mut Vec<u8>) -> Option<Cause>
         requires { HasRoom out.old }
@@ -217,7 +242,7 @@ impl Station {
         let DataType::Data3270 = header.kind else {
             return None;
         };
-        match read_command(body) {
+        match self.read(body) {
             Ok(command) => self.obey(&header, &command, out),
             Err(fault) => {
                 if header.flag != NO_RESPONSE {
@@ -269,8 +294,8 @@ impl Station {
 
 /// Law: how long the data is that a read gets.
 fn readings_fit(screen: &Screen)
-    ensures modified { (all : Bool) → length (read_modified all screen.now) ≤ longest_reading }
-    ensures buffer { length (read_buffer screen.now) ≤ longest_reading }
+    ensures modified { (all : Bool) → length (read_modified all screen.now.screen) ≤ longest_reading }
+    ensures buffer { length (read_buffer screen.now.screen) ≤ longest_reading }
 {
     fields_both_ways();
     // For the contract: the cursor is on the screen.
@@ -280,8 +305,8 @@ fn readings_fit(screen: &Screen)
 /// Appends the data that a read gets.
 fn put_reading(screen: &Screen, reading: Reading, body: &mut Vec<u8>)
     requires { vec_len body.old + longest_reading ≤ vec_capacity body.old }
-    ensures appended { body.new.items ≡ body.old.items ++ data_of reading screen.now }
-    ensures short { length (data_of reading screen.now) ≤ longest_reading }
+    ensures appended { body.new.items ≡ body.old.items ++ data_of reading screen.now.screen }
+    ensures short { length (data_of reading screen.now.screen) ≤ longest_reading }
     ensures capacity { vec_capacity body.old ≤ vec_capacity body.new }
 {
     readings_fit(screen);

@@ -1,7 +1,7 @@
 //! The terminal: a decoder, a talk, a station, and what is to be sent.
 ghost use Rattle.std.specs.Prelude.{◌≡◌, ◌<◌, ◌≤◌, [], length, drop, IfOk, OnOk, OnErr};
 ghost use Rattle.telnet_wire.specs.Held.{fresh};
-ghost use Rattle.term_core.specs.State.{new_terminal, connected, lost, phase_of};
+ghost use Rattle.term_core.specs.State.{new_terminal, connected, lost, model_of, phase_of};
 ghost use Rattle.term_core.specs.Feeds.{Feeds};
 ghost use Rattle.term_core.specs.Presses.{LacksKeyRoom, after_key, answer_to_key};
 ghost use Rattle.term_core.specs.Room.{out_room};
@@ -10,10 +10,11 @@ use crate::feeding::feed_attached;
 use crate::phase::TermPhase;
 use crate::room::OUT_ROOM;
 use crate::station::Station;
+use codes3270::Model;
 use keyboard::{Key, Keyboard, Lock, Pressed};
 use presentation::Screen;
 use std::alloc::{AllocError, Global};
-use std::marker::Model;
+use std::marker;
 use telnet_wire::{Decoder, Memory};
 use tn3270e_msg::{Cause, Fed, Lu, RECORD_LIMIT, Stop, TermState, TermTalk};
 
@@ -25,7 +26,7 @@ enum Attachment {
     Closed(Cause),
 }
 
-/// A 3278 display terminal: Telnet bytes and keys come in, Telnet bytes and a screen go out.
+/// A 3278 display terminal of a model from 2 to 5: Telnet bytes and keys come in, Telnet bytes and a screen go out.
 ///
 /// Contracts see its link (the rest of the stream and the talk, while it is attached), its station (screen, keyboard, the
 /// number of its next record, and what `took_write` answers), what it has to send, and `room`, the capacity in bytes of the
@@ -42,7 +43,7 @@ pub struct Terminal {
     out: Vec<u8>,
 }
 
-impl Model for Terminal {
+impl marker::Model for Terminal {
     ghost use Rattle.std.specs.Vec.{vec_capacity};
     ghost use Rattle.term_core.specs.State.{Device};
 
@@ -56,17 +57,17 @@ impl Model for Terminal {
 }
 
 impl Terminal {
-    /// A terminal that isn't attached: a blank screen, and a keyboard that waits.
+    /// A terminal of this model that isn't attached: a blank screen of 24 rows of 80 cells, and a keyboard that waits.
     ///
     /// It makes the room that its decoder, its records and its output will need.
-    pub fn new(alloc: Global) -> Result<Terminal, Memory>
-        ensures terminal { IfOk result (λ device. device.terminal ≡ new_terminal) }
+    pub fn new(alloc: Global, model: Model) -> Result<Terminal, Memory>
+        ensures terminal { IfOk result (λ device. device.terminal ≡ new_terminal model) }
         ensures room { IfOk result (λ device. out_room ≤ device.room) }
     {
         let Ok(decoder) = Decoder::new(alloc, RECORD_LIMIT) else {
             return Err(AllocError);
         };
-        let station = Station::new(alloc)?;
+        let station = Station::new(alloc, model)?;
         let out = Vec::with_capacity(alloc, OUT_ROOM)?;
         Ok(Terminal {
             attachment: Attachment::Detached,
@@ -90,19 +91,21 @@ impl Terminal {
         self.out.reserve_exact(OUT_ROOM.saturating_sub(waiting))
     }
 
-    /// Begins a connection, with a blank screen and a keyboard that waits; on it the terminal will ask for this LU, if one.
+    /// Begins a connection, with a blank screen of 24 rows of 80 cells and a keyboard that waits; on it the terminal will ask
+    /// for this LU, if one.
     ///
     /// It may be called only in phase Idle. It takes no memory, and keeps the room of the output: after a `lost` call
     /// `make_room` first.
     pub fn connected(&mut self, wanted: Option<Lu>)
         requires { phase_of self.old.terminal.link ≡ TermPhase.Idle }
-        ensures terminal { self.new.terminal ≡ connected wanted }
+        ensures terminal { self.new.terminal ≡ connected (model_of self.old.terminal) wanted }
         ensures room { self.new.room ≡ self.old.room }
     {
+        let model = self.station.screen().model();
         self.decoder.reset();
         self.station.reset();
         self.out.clear();
-        self.attachment = Attachment::Attached(TermTalk::new(wanted));
+        self.attachment = Attachment::Attached(TermTalk::new(model, wanted));
     }
 
     /// Takes bytes that came from the host, up to one that closes the connection, and answers how many it took and what
@@ -198,7 +201,7 @@ impl Terminal {
 
     /// Makes the terminal as `new` made it; the room of its output stays.
     pub fn restart(&mut self)
-        ensures terminal { self.new.terminal ≡ new_terminal }
+        ensures terminal { self.new.terminal ≡ new_terminal (model_of self.old.terminal) }
         ensures room { self.new.room ≡ self.old.room }
     {
         self.station.reset();

@@ -4,6 +4,7 @@ use Rattle.telnet_wire.specs.Items.{Record, Opt, Sub, Other}
 use Rattle.tn3270e_msg.specs.declared.reply.OwnedMessage.{OwnedMessage}
 use Rattle.tn3270e_msg.specs.declared.reply.OwnedMessage.TheVariants as sent
 use Rattle.tn3270e_msg.specs.declared.message.SubFault.TheVariants.{NotOurs, Malformed}
+use Rattle.tn3270e_msg.specs.Device.{device_for}
 use Rattle.tn3270e_msg.specs.Laws.{OneHearing}
 use Rattle.tn3270e_msg.specs.Message.{Says}
 use Rattle.tn3270e_msg.specs.Talk.{Comes, PayloadSays, message_comes, others_message_comes, malformed_comes, message_says, message_sent, payload_sent, IsOwnedMessage}
@@ -30,8 +31,8 @@ one_hearing (Other code) comes other h k = h ∙ sym k
 -- what is sent says the message that is meant
 pub sent_says : (sending : OwnedMessage) → IsOwnedMessage sending → Says (payload_sent sending) (message_sent sending)
 sent_says sent.SendType h = record { is_message = tt; spelt = refl }
-sent_says (sent.TypeRequest None) h = record { is_message = (refl, tt); spelt = refl }
-sent_says (sent.TypeRequest (Some lu)) h = record { is_message = (refl, lu_is_text lu h); spelt = refl }
+sent_says (sent.TypeRequest model None) h = record { is_message = (device_is_text (device_for model), tt); spelt = refl }
+sent_says (sent.TypeRequest model (Some lu)) h = record { is_message = (device_is_text (device_for model), lu_is_text lu h); spelt = refl }
 sent_says (sent.TypeIs device lu) h = record { is_message = (device_is_text device, lu_is_text lu h); spelt = refl }
 sent_says (sent.TypeReject reason) h = record { is_message = tt; spelt = refl }
 sent_says sent.FunRequest h = record { is_message = tt; spelt = (2 ∷ [], refl, refl) }

@@ -1,6 +1,7 @@
 -- The host's talk (RFC 1647, section 7; the choices among its replies are our profile): one
 -- equation a line of its table.
-use Rattle.std.specs.Prelude.{◌≡◌, ℕ, Bool, true, false, List, Option, None, Some, Result, Ok, Err}
+use Rattle.std.specs.Prelude.{◌≡◌, ℕ, Bool, true, false, List, Option, None, Some, option_map, Result, Ok, Err}
+use Rattle.codes3270.specs.declared.size.Model.{Model}
 use Rattle.telnet_wire.specs.declared.wire.Verb.TheVariants.{Wont as WontVerb, Do as DoVerb, Dont as DontVerb}
 use Rattle.telnet_wire.specs.Items.{WireItem}
 use Rattle.telnet_wire.specs.Token.{Token, Opt as OptToken}
@@ -16,7 +17,7 @@ use Rattle.tn3270e_msg.specs.declared.reply.Reply.{Reply}
 use Rattle.tn3270e_msg.specs.declared.reply.Reply.TheVariants.{Nothing, Opt, Sub, AskPool, Agreed as AgreedReply}
 use Rattle.tn3270e_msg.specs.declared.hearing.Transition.{Transition}
 use Rattle.tn3270e_msg.specs.declared.hearing.Transition.TheVariants.{Stays, Goes, Refuses, Closes}
-use Rattle.tn3270e_msg.specs.Device.{device_of}
+use Rattle.tn3270e_msg.specs.Device.{device_of, model_of}
 use Rattle.tn3270e_msg.specs.Lu.{lu_of}
 use Rattle.tn3270e_msg.specs.Message.{Name, Connect, Associate}
 use Rattle.tn3270e_msg.specs.Talk.{Comes, Will, Wont, Do, Dont, OtherWill, OtherDo, RequestsType, RequestsFunctions, IsFunctions, NoTalk, Hears, Talk, start_at, follow}
@@ -86,6 +87,18 @@ device_granted (Named device lu) = Some device
 device_granted (Countered device lu) = Some device
 device_granted (Agreed device lu) = Some device
 device_granted _ = None
+
+-- the device that it asked for, from its request on
+abbrev pub device_asked : HostState → Option Device
+device_asked (Asking device) = Some device
+device_asked (Named device lu) = Some device
+device_asked (Countered device lu) = Some device
+device_asked (Agreed device lu) = Some device
+device_asked _ = None
+
+-- and that device's model
+abbrev pub model_asked : HostState → Option Model
+model_asked state = option_map model_of (device_asked state)
 
 -- both ends agreed
 abbrev pub is_agreed : HostState → Bool

@@ -1,15 +1,16 @@
 -- A host's talk and a terminal's talk with each other (RFC 1647, section 7), and with the host's
 -- pool of LUs (our profile).
 use Rattle.std.specs.Prelude.{◌≡◌, ℕ, ◌≤◌, List, [], ◌∷◌, ◌++◌, length, Option, None, Some, Result, Ok, Err, IsTrue}
+use Rattle.codes3270.specs.declared.size.Model.{Model}
 use Rattle.telnet_wire.specs.declared.wire.Verb.TheVariants.{Do as DoVerb}
 use Rattle.telnet_wire.specs.Items.{WireItem, Opt as OptItem}
-use Rattle.tn3270e_msg.specs.declared.device.Device.TheVariants.{Model2}
 use Rattle.tn3270e_msg.specs.declared.host_talk.HostState.{HostState}
 use Rattle.tn3270e_msg.specs.declared.host_talk.HostState.TheVariants.{Agreed as HostAgreed, Closed as HostClosed}
 use Rattle.tn3270e_msg.specs.declared.term_talk.TermState.{TermState}
 use Rattle.tn3270e_msg.specs.declared.term_talk.TermState.TheVariants.{Agreed as TermAgreed, Refused as TermRefused, Closed as TermClosed}
 use Rattle.tn3270e_msg.specs.declared.reply.Reason.{Reason}
 use Rattle.tn3270e_msg.specs.declared.reply.Reply.{Reply}
+use Rattle.tn3270e_msg.specs.Device.{device_for}
 use Rattle.tn3270e_msg.specs.Lu.{is_lu}
 use Rattle.tn3270e_msg.specs.Talk.{Talk, IsLuIfSome, items_sent, names_asked}
 use Rattle.tn3270e_msg.specs.HostTable.{host_start, HostTakes, HostAnswered}
@@ -30,8 +31,8 @@ pub record Pair : Type 0 where
   pub answers : List Answer
 
 -- the host has offered TN3270E, by DO
-abbrev pub start : Option (List ℕ) → Pair
-start wanted = record { host = host_start; term = term_start wanted; up = []; down = OptItem DoVerb 40 ∷ []; asked = []; answers = [] }
+abbrev pub start : Model → Option (List ℕ) → Pair
+start model wanted = record { host = host_start; term = term_start model wanted; up = []; down = OptItem DoVerb 40 ∷ []; asked = []; answers = [] }
 
 -- the next item reaches the host
 pub record ComesUp (old new : Pair) : Type 0 where
@@ -99,20 +100,20 @@ pub record IsSettled (pair : Pair) : Type 0 where
   pub down : pair.down ≡ []
   pub asked : pair.asked ≡ []
 
--- the ends' last states: both agreed on the LU that the pool granted, the host for the terminal's
--- type of device; or the terminal was refused for the pool's reason
-abbrev pub EndsBy : List Answer → HostState → TermState → Type 0
-EndsBy (Ok lu ∷ []) host term = (host ≡ HostAgreed Model2 lu) × (term ≡ TermAgreed lu)
-EndsBy (Err reason ∷ []) host term = term ≡ TermRefused reason
-EndsBy _ host term = ⊥
+-- the ends' last states: both agreed on the LU that the pool granted, the host for the type of
+-- the terminal's model; or the terminal was refused for the pool's reason
+abbrev pub EndsBy : Model → List Answer → HostState → TermState → Type 0
+EndsBy model (Ok lu ∷ []) host term = (host ≡ HostAgreed (device_for model) lu) × (term ≡ TermAgreed lu)
+EndsBy model (Err reason ∷ []) host term = term ≡ TermRefused reason
+EndsBy _ _ host term = ⊥
 
 -- however items are delivered, and whatever the pool answers, neither end closes; the talk ends
 -- after at most eight events, agreed or refused
-pub record TalksAgree (events : List Event) (pair : Pair) : Type 0 where
+pub record TalksAgree (model : Model) (events : List Event) (pair : Pair) : Type 0 where
   pub host_is_open : HostIsOpen pair.host.state
   pub term_is_open : TermIsOpen pair.term.talk.state
   pub few : length events ≤ 8
-  pub ends : IsSettled pair → EndsBy pair.answers pair.host.state pair.term.talk.state
+  pub ends : IsSettled pair → EndsBy model pair.answers pair.host.state pair.term.talk.state
 
 abbrev pub TalksAlwaysAgree : Type 0
-TalksAlwaysAgree = (wanted : Option (List ℕ)) (events : List Event) (pair : Pair) → IsLuIfSome wanted → Happen events (start wanted) pair → TalksAgree events pair
+TalksAlwaysAgree = (model : Model) (wanted : Option (List ℕ)) (events : List Event) (pair : Pair) → IsLuIfSome wanted → Happen events (start model wanted) pair → TalksAgree model events pair

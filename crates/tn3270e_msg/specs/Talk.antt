@@ -5,7 +5,6 @@ use Rattle.std.specs.Prelude.{◌≡◌, ℕ, ◌-◌, ◌==◌, if◌then◌els
 use Rattle.telnet_wire.specs.declared.wire.Verb.{Verb}
 use Rattle.telnet_wire.specs.declared.wire.Verb.TheVariants.{Will as WillVerb, Wont as WontVerb, Do as DoVerb, Dont as DontVerb}
 use Rattle.telnet_wire.specs.Items.{WireItem, Record, Opt as OptItem, Sub as SubItem, Other}
-use Rattle.tn3270e_msg.specs.declared.device.Device.TheVariants.{Model2}
 use Rattle.tn3270e_msg.specs.declared.cause.Cause.{Cause}
 use Rattle.tn3270e_msg.specs.declared.cause.Cause.TheVariants.{TooMany}
 use Rattle.tn3270e_msg.specs.declared.reply.Reason.{Reason}
@@ -19,7 +18,7 @@ use Rattle.tn3270e_msg.specs.declared.hearing.Transition.TheVariants.{Stays, Goe
 use Rattle.tn3270e_msg.specs.declared.message.SubFault.TheVariants.{NotOurs, Malformed}
 use Rattle.tn3270e_msg.specs.declared.functions.FunctionsOffer.{FunctionsOffer}
 use Rattle.tn3270e_msg.specs.Functions.{offer, responses}
-use Rattle.tn3270e_msg.specs.Device.{device_text}
+use Rattle.tn3270e_msg.specs.Device.{device_text, device_for}
 use Rattle.tn3270e_msg.specs.Lu.{is_lu}
 use Rattle.tn3270e_msg.specs.Message.{Message, Name, Connect, SendType, TypeRequest, TypeIs, TypeReject, FunRequest, FunIs, Says, HasFault, name_part}
 
@@ -67,10 +66,10 @@ Hears (OptItem verb code) comes = comes ≡ option_says verb code
 Hears (SubItem bytes) comes = PayloadSays bytes comes
 Hears (Other code) comes = comes ≡ NoTalk
 
--- the message that an end sends; a terminal is a model 2 (our profile)
+-- the message that an end sends
 abbrev pub message_sent : OwnedMessage → Message
 message_sent sent.SendType = SendType
-message_sent (sent.TypeRequest lu) = TypeRequest (device_text Model2) (option_map Connect lu)
+message_sent (sent.TypeRequest model lu) = TypeRequest (device_text (device_for model)) (option_map Connect lu)
 message_sent (sent.TypeIs device lu) = TypeIs (device_text device) lu
 message_sent (sent.TypeReject reason) = TypeReject reason
 message_sent sent.FunRequest = FunRequest responses
@@ -79,7 +78,7 @@ message_sent sent.FunIs = FunIs responses
 -- the payload as which it is sent
 abbrev pub payload_sent : OwnedMessage → List ℕ
 payload_sent sent.SendType = 0x28 ∷ 8 ∷ 2 ∷ []
-payload_sent (sent.TypeRequest lu) = 0x28 ∷ 2 ∷ 7 ∷ (device_text Model2 ++ name_part (option_map Connect lu))
+payload_sent (sent.TypeRequest model lu) = 0x28 ∷ 2 ∷ 7 ∷ (device_text (device_for model) ++ name_part (option_map Connect lu))
 payload_sent (sent.TypeIs device lu) = 0x28 ∷ 2 ∷ 4 ∷ (device_text device ++ 1 ∷ lu)
 payload_sent (sent.TypeReject reason) = 0x28 ∷ 2 ∷ 6 ∷ 5 ∷ reason.0 ∷ []
 payload_sent sent.FunRequest = 0x28 ∷ 3 ∷ 7 ∷ 2 ∷ []
@@ -92,7 +91,7 @@ IsLuIfSome (Some lu) = IsTrue (is_lu lu)
 
 -- the LUs in a message that an end sends are names of LUs
 abbrev pub IsOwnedMessage : OwnedMessage → Type 0
-IsOwnedMessage (sent.TypeRequest lu) = IsLuIfSome lu
+IsOwnedMessage (sent.TypeRequest model lu) = IsLuIfSome lu
 IsOwnedMessage (sent.TypeIs device lu) = IsTrue (is_lu lu)
 IsOwnedMessage _ = Unit {0}
 

@@ -2,10 +2,9 @@
 -- equation a line of its table.
 use Rattle.std.specs.Prelude.{◌≡◌, ℕ, Bool, true, false, List, Option, None, Some, if◌then◌else◌}
 use Rattle.std.specs.Str.{bytes_eq}
+use Rattle.codes3270.specs.declared.size.Model.{Model}
 use Rattle.telnet_wire.specs.declared.wire.Verb.TheVariants.{Will as WillVerb, Wont as WontVerb, Dont as DontVerb}
 use Rattle.telnet_wire.specs.Items.{WireItem}
-use Rattle.tn3270e_msg.specs.declared.device.Device.{Device}
-use Rattle.tn3270e_msg.specs.declared.device.Device.TheVariants.{Model2}
 use Rattle.tn3270e_msg.specs.declared.functions.FunctionsOffer.TheVariants.{ResponsesAlone, ResponsesAndMore, NoResponses}
 use Rattle.tn3270e_msg.specs.declared.term_talk.TermState.{TermState}
 use Rattle.tn3270e_msg.specs.declared.term_talk.TermState.TheVariants.{Waiting, Willing, TypeAsked, FunctionsAsked, Agreed, Refused, Closed}
@@ -17,51 +16,54 @@ use Rattle.tn3270e_msg.specs.declared.reply.Reply.{Reply}
 use Rattle.tn3270e_msg.specs.declared.reply.Reply.TheVariants.{Nothing, Opt, Sub, Agreed as AgreedReply, Refused as RefusedReply}
 use Rattle.tn3270e_msg.specs.declared.hearing.Transition.{Transition}
 use Rattle.tn3270e_msg.specs.declared.hearing.Transition.TheVariants.{Stays, Goes, Refuses, Closes}
-use Rattle.tn3270e_msg.specs.Device.{device_of}
+use Rattle.tn3270e_msg.specs.Device.{device_for, has_text}
 use Rattle.tn3270e_msg.specs.Lu.{lu_of}
 use Rattle.tn3270e_msg.specs.Talk.{Comes, Will, Wont, Do, Dont, OtherWill, OtherDo, SendsType, IsType, RejectsType, RequestsFunctions, IsFunctions, NoTalk, Hears, Talk, start_at, follow}
 
--- a grant is accepted if it is for a model 2, and of the LU that was wanted, if one was
-abbrev pub grant_transition : Option (List ℕ) → Option Device → Option (List ℕ) → Transition TermState
-grant_transition None (Some Model2) (Some lu) = Goes (FunctionsAsked lu) (Sub FunRequest Going)
-grant_transition (Some wanted) (Some Model2) (Some lu) =
+-- a grant is accepted if it is for the type that was asked for, and of the LU that was wanted, if
+-- one was
+abbrev pub grant_transition : Option (List ℕ) → Bool → Option (List ℕ) → Transition TermState
+grant_transition None true (Some lu) = Goes (FunctionsAsked lu) (Sub FunRequest Going)
+grant_transition (Some wanted) true (Some lu) =
     if bytes_eq lu wanted then Goes (FunctionsAsked lu) (Sub FunRequest Going) else Closes BadTalk
 grant_transition _ _ _ = Closes BadTalk
 
-abbrev pub term_transition : Option (List ℕ) → TermState → Comes → Transition TermState
-term_transition wanted (Closed cause) _ = Closes cause
-term_transition wanted (Refused reason) _ = Stays Nothing
-term_transition wanted Waiting Do = Goes Willing (Opt WillVerb 40)
-term_transition wanted _ Do = Stays Nothing
-term_transition wanted _ Wont = Stays Nothing
-term_transition wanted _ Dont = Closes NoTn3270e
-term_transition wanted _ Will = Stays (Opt DontVerb 40)
-term_transition wanted _ (OtherDo code) = Stays (Opt WontVerb code)
-term_transition wanted _ (OtherWill code) = Stays (Opt DontVerb code)
-term_transition wanted _ NoTalk = Stays Nothing
-term_transition wanted Willing SendsType = Goes TypeAsked (Sub (TypeRequest wanted) Going)
-term_transition wanted TypeAsked (IsType device name) = grant_transition wanted (device_of device) (lu_of name)
-term_transition wanted TypeAsked (RejectsType reason) = Goes (Refused reason) (RefusedReply reason)
-term_transition wanted (FunctionsAsked lu) (IsFunctions ResponsesAlone) = Goes (Agreed lu) AgreedReply
-term_transition wanted (FunctionsAsked lu) (IsFunctions _) = Closes NoResponsesCause
-term_transition wanted (FunctionsAsked lu) (RequestsFunctions ResponsesAlone) = Goes (Agreed lu) (Sub FunIs AgreedAfter)
-term_transition wanted (FunctionsAsked lu) (RequestsFunctions ResponsesAndMore) = Refuses (FunctionsAsked lu) FunRequest
-term_transition wanted (FunctionsAsked lu) (RequestsFunctions NoResponses) = Closes NoResponsesCause
-term_transition wanted _ _ = Closes BadTalk
+abbrev pub term_transition : Model → Option (List ℕ) → TermState → Comes → Transition TermState
+term_transition model wanted (Closed cause) _ = Closes cause
+term_transition model wanted (Refused reason) _ = Stays Nothing
+term_transition model wanted Waiting Do = Goes Willing (Opt WillVerb 40)
+term_transition model wanted _ Do = Stays Nothing
+term_transition model wanted _ Wont = Stays Nothing
+term_transition model wanted _ Dont = Closes NoTn3270e
+term_transition model wanted _ Will = Stays (Opt DontVerb 40)
+term_transition model wanted _ (OtherDo code) = Stays (Opt WontVerb code)
+term_transition model wanted _ (OtherWill code) = Stays (Opt DontVerb code)
+term_transition model wanted _ NoTalk = Stays Nothing
+term_transition model wanted Willing SendsType = Goes TypeAsked (Sub (TypeRequest model wanted) Going)
+term_transition model wanted TypeAsked (IsType device name) = grant_transition wanted (has_text (device_for model) device) (lu_of name)
+term_transition model wanted TypeAsked (RejectsType reason) = Goes (Refused reason) (RefusedReply reason)
+term_transition model wanted (FunctionsAsked lu) (IsFunctions ResponsesAlone) = Goes (Agreed lu) AgreedReply
+term_transition model wanted (FunctionsAsked lu) (IsFunctions _) = Closes NoResponsesCause
+term_transition model wanted (FunctionsAsked lu) (RequestsFunctions ResponsesAlone) = Goes (Agreed lu) (Sub FunIs AgreedAfter)
+term_transition model wanted (FunctionsAsked lu) (RequestsFunctions ResponsesAndMore) = Refuses (FunctionsAsked lu) FunRequest
+term_transition model wanted (FunctionsAsked lu) (RequestsFunctions NoResponses) = Closes NoResponsesCause
+term_transition model wanted _ _ = Closes BadTalk
 
--- a terminal's talk, with the LU that it wants
+-- a terminal's talk, with its model and the LU that it wants
 pub record Term : Type 0 where
+  pub model : Model
   pub wanted : Option (List ℕ)
   pub talk : Talk TermState
 
-abbrev pub term_start : Option (List ℕ) → Term
-term_start wanted = record { wanted = wanted; talk = start_at Waiting }
+abbrev pub term_start : Model → Option (List ℕ) → Term
+term_start model wanted = record { model = model; wanted = wanted; talk = start_at Waiting }
 
 -- the talk takes an item
 pub record TermTakes (old : Term) (item : WireItem) (reply : Reply) (new : Term) : Type 0 where
   pub comes : Comes
   pub hears : Hears item comes
-  pub gives : (new.talk, reply) ≡ follow Closed old.talk (term_transition old.wanted old.talk.state comes)
+  pub gives : (new.talk, reply) ≡ follow Closed old.talk (term_transition old.model old.wanted old.talk.state comes)
+  pub model : new.model ≡ old.model
   pub wanted : new.wanted ≡ old.wanted
 
 -- both ends agreed

@@ -1,7 +1,8 @@
 //! The types of device that a host serves (RFC 1647, section 7.1).
-ghost use Rattle.std.specs.Prelude.{◌≡◌, ◌↔◌, IsTrue};
-ghost use Rattle.tn3270e_msg.specs.Device.{device_of, device_text, devices};
-ghost use Rattle.tn3270e_msg.specs.Text.{lowered};
+ghost use Rattle.std.specs.Prelude.{◌≡◌};
+ghost use Rattle.tn3270e_msg.specs.Device.{device_for, device_of, device_text, devices, has_text, model_of};
+
+use codes3270::Model;
 
 /// A 3278 display, by its model, 2 to 5; `E` means that it has extended attributes.
 #[derive(Clone, Copy, Debug, PartialEq, Eq)]
@@ -47,6 +48,31 @@ impl Device {
             .find(|device| device.has_text(text))
     }
 
+    /// The device that a terminal of this model is: the one without extended attributes.
+    pub fn of(model: Model) -> Device
+        ensures value { result ≡ device_for model }
+        ensures model { model_of result ≡ model }
+    {
+        match model {
+            Model::M2 => Device::Model2,
+            Model::M3 => Device::Model3,
+            Model::M4 => Device::Model4,
+            Model::M5 => Device::Model5,
+        }
+    }
+
+    /// Its model, with extended attributes or not.
+    pub fn model(self) -> Model
+        ensures { result ≡ model_of self }
+    {
+        match self {
+            Device::Model2 | Device::Model2E => Model::M2,
+            Device::Model3 | Device::Model3E => Model::M3,
+            Device::Model4 | Device::Model4E => Model::M4,
+            Device::Model5 | Device::Model5E => Model::M5,
+        }
+    }
+
     /// Its text, in upper case.
     pub fn text(self) -> &'static [u8]
         ensures { result.now ≡ device_text self }
@@ -63,8 +89,9 @@ impl Device {
         }
     }
 
-    fn has_text(self, text: &[u8]) -> bool
-        ensures { IsTrue result ↔ (lowered text.now ≡ lowered (device_text self)) }
+    /// Whether this is its text, compared in ASCII without case.
+    pub fn has_text(self, text: &[u8]) -> bool
+        ensures { result ≡ has_text self text.now }
     {
         text.eq_ignore_ascii_case(self.text())
     }

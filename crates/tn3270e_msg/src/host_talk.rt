@@ -8,7 +8,7 @@ ghost use Rattle.tn3270e_msg.specs.Talk.{message_says, RequestsFunctions};
 ghost use Rattle.tn3270e_msg.specs.Hearing.{heard_says};
 ghost use Rattle.tn3270e_msg.specs.Lent.{name_of, message_of};
 ghost use Rattle.tn3270e_msg.specs.Device.{device_of};
-ghost use Rattle.tn3270e_msg.specs.HostTable.{host_transition, request_transition, answer_transition, host_start, HostTakes, HostAnswered, IsAsking, granted, device_granted, agreed_lu, is_agreed, offer_token};
+ghost use Rattle.tn3270e_msg.specs.HostTable.{host_transition, request_transition, answer_transition, host_start, HostTakes, HostAnswered, IsAsking, granted, device_granted, model_asked, agreed_lu, is_agreed, offer_token};
 ghost use Rattle.tn3270e_msg.specs.declared.host_talk.HostState.TheVariants.{Named, Countered};
 
 use crate::cause::Cause;
@@ -19,7 +19,8 @@ use crate::hearing::{Heard, MOST_REFUSALS, TalkState, Transition, follow, hear};
 use crate::lu::Lu;
 use crate::message::{Name, SubMessage};
 use crate::reply::{After, OwnedMessage, Reason, Reply};
-use std::marker::Model;
+use codes3270::Model;
+use std::marker;
 use telnet_wire::{Item, Memory, Verb, put_option};
 
 /// The state of a host's talk (RFC 1647, section 7).
@@ -169,7 +170,7 @@ pub struct HostTalk {
     refusals_left: u8,
 }
 
-impl Model for HostTalk {
+impl marker::Model for HostTalk {
     ghost use Rattle.tn3270e_msg.specs.declared.host_talk.HostState.{HostState};
     ghost use Rattle.tn3270e_msg.specs.Talk.{Talk};
 
@@ -282,6 +283,20 @@ impl HostTalk {
             HostState::Named(device, _)
             | HostState::Countered(device, _)
             | HostState::Agreed(device, _) => Some(device),
+            _ => None,
+        }
+    }
+
+    /// The model of the device that the terminal asked for, with extended attributes or not, from
+    /// its request on. None before the request, once it is rejected, and once the talk closed.
+    pub fn model(&self) -> Option<Model>
+        ensures { result ≡ model_asked self.now.state }
+    {
+        match self.state {
+            HostState::Asking(device)
+            | HostState::Named(device, _)
+            | HostState::Countered(device, _)
+            | HostState::Agreed(device, _) => Some(device.model()),
             _ => None,
         }
     }

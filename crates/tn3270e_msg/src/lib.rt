@@ -5,7 +5,7 @@
 //! sends nothing itself, and takes no memory:
 //!
 //! ```text
-//! let mut talk = TermTalk::new(Lu::read(b"PNL01"));
+//! let mut talk = TermTalk::new(Model::M2, Lu::read(b"PNL01"));
 //! ..
 //! match talk.take(&decoder.item()) {
 //!     Reply::Opt(verb, code) => put_option(&mut out, verb, code)?,

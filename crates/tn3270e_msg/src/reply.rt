@@ -10,6 +10,7 @@ use crate::codes::RESPONSES;
 use crate::device::Device;
 use crate::lu::Lu;
 use crate::message::{Name, SubMessage};
+use codes3270::Model;
 use std::fmt;
 use telnet_wire::Verb;
 
@@ -65,8 +66,9 @@ impl fmt::Display for Reason {
 pub enum OwnedMessage {
     /// SEND DEVICE-TYPE.
     SendType,
-    /// DEVICE-TYPE REQUEST of a model 2, with CONNECT and this LU if there is one.
-    TypeRequest(Option<Lu>),
+    /// DEVICE-TYPE REQUEST of this model, without extended attributes, with CONNECT and this LU if
+    /// there is one.
+    TypeRequest(Model, Option<Lu>),
     /// DEVICE-TYPE IS, with CONNECT and the LU granted.
     TypeIs(Device, Lu),
     /// DEVICE-TYPE REJECT REASON.
@@ -88,8 +90,8 @@ impl OwnedMessage {
     {
         match self {
             OwnedMessage::SendType => SubMessage::SendType,
-            OwnedMessage::TypeRequest(lu) => SubMessage::TypeRequest {
-                device: Device::Model2.text(),
+            OwnedMessage::TypeRequest(model, lu) => SubMessage::TypeRequest {
+                device: Device::of(*model).text(),
                 name: match lu {
                     Some(lu) => Some(Name::Connect(lu.as_bytes())),
                     None => None,

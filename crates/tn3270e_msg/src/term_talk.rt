@@ -1,12 +1,13 @@
 //! The terminal's talk, from the host's offer to agreement (RFC 1647, section 7; the choices among
 //! its replies are our profile).
 ghost use Rattle.std.specs.Prelude.{◌≡◌, ℕ, List, Option};
+ghost use Rattle.codes3270.specs.declared.size.Model.{Model as ModelOf};
 ghost use Rattle.telnet_wire.specs.Items.{item_of};
 ghost use Rattle.tn3270e_msg.specs.Talk.{message_says, IsFunctions, RequestsFunctions, IsLuIfSome};
 ghost use Rattle.tn3270e_msg.specs.Hearing.{heard_says};
 ghost use Rattle.tn3270e_msg.specs.Lent.{message_of};
 ghost use Rattle.tn3270e_msg.specs.Lu.{lu_of};
-ghost use Rattle.tn3270e_msg.specs.Device.{device_of};
+ghost use Rattle.tn3270e_msg.specs.Device.{device_for, has_text};
 ghost use Rattle.tn3270e_msg.specs.TermTable.{term_transition, grant_transition, term_start, TermTakes, bound, agreed_lu, is_agreed, reason_refused};
 ghost use Rattle.tn3270e_msg.specs.declared.term_talk.TermState.TheVariants.{FunctionsAsked};
 
@@ -18,7 +19,8 @@ use crate::hearing::{Heard, MOST_REFUSALS, TalkState, Transition, follow, hear};
 use crate::lu::Lu;
 use crate::message::SubMessage;
 use crate::reply::{After, OwnedMessage, Reason, Reply};
-use std::marker::Model;
+use codes3270::Model;
+use std::marker;
 use telnet_wire::{Item, Verb};
 
 /// The state of a terminal's talk (RFC 1647, section 7).
@@ -52,8 +54,8 @@ impl TalkState for TermState {
 
 impl TermState {
     // The table's transition.
-    fn transition(self, wanted: Option<Lu>, heard: Heard) -> Transition<TermState>
-        ensures { result ≡ term_transition wanted self (heard_says heard.entry) }
+    fn transition(self, model: Model, wanted: Option<Lu>, heard: Heard) -> Transition<TermState>
+        ensures { result ≡ term_transition model wanted self (heard_says heard.entry) }
     {
         match self {
             TermState::Closed(cause) => return Transition::Closes(cause),
@@ -72,14 +74,19 @@ impl TermState {
             Heard::Will => Transition::Stays(Reply::Opt(Verb::Dont, TN3270E)),
             Heard::OtherDo(code) => Transition::Stays(Reply::Opt(Verb::Wont, code)),
             Heard::OtherWill(code) => Transition::Stays(Reply::Opt(Verb::Dont, code)),
-            Heard::Message(message) => self.message_transition(wanted, message),
+            Heard::Message(message) => self.message_transition(model, wanted, message),
             Heard::Malformed => Transition::Closes(Cause::BadTalk),
         }
     }
 
     // The table's transition for a message.
-    fn message_transition(self, wanted: Option<Lu>, message: SubMessage) -> Transition<TermState>
-        ensures { result ≡ term_transition wanted self (message_says (message_of message.entry)) }
+    fn message_transition(
+        self,
+        model: Model,
+        wanted: Option<Lu>,
+        message: SubMessage,
+    ) -> Transition<TermState>
+        ensures { result ≡ term_transition model wanted self (message_says (message_of message.entry)) }
     {
         match self {
             TermState::Closed(cause) => Transition::Closes(cause),
@@ -87,13 +94,13 @@ impl TermState {
             TermState::Willing => match message {
                 SubMessage::SendType => Transition::Goes(
                     TermState::TypeAsked,
-                    Reply::Sub(OwnedMessage::TypeRequest(wanted), After::Going),
+                    Reply::Sub(OwnedMessage::TypeRequest(model, wanted), After::Going),
                 ),
                 _ => Transition::Closes(Cause::BadTalk),
             },
             TermState::TypeAsked => match message {
                 SubMessage::TypeIs { device, name } => {
-                    grant_transition(wanted, Device::read(device), Lu::read(name))
+                    grant_transition(wanted, is_type_of(model, device), Lu::read(name))
                 }
                 SubMessage::TypeReject(reason) => {
                     Transition::Goes(TermState::Refused(reason), Reply::Refused(reason))
@@ -112,7 +119,7 @@ impl TermState {
 
 // The host's functions, once this LU is granted.
 fn agreement_transition(lu: Lu, offer: FunctionsOffer) -> Transition<TermState>
-    ensures { (wanted : Option (List ℕ)) → result ≡ term_transition wanted (FunctionsAsked lu) (IsFunctions offer) }
+    ensures { (model : ModelOf) (wanted : Option (List ℕ)) → result ≡ term_transition model wanted (FunctionsAsked lu) (IsFunctions offer) }
 {
     match offer {
         FunctionsOffer::ResponsesAlone => Transition::Goes(TermState::Agreed(lu), Reply::Agreed),
@@ -122,7 +129,7 @@ fn agreement_transition(lu: Lu, offer: FunctionsOffer) -> Transition<TermState>
 
 // The host's functions request, once this LU is granted.
 fn functions_transition(lu: Lu, offer: FunctionsOffer) -> Transition<TermState>
-    ensures { (wanted : Option (List ℕ)) → result ≡ term_transition wanted (FunctionsAsked lu) (RequestsFunctions offer) }
+    ensures { (model : ModelOf) (wanted : Option (List ℕ)) → result ≡ term_transition model wanted (FunctionsAsked lu) (RequestsFunctions offer) }
 {
     match offer {
         FunctionsOffer::ResponsesAlone => Transition::Goes(
@@ -136,14 +143,22 @@ fn functions_transition(lu: Lu, offer: FunctionsOffer) -> Transition<TermState>
     }
 }
 
+// Whether this is the type that a terminal of this model asks for.
+fn is_type_of(model: Model, text: &[u8]) -> bool
+    ensures { result ≡ has_text (device_for model) text.now }
+{
+    Device::of(model).has_text(text)
+}
+
+// DEVICE-TYPE IS, of the type that was asked for or not, with this name of an LU if it is one.
 fn grant_transition(
     wanted: Option<Lu>,
-    device: Option<Device>,
+    is_own_type: bool,
     name: Option<Lu>,
 ) -> Transition<TermState>
-    ensures { result ≡ grant_transition wanted device name }
+    ensures { result ≡ grant_transition wanted is_own_type name }
 {
-    let (Some(Device::Model2), Some(lu)) = (device, name) else {
+    let (true, Some(lu)) = (is_own_type, name) else {
         return Transition::Closes(Cause::BadTalk);
     };
     if wanted.is_some_and(|wanted| wanted != lu) {
@@ -155,27 +170,30 @@ fn grant_transition(
     )
 }
 
-/// The terminal's part of the talk with its host. Contracts see the LU that it wants, its state,
-/// and how many counter-requests it may still send.
+/// The terminal's part of the talk with its host. Contracts see its model, the LU that it wants, its
+/// state, and how many counter-requests it may still send.
 #[derive(Drop, Debug)]
 pub struct TermTalk {
+    model: Model,
     wanted: Option<Lu>,
     state: TermState,
     refusals_left: u8,
 }
 
-impl Model for TermTalk {
+impl marker::Model for TermTalk {
     ghost use Rattle.tn3270e_msg.specs.TermTable.{Term};
 
     ghost Value = { Term };
 
-    ghost view = { λ talk. record { wanted = talk.wanted; talk = record { state = talk.state; refusals_left = talk.refusals_left } } };
+    ghost view = { λ talk. record { model = talk.model; wanted = talk.wanted; talk = record { state = talk.state; refusals_left = talk.refusals_left } } };
 }
 
 impl TermTalk {
-    /// A talk before the first item, of a terminal that wants this LU, if any.
-    pub fn new(wanted: Option<Lu>) -> TermTalk
-        ensures start { result ≡ term_start wanted }
+    /// A talk before the first item, of a terminal of this model that wants this LU, if any. It asks
+    /// for its model's type without extended attributes, IBM-3278-2 to IBM-3278-5, and is granted
+    /// that type alone.
+    pub fn new(model: Model, wanted: Option<Lu>) -> TermTalk
+        ensures start { result ≡ term_start model wanted }
         ensures wanted { IsLuIfSome wanted }
     {
         if let Some(lu) = &wanted {
@@ -183,6 +201,7 @@ impl TermTalk {
             let _ = lu.as_bytes();
         }
         TermTalk {
+            model,
             wanted,
             state: TermState::Waiting,
             refusals_left: MOST_REFUSALS,
@@ -195,7 +214,7 @@ impl TermTalk {
     pub fn take(&mut self, item: &Item) -> Reply
         ensures { TermTakes self.old (item_of item.now) (result) self.new }
     {
-        let transition = self.state.transition(self.wanted, hear(item));
+        let transition = self.state.transition(self.model, self.wanted, hear(item));
         follow(&mut self.state, &mut self.refusals_left, transition)
     }
 

@@ -4,20 +4,20 @@ use Rattle.datastream.proofs.InboundSequences.{reads_on, reads_fault, reads_whol
 use Rattle.datastream.proofs.inbound_reader.check_fields.Goals as goal
 
 pub loop-rest-init : goal.loop-rest-init
-loop-rest-init c = (0, reads_nothing _ _)
+loop-rest-init c = (0, reads_nothing _ _ _)
 
 pub loop-rest-smaller : goal.loop-rest-smaller
-loop-rest-smaller c = shorter _ _ _ _ c.in-Ok.ensures
+loop-rest-smaller c = shorter _ _ _ _ _ c.in-Ok.ensures
 
 pub loop-rest-preserved : goal.loop-rest-preserved
-loop-rest-preserved c = (c.loop-rest.invariant.0 + 1, reads_on _ _ _ _ _ _ c.loop-rest.invariant.1 c.in-Ok.ensures)
+loop-rest-preserved c = (c.loop-rest.invariant.0 + 1, reads_on _ _ _ _ _ _ _ c.loop-rest.invariant.1 c.in-Ok.ensures)
 
 pub returns-in-Err : goal.returns-in-Err
 returns-in-Err c =
     let some : 0 < length c.loop-rest.rest.now = grind (arith, nat_tests) in
-    reads_fault _ _ _ _ _ c.requires some c.loop-rest.invariant.1 c.in-Err.ensures
+    reads_fault _ _ _ _ _ _ c.requires some c.loop-rest.invariant.1 c.in-Err.ensures
 
 pub returns : goal.returns
 returns c =
     let none : length c.loop-rest.rest.now ≡ 0 = grind (arith, nat_tests) in
-    reads_whole _ _ _ _ none c.loop-rest.invariant.1
+    reads_whole _ _ _ _ _ none c.loop-rest.invariant.1

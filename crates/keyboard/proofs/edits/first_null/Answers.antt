@@ -1,25 +1,25 @@
-use Rattle.codes3270.specs.Size.{cell_count}
-use Rattle.std.proofs.Common.{◌≡◌, ◌+◌, ◌%◌, ◌<◌, ◌==◌, true, false, length, get_or, arith, sym, ◌∙◌, inl, inr}
+use Rattle.codes3270.specs.Size.{cells_in}
+use Rattle.std.proofs.Common.{◌≡◌, ◌+◌, ◌%◌, ◌<◌, ◌==◌, true, false, length, get_or, arith, sym, ◌∙◌, inl, inr, ap}
 use Rattle.std.proofs.lemmas.Bool.{cases_lt, eq-eqb, ne_eqb}
 use Rattle.codes3270.specs.declared.attribute.Cell.TheVariants.{Char}
 use Rattle.keyboard.specs.Edits.{text_from}
 use Rattle.keyboard.proofs.Texts.{text_is_char, text_cell, null_at, null_none}
 use Rattle.keyboard.proofs.edits.first_null.Goals as goal
 
-pub character_at-requires : goal.character_at-requires
-character_at-requires c =
-    let cells = c.args.screen.now.cells in
-    let size : length cells ≡ cell_count = c.requires in
-    let below : c.args.at < length cells = rw size c.forward.ensures.in_range in
+pub character_at-requires-clause-character : goal.character_at-requires-clause-character
+character_at-requires-clause-character c =
+    let cells = c.args.screen.now.screen.cells in
+    let size : length cells ≡ cells_in c.size-size.result = c.size-size.ensures.cells ∙ ap cells_in (sym c.size-size.ensures.size) in
+    let below : c.args.at < length cells = rw c.size-size.ensures.cells c.requires in
     let there : c.forward.result ≡ (c.args.at + c.loop-step.step) % length cells = rw size c.forward.ensures.value in
     rw there (text_is_char cells c.args.at c.loop-step.step below (omega arith))
 
 pub returns-then-character_at-eq0 : goal.returns-then-character_at-eq0
 returns-then-character_at-eq0 c =
-    let cells = c.args.screen.now.cells in
-    let size : length cells ≡ cell_count = c.requires in
+    let cells = c.args.screen.now.screen.cells in
+    let size : length cells ≡ cells_in c.size-size.result = c.size-size.ensures.cells ∙ ap cells_in (sym c.size-size.ensures.size) in
     let text = text_from cells c.args.at in
-    let below : c.args.at < length cells = rw size c.forward.ensures.in_range in
+    let below : c.args.at < length cells = rw c.size-size.ensures.cells c.requires in
     let there : c.forward.result ≡ (c.args.at + c.loop-step.step) % length cells = rw size c.forward.ensures.value in
     let inside : c.loop-step.step < length text = omega arith in
     let cell : Char (get_or text c.loop-step.step 0) ≡ Char c.character_at.result =
@@ -30,10 +30,10 @@ returns-then-character_at-eq0 c =
 
 pub loop-step-preserved : goal.loop-step-preserved
 loop-step-preserved c =
-    let cells = c.args.screen.now.cells in
-    let size : length cells ≡ cell_count = c.requires in
+    let cells = c.args.screen.now.screen.cells in
+    let size : length cells ≡ cells_in c.size-size.result = c.size-size.ensures.cells ∙ ap cells_in (sym c.size-size.ensures.size) in
     let text = text_from cells c.args.at in
-    let below : c.args.at < length cells = rw size c.forward.ensures.in_range in
+    let below : c.args.at < length cells = rw c.size-size.ensures.cells c.requires in
     let there : c.forward.result ≡ (c.args.at + c.loop-step.step) % length cells = rw size c.forward.ensures.value in
     let inside : c.loop-step.step < length text = omega arith in
     let cell : Char (get_or text c.loop-step.step 0) ≡ Char c.character_at.result =
@@ -46,4 +46,4 @@ loop-step-preserved c =
     ]
 
 pub returns : goal.returns
-returns c = null_none (text_from c.args.screen.now.cells c.args.at) (λ nearer lower. c.loop-step.invariant nearer (omega arith))
+returns c = null_none (text_from c.args.screen.now.screen.cells c.args.at) (λ nearer lower. c.loop-step.invariant nearer (omega arith))

@@ -4,4 +4,4 @@ use Rattle.panels.specs.Put.{IsPut}
 use Rattle.panels.proofs.screen.put_fields.Given as goal
 
 abbrev pub invariant-loop-index : goal.invariant-loop-index
-invariant-loop-index l = IsPut (λ cell. first_some (field_cell l.values l.message l.keep cell) (drop l.index l.fields)) l.initial.wanted.cells l.wanted.cells
+invariant-loop-index l = IsPut (λ cell. first_some (field_cell l.values l.message l.keep cell) (drop l.index l.fields)) l.initial.wanted l.wanted

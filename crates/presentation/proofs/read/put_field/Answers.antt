@@ -1,4 +1,4 @@
-use Rattle.codes3270.specs.Size.{cell_count}
+use Rattle.codes3270.specs.Size.{cells_in}
 use Rattle.std.proofs.Common.{◌≡◌, ℕ, List, [], ◌++◌, ◌∷◌, sym, ◌∙◌, ap, ◌+◌, ◌%◌, length, slice_index}
 use Rattle.codes3270.specs.Address.{address_bytes}
 use Rattle.datastream.specs.Screen.{field_text}
@@ -9,7 +9,7 @@ use Rattle.presentation.proofs.read.put_field.Goals as goal
 pub returns : goal.returns
 returns c =
     let cells = c.args.cells.now in
-    let size : length cells ≡ cell_count = c.requires in
+    let size : length cells ≡ cells_in c.args.size = c.requires.size in
     let text : List ℕ = without_nulls (field_text cells c.args.at) in
     let next : c.next.result ≡ (c.args.at + 1) % length cells = c.next.ensures.value ∙ ap (λ (count : ℕ). (c.args.at + 1) % count) (sym size) in
     let pair : slice_index c.addr_to_bytes.result 0 ∷ slice_index c.addr_to_bytes.result 1 ∷ [] ≡ address_bytes c.next.result =

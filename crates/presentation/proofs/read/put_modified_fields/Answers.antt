@@ -1,6 +1,4 @@
-use Rattle.codes3270.specs.Size.{cell_count}
-use Rattle.std.proofs.Common.{◌≡◌, ◌<◌, length, ◌∙◌, arith, zero-add}
-use Rattle.std.proofs.Math.Nat.{mod-eq_of_lt}
+use Rattle.std.proofs.Common.{◌<◌, length, arith}
 use Rattle.std.proofs.lemmas.Result.{err_from_is_err_and}
 use Rattle.codes3270.specs.declared.attribute.Cell.TheVariants.{Char}
 use Rattle.datastream.specs.Inbound.{modified_field, is_modified}
@@ -11,22 +9,14 @@ use Rattle.presentation.proofs.read.put_modified_fields.Goals as goal
 pub returns-in_err-put_field_if_modified : goal.returns-in_err-put_field_if_modified
 returns-in_err-put_field_if_modified c =
     let cells = c.args.cells.now in
-    let below : c.loop-place.place < length cells = omega arith in
-    let inside : c.loop-place.place < cell_count = omega arith in
-    let there : c.forward.result ≡ c.loop-place.place =
-    c.forward.ensures.value ∙ rw (c.first.ensures, zero-add) (mod-eq_of_lt inside) in
+    let below : c.loop-place.place < length cells = omega (arith, c.requires, c.cells-place-end.ensures.value) in
     let failed = err_from_is_err_and c.from_residual.result c.from_residual.ensures.1 in
     let before = rw (places_from_more (modified_field cells) is_modified cells c.loop-place.place (Char 0) below) at c.loop-place.invariant in
-    let here = rw there at c.in_err-put_field_if_modified.ensures in
-    rw failed.1 (appending_stopped _ _ _ _ _ _ _ _ before here)
+    rw failed.1 (appending_stopped _ _ _ _ _ _ _ _ before c.in_err-put_field_if_modified.ensures)
 
 pub loop-place-preserved : goal.loop-place-preserved
 loop-place-preserved c =
     let cells = c.args.cells.now in
-    let below : c.loop-place.place < length cells = omega arith in
-    let inside : c.loop-place.place < cell_count = omega arith in
-    let there : c.forward.result ≡ c.loop-place.place =
-    c.forward.ensures.value ∙ rw (c.first.ensures, zero-add) (mod-eq_of_lt inside) in
+    let below : c.loop-place.place < length cells = omega (arith, c.requires, c.cells-place-end.ensures.value) in
     let before = rw (places_from_more (modified_field cells) is_modified cells c.loop-place.place (Char 0) below) at c.loop-place.invariant in
-    let here = rw there at c.in_ok-put_field_if_modified.ensures in
-    appending_more _ _ _ _ _ _ _ before here
+    appending_more _ _ _ _ _ _ _ before c.in_ok-put_field_if_modified.ensures

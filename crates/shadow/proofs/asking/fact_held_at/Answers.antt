@@ -1,4 +1,4 @@
-use Rattle.std.proofs.Common.{ap, sym, ◌∙◌, arith, refl, Some}
+use Rattle.std.proofs.Common.{ap, sym, ◌∙◌, refl, Some}
 use Rattle.shadow.specs.Asked.{kind_of}
 use Rattle.std.specs.Prelude.{option_map}
 use Rattle.shadow.specs.Belief.{Belief}
@@ -8,16 +8,16 @@ use Rattle.shadow.proofs.asking.fact_held_at.Goals as goal
 
 pub returns-in-Attr : goal.returns-in-Attr
 returns-in-Attr c =
-    ap Some c.kind.ensures ∙ sym (ap (option_map (λ (b : Belief). kind_of b.fact)) (with_found c.args.place c.args.places.now c.in-Attr.field-0 c.in-Attr.field-1 c.in-Attr.knowledge (omega arith) c.in-Attr.ensures.place))
+    ap Some c.kind.ensures ∙ sym (ap (option_map (λ (b : Belief). kind_of b.fact)) (with_found c.args.place c.args.places.now c.in-Attr.field-0 c.in-Attr.field-1 c.in-Attr.knowledge c.requires c.in-Attr.ensures))
 
 pub returns-in-Known : goal.returns-in-Known
 returns-in-Known c =
-    sym (ap (option_map (λ (b : Belief). kind_of b.fact)) (with_missed c.args.place c.args.places.now (Known c.in-Known.field-0) refl (omega arith) c.in-Known.ensures.place))
+    sym (ap (option_map (λ (b : Belief). kind_of b.fact)) (with_missed c.args.place c.args.places.now (Known c.in-Known.field-0) refl c.requires c.in-Known.ensures))
 
 pub returns-in-Told : goal.returns-in-Told
 returns-in-Told c =
-    sym (ap (option_map (λ (b : Belief). kind_of b.fact)) (with_missed c.args.place c.args.places.now (Told c.in-Told.field-0) refl (omega arith) c.in-Told.ensures.place))
+    sym (ap (option_map (λ (b : Belief). kind_of b.fact)) (with_missed c.args.place c.args.places.now (Told c.in-Told.field-0) refl c.requires c.in-Told.ensures))
 
 pub returns-in-Unknown : goal.returns-in-Unknown
 returns-in-Unknown c =
-    sym (ap (option_map (λ (b : Belief). kind_of b.fact)) (with_missed c.args.place c.args.places.now Unknown refl (omega arith) c.in-Unknown.ensures.place))
+    sym (ap (option_map (λ (b : Belief). kind_of b.fact)) (with_missed c.args.place c.args.places.now Unknown refl c.requires c.in-Unknown.ensures))

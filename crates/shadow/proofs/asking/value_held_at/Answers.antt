@@ -1,5 +1,5 @@
 use Rattle.std.proofs.Common.{ap, sym, ◌∙◌, arith, refl}
-use Rattle.codes3270.specs.Size.{cell_count}
+use Rattle.codes3270.specs.Size.{most_cells}
 use Rattle.shadow.specs.Asked.{value_of}
 use Rattle.std.specs.Prelude.{option_and_then, slice_get}
 use Rattle.shadow.specs.Belief.{Belief}
@@ -11,24 +11,24 @@ use Rattle.shadow.proofs.asking.value_held_at.Goals as goal
 pub returns-in-Attr-clause-value : goal.returns-in-Attr-clause-value
 returns-in-Attr-clause-value c =
     let index = c.args.index in
-    c.character.ensures ∙ sym (ap (option_and_then (λ (b : Belief). slice_get (value_of b.fact) index)) (with_found c.args.place c.args.places.now c.in-Attr.field-0 c.in-Attr.field-1 c.in-Attr.knowledge (omega arith) c.in-Attr.ensures.place))
+    c.character.ensures ∙ sym (ap (option_and_then (λ (b : Belief). slice_get (value_of b.fact) index)) (with_found c.args.place c.args.places.now c.in-Attr.field-0 c.in-Attr.field-1 c.in-Attr.knowledge c.requires c.in-Attr.ensures))
 
 pub returns-in-Attr-clause-few : goal.returns-in-Attr-clause-few
 returns-in-Attr-clause-few c =
-    few_within c.args.places.now c.args.place c.in-Attr.field-0 c.in-Attr.field-1 c.in-Attr.knowledge c.args.index cell_count c.character.result
-    (omega arith) c.in-Attr.ensures.place c.in-Attr.ensures.whole c.character.ensures
+    few_within c.args.places.now c.args.place c.in-Attr.field-0 c.in-Attr.field-1 c.in-Attr.knowledge c.args.index most_cells c.character.result
+    c.requires c.in-Attr.ensures (omega (arith, c.len-cells.ensures.len, c.len-cells.ensures.few)) c.character.ensures
 
 pub returns-in-Known-clause-value : goal.returns-in-Known-clause-value
 returns-in-Known-clause-value c =
     let index = c.args.index in
-    sym (ap (option_and_then (λ (b : Belief). slice_get (value_of b.fact) index)) (with_missed c.args.place c.args.places.now (Known c.in-Known.field-0) refl (omega arith) c.in-Known.ensures.place))
+    sym (ap (option_and_then (λ (b : Belief). slice_get (value_of b.fact) index)) (with_missed c.args.place c.args.places.now (Known c.in-Known.field-0) refl c.requires c.in-Known.ensures))
 
 pub returns-in-Told-clause-value : goal.returns-in-Told-clause-value
 returns-in-Told-clause-value c =
     let index = c.args.index in
-    sym (ap (option_and_then (λ (b : Belief). slice_get (value_of b.fact) index)) (with_missed c.args.place c.args.places.now (Told c.in-Told.field-0) refl (omega arith) c.in-Told.ensures.place))
+    sym (ap (option_and_then (λ (b : Belief). slice_get (value_of b.fact) index)) (with_missed c.args.place c.args.places.now (Told c.in-Told.field-0) refl c.requires c.in-Told.ensures))
 
 pub returns-in-Unknown-clause-value : goal.returns-in-Unknown-clause-value
 returns-in-Unknown-clause-value c =
     let index = c.args.index in
-    sym (ap (option_and_then (λ (b : Belief). slice_get (value_of b.fact) index)) (with_missed c.args.place c.args.places.now Unknown refl (omega arith) c.in-Unknown.ensures.place))
+    sym (ap (option_and_then (λ (b : Belief). slice_get (value_of b.fact) index)) (with_missed c.args.place c.args.places.now Unknown refl c.requires c.in-Unknown.ensures))

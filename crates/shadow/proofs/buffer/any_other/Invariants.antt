@@ -1,5 +1,4 @@
 use Rattle.std.proofs.Common.{◌≡◌, ◌+◌, length, drop}
-use Rattle.codes3270.specs.Size.{cell_count}
 use Rattle.datastream.specs.Fields.{fields}
 use Rattle.datastream.proofs.FieldWalk.{fields_walked}
 use Rattle.shadow.specs.InPlace.{beliefs_held}
@@ -9,5 +8,5 @@ use Rattle.shadow.proofs.buffer.any_other.Given as goal
 abbrev pub invariant-loop-place : goal.invariant-loop-place
 invariant-loop-place l = record {
   others : others (beliefs_held l.places 0 l.places) (fields l.cells) ≡ others (beliefs_held l.places l.place (drop l.place l.places)) (fields_walked l.cells l.place l.rest);
-  left : l.place + length l.rest ≡ cell_count;
+  left : l.place + length l.rest ≡ length l.places;
 }

@@ -1,11 +1,11 @@
 use Rattle.std.proofs.Common.{◌≡◌, ◌+◌, ◌++◌, length, take}
-use Rattle.codes3270.specs.Size.{cell_count}
+use Rattle.codes3270.specs.Size.{cells_in}
 use Rattle.shadow.specs.Since.{places_stored}
 use Rattle.shadow.proofs.buffer.put_read.Given as goal
 
 abbrev pub invariant-loop-cell : goal.invariant-loop-cell
 invariant-loop-cell l = record {
   read : take l.at l.places ++ places_stored l.cell-iterator ≡ places_stored l.fn.cells;
-  each : l.at + length l.cell-iterator ≡ cell_count;
-  size : length l.places ≡ cell_count;
+  each : l.at + length l.cell-iterator ≡ length l.places;
+  size : length l.places ≡ cells_in l.fn.size;
 }

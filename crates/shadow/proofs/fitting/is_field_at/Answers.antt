@@ -1,4 +1,4 @@
-use Rattle.std.proofs.Common.{◌∙◌, ◌&&◌, ap, sym, refl, arith, length, List, Bool, ℕ, nat_eq, ◌++◌, ◌+◌, drop}
+use Rattle.std.proofs.Common.{◌∙◌, ◌&&◌, ap, sym, refl, length, List, Bool, ℕ, nat_eq, ◌++◌, ◌+◌, drop}
 use Rattle.shadow.specs.declared.cell_belief.CellBelief.{CellBelief}
 use Rattle.shadow.specs.declared.cell_belief.CellBelief.TheVariants.{Known, Told, Unknown}
 use Rattle.shadow.specs.InPlace.{chars_known}
@@ -12,7 +12,7 @@ returns-then-same_attr c =
     let count = c.args.count in
     ap (λ (n : ℕ). nat_eq n count) (c.count_chars.ensures ∙ ap (λ (ps : List CellBelief). length (chars_known ps)) c.ahead.ensures.places)
     ∙ ap (λ (t : Bool). t && nat_eq (length (chars_known (drop (p + 1) whole ++ whole))) count) (sym (sym c.same_attr.ensures ∙ c.if-same_attr.true))
-    ∙ sym (field_found p c.args.attr count whole c.in-Attr.there c.in-Attr.field-1 c.in-Attr.field-2 (omega arith) c.in-Attr.ensures.place)
+    ∙ sym (field_found p c.args.attr count whole c.in-Attr.there c.in-Attr.field-1 c.in-Attr.field-2 c.requires c.in-Attr.ensures)
 
 pub returns-else-same_attr : goal.returns-else-same_attr
 returns-else-same_attr c =
@@ -21,13 +21,13 @@ returns-else-same_attr c =
     let count = c.args.count in
     c.if-same_attr.false
     ∙ ap (λ (t : Bool). t && nat_eq (length (chars_known (drop (p + 1) whole ++ whole))) count) (sym (sym c.same_attr.ensures ∙ c.if-same_attr.false))
-    ∙ sym (field_found p c.args.attr count whole c.in-Attr.there c.in-Attr.field-1 c.in-Attr.field-2 (omega arith) c.in-Attr.ensures.place)
+    ∙ sym (field_found p c.args.attr count whole c.in-Attr.there c.in-Attr.field-1 c.in-Attr.field-2 c.requires c.in-Attr.ensures)
 
 pub returns-in-Known : goal.returns-in-Known
-returns-in-Known c = sym (field_missed c.args.place c.args.attr c.args.count c.args.places.now (Known c.in-Known.field-0) refl (omega arith) c.in-Known.ensures.place)
+returns-in-Known c = sym (field_missed c.args.place c.args.attr c.args.count c.args.places.now (Known c.in-Known.field-0) refl c.requires c.in-Known.ensures)
 
 pub returns-in-Told : goal.returns-in-Told
-returns-in-Told c = sym (field_missed c.args.place c.args.attr c.args.count c.args.places.now (Told c.in-Told.field-0) refl (omega arith) c.in-Told.ensures.place)
+returns-in-Told c = sym (field_missed c.args.place c.args.attr c.args.count c.args.places.now (Told c.in-Told.field-0) refl c.requires c.in-Told.ensures)
 
 pub returns-in-Unknown : goal.returns-in-Unknown
-returns-in-Unknown c = sym (field_missed c.args.place c.args.attr c.args.count c.args.places.now Unknown refl (omega arith) c.in-Unknown.ensures.place)
+returns-in-Unknown c = sym (field_missed c.args.place c.args.attr c.args.count c.args.places.now Unknown refl c.requires c.in-Unknown.ensures)

@@ -8,7 +8,7 @@ use Rattle.shadow.proofs.hearing.after_attention.Goals as goal
 
 pub loop-place-init : goal.loop-place-init
 loop-place-init c = record {
-  within = c.attribute_from-place.ensures.within;
+  within = omega (arith, c.attribute_from-place.ensures.within, c.len-cells.ensures.len);
   walked = begins c.args.places.now c.attribute_from-place.result c.attribute_from-place.ensures.place;
 }
 
@@ -23,11 +23,11 @@ loop-place-preserved c =
     let one = change_of c.key_change_of-one.result in
     let k = end - at - 1 in
     let there : at + 1 + k ≡ end = omega (arith, c.attribute_from-end.ensures.place) in
-    let set_is = c.set_head.ensures ∙ head_changed now at held f one (omega (arith, c.attribute_at-held.ensures.whole)) c.attribute_at-held.ensures.place c.loop-place.invariant.walked.stands in
+    let set_is = c.set_head.ensures ∙ head_changed now at held f one (omega (arith, c.loop-place.invariant.walked.size, c.len-cells.ensures.len)) c.attribute_at-held.ensures c.loop-place.invariant.walked.stands in
     let after = c.fill_between.ensures ∙ ap (λ (ps : List CellBelief). take (at + 1) ps ++ front_filled one.fill (drop (at + 1) ps)) set_is in
-    let next = step whole f at k now c.fill_between.new.places held one c.loop-place.invariant.walked (omega (arith, c.attribute_at-held.ensures.whole)) c.attribute_at-held.ensures.place c.key_change_of-one.ensures (omega (arith, c.attribute_from-end.ensures.place)) after in
+    let next = step whole f at k now c.fill_between.new.places held one c.loop-place.invariant.walked (omega (arith, c.loop-place.invariant.walked.size, c.len-cells.ensures.len)) c.attribute_at-held.ensures c.key_change_of-one.ensures (omega (arith, c.attribute_from-end.ensures.place)) after in
     record {
-      within = c.attribute_from-end.ensures.within;
+      within = omega (arith, c.attribute_from-end.ensures.within, c.loop-place.invariant.walked.size, c.len-cells.ensures.len);
       walked = subst (λ (n : ℕ). Between whole (fill_after k one.fill) n c.fill_between.new.places) there next;
     }
 
@@ -35,12 +35,12 @@ pub returns-clause-fields : goal.returns-clause-fields
 returns-clause-fields c =
     let last = fill_after c.loop-place.filled (fill_of c.loop-place.update) in
     let all = c.fill_front.ensures ∙ ap (λ (g : Fill). front_filled g c.loop-place.places) c.update_after.ensures
-    ∙ finished c.args.places.now last c.loop-place.place c.loop-place.places c.loop-place.invariant.walked (omega arith) in
+    ∙ finished c.args.places.now last c.loop-place.place c.loop-place.places c.loop-place.invariant.walked (omega (arith, c.len-cells.ensures.len)) in
     (key_changed c.args.places.now c.fill_front.new.places c.requires all).0
 
 pub returns-clause-held : goal.returns-clause-held
 returns-clause-held c =
     let last = fill_after c.loop-place.filled (fill_of c.loop-place.update) in
     let all = c.fill_front.ensures ∙ ap (λ (g : Fill). front_filled g c.loop-place.places) c.update_after.ensures
-    ∙ finished c.args.places.now last c.loop-place.place c.loop-place.places c.loop-place.invariant.walked (omega arith) in
+    ∙ finished c.args.places.now last c.loop-place.place c.loop-place.places c.loop-place.invariant.walked (omega (arith, c.len-cells.ensures.len)) in
     (key_changed c.args.places.now c.fill_front.new.places c.requires all).1

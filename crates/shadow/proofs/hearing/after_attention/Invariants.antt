@@ -1,14 +1,13 @@
 use Rattle.std.proofs.Common.{◌≤◌, ◌-◌}
-use Rattle.codes3270.specs.Size.{cell_count}
 use Rattle.shadow.specs.Filled.{fill_of, fill_after}
 use Rattle.shadow.proofs.KeyWalks.{Between}
 use Rattle.shadow.proofs.hearing.after_attention.Given as goal
 
 abbrev pub invariant-loop-place : goal.invariant-loop-place
 invariant-loop-place l = record {
-  within : l.place ≤ cell_count;
+  within : l.place ≤ l.cells;
   walked : Between l.fn.places (fill_after l.filled (fill_of l.update)) l.place l.places;
 }
 
 abbrev pub decreases-loop-place : goal.decreases-loop-place
-decreases-loop-place l = cell_count - l.place
+decreases-loop-place l = l.cells - l.place

@@ -1,10 +1,12 @@
-use Rattle.std.proofs.Common.{◌≡◌}
+use Rattle.std.proofs.Common.{◌≡◌, length, All}
+use Rattle.datastream.specs.InboundFields.{IsProperReturned}
 use Rattle.std.specs.List.{list_any}
-use Rattle.codes3270.specs.Size.{cell_count}
 use Rattle.shadow.specs.Heard.{is_nowhere}
 use Rattle.shadow.specs.InPlace.{beliefs_held}
 use Rattle.shadow.proofs.hearing.any_nowhere.Given as goal
 
 abbrev pub invariant-loop-field : goal.invariant-loop-field
-invariant-loop-field l =
-    list_any (is_nowhere cell_count (beliefs_held l.places 0 l.places)) l.fn.came ≡ list_any (is_nowhere cell_count (beliefs_held l.places 0 l.places)) l.field-iterator
+invariant-loop-field l = record {
+  same : list_any (is_nowhere (length l.places) (beliefs_held l.places 0 l.places)) l.fn.came ≡ list_any (is_nowhere (length l.places) (beliefs_held l.places 0 l.places)) l.field-iterator;
+  proper : All (IsProperReturned (length l.places)) l.field-iterator;
+}

@@ -1,5 +1,4 @@
-use Rattle.std.proofs.Common.{◌≡◌, ◌∙◌, subst, arith, ℕ, get_or}
-use Rattle.codes3270.specs.Size.{cell_count}
+use Rattle.std.proofs.Common.{◌≡◌, ◌∙◌, subst, refl, length, ℕ, get_or}
 use Rattle.shadow.proofs.Placed.{starts_there, address_before}
 use Rattle.shadow.proofs.hearing.begins_field.Goals as goal
 
@@ -8,5 +7,6 @@ returns c =
     let whole = c.args.places.now in
     let held = c.get-2.result in
     c.is_attribute.ensures
-    ∙ starts_there cell_count c.args.first (omega arith) whole (omega arith) held
-    (subst (λ (n : ℕ). held ≡ get_or whole (address_before cell_count n) held) c.get.ensures.value c.get-2.ensures.place)
+    ∙ starts_there (length whole) c.args.first c.requires whole refl held
+    (subst (λ (n : ℕ). held ≡ get_or whole (address_before (length whole) n) held) c.get.ensures.value
+    (subst (λ (m : ℕ). held ≡ get_or whole (address_before m c.get.result) held) c.len-cells.ensures.len c.get-2.ensures))

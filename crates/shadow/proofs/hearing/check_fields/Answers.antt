@@ -25,7 +25,7 @@ returns-then-not-is_empty c =
     let bs = beliefs_held c.args.places.now 0 c.args.places.now in
     let some : nat_lt 0 (length (leading_text parts)) ≡ true =
     ap (λ (cs : List ℕ). nat_lt 0 (length cs)) (sym c.leading_text.ensures.leading_text) ∙ some_before c.leading_text.result.now (sym c.is_empty.ensures ∙ c.if-not-is_empty.true) in
-    lead_refused bs (leading_text parts) (returned parts) some ∙ ap refusal (ap (fault_in bs) (sym c.returned.ensures.returned) ∙ sym c.fault_of.ensures)
+    lead_refused (length c.args.places.now) bs (leading_text parts) (returned parts) some ∙ ap refusal (ap (fault_in (length c.args.places.now) bs) (sym c.returned.ensures.returned) ∙ sym c.fault_of.ensures)
 
 pub returns-in-Some : goal.returns-in-Some
 returns-in-Some c =
@@ -34,13 +34,13 @@ returns-in-Some c =
     let came = c.returned-2.ensures.returned in
     let none : nat_lt 0 (length (leading_text parts)) ≡ false =
     ap (λ (cs : List ℕ). nat_lt 0 (length cs)) (sym c.leading_text.ensures.leading_text) ∙ none_before c.leading_text.result.now (sym c.is_empty.ensures ∙ c.if-not-is_empty.false) in
-    let possible : is_possible bs (returned parts) ≡ true = ap (is_possible bs) (sym came) ∙ c.in-Some.ensures.0 in
-    (possible_heard bs (leading_text parts) (returned parts) c.in-Some.erased possible (ap (any_lost bs) (sym came) ∙ c.in-Some.ensures.1) none, possible)
+    let possible : is_possible (length c.args.places.now) bs (returned parts) ≡ true = ap (is_possible (length c.args.places.now) bs) (sym came) ∙ c.in-Some.ensures.0 in
+    (possible_heard (length c.args.places.now) bs (leading_text parts) (returned parts) c.in-Some.erased possible (ap (any_lost (length c.args.places.now) bs) (sym came) ∙ c.in-Some.ensures.1) none, possible)
 
 pub returns-in-None : goal.returns-in-None
 unfolding refusal
 returns-in-None c =
     let parts = c.args.inbound.now.parts in
     let bs = beliefs_held c.args.places.now 0 c.args.places.now in
-    impossible_refused bs (leading_text parts) (returned parts) (ap (is_possible bs) (sym c.returned-2.ensures.returned) ∙ c.in-None.ensures)
-    ∙ ap refusal (ap (fault_in bs) (sym c.returned-in-None.ensures.returned) ∙ sym c.fault_of-in-None.ensures)
+    impossible_refused (length c.args.places.now) bs (leading_text parts) (returned parts) (ap (is_possible (length c.args.places.now) bs) (sym c.returned-2.ensures.returned) ∙ c.in-None.ensures)
+    ∙ ap refusal (ap (fault_in (length c.args.places.now) bs) (sym c.returned-in-None.ensures.returned) ∙ sym c.fault_of-in-None.ensures)

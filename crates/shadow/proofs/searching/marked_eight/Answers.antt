@@ -1,7 +1,6 @@
-use Rattle.std.proofs.Common.{◌≡◌, ◌∙◌, ◌<◌, ◌+◌, ◌*◌, ◌-◌, List, ℕ, ap, sym, subst, arith, inl, inr, get_or}
+use Rattle.std.proofs.Common.{◌≡◌, ◌∙◌, ◌<◌, ◌+◌, ◌*◌, ◌-◌, List, length, ℕ, ap, sym, subst, arith, inl, inr, get_or}
 use Rattle.std.specs.Int.{bit_at}
 use Rattle.std.proofs.lemmas.Bool.{cases_eq}
-use Rattle.codes3270.specs.Size.{cell_count}
 use Rattle.shadow.proofs.searching.marked_eight.Goals as goal
 
 pub loop-place-preserved : goal.loop-place-preserved
@@ -19,10 +18,10 @@ loop-place-preserved c = record {
 
 pub returns-then-are_same-clause-here : goal.returns-then-are_same-clause-here
 returns-then-are_same-clause-here c = λ place after before inside clear.
-    let start : 64 * c.args.word + c.args.first < cell_count = omega (arith, after, inside) in
+    let start : 64 * c.args.word + c.args.first < length c.args.one.now = omega (arith, after, inside) in
     let cell : c.min-cell.result ≡ 64 * c.args.word + c.args.first = omega (arith, start, c.min-cell.ensures) in
     let there : c.min-cell.result + (place - c.args.first) ≡ 64 * c.args.word + place = omega (arith, cell, after) in
     subst (λ at. get_or c.args.one.now at 0 ≡ get_or c.args.other.now at 0) there
     (sym (c.eight.ensures (place - c.args.first) (omega (arith, after, before)) (omega (arith, there, inside)))
     ∙ ap (λ (bytes : List ℕ). get_or bytes (place - c.args.first) 0) (c.are_same.ensures c.if-are_same.true)
-    ∙ c.eight-2.ensures (place - c.args.first) (omega (arith, after, before)) (omega (arith, there, inside)))
+    ∙ c.eight-2.ensures (place - c.args.first) (omega (arith, after, before)) (omega (arith, there, inside, c.requires.whole)))

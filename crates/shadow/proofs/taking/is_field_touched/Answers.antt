@@ -14,7 +14,7 @@ returns-in-Some c =
     let ks = cells_written ps qs in
     let i = c.loop-at.at in
     let rest = is_touched (drop (i + 1) ks ++ ks) (drop (i + 1) qs ++ qs) in
-    sym (c.loop-at.invariant ∙ touched_on ps qs ks qs i c.get.result c.past_at.result c.touch.result (omega arith) (omega arith) c.get.ensures.place c.past_at.ensures c.touch.ensures
+    sym (c.loop-at.invariant ∙ touched_on ps qs ks qs i c.get.result c.past_at.result c.touch.result (omega arith) (omega arith) c.get.ensures c.past_at.ensures c.touch.ensures
     ∙ ap (λ (t : Option Bool). unwrap_or t rest) c.in-Some.is)
 
 pub loop-at-preserved : goal.loop-at-preserved
@@ -24,7 +24,7 @@ loop-at-preserved c =
     let ks = cells_written ps qs in
     let i = c.loop-at.at in
     let rest = is_touched (drop (i + 1) ks ++ ks) (drop (i + 1) qs ++ qs) in
-    c.loop-at.invariant ∙ touched_on ps qs ks qs i c.get.result c.past_at.result c.touch.result (omega arith) (omega arith) c.get.ensures.place c.past_at.ensures c.touch.ensures
+    c.loop-at.invariant ∙ touched_on ps qs ks qs i c.get.result c.past_at.result c.touch.result (omega arith) (omega arith) c.get.ensures c.past_at.ensures c.touch.ensures
     ∙ ap (λ (t : Option Bool). unwrap_or t rest) c.in-None.is
 
 pub loop-at-2-init : goal.loop-at-2-init
@@ -46,7 +46,7 @@ returns-in-Some-touch c =
     let rest = is_touched (drop (i + 1) ks ++ []) (drop (i + 1) qs ++ []) in
     sym (c.loop-at-2.invariant
     ∙ ap (λ (k : List Known). is_touched k (drop i qs)) (sym (append-nil (drop i ks))) ∙ ap (is_touched (drop i ks ++ [])) (sym (append-nil (drop i qs)))
-    ∙ touched_on ps qs [] [] i c.get-in-loop-at-2.result c.past_at-in-loop-at-2.result c.touch-in-loop-at-2.result (omega arith) (omega arith) c.get-in-loop-at-2.ensures.place c.past_at-in-loop-at-2.ensures c.touch-in-loop-at-2.ensures
+    ∙ touched_on ps qs [] [] i c.get-in-loop-at-2.result c.past_at-in-loop-at-2.result c.touch-in-loop-at-2.result (omega arith) (omega arith) c.get-in-loop-at-2.ensures c.past_at-in-loop-at-2.ensures c.touch-in-loop-at-2.ensures
     ∙ ap (λ (t : Option Bool). unwrap_or t rest) c.in-Some-touch.is)
 
 pub loop-at-2-preserved : goal.loop-at-2-preserved
@@ -58,7 +58,7 @@ loop-at-2-preserved c =
     let rest = is_touched (drop (i + 1) ks ++ []) (drop (i + 1) qs ++ []) in
     c.loop-at-2.invariant
     ∙ ap (λ (k : List Known). is_touched k (drop i qs)) (sym (append-nil (drop i ks))) ∙ ap (is_touched (drop i ks ++ [])) (sym (append-nil (drop i qs)))
-    ∙ touched_on ps qs [] [] i c.get-in-loop-at-2.result c.past_at-in-loop-at-2.result c.touch-in-loop-at-2.result (omega arith) (omega arith) c.get-in-loop-at-2.ensures.place c.past_at-in-loop-at-2.ensures c.touch-in-loop-at-2.ensures
+    ∙ touched_on ps qs [] [] i c.get-in-loop-at-2.result c.past_at-in-loop-at-2.result c.touch-in-loop-at-2.result (omega arith) (omega arith) c.get-in-loop-at-2.ensures c.past_at-in-loop-at-2.ensures c.touch-in-loop-at-2.ensures
     ∙ ap (λ (t : Option Bool). unwrap_or t rest) c.in-None-touch.is
     ∙ ap (λ (k : List Known). is_touched k (drop (i + 1) qs ++ [])) (append-nil (drop (i + 1) ks)) ∙ ap (is_touched (drop (i + 1) ks)) (append-nil (drop (i + 1) qs))
 

@@ -11,10 +11,10 @@ loop-at-init c =
     let qs = c.args.pasts.now in
     let ks = cells_written ps qs in
     record {
-      size = c.attribute_from-at.ensures.whole;
-      within = c.attribute_from-at.ensures.within;
+      size = refl;
+      within = omega (arith, c.attribute_from-at.ensures.within, c.len-cells.ensures.len);
       cells = refl;
-      settled_ = settled_passed ks qs ps qs 0 c.attribute_from-at.result (omega (arith, c.attribute_from-at.ensures.whole)) c.attribute_from-at.ensures.place;
+      settled_ = settled_passed ks qs ps qs 0 c.attribute_from-at.result (omega (arith, c.requires)) c.attribute_from-at.ensures.place;
     }
 
 pub loop-at-preserved : goal.loop-at-preserved
@@ -27,14 +27,14 @@ loop-at-preserved c =
     let step = settled_step ks now qs i c.settled_at-place.result (omega arith) (omega arith) c.loop-at.invariant.cells c.settled_at-place.ensures in
     record {
       size = omega arith;
-      within = c.attribute_from-at-in-loop-at.ensures.within;
+      within = omega (arith, c.attribute_from-at-in-loop-at.ensures.within, c.set.ensures.size, c.loop-at.invariant.size, c.len-cells.ensures.len);
       cells = ap (λ (ps : List CellBelief). cells_written ps qs) c.set.ensures.places ∙ step.0 ∙ c.loop-at.invariant.cells;
       settled_ = c.loop-at.invariant.settled_ ∙ step.1 ∙ rw c.set.ensures.places refl
-          ∙ settled_passed ks qs new qs (i + 1) c.attribute_from-at-in-loop-at.result (omega (arith, c.attribute_from-at-in-loop-at.ensures.whole)) c.attribute_from-at-in-loop-at.ensures.place;
+          ∙ settled_passed ks qs new qs (i + 1) c.attribute_from-at-in-loop-at.result (omega (arith, c.requires, c.set.ensures.size, c.loop-at.invariant.size)) c.attribute_from-at-in-loop-at.ensures.place;
     }
 
-pub returns : goal.returns
-returns c =
+pub returns-clause-settled : goal.returns-clause-settled
+returns-clause-settled c =
     let qs = c.args.pasts.now in
     let ks = cells_written c.args.places.now qs in
     sym (c.loop-at.invariant.settled_ ∙ all_changed (λ (ps : List CellBelief). settled ks qs ps (drop c.loop-at.at qs)) c.loop-at.places c.loop-at.at (omega arith) refl)

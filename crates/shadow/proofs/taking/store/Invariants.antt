@@ -1,5 +1,6 @@
-use Rattle.std.proofs.Common.{◌≡◌, length, List}
-use Rattle.codes3270.specs.Size.{cell_count}
+use Rattle.std.proofs.Common.{◌≡◌, ◌<◌, length, List, All}
+use Rattle.codes3270.specs.Size.{cells_in}
+use Rattle.datastream.specs.Grammar.{IsProper}
 use Rattle.shadow.specs.declared.cell_belief.CellBelief.{CellBelief}
 use Rattle.shadow.specs.Since.{cells_written, Since}
 use Rattle.shadow.specs.Stores.{stores}
@@ -8,7 +9,10 @@ use Rattle.shadow.proofs.taking.store.Given as goal
 
 abbrev pub invariant-loop-order : goal.invariant-loop-order
 invariant-loop-order l = record {
-  cells : known_stored (stores cell_count 0 l.fn.orders) (cells_written l.fn.places l.fn.pasts) ≡ known_stored (stores cell_count l.at l.order-iterator) (cells_written l.places l.pasts);
+  cells : known_stored (stores (cells_in l.size) 0 l.fn.orders) (cells_written l.fn.places l.fn.pasts) ≡ known_stored (stores (cells_in l.size) l.at l.order-iterator) (cells_written l.places l.pasts);
   since : (old : List CellBelief) → Since old l.fn.places l.fn.pasts → Since old l.places l.pasts;
-  size : length l.pasts ≡ cell_count;
+  size : length l.pasts ≡ length l.places;
+  same_size : length l.places ≡ length l.fn.places;
+  proper : All (IsProper (cells_in l.size)) l.order-iterator;
+  placed : l.at < cells_in l.size;
 }

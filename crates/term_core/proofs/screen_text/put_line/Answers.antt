@@ -1,6 +1,5 @@
 use Rattle.std.proofs.Common.{◌≡◌, ◌+◌, ◌<◌, ◌++◌, List, ℕ, [], ◌∷◌, length, take, get_or, arith, sym, ◌∙◌, ap, subst, OnOk, string_bytes}
 use Rattle.std.proofs.lemmas.List.{take_more}
-use Rattle.codes3270.specs.Size.{columns}
 use Rattle.term_core.specs.ScreenText.{trimmed, let_out, line_of}
 use Rattle.term_core.proofs.Rows.{Waits, waits_more, written_more, next_of, line_ended}
 use Rattle.term_core.proofs.screen_text.put_line.Goals as goal
@@ -33,7 +32,7 @@ unfolding lib.Utf8.encode
 returns-clause-text c =
     let all : List ℕ = c.args.glyphs.now in
     let before : List ℕ = string_bytes c.args.text.now in
-    let end : c.loop.counter ≡ columns = omega arith in
+    let end : c.loop.counter ≡ c.args.columns = omega arith in
     subst (λ (count : ℕ). OnOk c.push.result (string_bytes c.push.new.self ≡ before ++ line_of (take count all))) end
     (line_ended c.push.result before (string_bytes c.loop.text) (string_bytes c.push.new.self) (take c.loop.counter all)
     c.loop.invariant.written c.push.ensures.bytes)

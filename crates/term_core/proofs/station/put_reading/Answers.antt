@@ -7,13 +7,13 @@ use Rattle.term_core.proofs.station.put_reading.Goals as goal
 pub unwrap-requires : goal.unwrap-requires
 unwrap-requires c =
     let few = c.readings_fit.ensures.modified false in
-    ok_with_room c.put_read_modified.result (vec_capacity c.args.body.now) (vec_len c.args.body.now + length (read_modified false c.args.screen.now))
+    ok_with_room c.put_read_modified.result (vec_capacity c.args.body.now) (vec_len c.args.body.now + length (read_modified false c.args.screen.now.screen))
     c.put_read_modified.ensures.appends.room (omega arith)
 
 pub unwrap-requires-in-ModifiedAll : goal.unwrap-requires-in-ModifiedAll
 unwrap-requires-in-ModifiedAll c =
     let few = c.readings_fit.ensures.modified true in
-    ok_with_room c.put_read_modified-in-ModifiedAll.result (vec_capacity c.args.body.now) (vec_len c.args.body.now + length (read_modified true c.args.screen.now))
+    ok_with_room c.put_read_modified-in-ModifiedAll.result (vec_capacity c.args.body.now) (vec_len c.args.body.now + length (read_modified true c.args.screen.now.screen))
     c.put_read_modified-in-ModifiedAll.ensures.appends.room (omega arith)
 
 pub returns-in-Modified-clause-short : goal.returns-in-Modified-clause-short

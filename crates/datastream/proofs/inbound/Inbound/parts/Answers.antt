@@ -1,4 +1,5 @@
 use Rattle.std.proofs.Common.{arith}
+use Rattle.codes3270.specs.Size.{cells_in}
 use Rattle.datastream.proofs.InboundSequences.{length-parts_in}
 use Rattle.datastream.proofs.InboundData.{inbound_proper, buffer_whole, nothing_if_alone}
 use Rattle.datastream.proofs.inbound.Inbound.parts.Goals as goal
@@ -13,7 +14,7 @@ pub returns-clause-whole : goal.returns-clause-whole
 returns-clause-whole c = rw (← c.self.view_is) (buffer_whole _ c.self.invariant.0)
 
 pub returns-clause-few : goal.returns-clause-few
-returns-clause-few c = omega (arith, length-parts_in c.self.inside.form c.self.inside.text.now)
+returns-clause-few c = omega (arith, length-parts_in (cells_in c.self.inside.size) c.self.inside.form c.self.inside.text.now)
 
 pub returns-clause-alone : goal.returns-clause-alone
 returns-clause-alone c = rw (← c.self.view_is) (nothing_if_alone _ c.self.invariant.0)

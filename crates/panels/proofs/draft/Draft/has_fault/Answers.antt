@@ -1,11 +1,13 @@
-use Rattle.std.proofs.Common.{◌≡◌, length, not, false, rules, tests}
+use Rattle.std.proofs.Common.{◌≡◌, ◌∙◌, length, not, false, ap, sym, rules, tests}
+use Rattle.std.specs.Prelude.{option_copied}
+use Rattle.std.proofs.lemmas.Bool.{false≢true}
 use Rattle.std.specs.Option.{option_map_or}
 use Rattle.panels.specs.declared.fault.Part.TheVariants as part
 use Rattle.panels.specs.Faults.{name_at}
 use Rattle.panels.specs.Index.{IsIndexTo}
 use Rattle.panels.specs.Items.{is_name}
 use Rattle.panels.specs.Walk.{is_letter_of}
-use Rattle.panels.proofs.Naming.{bad_name, panel_is_twice, field_is_twice}
+use Rattle.panels.proofs.Naming.{bad_name, lost_otherwise, panel_is_twice, field_is_twice}
 use Rattle.panels.proofs.draft.Draft.has_fault.Goals as goal
 
 pub returns-in-BadName-default : goal.returns-in-BadName-default
@@ -29,3 +31,9 @@ returns-in-TwiceNamed-Field c =
 
 pub returns-then-is_none : goal.returns-then-is_none
 returns-then-is_none c = rw (c.in-NoTarget-Text.is-0, c.in-NoTarget-Text.is-1) (search rules)
+
+pub returns-else-has_lost_cursor : goal.returns-else-has_lost_cursor
+returns-else-has_lost_cursor c =
+    lost_otherwise c.args.self.now c.args.fault c.args.part c.in-NoTarget-Panel.panel c.in-Some.panel.now c.has_lost_otherwise.result c.in-NoTarget-Panel.is-0 c.in-NoTarget-Panel.is-1
+    (sym c.panel-in-NoTarget-Panel.ensures ∙ ap option_copied c.in-Some.is) (λ lost. false≢true (sym c.if-has_lost_cursor.false ∙ c.has_lost_cursor.ensures.1 lost))
+    c.has_lost_otherwise.ensures

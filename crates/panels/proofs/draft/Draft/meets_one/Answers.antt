@@ -10,19 +10,19 @@ use Rattle.panels.proofs.draft.Draft.meets_one.Goals as goal
 
 pub loop-index-preserved-in_default : goal.loop-index-preserved-in_default
 loop-index-preserved-in_default c =
-    one_more (λ j. (item other : DraftItem) → (is_on_screen item ≡ true) × IsExtentOf item c.args.extent → item_at (nth c.args.array j) c.args.self.now.panels ≡ Some other → ¬ Overlaps item other)
+    one_more (λ j. (item other : DraftItem) → (is_on_screen c.args.size item ≡ true) × IsExtentOf c.args.size item c.args.extent → item_at (nth c.args.array j) c.args.self.now.panels ≡ Some other → ¬ Overlaps c.args.size item other)
     c.loop-index.index c.loop-index.invariant
     (λ item other is there overlap.
     false≢true (sym (c.in_default.ensures other (ap (λ part. item_at part c.args.self.now.panels) c.nth.ensures ∙ there)) ∙ overlap.other_on_screen))
 
 pub loop-index-preserved : goal.loop-index-preserved
 loop-index-preserved c =
-    one_more (λ j. (item other : DraftItem) → (is_on_screen item ≡ true) × IsExtentOf item c.args.extent → item_at (nth c.args.array j) c.args.self.now.panels ≡ Some other → ¬ Overlaps item other)
+    one_more (λ j. (item other : DraftItem) → (is_on_screen c.args.size item ≡ true) × IsExtentOf c.args.size item c.args.extent → item_at (nth c.args.array j) c.args.self.now.panels ≡ Some other → ¬ Overlaps c.args.size item other)
     c.loop-index.index c.loop-index.invariant
     (λ item other is there overlap.
     let (found, at_found, on_screen, place) = c.in-Some.ensures in
     let same = same_Some found other (sym at_found ∙ ap (λ part. item_at part c.args.self.now.panels) c.nth.ensures ∙ there) in
-    let met = (overlap_tells item found c.args.extent c.in-Some.other is (on_screen, place)).1 (subst (λ x. Overlaps item x) (sym same) overlap) in
+    let met = (overlap_tells c.args.size item found c.args.extent c.in-Some.other is (on_screen, place)).1 (subst (λ x. Overlaps c.args.size item x) (sym same) overlap) in
     false≢true (sym c.if-meets.false ∙ c.meets.ensures ∙ met))
 
 pub returns-then-meets : goal.returns-then-meets
@@ -33,7 +33,7 @@ returns-then-meets c = λ item is.
         other,
         c.loop-index-test.true,
         ap (λ part. item_at part c.args.self.now.panels) (sym c.nth.ensures) ∙ there,
-        (overlap_tells item other c.args.extent c.in-Some.other is (on_screen, place)).0 (sym c.meets.ensures ∙ c.if-meets.true),
+        (overlap_tells c.args.size item other c.args.extent c.in-Some.other is (on_screen, place)).0 (sym c.meets.ensures ∙ c.if-meets.true),
       ),
       λ overlap. refl,
     )

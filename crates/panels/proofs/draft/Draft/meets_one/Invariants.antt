@@ -6,4 +6,4 @@ use Rattle.panels.specs.Walk.{nth}
 use Rattle.panels.proofs.draft.Draft.meets_one.Given as goal
 
 abbrev pub invariant-loop-index : goal.invariant-loop-index
-invariant-loop-index l = (j : ℕ) → j < l.index → (item other : DraftItem) → (is_on_screen item ≡ true) × IsExtentOf item l.extent → item_at (nth l.array j) l.self.panels ≡ Some other → ¬ Overlaps item other
+invariant-loop-index l = (j : ℕ) → j < l.index → (item other : DraftItem) → (is_on_screen l.size item ≡ true) × IsExtentOf l.size item l.extent → item_at (nth l.array j) l.self.panels ≡ Some other → ¬ Overlaps l.size item other

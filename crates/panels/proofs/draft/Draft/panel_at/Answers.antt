@@ -1,22 +1,24 @@
-use Rattle.std.proofs.Common.{◌≡◌, ◌+◌, ◌∙◌, ap, sym, subst, Some, length, arith}
+use Rattle.std.proofs.Common.{◌≡◌, ◌+◌, ◌∙◌, ap, sym, subst, Some, length, false, arith}
 use Rattle.std.specs.Prelude.{All, IfSome, option_map, slice_get, chars}
 use Rattle.std.proofs.lemmas.Bool.{false≢true}
 use Rattle.std.proofs.lemmas.Option.{slice_get_within}
 use Rattle.panels.specs.Characters.{codes_of}
 use Rattle.panels.specs.Defines.{IsCursorBy, IsFieldOf, fields_before}
-use Rattle.panels.specs.Draft.{DraftItem, DraftPanel}
+use Rattle.panels.specs.Draft.{DraftItem, DraftPanel, draft_shape}
+use Rattle.panels.specs.Items.{IsExtentOf, is_on_screen}
 use Rattle.panels.proofs.Building.{AreBuilt, read_at, built_more, built_all}
 use Rattle.panels.proofs.Leading.{targets_lead}
 use Rattle.panels.proofs.Linking.{contained_at, cursor_given, field_on_screen}
 use Rattle.panels.proofs.Sound.{few_panels, few_fields, before_few}
+use Rattle.panels.proofs.Soundness.{is_laid_out}
 use Rattle.panels.proofs.draft.Draft.panel_at.Goals as goal
 
 pub loop-place-preserved-in_default : goal.loop-place-preserved-in_default
 loop-place-preserved-in_default c =
     let there : slice_get c.args.panel.now.fields c.loop-place.place ≡ Some c.index-field.result.now =
     read_at c.panel.inside.fields.items c.args.panel.now.fields c.loop-place.place c.index-field.result.now (ap (λ (panel : DraftPanel). panel.fields) c.panel.view_is) (omega arith) c.index-field.ensures in
-    absurd {A = AreBuilt (λ i. IsFieldOf (fields_before c.args.index c.args.self.now.panels + i)) c.args.panel.now.fields (c.loop-place.place + 1) c.loop-place.fields.items}
-    (false≢true (sym c.in_default.ensures ∙
+    absurd {A = AreBuilt (λ i. IsFieldOf (draft_shape c.args.panel.now) (fields_before c.args.index c.args.self.now.panels + i)) c.args.panel.now.fields (c.loop-place.place + 1) c.loop-place.fields.items}
+    (false≢true (sym (subst (λ shape. is_on_screen shape c.index-field.result.now ≡ false) c.size-size.ensures c.in_default.ensures) ∙
     field_on_screen c.args.self.now c.args.panel.now c.args.index c.loop-place.place c.index-field.result.now c.requires.faultless c.requires.there there))
 
 pub overflow_add-first : goal.overflow_add-first
@@ -33,11 +35,11 @@ loop-place-preserved c =
     let there : slice_get c.args.panel.now.fields c.loop-place.place ≡ Some c.index-field.result.now =
     read_at c.panel.inside.fields.items c.args.panel.now.fields c.loop-place.place c.index-field.result.now (ap (λ (panel : DraftPanel). panel.fields) c.panel.view_is) (omega arith) c.index-field.ensures in
     rw c.in_ok-push.ensures.items
-    (built_more (λ i. IsFieldOf (fields_before c.args.index c.args.self.now.panels + i)) c.args.panel.now.fields c.loop-place.place c.loop-place.fields.items c.index-field.result.now _ there
+    (built_more (λ i. IsFieldOf (draft_shape c.args.panel.now) (fields_before c.args.index c.args.self.now.panels + i)) c.args.panel.now.fields c.loop-place.place c.loop-place.fields.items c.index-field.result.now _ there
     (record {
       number = ap (λ n. n + c.loop-place.place) c.fields_before-first.ensures;
       name = c.in_ok-of_text.ensures ∙ ap (λ (item : DraftItem). item.name) c.field.view_is;
-      extent = c.in-Some.ensures.1;
+      extent = subst (λ shape. IsExtentOf shape c.index-field.result.now c.in-Some.extent) c.size-size.ensures c.in-Some.ensures.1;
       numeric = ap (λ (item : DraftItem). item.numeric) c.field.view_is;
       hidden = ap (λ (item : DraftItem). item.hidden) c.field.view_is;
       required = ap (λ (item : DraftItem). item.required) c.field.view_is;
@@ -52,20 +54,42 @@ pub cursor_of-requires : goal.cursor_of-requires
 cursor_of-requires c =
     let size : length c.panel.inside.fields.items ≡ length c.args.panel.now.fields = ap (λ (panel : DraftPanel). length panel.fields) c.panel.view_is in
     let whole : c.loop-place.place ≡ length c.args.panel.now.fields = omega arith in
-    let built = built_all (λ i. IsFieldOf (fields_before c.args.index c.args.self.now.panels + i)) c.args.panel.now.fields c.loop-place.place c.loop-place.fields.items whole c.loop-place.invariant in
+    let built = built_all (λ i. IsFieldOf (draft_shape c.args.panel.now) (fields_before c.args.index c.args.self.now.panels + i)) c.args.panel.now.fields c.loop-place.place c.loop-place.fields.items whole c.loop-place.invariant in
     subst (λ fields. IfSome c.panel.inside.cursor (λ name. ¬ All (λ field. ¬ (field.name ≡ name.now)) fields)) (sym c.as_slice.ensures.value)
-    (cursor_given c.args.self.now c.args.panel.now c.args.index c.panel.inside.cursor c.loop-place.fields.items c.requires.faultless c.requires.there built
+    (cursor_given (draft_shape c.args.panel.now) c.args.self.now c.args.panel.now c.args.index c.panel.inside.cursor c.loop-place.fields.items c.requires.faultless c.requires.there built
     (ap (λ (panel : DraftPanel). panel.cursor) c.panel.view_is))
 
 pub targets-requires-clause-there : goal.targets-requires-clause-there
 targets-requires-clause-there c = contained_at c.args.self.now.panels c.args.index c.args.panel.now c.requires.there
 
+pub otherwise-requires-clause-there : goal.otherwise-requires-clause-there
+otherwise-requires-clause-there c = contained_at c.args.self.now.panels c.args.index c.args.panel.now c.requires.there
+
+pub invariant_of-result : goal.invariant_of-result
+invariant_of-result c =
+    let size : length c.panel.inside.fields.items ≡ length c.args.panel.now.fields = ap (λ (panel : DraftPanel). length panel.fields) c.panel.view_is in
+    let whole : c.loop-place.place ≡ length c.args.panel.now.fields = omega arith in
+    let built = built_all (λ i. IsFieldOf (draft_shape c.args.panel.now) (fields_before c.args.index c.args.self.now.panels + i)) c.args.panel.now.fields c.loop-place.place c.loop-place.fields.items whole c.loop-place.invariant in
+    is_laid_out c.args.self.now c.args.index c.args.panel.now _ c.requires.faultless c.requires.there (record {
+      model = c.model.ensures;
+      otherwise = c.otherwise.ensures;
+      texts = c.in_ok-texts.ensures;
+      fields = built;
+      cursor =
+          subst (λ cursor. IsCursorBy cursor c.loop-place.fields.items c.cursor_of.result) (ap (λ (panel : DraftPanel). panel.cursor) c.panel.view_is)
+          (subst (λ fields. IsCursorBy (option_map (λ name. name.now) c.panel.inside.cursor) fields c.cursor_of.result) c.as_slice.ensures.value c.cursor_of.ensures);
+      places = c.in_ok-targets.ensures.size;
+      targets = targets_lead c.args.self.now.panels c.args.panel.now c.in_ok-targets.field-0.items c.in_ok-targets.ensures;
+    })
+
 pub returns : goal.returns
 returns c =
     let size : length c.panel.inside.fields.items ≡ length c.args.panel.now.fields = ap (λ (panel : DraftPanel). length panel.fields) c.panel.view_is in
     let whole : c.loop-place.place ≡ length c.args.panel.now.fields = omega arith in
-    let built = built_all (λ i. IsFieldOf (fields_before c.args.index c.args.self.now.panels + i)) c.args.panel.now.fields c.loop-place.place c.loop-place.fields.items whole c.loop-place.invariant in
+    let built = built_all (λ i. IsFieldOf (draft_shape c.args.panel.now) (fields_before c.args.index c.args.self.now.panels + i)) c.args.panel.now.fields c.loop-place.place c.loop-place.fields.items whole c.loop-place.invariant in
     record {
+      model = c.model.ensures;
+      otherwise = c.otherwise.ensures;
       texts = c.in_ok-texts.ensures;
       fields = built;
       cursor =

@@ -7,7 +7,7 @@ use Rattle.presentation.proofs.buffer.Buffer.put_modified.Goals as goal
 
 pub returns-else-is_short_form-clause-bytes : goal.returns-else-is_short_form-clause-bytes
 returns-else-is_short_form-clause-bytes c =
-    let screen = c.args.self.now in
+    let screen = c.args.self.now.screen in
     let long : (is_short_aid screen.aid && not c.args.all) ≡ false =
     rw (← c.self.view_is) (sym c.is_short_form.ensures ∙ c.if-is_short_form.false) in
     let whole : read_modified c.args.all screen ≡ (c.aid_byte.result ∷ []) ++ (address_bytes screen.cursor ++ modified_text screen.cells) =

@@ -8,7 +8,7 @@ use Rattle.presentation.proofs.fields.FieldsIterator.next.Goals as goal
 
 pub returns-then-self-field_count-clause-steps : goal.returns-then-self-field_count-clause-steps
 returns-then-self-field_count-clause-steps c =
-    let cells : List Cell = c.self.inside.screen.now.cells in
+    let cells : List Cell = c.self.inside.screen.now.screen.cells in
     let number = c.self.inside.next in
     let listed : number < length (attribute_places cells 0) = rw (← c.field_count.ensures.count) c.if-self-field_count.true in
     let all : List Field = fields_from cells 0 in

@@ -1,4 +1,4 @@
-use Rattle.codes3270.specs.Size.{cell_count}
+use Rattle.codes3270.specs.Size.{cells_in}
 use Rattle.std.proofs.Common.{◌≡◌, ◌-◌, List, length}
 use Rattle.codes3270.specs.declared.attribute.Cell.{Cell}
 use Rattle.datastream.specs.Screen.{field_text}
@@ -8,8 +8,8 @@ use Rattle.presentation.proofs.screen.Screen.field_number.Goals as goal
 
 pub returns : goal.returns
 returns c =
-    let cells : List Cell = c.args.self.now.cells in
-    let size : length cells ≡ cell_count = c.field_count-count.ensures.size in
+    let cells : List Cell = c.args.self.now.screen.cells in
+    let size : length cells ≡ cells_in c.args.self.now.size = c.field_count-count.ensures.size in
     let spans : c.distance_to.result - 1 ≡ length (field_text cells (place_of cells c.args.number)) =
-    rw (c.distance_to.ensures.value, c.field_place-attr.ensures, c.field_place-next.ensures, c.field_count-count.ensures.count, ← size) (field_spans cells c.args.number c.requires) in
-    rw (c.field_place-attr.ensures, spans)
+    rw (c.distance_to.ensures.value, c.field_place-attr.ensures.place, c.field_place-next.ensures.place, c.field_count-count.ensures.count, c.size.ensures.size, ← size) (field_spans cells c.args.number c.requires) in
+    rw (c.field_place-attr.ensures.place, spans)

@@ -1,4 +1,4 @@
-use Rattle.codes3270.specs.Size.{cell_count}
+use Rattle.codes3270.specs.Size.{cells_in}
 use Rattle.std.proofs.Common.{◌≡◌, List, ℕ, length, subst}
 use Rattle.codes3270.specs.declared.attribute.Cell.{Cell}
 use Rattle.presentation.specs.Places.{attribute_places}
@@ -8,7 +8,7 @@ use Rattle.presentation.proofs.screen.Screen.places.Goals as goal
 
 pub returns-clause-ascending : goal.returns-clause-ascending
 returns-clause-ascending c =
-    let cells : List Cell = c.self.inside.buffer.cells in
-    let size : length cells ≡ cell_count = rw (← c.buffer.view_is) c.buffer.invariant.size in
-    rw (c.as_slice.ensures.value, c.self.invariant)
+    let cells : List Cell = c.self.inside.buffer.screen.cells in
+    let size : length cells ≡ cells_in c.self.inside.buffer.size = rw (← c.buffer.view_is) c.buffer.invariant.cells in
+    rw (c.as_slice.ensures.value, c.self.invariant, ← c.self.view_is)
     (subst (λ (count : ℕ). AreAscending count (attribute_places cells 0)) size (are_ascending cells))

@@ -1,7 +1,7 @@
-use Rattle.std.proofs.Common.{◌≡◌, ◌+◌, ap, sym, ◌∙◌, drop, length, List, ℕ}
+use Rattle.std.proofs.Common.{◌≡◌, ◌+◌, ap, sym, ◌∙◌, drop, length, take, List, ℕ}
+use Rattle.codes3270.specs.Size.{cells_in}
 use Rattle.shadow.specs.declared.cell_belief.CellBelief.{CellBelief}
 use Rattle.shadow.specs.InPlace.{chars_known}
-use Rattle.codes3270.specs.Size.{cell_count}
 use Rattle.shadow.specs.PackedBeliefs.{place_by}
 use Rattle.datastream.proofs.Keeping.{length_kept}
 use Rattle.shadow.proofs.Stretches.{first_attribute, drop_drop}
@@ -11,20 +11,14 @@ use Rattle.shadow.proofs.cell_beliefs.CellBeliefs.attribute_from.Goals as goal
 pub returns-clause-place : goal.returns-clause-place
 returns-clause-place c =
     let i = c.self.inside in
-    first_attribute i.heads i.attributes i.known i.told i.bytes c.args.self.now c.self.view_is cell_count c.args.from c.first_from.result c.self.invariant.0
+    let seen : List ℕ = take (cells_in i.size) i.bytes in
+    let size : length seen ≡ c.len.result = sym (length_kept (place_by i.heads i.attributes i.known i.told) 0 seen) ∙ ap length c.self.view_is ∙ sym c.len.ensures.len in
+    first_attribute i.heads i.attributes i.known i.told seen c.args.self.now c.self.view_is c.len.result c.args.from c.first_from.result size
     c.first_from.ensures.from c.first_from.ensures.within c.first_from.ensures.clear c.first_from.ensures.set
-
-pub returns-clause-whole : goal.returns-clause-whole
-returns-clause-whole c =
-    let i = c.self.inside in
-    sym (ap length c.self.view_is) ∙ length_kept (place_by i.heads i.attributes i.known i.told) 0 i.bytes ∙ c.self.invariant.0
 
 pub returns-clause-stands : goal.returns-clause-stands
 returns-clause-stands c =
-    let i = c.self.inside in
     let ps = c.args.self.now in
     let k = length (chars_known (drop c.args.from ps)) in
-    let is : c.first_from.result ≡ c.args.from + k =
-    first_attribute i.heads i.attributes i.known i.told i.bytes ps c.self.view_is cell_count c.args.from c.first_from.result c.self.invariant.0
-    c.first_from.ensures.from c.first_from.ensures.within c.first_from.ensures.clear c.first_from.ensures.set in
+    let is : c.first_from.result ≡ c.args.from + k = returns-clause-place c in
     ap (λ (n : ℕ). length (chars_known (drop n ps))) is ∙ ap (λ (qs : List CellBelief). length (chars_known qs)) (sym (drop_drop c.args.from k ps)) ∙ none_left (drop c.args.from ps)

@@ -1,5 +1,4 @@
 use Rattle.std.proofs.Common.{◌≡◌, ◌-◌}
-use Rattle.codes3270.specs.Size.{cell_count}
 use Rattle.shadow.specs.Base.{known_base}
 use Rattle.shadow.specs.Looks.{stores_from, IsSearch}
 use Rattle.shadow.proofs.searching.Search.next_to_store.Given as goal
@@ -11,4 +10,4 @@ invariant-loop-self l = record {
 }
 
 abbrev pub decreases-loop-self : goal.decreases-loop-self
-decreases-loop-self l = cell_count - l.self.from
+decreases-loop-self l = l.cells - l.self.from

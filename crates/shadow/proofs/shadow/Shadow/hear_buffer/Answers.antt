@@ -1,13 +1,15 @@
-use Rattle.std.proofs.Common.{◌≡◌, ◌∙◌, ap, sym, subst, Bool, true, false, Ok, Err, List, Result, refl, if◌then◌else◌}
+use Rattle.std.proofs.Common.{◌≡◌, ◌∙◌, ap, sym, subst, Bool, true, false, Ok, Err, List, ℕ, Result, refl, if◌then◌else◌}
 use Rattle.codes3270.specs.declared.attribute.Cell.{Cell}
 use Rattle.datastream.specs.Fields.{fields}
 use Rattle.datastream.specs.InboundFields.{cells_sent}
 use Rattle.shadow.specs.declared.fault.HeardFault.{HeardFault}
 use Rattle.shadow.specs.declared.fault.HeardFault.TheVariants.{Contradiction}
-use Rattle.shadow.specs.Belief.{Shadow}
+use Rattle.codes3270.specs.Size.{cells_in}
+use Rattle.shadow.specs.Belief.{Shadow, IsOfSize}
 use Rattle.shadow.specs.InPlace.{beliefs_held, shadow_held, IsHeld}
 use Rattle.shadow.specs.Seen.{denies_buffer, others, seen}
 use Rattle.shadow.specs.Since.{places_stored}
+use Rattle.shadow.proofs.Placed.{known_size}
 use Rattle.shadow.proofs.Reading.{read_seen, read_held}
 use Rattle.shadow.proofs.Whole.{denies_held}
 use Rattle.shadow.proofs.shadow.Shadow.hear_buffer.Goals as goal
@@ -44,3 +46,9 @@ returns c =
           ap (λ (s : Shadow). denies_buffer s screen) (sym c.self.view_is ∙ ap (λ (k : Bool). shadow_held k places) w.if-self.false)
     ] in
     ap answer allowed ∙ ap Ok (sym known)
+
+pub any_other-requires-clause-whole : goal.any_other-requires-clause-whole
+any_other-requires-clause-whole c =
+    let places = c.self.inside.places in
+    let n : ℕ = cells_in c.args.inbound.now.size in
+    c.cells.ensures.whole ∙ sym (known_size places n (subst (IsOfSize n) (sym c.self.view_is ∙ ap (λ (k : Bool). shadow_held k places) c.if-self.true) c.requires.size))

@@ -1,5 +1,5 @@
 use Rattle.std.proofs.Common.{◌≡◌, ◌∙◌, ◌<◌, ◌≤◌, ap, sym, arith, Bool, true, false, List, [], length, refl}
-use Rattle.codes3270.specs.Size.{cell_count}
+use Rattle.codes3270.specs.Size.{cells_in}
 use Rattle.datastream.specs.InboundFields.{Returned, returned, leading_text}
 use Rattle.shadow.specs.Belief.{Shadow}
 use Rattle.shadow.specs.Heard.{heard_long}
@@ -16,9 +16,9 @@ returns-in-None c =
     let now : c.args.self.now ≡ shadow_held true places = sym c.self.view_is ∙ ap (λ (k : Bool). shadow_held k places) c.if-self.true in
     let bare : has_fields (shadow_held true places) ≡ false = ap has_fields (sym now) ∙ c.requires in
     let longer : length places < length (leading_text parts) = omega (arith, c.len.ensures.len, ap length c.leading_text.ensures.leading_text) in (
-      ap (λ (s : Shadow). heard_long cell_count s (leading_text parts) (returned parts)) now
-          ∙ ap (λ (rs : List Returned). heard_long cell_count (shadow_held true places) (leading_text parts) rs) none
-          ∙ bare_refused places (leading_text parts) bare longer,
+      ap (λ (s : Shadow). heard_long (cells_in c.args.inbound.now.size) s (leading_text parts) (returned parts)) now
+          ∙ ap (λ (rs : List Returned). heard_long (cells_in c.args.inbound.now.size) (shadow_held true places) (leading_text parts) rs) none
+          ∙ bare_refused (cells_in c.args.inbound.now.size) places (leading_text parts) bare longer,
       refl,
     )
 
@@ -34,6 +34,6 @@ returns-in-None-2 c =
       | then-self+else-len-leading_text w ↦ omega (arith, w.len.ensures.len, ap length w.leading_text.ensures.leading_text)
       | else-self w ↦ absurd (let no = sym is ∙ w.if-self.false in cc)
     ] in
-    ap (λ (s : Shadow). heard_long cell_count s (leading_text parts) (returned parts)) (sym c.self.view_is)
-    ∙ ap (λ (rs : List Returned). heard_long cell_count (shadow_held knows places) (leading_text parts) rs) none
-    ∙ bare_forgotten knows places (leading_text parts) bare short
+    ap (λ (s : Shadow). heard_long (cells_in c.args.inbound.now.size) s (leading_text parts) (returned parts)) (sym c.self.view_is)
+    ∙ ap (λ (rs : List Returned). heard_long (cells_in c.args.inbound.now.size) (shadow_held knows places) (leading_text parts) rs) none
+    ∙ bare_forgotten (cells_in c.args.inbound.now.size) knows places (leading_text parts) bare short

@@ -12,10 +12,10 @@ pub returns-in_default-kind-clause-taken : goal.returns-in_default-kind-clause-t
 returns-in_default-kind-clause-taken c =
     of_another_type c.args.self.now c.args.bytes.now c.args.out.now c.in-Ok.header c.in-Ok.body.now c.in-Ok.ensures.found c.in_default-kind.not-Data3270
 
-pub returns-in-Ok-read_command-clause-taken : goal.returns-in-Ok-read_command-clause-taken
-returns-in-Ok-read_command-clause-taken c =
-    with_command c.args.self.now c.obey.new.self c.args.bytes.now c.args.out.now c.obey.new.out c.in-Ok.header c.in-Ok.body.now c.in-Ok-read_command.command
-    c.in-Ok.ensures.found c.in-Data3270.is c.in-Ok-read_command.ensures.found c.obey.ensures.station c.obey.ensures.sent
+pub returns-in-Ok-read-clause-taken : goal.returns-in-Ok-read-clause-taken
+returns-in-Ok-read-clause-taken c =
+    with_command c.args.self.now c.obey.new.self c.args.bytes.now c.args.out.now c.obey.new.out c.in-Ok.header c.in-Ok.body.now c.in-Ok-read.command
+    c.in-Ok.ensures.found c.in-Data3270.is c.in-Ok-read.ensures.found c.obey.ensures.station c.obey.ensures.sent
 
 pub returns-then-header-ne-NO_RESPONSE-clause-taken : goal.returns-then-header-ne-NO_RESPONSE-clause-taken
 returns-then-header-ne-NO_RESPONSE-clause-taken c =

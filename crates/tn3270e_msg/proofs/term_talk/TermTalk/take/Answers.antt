@@ -8,5 +8,6 @@ returns c =
       comes = heard_says c.hear.result;
       hears = c.hear.ensures;
       gives = (rw c.transition-transition.ensures at c.follow.ensures);
+      model = refl;
       wanted = refl;
     })

@@ -1,0 +1,68 @@
+-- Items above the row for messages, and that row at the end of the screen.
+use Rattle.std.proofs.Common.{◌≡◌, ◌<◌, ◌≤◌, ◌+◌, ◌-◌, ◌*◌, ◌∙◌, ℕ, zero, suc, List, ℤ, pos, ◌-ℤ◌, ◌≤ℤ◌, true, Some, ap, sym, subst, arith}
+use Rattle.std.specs.Prelude.{All, int_le, slice_get}
+use Rattle.std.proofs.lemmas.Bool.{and_parts}
+use Rattle.std.proofs.lemmas.Int.{ints}
+use Rattle.std.proofs.lemmas.Option.{slice_get_within, get_or_from_slice_get}
+use Rattle.std.proofs.Math.Nat.{suc-mul}
+use Rattle.codes3270.specs.Size.{Shape, cells_in, alternate_of}
+use Rattle.codes3270.specs.declared.size.Model.{Model}
+use Rattle.codes3270.specs.declared.size.Model.TheVariants.{M2, M3, M4, M5}
+use Rattle.panels.specs.declared.extent.Extent.{Extent}
+use Rattle.panels.specs.Draft.{DraftItem}
+use Rattle.panels.specs.Items.{IsExtentOf, is_on_screen, is_above_message, first_cell}
+use Rattle.panels.specs.Panel.{IsAbove}
+use Rattle.panels.specs.Size.{message_start}
+
+-- what holds of each thing of a list holds of the one at a place
+pub all_at : {X : Type 0} (P : X → Type 0) (xs : List X) (i : ℕ) (x : X) → All P xs → slice_get xs i ≡ Some x → P x
+all_at P xs i x all there = subst P (get_or_from_slice_get xs i x x there) (all i x (slice_get_within xs i x there))
+
+-- ---- the row for messages
+
+one_less : (n : ℕ) → suc n - 1 ≡ n
+one_less n = omega arith
+
+some_row : (rows columns : ℕ) → 0 < rows * columns → (rows - 1) * columns + columns ≡ rows * columns
+some_row zero columns some = absurd (omega arith)
+some_row (suc rows) columns some = ap (λ n. n * columns + columns) (one_less rows) ∙ sym (suc-mul rows columns)
+
+-- it ends where the screen ends
+pub row_ends : (shape : Shape) → 0 < cells_in shape → message_start shape + shape.columns ≡ cells_in shape
+row_ends shape some = some_row shape.rows shape.columns some
+
+some_column : (rows columns : ℕ) → 0 < rows * columns → 0 < columns
+some_column rows zero some = absurd (omega (arith, none rows, some))
+  where
+    none : (n : ℕ) → n * 0 ≡ 0
+    none n = omega arith
+some_column rows (suc columns) some = omega arith
+
+pub start_before_end : (shape : Shape) → 0 < cells_in shape → message_start shape < cells_in shape
+start_before_end shape some =
+    let column = some_column shape.rows shape.columns some in
+    let ends = row_ends shape some in
+    omega (arith, column, ends)
+
+pub cells_some : (model : Model) → 0 < cells_in (alternate_of model)
+cells_some M2 = omega arith
+cells_some M3 = omega arith
+cells_some M4 = omega arith
+cells_some M5 = omega arith
+
+-- ---- the items
+
+le_of : (a b : ℤ) → int_le a b ≡ true → a ≤ℤ b
+le_of a b is = omega (arith, ints, is)
+
+above : (start first size : ℕ) → pos size ≤ℤ (pos start -ℤ pos first) → first + size ≤ start
+above start first size fits = omega (arith, ints, fits)
+
+-- an item on a screen lies above the row
+pub item_above : (shape : Shape) (item : DraftItem) (extent : Extent) → is_on_screen shape item ≡ true → IsExtentOf shape item extent → IsAbove shape extent
+item_above shape item extent on is =
+    let inner = (and_parts _ (is_above_message shape (first_cell shape item) item.size) on).1 in
+    let fits : int_le item.size (pos (message_start shape) -ℤ first_cell shape item) ≡ true = (and_parts _ _ (and_parts _ _ inner).1).1 in
+    above (message_start shape) extent.first extent.length
+    (subst (λ f. pos extent.length ≤ℤ (pos (message_start shape) -ℤ f)) (sym is.0)
+    (subst (λ l. l ≤ℤ (pos (message_start shape) -ℤ first_cell shape item)) (sym is.1) (le_of _ _ fits)))

@@ -1,6 +1,0 @@
-use Rattle.std.proofs.Common.{true}
-use Rattle.presentation.proofs.Storable.{with_filled}
-use Rattle.presentation.proofs.buffer.Buffer.tab.Goals as goal
-
-pub invariant_of-self : goal.invariant_of-self
-invariant_of-self c = rw c.fill.ensures (with_filled _ _ _ _ (λ i. true) c.self.invariant)
