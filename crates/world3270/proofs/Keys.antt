@@ -227,20 +227,20 @@ opens_by EnterAid s size clear long = long refl
 opens_by (PfAid key) s size clear long = long refl
 
 -- the host will hear it, and then see the screen
-will_see : Given → (erased : Bool) (shape : Shape) (shadow : Shadow) (left screen : Screen) (aid : Aid) → screen.aid ≡ aid → length screen.cells ≡ cells_in shape → FactsAreExact shadow → Knows shadow → NothingIsOpen shadow → Meets shadow left
-    → KeepsSent erased aid left.cells screen.cells → IsOkAnd (heard (cells_in shape) shadow (modified_data Modified screen)) (Sees shape screen)
-will_see given erased shape shadow left screen aid is whole exact knows closed meets keeps =
+will_see : Given → (erased : Bool) (shape size : Shape) (shadow : Shadow) (left screen : Screen) (aid : Aid) → screen.aid ≡ aid → length screen.cells ≡ cells_in shape → FactsAreExact shadow → Knows shadow → NothingIsOpen shadow → Meets shadow left
+    → KeepsSent erased aid left.cells screen.cells → IsOkAnd (heard (cells_in shape) shadow (modified_data Modified size screen)) (Sees shape screen)
+will_see given erased shape size shadow left screen aid is whole exact knows closed meets keeps =
     subst (λ n. IsOkAnd (heard n shadow parts) (Sees shape screen)) whole
     (ok_map (λ s. Believed (is_short_aid screen.aid) screen s × FactsAreExact s × (screen.aid ≡ ClearAid → IsCleared shape s) × IsOpenBy screen.aid false s) (Sees shape screen) result
     (λ s all. record { exact = all.1; closed = all.3; cleared = all.2; meets = all.0.0; lists = all.0.1; told = λ sent. all.0.2 (sent_long screen.aid sent) })
     (by_result result
-    (given.belief.hears erased shadow left screen knows meets (sent_from erased left.cells screen.cells screen.aid (subst (λ a. KeepsSent erased a left.cells screen.cells) (sym is) keeps)))
+    (given.belief.hears size erased shadow left screen knows meets (sent_from erased left.cells screen.cells screen.aid (subst (λ a. KeepsSent erased a left.cells screen.cells) (sym is) keeps)))
     (given.belief.heard_exact (length screen.cells) shadow parts exact.known) (given.belief.heard_protected (length screen.cells) shadow parts exact.protected)
-    (λ clear. given.belief.cleared (length screen.cells) shadow parts (key_form screen) (key_aid screen ∙ clear))
+    (λ clear. given.belief.cleared (length screen.cells) shadow parts (key_form size screen) (key_aid size screen ∙ clear))
     (λ long. given.belief.long_opens (length screen.cells) shadow parts (is_long long) closed)))
   where
     parts : InboundParts
-    parts = modified_data Modified screen
+    parts = modified_data Modified size screen
 
     result : Result Shadow HeardFault
     result = heard (length screen.cells) shadow parts
@@ -253,7 +253,7 @@ will_see given erased shape shadow left screen aid is whole exact knows closed m
     by_result (Err fault) believed known protected clear long = absurd believed
 
     is_long : is_short_aid screen.aid ≡ false → IsLong parts.form parts.aid
-    is_long long = subst (λ f. IsLong f parts.aid) (sym (key_form screen)) (ap is_short_aid (key_aid screen) ∙ long)
+    is_long long = subst (λ f. IsLong f parts.aid) (sym (key_form size screen)) (ap is_short_aid (key_aid size screen) ∙ long)
 
 -- ---- by what the key is answered
 
@@ -313,9 +313,9 @@ module _ (given : Given) (app : Application) (link : Link) (key : Key) (k : Kept
 
   -- a key that sends
   sends : Typing → (screen : Screen) (lock : Lock) (erased : Bool) (aid : Aid) → length screen.cells ≡ cells_in v.host.shape → screen.cursor < cells_in v.host.shape → lock ≡ Wait → screen.aid ≡ aid → (aid ≡ NoAid → ⊥)
-      → KeepsSent erased aid f.shown.cells screen.cells → Kept app (seen_as v (sent v.lost v.up (ToHost.Data (modified_data Modified screen) ∷ [])) screen lock erased)
+      → KeepsSent erased aid f.shown.cells screen.cells → Kept app (seen_as v (sent v.lost v.up (ToHost.Data (modified_data Modified v.shape screen) ∷ [])) screen lock erased)
   sends typing screen lock erased aid whole cursor waits is some keeps =
-      let parts : InboundParts = modified_data Modified screen in
+      let parts : InboundParts = modified_data Modified v.shape screen in
       record {
         shape = record { begins = k.shape.begins; same = k.shape.same };
         whole = whole;
@@ -326,15 +326,15 @@ module _ (given : Given) (app : Application) (link : Link) (key : Key) (k : Kept
         moment = Moment.Serves lu (typing.to parts);
         at = typing.at_to parts screen lock erased;
         fact = typing.press parts screen lock erased
-            (record { lock = waits; form = key_form screen; pressed = key_aid screen; some = λ none. some (sym is ∙ none) })
-            (will_see given erased v.host.shape shadow f.shown screen aid is whole f.exact f.knows f.closed f.meets keeps)
+            (record { lock = waits; form = key_form v.shape screen; size = key_size v.shape screen ∙ k.shape.same; pressed = key_aid v.shape screen; some = λ none. some (sym is ∙ none) })
+            (will_see given erased v.host.shape v.shape shadow f.shown screen aid is whole f.exact f.knows f.closed f.meets keeps)
             (takes_notes given v.host.shape erased f.shown.cells screen.cells aid keeps f.messages);
       }
 
   -- the connection with what was said, by the answer
   abbrev said : Outcome → Pressed → View
   said outcome answer =
-      seen_as v (sent v.lost v.up (data_of (is_bound link.term) answer outcome.screen)) outcome.screen outcome.keyboard.lock (v.erased || erases_if answer key)
+      seen_as v (sent v.lost v.up (data_of (is_bound link.term) answer v.shape outcome.screen)) outcome.screen outcome.keyboard.lock (v.erased || erases_if answer key)
 
   bound : is_bound link.term ≡ true
   bound = ap (λ (t : Term). is_some (bound_to t.talk.state)) at.term_talk

@@ -67,7 +67,7 @@ record StepSaid (step : TermStep) : Type 0 where
 took_said : (end : TermEnd) (message : ToTerminal) → IsLuIfSome end.talk.wanted → StepSaid (term_took end message)
 took_said end (ToTerminal.TalksDown saying) is = record {
   wanted = is;
-  sends = replies_said _ (answer_fits end.talk.talk end.talk.wanted (names_wanted end.talk.talk.state end.talk.wanted is) (says saying));
+  sends = replies_said _ (answer_fits end.talk.talk end.talk.model end.talk.wanted (names_wanted end.talk.talk.state end.talk.wanted is) (says saying));
 }
 took_said end (ToTerminal.Paint number wanted over) is =
     record { wanted = once_bound_wanted (is_bound end) end _ _ is is; sends = once_bound_said (is_bound end) end _ _ tt }

@@ -4,4 +4,4 @@ use Rattle.world3270.proofs.Slots.{begun}
 use Rattle.world3270.proofs.terminal_slot.TerminalSlot.attach.Goals as goal
 
 pub returns-clause-attached_slot : goal.returns-clause-attached_slot
-returns-clause-attached_slot c = begun c.connected.new.self.terminal (connected c.args.wanted) c.blank-self-inside.result (Some c.args.number) c.connected.ensures.terminal c.blank-self-inside.ensures
+returns-clause-attached_slot c = begun c.connected.new.self.terminal (connected _ c.args.wanted) c.blank-self-inside.result _ (Some c.args.number) c.connected.ensures.terminal c.blank-self-inside.ensures
