@@ -80,7 +80,7 @@ pub record Leads (wanted : Option (List ℕ)) (from to : Moment) (sends : List T
   pub up : up_at wanted from ++ sends ≡ up_at wanted to
 
 leads : (link : Link) (step : TermStep) (rest : List ToTerminal) (wanted : Option (List ℕ)) (from to : Moment) → IsAt (view_of link) wanted from → Leads wanted from to step.sends
-    → step.end.talk ≡ record { wanted = wanted; talk = start_at (term_state_at to) } → UnderWay link.lost rest (down_at to) → IsAt (view_of (term_view step rest link)) wanted to
+    → step.end.talk ≡ record { model = M2; wanted = wanted; talk = start_at (term_state_at to) } → UnderWay link.lost rest (down_at to) → IsAt (view_of (term_view step rest link)) wanted to
 leads link step rest wanted from to at l talk left = record {
   host_talk = at.host_talk ∙ sym l.host_talk;
   term_talk = talk;
@@ -324,11 +324,14 @@ sees_noted given shape command screen shadow note whole noted s =
       exact = let both = given.notes.exact command shadow screen noted.over s.meets s.exact.known s.exact.protected in record { known = both.0; protected = both.1 };
       cleared = λ e. subst (λ n. IsCleared shape (taken n command shadow)) (sym whole) (by_notes (s.cleared (sym noted.aid ∙ e)));
       closed = open_noted screen.aid (after_command command screen).aid false shadow (taken (length screen.cells) command shadow) noted.aid (given.notes.opens command shadow screen noted.over s.meets) s.closed;
-      meets = given.belief.written command shadow screen noted.over.spelt noted.over.plain s.meets;
+      meets = subst (λ n. Meets (taken n command shadow) (after_command command screen)) (written_on ∙ sym whole) (given.belief.written command shadow screen noted.over.spelt noted.over.plain (λ code. whole ∙ sym written_on) s.meets);
       lists = given.notes.listed command shadow screen noted.over s.meets s.lists;
       told = λ sent. given.notes.stays_told command shadow screen noted.over s.meets (s.told (subst SentFields noted.aid sent));
     })
   where
+    written_on : cells_in command.size ≡ cells_in shape
+    written_on = ap (λ (c : CommandParts). cells_in c.size) note.is
+
     by_notes : IsCleared shape shadow → IsCleared shape (taken (cells_in shape) command shadow)
     by_notes cleared = record {
       notes = command ∷ cleared.notes;
@@ -379,6 +382,7 @@ module _ (given : Given) (app : Application) (is : IsApplication app) (link : Li
   operates_noted command note f number =
       let shown : Screen = f.shown in
       let whole : length shown.cells ≡ cells_in link.host.shape = sym f.held.same_length ∙ k.whole in
+      let written_on : cells_in command.size ≡ cells_in link.host.shape = ap (λ (c : CommandParts). cells_in c.size) note.is in
       let noted = noted_on_it given shape command shown is_shape note whole (TakesNotes.formatted f.messages) in
       let writes = given.notes.writes_protected shape command shown.cells is_shape note whole f.messages in
       let both = given.notes.exact command link.host.shadow shown noted.over f.meets f.exact.known f.exact.protected in
@@ -389,7 +393,7 @@ module _ (given : Given) (app : Application) (is : IsApplication app) (link : Li
           known = subst (λ n. KnownIsExact (taken n command link.host.shadow)) whole both.0;
           protected = subst (λ n. ProtectedIsExact (taken n command link.host.shadow)) whole both.1;
         };
-        meets = subst (λ n. Meets (taken n command link.host.shadow) (after_command command shown)) whole (given.belief.written command link.host.shadow shown noted.over.spelt noted.over.plain f.meets);
+        meets = subst (λ n. Meets (taken n command link.host.shadow) (after_command command shown)) written_on (given.belief.written command link.host.shadow shown noted.over.spelt noted.over.plain (λ code. whole ∙ sym written_on) f.meets);
         closed = subst (λ n. NothingIsOpen (taken n command link.host.shadow)) whole (given.notes.opens command link.host.shadow shown noted.over f.meets f.closed);
         knows = given.notes.placed (cells_in link.host.shape) command link.host.shadow noted.over.writes noted.over.placed f.knows;
         held = given.notes.held link.term.display.erased command shown screen writes f.held;

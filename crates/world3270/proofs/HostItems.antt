@@ -1,6 +1,7 @@
 -- What a host makes of an item is what it makes of the message that the item stands for.
 use Rattle.std.proofs.Common.{◌≡◌, ◌<◌, ◌≤◌, ◌/◌, ◌%◌, ◌^◌, ℕ, Bool, true, false, List, [], ◌∷◌, ◌++◌, Ok, refl, ap, sym, subst, ◌∙◌, arith}
 use Rattle.std.specs.Prelude.{⊤}
+use Rattle.codes3270.specs.Size.{Shape}
 use Rattle.datastream.specs.InboundText.{InboundParts, IsInbound, IsNoInbound}
 use Rattle.datastream.specs.declared.inbound_part.Form.{Form}
 use Rattle.datastream.specs.declared.inbound_part.InboundFault.{InboundFault}
@@ -116,7 +117,7 @@ module _ (one_header : OneHeader) (fault_or_header : FaultIsNoHeader) (one_inbou
       let same = ap (λ (h : Header). h.kind) (one_header bytes other header rest body begins' begins).0 in
       let both : Data3270 ≡ Response = sym kind' ∙ same ∙ kind in
       absurd (cc)
-  response_taken conn bytes body header verdict step kind begins says_it (TakesRecord.hears other rest parts begins' kind' form is e) =
+  response_taken conn bytes body header verdict step kind begins says_it (TakesRecord.hears other rest parts begins' kind' form size is e) =
       let same = ap (λ (h : Header). h.kind) (one_header bytes other header rest body begins' begins).0 in
       let both : Data3270 ≡ Response = sym kind' ∙ same ∙ kind in
       absurd (cc)

@@ -458,7 +458,11 @@ pub screens_are_sendable : SentIsRead → Given → AlwaysTyped ScreensAreSendab
 screens_are_sendable read given app pool terminals events is asks lists few are typed terminal =
     let world : World = run app events (new_world app pool terminals) in
     let all = all_can read given app pool terminals events is asks lists few are typed in
-    in_place app.begins world (world.place terminal) all.links (all.places terminal)
+    let keeps = screens_keep_their_shape given app pool terminals events is lists few are terminal in
+    record {
+      sendable = in_place app.begins world (world.place terminal) all.links (all.places terminal);
+      whole = keeps.whole ∙ sym (ap (λ (shape : Shape). cells_in shape) keeps.shape_is);
+    }
 
 pub data_can_be_spelt : SentIsRead → Given → AlwaysTyped DataCanBeSpelt
 data_can_be_spelt read given app pool terminals events is asks lists few are typed number =

@@ -1,5 +1,5 @@
 -- Bytes that stand for messages: each end makes of them what it makes of the messages.
-use Rattle.std.proofs.Common.{◌≡◌, ◌&&◌, ◌||◌, not, cond, if◌then◌else◌, ℕ, Bool, true, false, Option, None, List, [], ◌∷◌, ◌++◌, length, map, refl, ap, sym, subst, ◌∙◌, arith}
+use Rattle.std.proofs.Common.{◌≡◌, ◌≤◌, ◌&&◌, ◌||◌, not, cond, if◌then◌else◌, ℕ, Bool, true, false, Option, None, List, [], ◌∷◌, ◌++◌, length, map, refl, ap, sym, subst, ◌∙◌, arith}
 use Rattle.std.proofs.lemmas.Grind.{flat_map-append}
 use Rattle.std.proofs.lemmas.Bool.{and_parts, eqb-true}
 use Rattle.std.proofs.lemmas.List.Elements.{filter-append}
@@ -95,6 +95,7 @@ paint_stands painted number wanted believed bytes body whole begins spelt fit = 
   begins = begins;
   spelt = spelt;
   paints = record {
+    size = refl;
     writes = paint_writes (cells_in wanted.size) believed wanted;
     paints = λ screen meets. painted believed wanted screen whole fit meets;
   };

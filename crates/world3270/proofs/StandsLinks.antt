@@ -135,7 +135,7 @@ bound_refuses_none false step end none = refl
 
 none_refused : (end : TermEnd) (message : ToTerminal) → list_any is_refusal (took end message).sends ≡ false
 none_refused end (ToTerminal.TalksDown saying) =
-    talk_refuses_none (sayings (follow Closed end.talk.talk (term_transition end.talk.wanted end.talk.talk.state (says saying))).1)
+    talk_refuses_none (sayings (follow Closed end.talk.talk (term_transition end.talk.model end.talk.wanted end.talk.talk.state (says saying))).1)
 none_refused end (ToTerminal.Paint number wanted believed) = bound_refuses_none (is_bound end) (paint_came number wanted end) end refl
 none_refused end (ToTerminal.ReadBuffer number) = bound_refuses_none (is_bound end) (read_came end) end refl
 none_refused end (ToTerminal.Note number command) = bound_refuses_none (is_bound end) (note_came number command end) end refl

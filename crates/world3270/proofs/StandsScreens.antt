@@ -9,7 +9,7 @@ use Rattle.codes3270.specs.declared.attribute.Cell.{Cell}
 use Rattle.codes3270.specs.declared.attribute.Cell.TheVariants.{Char, Attr}
 use Rattle.codes3270.specs.declared.attention.Aid.TheVariants.{NoAid}
 use Rattle.codes3270.specs.declared.write_control.Wcc.{Wcc}
-use Rattle.datastream.specs.Grammar.{CommandParts, IsCommand, IsProper, is_write, other, size_after, write}
+use Rattle.datastream.specs.Grammar.{CommandParts, IsCommand, IsProper, is_write, size_after}
 use Rattle.datastream.specs.InboundFields.{IsStorableCell, IsSendable}
 use Rattle.datastream.specs.Meaning.{WriteProgress, stored, executed, all_executed, cleared, prepared, written, filled, unmodified, after_open_attribute, after_code, after_command}
 use Rattle.datastream.specs.Screen.{Screen, is_char, is_open_attribute}
@@ -161,8 +161,8 @@ same_after EraseAllUnprotected = refl
 
 -- whatever its code, it leaves the size
 pub size_is : (command : CommandParts) (body : List ℕ) → IsCommand model_2 model_2 command body → command.size ≡ model_2
-size_is command body (write byte wcc text is_one stands sized read are is) = sized ∙ same_after command.code
-size_is command body (other byte ignored is_none stands sized none few is) = sized ∙ same_after command.code
+size_is command body (IsCommand.write byte wcc text is_one stands sized read are is) = sized ∙ same_after command.code
+size_is command body (IsCommand.other byte ignored is_none stands sized none few is) = sized ∙ same_after command.code
 
 command_keeps : (command : CommandParts) (body : List ℕ) (screen : Screen) → IsCommand model_2 model_2 command body → is_write command.code ≡ true → CanBeSent model_2 screen
     → CanBeSent model_2 (after_command command screen)

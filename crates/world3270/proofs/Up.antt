@@ -1,6 +1,7 @@
 -- What a host makes of the next message, at each moment.
 use Rattle.std.proofs.Common.{◌≡◌, ◌<◌, ℕ, Bool, true, false, Option, None, Some, Result, Ok, Err, List, [], ◌∷◌, ◌++◌, length, refl, ap, sym, subst, ◌∙◌, IsOkAnd, IfOk}
 use Rattle.codes3270.specs.Size.{Shape, cells_in}
+use Rattle.codes3270.specs.declared.size.Model.TheVariants.{M2}
 use Rattle.codes3270.specs.declared.attention.Aid.{Aid}
 use Rattle.codes3270.specs.declared.attention.Aid.TheVariants.{NoAid, Enter, Clear, Pf, Pa}
 use Rattle.datastream.specs.Grammar.{CommandParts}
@@ -28,7 +29,7 @@ use Rattle.tn3270e_msg.specs.declared.reply.Reason.{Reason}
 use Rattle.tn3270e_msg.specs.declared.reply.Reply.{Reply}
 use Rattle.tn3270e_msg.specs.declared.reply.Reply.TheVariants as reply
 use Rattle.tn3270e_msg.specs.declared.reply.OwnedMessage.TheVariants.{SendType, TypeRequest, TypeIs, TypeReject, FunRequest, FunIs}
-use Rattle.tn3270e_msg.proofs.Agreement.{responses_alone, model_2}
+use Rattle.tn3270e_msg.proofs.Agreement.{responses_alone, own_device}
 use Rattle.host_core.specs.Application.{Application}
 use Rattle.host_core.specs.Messages.{ToTerminal, ToHost, Verdict}
 use Rattle.host_core.specs.declared.turn.Turn.TheVariants as whose
@@ -76,7 +77,7 @@ leads : (link : Link) (step : HostStep) (rest : List ToHost) (wanted : Option (L
     → step.conn.talk ≡ host_talk_at to → step.conn.turn ≡ turn_at to → step.conn.pending ≡ pending_at to → UnderWay link.lost rest (up_at wanted to) → IsAt (view_of (host_view step rest link)) wanted to
 leads link step rest wanted from to at l talk turn pending left = record {
   host_talk = talk;
-  term_talk = at.term_talk ∙ ap (λ state. record { wanted = wanted; talk = start_at state }) (sym l.term);
+  term_talk = at.term_talk ∙ ap (λ state. record { model = M2; wanted = wanted; talk = start_at state }) (sym l.term);
   turn = turn;
   pending = pending;
   goes_down = subst (UnderWay link.lost (sent link.lost link.down step.sends)) l.down (more link.lost link.down (down_at from) step.sends at.goes_down);
@@ -124,9 +125,9 @@ abbrev at_asking : Talk HostState
 at_asking = start_at (Asking Model2)
 
 asks_pool : Given → (wanted : Option (List ℕ)) → IsLuIfSome wanted → follow HostClosed (start_at Asked) (host_transition Asked (says (asking_type wanted))) ≡ (at_asking, reply.AskPool wanted)
-asks_pool given None is = ap (λ d. follow HostClosed (start_at Asked) (request_transition d None)) model_2
+asks_pool given None is = ap (λ d. follow HostClosed (start_at Asked) (request_transition d None)) (own_device M2)
 asks_pool given (Some name) is =
-    ap (λ d. follow HostClosed (start_at Asked) (request_transition d (Some (Connect name)))) model_2
+    ap (λ d. follow HostClosed (start_at Asked) (request_transition d (Some (Connect name)))) (own_device M2)
     ∙ ap (λ l. follow HostClosed (start_at Asked) (named_transition Model2 l)) (given.belief.names name is)
 
 pool_asked : Given → (pool : Answers) (conn : Conn) (wanted : Option (List ℕ)) → IsLuIfSome wanted

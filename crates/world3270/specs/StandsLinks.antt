@@ -3,6 +3,7 @@
 use Rattle.std.specs.Prelude.{◌≡◌, ◌||◌, ⊤, ℕ, Bool, true, false, List, [], ◌∷◌, ◌++◌, Option, Some, None}
 use Rattle.std.specs.List.{AllByRecursion, list_any}
 use Rattle.codes3270.specs.Size.{model_2}
+use Rattle.codes3270.specs.declared.size.Model.TheVariants.{M2}
 use Rattle.world3270.specs.Sendable.{CanBeSent}
 use Rattle.keyboard.specs.declared.key.Key.{Key}
 use Rattle.shadow.specs.Pairs.{Pairwise}
