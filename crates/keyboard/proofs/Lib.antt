@@ -13,4 +13,5 @@ pub mod Sendable
 pub mod SentKeys
 pub mod RowEnds
 pub mod Free
+pub mod WalkedStarts
 pub mod KeyNames

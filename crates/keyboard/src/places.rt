@@ -2,7 +2,8 @@
 ghost use Rattle.std.specs.Prelude.{◌≡◌, ◌+◌, ◌-◌, ◌%◌, ◌<◌, ◌≤◌, ◌&&◌, not, length};
 ghost use Rattle.codes3270.specs.Size.{cells_in};
 ghost use Rattle.datastream.specs.Screen.{is_char, is_char_at, protects};
-ghost use Rattle.keyboard.specs.Places.{is_start_at, is_free_at, next_start as start_behind, start_before as start_ahead, next_line as line_behind, row_end, first_or_zero, onward};
+ghost use Rattle.datastream.specs.Meaning.{is_start};
+ghost use Rattle.keyboard.specs.Places.{is_free_at, next_start as start_behind, start_before as start_ahead, next_line as line_behind, row_end, first_or_zero, onward};
 
 use codes3270::{Addr, Attr, Cell};
 use presentation::Screen;
@@ -30,12 +31,11 @@ fn is_free_under(over: Option<Attr>, cell: Cell) -> bool
     cell.is_character() && !over.is_some_and(|attr| attr.protected)
 }
 
-/// Whether a cell is the first of an unprotected field.
-fn is_start(screen: &Screen, at: Addr) -> bool
-    requires { at < cells_in screen.now.size }
-    ensures { result ≡ is_start_at screen.now.screen.cells at }
+/// Whether a cell is the first of an unprotected field, by the cell before it and what it holds.
+fn is_start(before: Cell, cell: Cell) -> bool
+    ensures { result ≡ is_start (before, cell) }
 {
-    screen.cell(left(screen, at)).is_unprotected_attribute() && is_character_at(screen, at)
+    before.is_unprotected_attribute() && cell.is_character()
 }
 
 /// The first start behind a cell, round the end; its own is the last. 0 if there is none.
@@ -45,11 +45,15 @@ pub(crate) fn next_start(screen: &Screen, at: Addr) -> Addr
     ensures in_range { result < cells_in screen.now.size }
 {
     let size = screen.size();
-    for step in 0..size.cells() {
-        let place = at.forward(step + 1, size);
-        if is_start(screen, place) {
+    let mut place = at;
+    let mut before = screen.cell(at);
+    for _step in 0..size.cells() {
+        place = place.next(size);
+        let cell = screen.cell(place);
+        if is_start(before, cell) {
             return place;
         }
+        before = cell;
     }
     Addr::first()
 }
@@ -61,11 +65,16 @@ pub(crate) fn start_before(screen: &Screen, at: Addr) -> Addr
     ensures in_range { result < cells_in screen.now.size }
 {
     let size = screen.size();
-    for step in 0..size.cells() {
-        let place = at.backward(step + 1, size);
-        if is_start(screen, place) {
+    let mut place = at.backward(1, size);
+    let mut cell = screen.cell(place);
+    for _step in 0..size.cells() {
+        let ahead = place.backward(1, size);
+        let before = screen.cell(ahead);
+        if is_start(before, cell) {
             return place;
         }
+        place = ahead;
+        cell = before;
     }
     Addr::first()
 }
@@ -78,12 +87,13 @@ fn next_free(screen: &Screen, at: Addr) -> Addr
 {
     let size = screen.size();
     let mut over = screen.attribute_over(at);
-    for step in 0..size.cells() {
-        let free = at.forward(step + 1, size);
-        let cell = screen.cell(free);
+    let mut place = at;
+    for _step in 0..size.cells() {
+        place = place.next(size);
+        let cell = screen.cell(place);
         over = cell.attribute().or(over);
         if is_free_under(over, cell) {
-            return free;
+            return place;
         }
     }
     Addr::first()
