@@ -1,6 +1,6 @@
-//! The codes of the 3270 data stream (GA23-0059-07), for a 3278 model 2: buffer addresses, field
-//! attributes, write control characters, attention identifiers, and characters in EBCDIC code page
-//! 037.
+//! The codes of the 3270 data stream (GA23-0059-07), for the 3278 models 2 to 5: their screens'
+//! sizes, buffer addresses, field attributes, write control characters, attention identifiers, and
+//! characters in EBCDIC code page 037.
 //!
 //! Each code has a call that encodes and one that decodes. The encoder's contract says that its
 //! bytes decode to the same value. No call allocates. A call returns `None` or an error only if the

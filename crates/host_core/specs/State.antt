@@ -44,7 +44,7 @@ most_connections = 64
 abbrev pub unused : Connection
 unused = record { service = Service.Free; out = []; rejections = [] }
 
--- TN3270E is offered at once, to a model 2
+-- TN3270E is offered at once, on a screen of 24 rows of 80 cells
 abbrev pub opened : Connection
 opened = record { service = Service.Open nothing (new_conn model_2); out = sent_bytes (Opt Do 40 ∷ []); rejections = [] }
 

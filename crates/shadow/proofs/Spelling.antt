@@ -157,9 +157,9 @@ write_spelt law now alternate size code wcc orders sized few writes each =
 
 base_is : (size : Shape) → is_base_size size ≡ true → model_2 ≡ size
 base_is size e =
-    let parts = and_parts (size.rows == 24) (size.columns == 80) e in
-    let rows : size.rows ≡ 24 = eqb-true size.rows 24 parts.0 in
-    let columns : size.columns ≡ 80 = eqb-true size.columns 80 parts.1 in
+    let parts = and_parts (size.rows == model_2.rows) (size.columns == model_2.columns) e in
+    let rows : size.rows ≡ model_2.rows = eqb-true size.rows model_2.rows parts.0 in
+    let columns : size.columns ≡ model_2.columns = eqb-true size.columns model_2.columns parts.1 in
     λ i. record { rows = sym rows i; columns = sym columns i }
 
 paint_size : (now alternate : Shape) (n : ℕ) (shadow : Shadow) (wanted : WantedScreen) → (wanted.size ≡ model_2) ⊎ (wanted.size ≡ alternate) → (paint_code n shadow wanted ≡ Write → wanted.size ≡ now)
