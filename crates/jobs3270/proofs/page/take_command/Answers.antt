@@ -7,7 +7,7 @@ use Rattle.jobs3270.proofs.page.take_command.Goals as goal
 
 pub returns-in-Ok : goal.returns-in-Ok
 returns-in-Ok c =
-    ([], TakesCommand.applied c.in-Ok.command c.in-Ok.ensures.found c.apply.ensures.screen refl, sym (append-nil (string_bytes c.args.text.now)))
+    ([], TakesCommand.accepted c.in-Ok.command c.in-Ok.ensures.found c.apply.ensures.screen refl, sym (append-nil (string_bytes c.args.text.now)))
 
 pub returns-in-Err : goal.returns-in-Err
 returns-in-Err c =
