@@ -5,7 +5,7 @@ use crate::lines::Lines;
 use crate::lus::check_lus;
 use crate::names::check_names;
 use crate::notes::Notes;
-use crate::rules::{FIELD_RULES, PANEL_RULES, TOP_RULES, check_keys, text_rules};
+use crate::rules::{FIELD_RULES, TOP_RULES, check_keys, panel_rules, text_rules};
 use crate::spot::Spot;
 use crate::survey::{PanelEntry, Survey};
 use crate::targets::check_targets;
@@ -54,7 +54,7 @@ fn check_shape(notes: &mut Notes, survey: &Survey) -> Result<(), AllocError> {
     for (index, panel) in survey.panels.iter().enumerate() {
         check_keys(
             notes,
-            &PANEL_RULES,
+            panel_rules(panel),
             panel.table,
             panel.spot,
             panel.place.as_str(),

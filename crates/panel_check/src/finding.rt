@@ -20,7 +20,7 @@ pub enum Cause {
     TextWraps,
     /// A numeric field is filled with what a terminal wouldn't take in it.
     FillNotNumeric,
-    /// No keys lead from the first panel to this one.
+    /// No keys lead from the first panel to this one, or to one in whose place it is shown.
     NoKeyLeads,
 }
 

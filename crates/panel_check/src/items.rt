@@ -1,9 +1,9 @@
-//! The faults of where texts and fields stand and of their characters, and warnings about them.
+//! The faults of panels' models, and of where texts and fields stand and of their characters, and warnings about them.
 use crate::finding::Cause;
 use crate::notes::Notes;
 use crate::spot::Spot;
 use crate::survey::{Item, PanelEntry, Survey, integer_at, is_set, text_at};
-use codes3270::{CELLS, COLUMNS, ROWS, from_latin1};
+use codes3270::{Size, from_latin1};
 use panels::TreeFault;
 use std::alloc::AllocError;
 
@@ -23,13 +23,29 @@ impl Extent {
     }
 }
 
-const LAST_COLUMN: i64 = COLUMNS as i64;
+/// The last row and the last column of a panel's screen in which an item may stand: the row below is for messages.
+#[derive(Clone, Copy)]
+struct Corner {
+    row: i64,
+    column: i64,
+}
 
-/// The rows above the one for messages.
-const LAST_ROW: i64 = ROWS as i64 - 1;
+impl Corner {
+    fn of(size: Size) -> Corner {
+        Corner {
+            row: i64::from(size.rows()).saturating_sub(1),
+            column: i64::from(size.cols()),
+        }
+    }
+}
 
-/// Where the row for messages starts.
-const MESSAGE_START: i64 = CELLS as i64 - COLUMNS as i64;
+/// The corner of a panel's screen; `None` if there is no such model.
+fn corner_of(panel: &PanelEntry) -> Option<Corner> {
+    match panel.size() {
+        Some(size) => Some(Corner::of(size)),
+        None => None,
+    }
+}
 
 /// The length of an item: of its text, or the number at `length`.
 fn length_of(item: &Item) -> Option<i64> {
@@ -39,39 +55,77 @@ fn length_of(item: &Item) -> Option<i64> {
     }
 }
 
-/// What is wrong with a row, a column and a length: the key, and in words.
-fn misplaced(row: i64, column: i64, length: i64) -> Option<(&'static str, &'static str)> {
-    if !(1..=LAST_ROW).contains(&row) {
-        return Some(("row", "is not in rows 1 to 23"));
-    }
-    if !(1..=LAST_COLUMN).contains(&column) {
-        return Some(("col", "is not in columns 1 to 80"));
-    }
-    if row == 1 && column == 1 {
-        return Some((
-            "col",
-            "has no cell for its attribute: in row 1 the first column is 2",
-        ));
-    }
-    if length < 1 {
-        return Some(("length", "has no characters: its length is less than 1"));
-    }
-    None
+/// What is wrong with a row, a column or a length.
+#[derive(Clone, Copy)]
+enum Misplaced {
+    Row,
+    Column,
+    /// The attribute would be before the first cell.
+    AtFirstCell,
+    Length,
 }
 
-/// The extent of a row, a column and a length that aren't misplaced, if it ends above the last row.
-fn extent_at(row: i64, column: i64, length: i64) -> Option<Extent> {
+impl Misplaced {
+    fn key(self) -> &'static str {
+        match self {
+            Misplaced::Row => "row",
+            Misplaced::Column | Misplaced::AtFirstCell => "col",
+            Misplaced::Length => "length",
+        }
+    }
+}
+
+/// Adds what is wrong, in words.
+fn put_misplaced(
+    message: &mut String,
+    misplaced: Misplaced,
+    corner: Corner,
+) -> Result<(), AllocError> {
+    let (row, column) = (corner.row, corner.column);
+    match misplaced {
+        Misplaced::Row => write!(message, "is not in rows 1 to {row}"),
+        Misplaced::Column => write!(message, "is not in columns 1 to {column}"),
+        Misplaced::AtFirstCell => message.push_str(
+            "has no cell for its attribute: in row 1 the first column is 2",
+        ),
+        Misplaced::Length => message.push_str("has no characters: its length is less than 1"),
+    }
+}
+
+fn find_misplaced(corner: Corner, row: i64, column: i64, length: i64) -> Option<Misplaced> {
+    if !(1..=corner.row).contains(&row) {
+        Some(Misplaced::Row)
+    } else if !(1..=corner.column).contains(&column) {
+        Some(Misplaced::Column)
+    } else if row == 1 && column == 1 {
+        Some(Misplaced::AtFirstCell)
+    } else if length < 1 {
+        Some(Misplaced::Length)
+    } else {
+        None
+    }
+}
+
+/// The extent of a row, a column and a length that aren't misplaced, if it ends above the row for messages.
+fn extent_at(corner: Corner, row: i64, column: i64, length: i64) -> Option<Extent> {
     let first = row
         .saturating_sub(1)
-        .saturating_mul(LAST_COLUMN)
+        .saturating_mul(corner.column)
         .saturating_add(column)
         .saturating_sub(1);
-    let most = MESSAGE_START.saturating_sub(first);
+    let most = corner
+        .row
+        .saturating_mul(corner.column)
+        .saturating_sub(first);
     (length <= most).then_some(Extent { first, length })
 }
 
 /// Notes that an item isn't in its place. Answers its extent if it is.
-fn check_place(notes: &mut Notes, item: &Item) -> Result<Option<Extent>, AllocError> {
+fn check_place(
+    notes: &mut Notes,
+    corner: Corner,
+    item: &Item,
+) -> Result<Option<Extent>, AllocError> {
     let row = integer_at(item.table, "row");
     let column = integer_at(item.table, "col");
     let (Some(row), Some(column), Some(length)) = (row, column, length_of(item)) else {
@@ -79,15 +133,18 @@ fn check_place(notes: &mut Notes, item: &Item) -> Result<Option<Extent>, AllocEr
         return Ok(None);
     };
     let place = item.place.as_str();
-    if let Some((key, words)) = misplaced(row, column, length) {
-        let message = String::from_str(notes.alloc, words)?;
+    if let Some(misplaced) = find_misplaced(corner, row, column, length) {
+        let mut message = String::new(notes.alloc);
+        put_misplaced(&mut message, misplaced, corner)?;
+        let key = misplaced.key();
         notes.at_key(TreeFault::OutOfPlace, item.spot, key, place, message)?;
         return Ok(None);
     }
-    let extent = extent_at(row, column, length);
+    let extent = extent_at(corner, row, column, length);
     if extent.is_none() {
+        let last = corner.row;
         let message = format!(in notes.alloc;
-            "ends below row 23: row {row}, col {column}, {length} characters"
+            "ends below row {last}: row {row}, col {column}, {length} characters"
         )?;
         notes.at_table(TreeFault::OutOfPlace, item.spot, place, message)?;
     }
@@ -123,16 +180,22 @@ fn check_codes(notes: &mut Notes, item: &Item, key: &str) -> Result<(), AllocErr
 }
 
 /// Warns of a text that goes on in the next row.
-fn warn_of_wrap(notes: &mut Notes, item: &Item, extent: Extent) -> Result<(), AllocError> {
+fn warn_of_wrap(
+    notes: &mut Notes,
+    corner: Corner,
+    item: &Item,
+    extent: Extent,
+) -> Result<(), AllocError> {
     let Some(column) = integer_at(item.table, "col") else {
         return Ok(());
     };
     let last = column.saturating_add(extent.length).saturating_sub(1);
-    if last <= LAST_COLUMN {
+    if last <= corner.column {
         return Ok(());
     }
-    let first_below = LAST_COLUMN.saturating_sub(column).saturating_add(2);
-    let message = format!(in notes.alloc; "wraps past column 80 at character {first_below}")?;
+    let end = corner.column;
+    let first_below = end.saturating_sub(column).saturating_add(2);
+    let message = format!(in notes.alloc; "wraps past column {end} at character {first_below}")?;
     let line = notes.lines.of_table(item.spot);
     notes.add(Cause::TextWraps, line, item.place.as_str(), message)
 }
@@ -172,19 +235,18 @@ fn check_overlap(
     notes.at_table(TreeFault::Overlap, item.spot, item.place.as_str(), message)
 }
 
-/// Notes the faults of an item, and puts it among those that have a place.
-fn check_item<'a>(
+/// Notes the faults of an item's place on a screen, and puts it among those that have one.
+fn check_placed<'a>(
     notes: &mut Notes,
+    corner: Corner,
     placed: &mut Placed<'a>,
     item: &'a Item<'a>,
 ) -> Result<(), AllocError> {
-    check_codes(notes, item, "text")?;
-    check_codes(notes, item, "fill")?;
-    let Some(extent) = check_place(notes, item)? else {
+    let Some(extent) = check_place(notes, corner, item)? else {
         return Ok(());
     };
     match item.spot {
-        Spot::Text(_, _) => warn_of_wrap(notes, item, extent)?,
+        Spot::Text(_, _) => warn_of_wrap(notes, corner, item, extent)?,
         _ => warn_of_fill(notes, item)?,
     }
     check_overlap(notes, placed, item, extent)?;
@@ -192,18 +254,47 @@ fn check_item<'a>(
     Ok(())
 }
 
+/// Notes the faults of an item. Its place isn't judged if the size of the panel's screen isn't known.
+fn check_item<'a>(
+    notes: &mut Notes,
+    corner: Option<Corner>,
+    placed: &mut Placed<'a>,
+    item: &'a Item<'a>,
+) -> Result<(), AllocError> {
+    check_codes(notes, item, "text")?;
+    check_codes(notes, item, "fill")?;
+    match corner {
+        Some(corner) => check_placed(notes, corner, placed, item),
+        None => Ok(()),
+    }
+}
+
+/// Notes that there is no model with the number that a panel says.
+fn check_model(notes: &mut Notes, panel: &PanelEntry) -> Result<(), AllocError> {
+    match panel.model_number() {
+        Some(number) if !(2..=5).contains(&number) => {
+            let message = format!(in notes.alloc; "'model' must be 2, 3, 4 or 5, not {number}")?;
+            let place = panel.place.as_str();
+            notes.at_key(TreeFault::BadModel, panel.spot, "model", place, message)
+        }
+        _ => Ok(()),
+    }
+}
+
 fn check_panel(notes: &mut Notes, panel: &PanelEntry) -> Result<(), AllocError> {
+    check_model(notes, panel)?;
+    let corner = corner_of(panel);
     let mut placed = Vec::new(notes.alloc);
     for text in &panel.texts {
-        check_item(notes, &mut placed, text)?;
+        check_item(notes, corner, &mut placed, text)?;
     }
     for field in &panel.fields {
-        check_item(notes, &mut placed, field)?;
+        check_item(notes, corner, &mut placed, field)?;
     }
     Ok(())
 }
 
-/// Notes the faults of texts and fields, and warns about them.
+/// Notes the faults of models, texts and fields, and warns about them.
 pub(crate) fn check_items(notes: &mut Notes, survey: &Survey) -> Result<(), AllocError> {
     for panel in &survey.panels {
         check_panel(notes, panel)?;

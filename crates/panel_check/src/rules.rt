@@ -1,6 +1,7 @@
 //! The keys of the tables of a panel text, and the faults of keys and their values.
 use crate::notes::Notes;
 use crate::spot::Spot;
+use crate::survey::PanelEntry;
 use crate::wording::{Nearest, quote};
 use panels::TreeFault;
 use std::alloc::AllocError;
@@ -42,157 +43,103 @@ impl Kind {
     }
 }
 
-/// A key that a table may have, or must.
-pub(crate) struct KeyRule {
-    key: &'static str,
-    kind: Kind,
-    needed: bool,
+/// A key that a table may have, or must, and the kind of its value.
+pub(crate) enum KeyRule {
+    Must(&'static str, Kind),
+    May(&'static str, Kind),
+}
+
+impl KeyRule {
+    fn key(&self) -> &'static str {
+        match self {
+            KeyRule::Must(key, _) | KeyRule::May(key, _) => *key,
+        }
+    }
+
+    fn kind(&self) -> Kind {
+        match self {
+            KeyRule::Must(_, kind) | KeyRule::May(_, kind) => *kind,
+        }
+    }
+
+    fn is_needed(&self) -> bool {
+        matches!(self, KeyRule::Must(_, _))
+    }
 }
 
 pub(crate) static TOP_RULES: [KeyRule; 3] = [
-    KeyRule {
-        key: "start",
-        kind: Kind::Text,
-        needed: true,
-    },
-    KeyRule {
-        key: "lus",
-        kind: Kind::Texts,
-        needed: true,
-    },
-    KeyRule {
-        key: "panel",
-        kind: Kind::Tables,
-        needed: true,
-    },
+    KeyRule::Must("start", Kind::Text),
+    KeyRule::Must("lus", Kind::Texts),
+    KeyRule::Must("panel", Kind::Tables),
 ];
 
-pub(crate) static PANEL_RULES: [KeyRule; 5] = [
-    KeyRule {
-        key: "name",
-        kind: Kind::Text,
-        needed: true,
-    },
-    KeyRule {
-        key: "cursor",
-        kind: Kind::Text,
-        needed: false,
-    },
-    KeyRule {
-        key: "text",
-        kind: Kind::Tables,
-        needed: false,
-    },
-    KeyRule {
-        key: "field",
-        kind: Kind::Tables,
-        needed: false,
-    },
-    KeyRule {
-        key: "keys",
-        kind: Kind::Table,
-        needed: false,
-    },
+// Of a panel of model 2.
+static BASE_RULES: [KeyRule; 6] = [
+    KeyRule::Must("name", Kind::Text),
+    KeyRule::May("model", Kind::Integer),
+    KeyRule::May("cursor", Kind::Text),
+    KeyRule::May("text", Kind::Tables),
+    KeyRule::May("field", Kind::Tables),
+    KeyRule::May("keys", Kind::Table),
+];
+
+// Of a panel of another model.
+static ALTERNATE_RULES: [KeyRule; 7] = [
+    KeyRule::Must("name", Kind::Text),
+    KeyRule::May("model", Kind::Integer),
+    KeyRule::Must("otherwise", Kind::Text),
+    KeyRule::May("cursor", Kind::Text),
+    KeyRule::May("text", Kind::Tables),
+    KeyRule::May("field", Kind::Tables),
+    KeyRule::May("keys", Kind::Table),
+];
+
+// Of a panel whose `model` is no integer: it may have `otherwise`, or not.
+static UNCLEAR_RULES: [KeyRule; 7] = [
+    KeyRule::Must("name", Kind::Text),
+    KeyRule::May("model", Kind::Integer),
+    KeyRule::May("otherwise", Kind::Text),
+    KeyRule::May("cursor", Kind::Text),
+    KeyRule::May("text", Kind::Tables),
+    KeyRule::May("field", Kind::Tables),
+    KeyRule::May("keys", Kind::Table),
 ];
 
 static LITERAL_RULES: [KeyRule; 4] = [
-    KeyRule {
-        key: "row",
-        kind: Kind::Integer,
-        needed: true,
-    },
-    KeyRule {
-        key: "col",
-        kind: Kind::Integer,
-        needed: true,
-    },
-    KeyRule {
-        key: "text",
-        kind: Kind::Text,
-        needed: true,
-    },
-    KeyRule {
-        key: "bright",
-        kind: Kind::Truth,
-        needed: false,
-    },
+    KeyRule::Must("row", Kind::Integer),
+    KeyRule::Must("col", Kind::Integer),
+    KeyRule::Must("text", Kind::Text),
+    KeyRule::May("bright", Kind::Truth),
 ];
 
 static SHOW_RULES: [KeyRule; 5] = [
-    KeyRule {
-        key: "row",
-        kind: Kind::Integer,
-        needed: true,
-    },
-    KeyRule {
-        key: "col",
-        kind: Kind::Integer,
-        needed: true,
-    },
-    KeyRule {
-        key: "show",
-        kind: Kind::Text,
-        needed: true,
-    },
-    KeyRule {
-        key: "length",
-        kind: Kind::Integer,
-        needed: true,
-    },
-    KeyRule {
-        key: "bright",
-        kind: Kind::Truth,
-        needed: false,
-    },
+    KeyRule::Must("row", Kind::Integer),
+    KeyRule::Must("col", Kind::Integer),
+    KeyRule::Must("show", Kind::Text),
+    KeyRule::Must("length", Kind::Integer),
+    KeyRule::May("bright", Kind::Truth),
 ];
 
 pub(crate) static FIELD_RULES: [KeyRule; 9] = [
-    KeyRule {
-        key: "name",
-        kind: Kind::Text,
-        needed: true,
-    },
-    KeyRule {
-        key: "row",
-        kind: Kind::Integer,
-        needed: true,
-    },
-    KeyRule {
-        key: "col",
-        kind: Kind::Integer,
-        needed: true,
-    },
-    KeyRule {
-        key: "length",
-        kind: Kind::Integer,
-        needed: true,
-    },
-    KeyRule {
-        key: "fill",
-        kind: Kind::Text,
-        needed: false,
-    },
-    KeyRule {
-        key: "numeric",
-        kind: Kind::Truth,
-        needed: false,
-    },
-    KeyRule {
-        key: "hidden",
-        kind: Kind::Truth,
-        needed: false,
-    },
-    KeyRule {
-        key: "required",
-        kind: Kind::Truth,
-        needed: false,
-    },
-    KeyRule {
-        key: "marked",
-        kind: Kind::Truth,
-        needed: false,
-    },
+    KeyRule::Must("name", Kind::Text),
+    KeyRule::Must("row", Kind::Integer),
+    KeyRule::Must("col", Kind::Integer),
+    KeyRule::Must("length", Kind::Integer),
+    KeyRule::May("fill", Kind::Text),
+    KeyRule::May("numeric", Kind::Truth),
+    KeyRule::May("hidden", Kind::Truth),
+    KeyRule::May("required", Kind::Truth),
+    KeyRule::May("marked", Kind::Truth),
 ];
+
+/// The rules for a panel, by its model.
+pub(crate) fn panel_rules(panel: &PanelEntry) -> &'static [KeyRule] {
+    match panel.model_number() {
+        Some(2) => &BASE_RULES,
+        Some(_) => &ALTERNATE_RULES,
+        None => &UNCLEAR_RULES,
+    }
+}
 
 /// The rules for a text, which has its own text or shows a field.
 pub(crate) fn text_rules(table: &Table) -> &'static [KeyRule] {
@@ -204,7 +151,7 @@ pub(crate) fn text_rules(table: &Table) -> &'static [KeyRule] {
 }
 
 fn knows(rules: &[KeyRule], key: &str) -> bool {
-    rules.iter().any(|rule| rule.key == key)
+    rules.iter().any(|rule| rule.key() == key)
 }
 
 /// Notes a key that the table's rules don't have.
@@ -220,11 +167,14 @@ fn note_unknown(
         (Spot::Text(_, _), "show" | "length") => {
             format!(in notes.alloc; "key {quoted} can't be used with 'text'")?
         }
+        (Spot::Panel(_), "otherwise") => {
+            format!(in notes.alloc; "key {quoted} can be used only with 'model' 3, 4 or 5")?
+        }
         _ => {
             let mut message = format!(in notes.alloc; "unknown key {quoted}")?;
             let mut nearest = Nearest::to(notes.alloc, key);
             for rule in rules {
-                nearest.offer(rule.key)?;
+                nearest.offer(rule.key())?;
             }
             nearest.put(&mut message)?;
             message
@@ -249,10 +199,10 @@ fn note_missing(
     spot: Spot,
     place: &str,
 ) -> Result<bool, AllocError> {
-    let key = rule.key;
+    let key = rule.key();
     let message = match table.get(key) {
         Some(value) => {
-            if !is_empty(rule.kind, value) {
+            if !is_empty(rule.kind(), value) {
                 return Ok(false);
             }
             format!(in notes.alloc; "array '{key}' is empty")?
@@ -263,6 +213,11 @@ fn note_missing(
             }
             // Said with `show`.
             (Spot::Text(_, _), "length") if !table.contains_key("show") => return Ok(true),
+            (Spot::Panel(_), "otherwise") => {
+                format!(in notes.alloc;
+                    "missing key 'otherwise': the panel of model 2 for terminals of other models"
+                )?
+            }
             _ => format!(in notes.alloc; "missing key '{key}'")?,
         },
     };
@@ -278,13 +233,13 @@ fn note_misfit(
     spot: Spot,
     place: &str,
 ) -> Result<bool, AllocError> {
-    let Some(value) = table.get(rule.key) else {
+    let Some(value) = table.get(rule.key()) else {
         return Ok(false);
     };
-    if rule.kind.fits(value) {
+    if rule.kind().fits(value) {
         return Ok(false);
     }
-    let (key, wanted, found) = (rule.key, rule.kind.name(), value.type_str());
+    let (key, wanted, found) = (rule.key(), rule.kind().name(), value.type_str());
     let mut message = format!(in notes.alloc; "'{key}' must be {wanted}")?;
     if !value.is_array() {
         write!(&mut message, ", not {found}")?;
@@ -309,7 +264,7 @@ pub(crate) fn check_keys(
         }
     }
     for rule in rules {
-        if rule.needed && note_missing(notes, rule, table, spot, place)? {
+        if rule.is_needed() && note_missing(notes, rule, table, spot, place)? {
             found = true;
         }
         if note_misfit(notes, rule, table, spot, place)? {

@@ -1,6 +1,7 @@
 //! What a panel text has: its panels, their texts and fields, and where each name stands first.
 use crate::spot::Spot;
 use crate::wording::put_cut;
+use codes3270::{Model, Size};
 use std::alloc::{AllocError, Global};
 use std::collections::BTreeMap;
 use toml::{Table, Value};
@@ -58,6 +59,39 @@ pub(crate) struct PanelEntry<'a> {
 }
 
 impl<'a> PanelEntry<'a> {
+    /// The number of its model, 2 if it says none; `None` if `model` is no integer.
+    pub(crate) fn model_number(&self) -> Option<i64> {
+        match self.table.get("model") {
+            Some(value) => value.as_integer(),
+            None => Some(2),
+        }
+    }
+
+    /// The size of the screen on which it is laid out; `None` if there is no such model.
+    pub(crate) fn size(&self) -> Option<Size> {
+        match self.model_number() {
+            Some(2) => Some(Size::base()),
+            Some(3) => Some(Model::M3.alternate()),
+            Some(4) => Some(Model::M4.alternate()),
+            Some(5) => Some(Model::M5.alternate()),
+            _ => None,
+        }
+    }
+
+    /// Whether it is of model 2, and so can be shown in each session. The panel reader takes it for one if `model` is no integer.
+    pub(crate) fn is_base(&self) -> bool {
+        self.model_number().unwrap_or(2) == 2
+    }
+
+    /// The name of the panel that is shown in its place in sessions of other models.
+    pub(crate) fn otherwise(&self) -> Option<&'a str> {
+        if self.is_base() {
+            None
+        } else {
+            text_at(self.table, "otherwise")
+        }
+    }
+
     /// The table of its keys.
     pub(crate) fn keys(&self) -> Option<&'a Table> {
         self.table.get("keys").and_then(|value| value.as_table())
@@ -75,8 +109,9 @@ impl<'a> PanelEntry<'a> {
 pub(crate) struct Survey<'a> {
     pub top: &'a Table,
     pub panels: Vec<PanelEntry<'a>>,
-    /// The first panel, and the first field, with each name.
+    /// The first panel, the first panel of model 2, and the first field, with each name.
     pub panel_names: BTreeMap<String, usize>,
+    pub base_names: BTreeMap<String, usize>,
     pub field_names: BTreeMap<String, Spot>,
 }
 
@@ -187,6 +222,7 @@ impl<'a> Survey<'a> {
             top,
             panels: Vec::new(alloc),
             panel_names: BTreeMap::new(alloc),
+            base_names: BTreeMap::new(alloc),
             field_names: BTreeMap::new(alloc),
         };
         for value in values_at(top, "panel") {
@@ -204,6 +240,7 @@ impl<'a> Survey<'a> {
         let Survey {
             panels,
             panel_names,
+            base_names,
             field_names,
             ..
         } = self;
@@ -211,6 +248,9 @@ impl<'a> Survey<'a> {
             if let Some(name) = text_at(panel.table, "name") {
                 if !panel_names.contains_key(name) {
                     panel_names.insert(String::from_str(alloc, name)?, index)?;
+                }
+                if panel.is_base() && !base_names.contains_key(name) {
+                    base_names.insert(String::from_str(alloc, name)?, index)?;
                 }
             }
             for field in &panel.fields {

@@ -43,6 +43,41 @@ fn check_panel_name(
     note_lost(notes, spot, key, place, "panel", name, &nearest)
 }
 
+/// Notes that the panel in a panel's place isn't one of model 2.
+fn check_otherwise(
+    notes: &mut Notes,
+    survey: &Survey,
+    panel: &PanelEntry,
+) -> Result<(), AllocError> {
+    let Some(name) = panel.otherwise() else {
+        return Ok(());
+    };
+    if survey.base_names.contains_key(name) {
+        return Ok(());
+    }
+    let place = panel.place.as_str();
+    if survey.panel_names.contains_key(name) {
+        let quoted = quote(notes.alloc, name)?;
+        let message = format!(in notes.alloc;
+            "'otherwise' must name a panel of model 2, and {quoted} is of another model"
+        )?;
+        return notes.at_key(TreeFault::NoTarget, panel.spot, "otherwise", place, message);
+    }
+    let mut nearest = Nearest::to(notes.alloc, name);
+    for known in survey.base_names.keys() {
+        nearest.offer(known.as_str())?;
+    }
+    note_lost(
+        notes,
+        panel.spot,
+        "otherwise",
+        place,
+        "panel",
+        name,
+        &nearest,
+    )
+}
+
 /// Notes that a panel's `cursor` names none of its fields.
 fn check_cursor(notes: &mut Notes, panel: &PanelEntry) -> Result<(), AllocError> {
     let Some(name) = text_at(panel.table, "cursor") else {
@@ -116,7 +151,37 @@ fn check_keys_of(
     Ok(())
 }
 
-/// The panels to which keys lead from the first one, each once.
+/// Adds a panel that is reached, once.
+fn reach(found: &mut Vec<usize>, target: Option<&usize>) -> Result<(), AllocError> {
+    let Some(target) = target.copied() else {
+        return Ok(());
+    };
+    if !found.contains(&target) {
+        found.push(target)?;
+    }
+    Ok(())
+}
+
+/// Adds the panel that is shown in a panel's place, and those to which its keys lead.
+fn reach_from(
+    found: &mut Vec<usize>,
+    survey: &Survey,
+    panel: &PanelEntry,
+) -> Result<(), AllocError> {
+    if let Some(name) = panel.otherwise() {
+        reach(found, survey.base_names.get(name))?;
+    }
+    let Some(keys) = panel.keys() else {
+        return Ok(());
+    };
+    for value in keys.values() {
+        let target = value.as_str().and_then(|name| survey.panel_names.get(name));
+        reach(found, target)?;
+    }
+    Ok(())
+}
+
+/// The panels to which keys lead from the first one, and those that are shown in their place, each once.
 fn reached(notes: &Notes, survey: &Survey, start: usize) -> Result<Vec<usize>, AllocError> {
     let mut found = Vec::new(notes.alloc);
     found.push(start)?;
@@ -124,17 +189,7 @@ fn reached(notes: &Notes, survey: &Survey, start: usize) -> Result<Vec<usize>, A
         let Some(panel) = found.get(place).and_then(|index| survey.panels.get(*index)) else {
             break;
         };
-        let Some(keys) = panel.keys() else {
-            continue;
-        };
-        for value in keys.values() {
-            let target = value.as_str().and_then(|name| survey.panel_names.get(name));
-            if let Some(target) = target.copied() {
-                if !found.contains(&target) {
-                    found.push(target)?;
-                }
-            }
-        }
+        reach_from(&mut found, survey, panel)?;
     }
     Ok(found)
 }
@@ -158,6 +213,7 @@ fn warn_of_unreached(notes: &mut Notes, survey: &Survey, start: usize) -> Result
 pub(crate) fn check_targets(notes: &mut Notes, survey: &Survey) -> Result<(), AllocError> {
     for (index, panel) in survey.panels.iter().enumerate() {
         check_cursor(notes, panel)?;
+        check_otherwise(notes, survey, panel)?;
         check_shows(notes, &survey.field_names, panel)?;
         check_keys_of(notes, survey, panel, index)?;
     }
