@@ -1,9 +1,11 @@
 -- The values of options (our profile).
-use Rattle.std.specs.Prelude.{ℕ, ◌&&◌, Bool, true, false, nat_le, List, [], ◌∷◌, Option, Some, None, is_some, option_map, if◌then◌else◌}
+use Rattle.std.specs.Prelude.{ℕ, ◌==◌, ◌&&◌, Bool, true, false, nat_le, List, [], ◌∷◌, Option, Some, None, is_some, option_map, if◌then◌else◌}
 use Rattle.std.specs.Option.{option_and_then, option_map_or}
 use Rattle.std.specs.Net.Reader.{read_ipv4, read_ipv6, whole_value}
 use Rattle.std.specs.declared.net.ip_addr.IpAddr.{IpAddr}
 use Rattle.std.specs.declared.net.ip_addr.IpAddr.TheVariants as ip
+use Rattle.codes3270.specs.declared.size.Model.{Model}
+use Rattle.codes3270.specs.declared.size.Model.TheVariants.{M2, M3, M4, M5}
 use Rattle.tn3270e_msg.specs.Lu.{lu_of}
 use Rattle.jobs3270.specs.ScriptLines.{number_of}
 use Rattle.jobs3270.specs.declared.job_table.ValueKind.{ValueKind}
@@ -24,6 +26,15 @@ seconds_numbered number = if nat_le number 1000000 then Some number else None
 abbrev pub turns_numbered : ℕ → Option ℕ
 turns_numbered number = if nat_le 1 number && nat_le number 1000000 then Some number else None
 
+-- the models of the 3278, by their numbers
+abbrev pub model_numbered : ℕ → Option Model
+model_numbered number =
+    if number == 2 then Some M2 else
+    if number == 3 then Some M3 else
+    if number == 4 then Some M4 else
+    if number == 5 then Some M5 else
+    None
+
 abbrev pub port_of : List ℕ → Option ℕ
 port_of word = option_and_then port_numbered (number_of word)
 
@@ -35,6 +46,9 @@ seconds_of word = option_and_then seconds_numbered (number_of word)
 
 abbrev pub turns_of : List ℕ → Option ℕ
 turns_of word = option_and_then turns_numbered (number_of word)
+
+abbrev pub model_of : List ℕ → Option Model
+model_of word = option_and_then model_numbered (number_of word)
 
 -- the address that a word writes: four decimal octets, else the groups of an IPv6 address (RFC 4291, 2.2)
 unfoldable pub address_of : List ℕ → Option IpAddr
@@ -50,6 +64,7 @@ is_value kind.Turns word = is_some (turns_of word)
 is_value kind.LuName word = is_some (lu_of word)
 is_value kind.Address word = is_some (address_of word)
 is_value kind.Seconds word = is_some (seconds_of word)
+is_value kind.Model word = is_some (model_of word)
 is_value kind.File word = true
 is_value kind.Flag word = false
 
@@ -57,6 +72,9 @@ is_value kind.Flag word = false
 
 abbrev pub usual_turns : ℕ
 usual_turns = 10000
+
+abbrev pub usual_model : Model
+usual_model = M2
 
 abbrev pub usual_negotiate : ℕ
 usual_negotiate = 30

@@ -48,6 +48,7 @@ value_after kind.Turns = codes " N"
 value_after kind.LuName = codes " NAME"
 value_after kind.Address = codes " ADDRESS"
 value_after kind.Seconds = codes " SECONDS"
+value_after kind.Model = codes " M"
 value_after kind.File = codes " FILE"
 value_after kind.Flag = []
 

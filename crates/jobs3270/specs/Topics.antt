@@ -62,13 +62,14 @@ optional name kind = record { name = name; word = codes "--" ++ name; kind = kin
 
 -- the options of a job
 abbrev pub options_of : Topic → List OptionRow
+options_of topic.Show = optional (codes "model") kind.Model ∷ []
 options_of topic.Selfrun = optional (codes "turns") kind.Turns ∷ []
 options_of topic.Host = needed (codes "port") kind.Port ∷ optional (codes "turns") kind.Turns ∷ []
 options_of topic.Serve =
     needed (codes "port") kind.ServicePort ∷ optional (codes "listen") kind.Address ∷ optional (codes "panels") kind.File
     ∷ optional (codes "negotiate") kind.Seconds ∷ optional (codes "keepalive") kind.Seconds ∷ optional (codes "idle") kind.Seconds
     ∷ optional (codes "metrics") kind.ServicePort ∷ optional (codes "quiet") kind.Flag ∷ []
-options_of topic.Term = needed (codes "port") kind.Port ∷ optional (codes "lu") kind.LuName ∷ []
+options_of topic.Term = needed (codes "port") kind.Port ∷ optional (codes "lu") kind.LuName ∷ optional (codes "model") kind.Model ∷ []
 options_of _ = []
 
 -- the name of the word that a job may be given without an option: the job that `help` is asked for, the file that `check` reads

@@ -11,8 +11,9 @@ use Rattle.clap.specs.Faults.{fault_of}
 use Rattle.clap.specs.declared.builder.action.ArgAction.TheVariants.{SetTrue}
 use Rattle.clap.specs.declared.error.kind.ErrorKind.{ErrorKind}
 use Rattle.clap.specs.declared.error.kind.ErrorKind.TheVariants as kind
+use Rattle.codes3270.specs.declared.size.Model.{Model}
 use Rattle.tn3270e_msg.specs.Lu.{lu_of}
-use Rattle.jobs3270.specs.OptionValues.{address_of, port_of, seconds_of, service_port_of, this_machine, turns_of, usual_idle, usual_keepalive, usual_negotiate, usual_turns}
+use Rattle.jobs3270.specs.OptionValues.{address_of, model_of, port_of, seconds_of, service_port_of, this_machine, turns_of, usual_idle, usual_keepalive, usual_model, usual_negotiate, usual_turns}
 use Rattle.jobs3270.specs.Topics.{OptionRow, jobs, name_of, operand_of, options_of, takes_value, topic_named}
 use Rattle.jobs3270.specs.declared.job.Job.{Job}
 use Rattle.jobs3270.specs.declared.job.Job.TheVariants as job
@@ -65,6 +66,9 @@ given_turns options = option_map_or turns_of (first_of (codes "turns") options) 
 abbrev pub given_lu : List Row → Option (Option (List ℕ))
 given_lu options = option_map_or (λ word. option_map Some (lu_of word)) (first_of (codes "lu") options) (Some None)
 
+abbrev pub given_model : List Row → Option Model
+given_model options = option_map_or model_of (first_of (codes "model") options) (Some usual_model)
+
 abbrev pub given_service_port : List Row → Option ℕ
 given_service_port options = option_and_then service_port_of (first_of (codes "port") options)
 
@@ -110,12 +114,13 @@ given_topic options = option_map_or topic_named (first_of (codes "job") options)
 abbrev pub job_of : Topic → List Row → Option Job
 job_of topic.Program options = None
 job_of topic.Script options = Some job.Script
-job_of topic.Show options = Some job.Show
+job_of topic.Show options = option_map (λ model. job.Show model) (given_model options)
 job_of topic.Selfrun options = option_map (λ turns. job.Selfrun turns) (given_turns options)
 job_of topic.Check options = Some (job.Check (first_of (codes "file") options))
 job_of topic.Host options = option_and_then (λ port. option_map (λ turns. job.Host port turns) (given_turns options)) (given_port options)
 job_of topic.Serve options = option_map (λ service. job.Serve service (first_of (codes "panels") options)) (given_service options)
-job_of topic.Term options = option_and_then (λ port. option_map (λ lu. job.Term port lu) (given_lu options)) (given_port options)
+job_of topic.Term options =
+    option_and_then (λ port. option_and_then (λ lu. option_map (λ model. job.Term port lu model) (given_model options)) (given_lu options)) (given_port options)
 job_of topic.Help options = option_map (λ topic. job.Help topic) (given_topic options)
 
 abbrev pub job_named : List ℕ → List Row → Option Job

@@ -4,14 +4,15 @@ ghost use Rattle.clap.specs.Walk.{first_of, rows_of};
 ghost use Rattle.clap.specs.Simple.{new_rule, subcommand_rows_of};
 ghost use Rattle.clap.specs.Matches.{found_of};
 ghost use Rattle.jobs3270.specs.Topics.{row_of};
-ghost use Rattle.jobs3270.specs.Words.{HasNoJob, IsJobOf, program, job_by, job_named, job_of, given_address, given_limits, given_lu, given_metrics, given_port, given_seconds, given_service, given_service_port, given_topic, given_turns, is_quiet, job_shape, operand_rules, option_rule, topic_of};
+ghost use Rattle.jobs3270.specs.Words.{HasNoJob, IsJobOf, program, job_by, job_named, job_of, given_address, given_limits, given_lu, given_metrics, given_model, given_port, given_seconds, given_service, given_service_port, given_topic, given_turns, is_quiet, job_shape, operand_rules, option_rule, topic_of};
 ghost use Rattle.jobs3270.specs.ClapCommands.{AddsArguments, AddsJobs, IsArgument, IsCommand, IsJob, IsMatch, MayFail, job_or_fault};
 
-use crate::job::{FileName, Job, Port, Seconds, ServicePort, Topic, Turns, WordFault};
+use crate::job::{FileName, Job, Port, Seconds, ServicePort, Topic, Turns, WordFault, model_of};
 use crate::job_table::{JobOption, name_of, operand_of, options_of, topic_named};
 use crate::service::{Service, TimeLimits, address_of};
 use clap::error::ErrorKind;
 use clap::{Arg, ArgAction, ArgMatches, Command};
+use codes3270::Model;
 use std::alloc::{AllocError, Global};
 use std::net::{IpAddr, Ipv4Addr};
 use tn3270e_msg::Lu;
@@ -166,6 +167,16 @@ fn lu_in(options: &ArgMatches<'_>) -> Option<Option<Lu>>
     }
 }
 
+/// The value of `--model`; model 2 if it isn't given.
+fn model_in(options: &ArgMatches<'_>) -> Option<Model>
+    ensures { result ≡ given_model (rows_of (found_of options.now)) }
+{
+    match given(options, "model") {
+        Some(word) => model_of(word),
+        None => Some(Model::M2),
+    }
+}
+
 /// The value of `--port`, of a service.
 fn service_port_in(options: &ArgMatches<'_>) -> Option<ServicePort>
     ensures { result ≡ given_service_port (rows_of (found_of options.now)) }
@@ -264,7 +275,9 @@ fn job_of<'a>(topic: Topic, options: &ArgMatches<'a>) -> Option<Job<'a>>
     let job = match topic {
         Topic::Program => return None,
         Topic::Script => Job::Script,
-        Topic::Show => Job::Show,
+        Topic::Show => Job::Show {
+            model: model_in(options)?,
+        },
         Topic::Selfrun => Job::Selfrun {
             turns: turns_in(options)?,
         },
@@ -282,6 +295,7 @@ fn job_of<'a>(topic: Topic, options: &ArgMatches<'a>) -> Option<Job<'a>>
         Topic::Term => Job::Term {
             port: port_in(options)?,
             lu: lu_in(options)?,
+            model: model_in(options)?,
         },
         Topic::Help => Job::Help(topic_in(options)?),
     };
@@ -338,8 +352,8 @@ fn matches_of<'a>(alloc: Global, words: &'a [String]) -> Result<ArgMatches<'a>, 
 
 /// The job of the program's arguments: `script` if there are none.
 ///
-/// Refused if the command line doesn't take them, or if a port, a number of turns or seconds, an address, an LU's name or a job's name
-/// isn't valid; Memory if memory is refused.
+/// Refused if the command line doesn't take them, or if a port, a number of turns or seconds, an address, an LU's name, a model or a
+/// job's name isn't valid; Memory if memory is refused.
 pub fn words<'a>(alloc: Global, words: &'a [String]) -> Result<Job<'a>, WordFault>
     ensures job { IfOk result (λ job. IsJobOf (map string_bytes words.now) (Some job)) }
     ensures fault { IfErr result (HasNoJob (map string_bytes words.now)) }

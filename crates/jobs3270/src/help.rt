@@ -34,9 +34,12 @@ Serve panels to four terminals, which do commands, and print what their operator
 
 INPUT is panels in TOML, a line %%, and commands, one a line.";
 
-const SHOW: &str = "usage: panel3270 show < INPUT
+const SHOW: &str = "usage: panel3270 show [--model M] < INPUT
 
 Apply commands of the 3270 data stream to a blank screen, and print it.
+
+options:
+  --model M   the model of the screen, 2 to 5; 2 if it isn't given
 
 INPUT is commands, one a line: pairs of hexadecimal digits, and blanks; no tab, CR or comment.";
 
@@ -82,13 +85,14 @@ options:
 SECONDS is 0 to 1000000; 0 is no limit.
 INPUT is panels in TOML.";
 
-const TERM: &str = "usage: panel3270 term --port P [--lu NAME] < INPUT
+const TERM: &str = "usage: panel3270 term --port P [--lu NAME] [--model M] < INPUT
 
 Be a terminal of the host at 127.0.0.1, and do commands.
 
 options:
   --port P    the port, 1024 to 65535
   --lu NAME   the LU to ask for: 1 to 8 of A to Z, 0 to 9, @, # and $, the first no digit; any LU if it isn't given
+  --model M   the model of the terminal, 2 to 5; 2 if it isn't given
 
 INPUT is commands, one a line.";
 

@@ -1,10 +1,11 @@
 //! The jobs of the program, with the values of their options.
 ghost use Rattle.std.specs.Prelude.{◌≡◌, ◌≤◌, IfSome};
-ghost use Rattle.jobs3270.specs.OptionValues.{port_numbered, service_port_numbered, service_port_of, seconds_numbered, seconds_of, turns_numbered, port_of, turns_of, usual_idle, usual_keepalive, usual_negotiate, usual_turns};
+ghost use Rattle.jobs3270.specs.OptionValues.{model_numbered, model_of, port_numbered, service_port_numbered, service_port_of, seconds_numbered, seconds_of, turns_numbered, port_of, turns_of, usual_idle, usual_keepalive, usual_negotiate, usual_turns};
 
 use crate::script_line::number_of;
 use crate::service::Service;
-use std::marker::Model;
+use codes3270::Model;
+use std::marker;
 use tn3270e_msg::Lu;
 
 /// A port number, 1024 to 65535: those that need no privilege. Contracts see it as a number.
@@ -13,7 +14,7 @@ pub struct Port {
     number: u16,
 }
 
-impl Model for Port {
+impl marker::Model for Port {
     ghost use Rattle.std.specs.Prelude.{ℕ, ◌≤◌};
 
     ghost Value = { ℕ };
@@ -60,7 +61,7 @@ pub struct ServicePort {
     number: u16,
 }
 
-impl Model for ServicePort {
+impl marker::Model for ServicePort {
     ghost use Rattle.std.specs.Prelude.{ℕ, ◌≤◌};
 
     ghost Value = { ℕ };
@@ -107,7 +108,7 @@ pub struct Seconds {
     number: u32,
 }
 
-impl Model for Seconds {
+impl marker::Model for Seconds {
     ghost use Rattle.std.specs.Prelude.{ℕ, ◌≤◌};
 
     ghost Value = { ℕ };
@@ -175,7 +176,7 @@ pub struct Turns {
     number: u32,
 }
 
-impl Model for Turns {
+impl marker::Model for Turns {
     ghost use Rattle.std.specs.Prelude.{ℕ, ◌≤◌};
 
     ghost Value = { ℕ };
@@ -223,13 +224,33 @@ impl Turns {
     }
 }
 
+/// The model of the 3278 with this number; None unless it is 2 to 5.
+fn model_numbered(number: usize) -> Option<Model>
+    ensures { result ≡ model_numbered number }
+{
+    match number {
+        2 => Some(Model::M2),
+        3 => Some(Model::M3),
+        4 => Some(Model::M4),
+        5 => Some(Model::M5),
+        _ => None,
+    }
+}
+
+/// The model with a number in decimal digits; None if the word isn't such a number.
+pub(crate) fn model_of(word: &str) -> Option<Model>
+    ensures { result ≡ model_of word.now }
+{
+    model_numbered(number_of(word)?)
+}
+
 /// The name of a file, as a word of the command line. Contracts see it as that text.
 #[derive(Drop)]
 pub struct FileName<'a> {
     name: &'a str,
 }
 
-impl<'a> Model for FileName<'a> {
+impl<'a> marker::Model for FileName<'a> {
     ghost use Rattle.std.specs.Prelude.{ℕ, List};
 
     ghost Value = { List ℕ };
@@ -281,8 +302,10 @@ pub enum Topic {
 pub enum Job<'a> {
     /// Serves panels to the terminals of a script.
     Script,
-    /// Applies commands to a screen.
-    Show,
+    /// Applies commands to a screen of a model.
+    Show {
+        model: Model,
+    },
     /// Serves panels to the terminals of a script over sockets.
     Selfrun {
         turns: Turns,
@@ -301,10 +324,11 @@ pub enum Job<'a> {
         service: Service,
         panels: Option<FileName<'a>>,
     },
-    /// Runs a terminal of a host, and does the commands of a script.
+    /// Runs a terminal of a model at a host, and does the commands of a script.
     Term {
         port: Port,
         lu: Option<Lu>,
+        model: Model,
     },
     /// Prints help.
     Help(Topic),

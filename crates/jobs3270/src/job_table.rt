@@ -19,6 +19,8 @@ pub(crate) enum ValueKind {
     Address,
     /// A time limit in seconds, 0 to 1,000,000.
     Seconds,
+    /// The number of a model, 2 to 5.
+    Model,
     /// The name of a file.
     File,
     /// None: the option is a flag.
@@ -46,6 +48,13 @@ pub(crate) struct JobOption<'a> {
     /// Whether it must be given.
     pub(crate) required: bool,
 }
+
+static SHOW: [JobOption<'static>; 1] = [JobOption {
+    name: "model",
+    word: "--model",
+    kind: ValueKind::Model,
+    required: false,
+}];
 
 static SELFRUN: [JobOption<'static>; 1] = [JobOption {
     name: "turns",
@@ -120,7 +129,7 @@ static SERVE: [JobOption<'static>; 8] = [
     },
 ];
 
-static TERM: [JobOption<'static>; 2] = [
+static TERM: [JobOption<'static>; 3] = [
     JobOption {
         name: "port",
         word: "--port",
@@ -133,6 +142,12 @@ static TERM: [JobOption<'static>; 2] = [
         kind: ValueKind::LuName,
         required: false,
     },
+    JobOption {
+        name: "model",
+        word: "--model",
+        kind: ValueKind::Model,
+        required: false,
+    },
 ];
 
 /// The options of a job.
@@ -140,11 +155,12 @@ pub(crate) fn options_of(topic: Topic) -> &'static [JobOption<'static>]
     ensures { map row_of result.now ≡ options_of topic }
 {
     match topic {
+        Topic::Show => &SHOW,
         Topic::Selfrun => &SELFRUN,
         Topic::Host => &HOST,
         Topic::Serve => &SERVE,
         Topic::Term => &TERM,
-        Topic::Program | Topic::Script | Topic::Show | Topic::Check | Topic::Help => &[],
+        Topic::Program | Topic::Script | Topic::Check | Topic::Help => &[],
     }
 }
 

@@ -8,7 +8,7 @@
 //! let mut input = CountedReader::new(rt.stdin());
 //! let mut out = CountedWriter::new(rt.stdout());
 //! let mut faults = CountedWriter::new(rt.stderr());
-//! let status = run_show(rt.alloc(), &mut input, &mut out, &mut faults);
+//! let status = run_show(rt.alloc(), Model::M2, &mut input, &mut out, &mut faults);
 //! ```
 //!
 //! [`words`] reads the arguments. `specs/Runs` says how a run of show or script ends, `Pages` and `Scripts` what it prints, `Words`

@@ -6,7 +6,7 @@ ghost use Rattle.jobs3270.specs.Topics.{kind_named, options_of};
 ghost use Rattle.jobs3270.specs.Runs.{IsToldIn};
 ghost use Rattle.jobs3270.specs.Refusals.{awaited_after, has_value, is_equals, is_option, may_follow, name_after, of_files, of_job, of_options, of_topics, options_after, refusal_text, refused_text, words_refused, wrong_word};
 
-use crate::job::{Port, Seconds, ServicePort, Topic, Turns};
+use crate::job::{Port, Seconds, ServicePort, Topic, Turns, model_of};
 use crate::job_table::{ValueKind, kind_named, options_of, topic_named};
 use crate::service::address_of;
 use crate::streams::Sink;
@@ -53,15 +53,16 @@ fn options_after(topic: Topic) -> &'static str
     ensures { result.now ≡ options_after topic }
 {
     match topic {
+        Topic::Show => " [--model M]",
         Topic::Selfrun => " [--turns N]",
         Topic::Check => " [FILE]",
         Topic::Host => " --port P [--turns N]",
         Topic::Serve => {
             " --port P [--listen ADDRESS] [--panels FILE] [--negotiate SECONDS] [--keepalive SECONDS] [--idle SECONDS] [--metrics P] [--quiet]"
         }
-        Topic::Term => " --port P [--lu NAME]",
+        Topic::Term => " --port P [--lu NAME] [--model M]",
         Topic::Help => " [JOB]",
-        Topic::Program | Topic::Script | Topic::Show => "",
+        Topic::Program | Topic::Script => "",
     }
 }
 
@@ -78,6 +79,7 @@ fn is_value(kind: ValueKind, word: &str) -> bool
         ValueKind::LuName => Lu::read(word.as_bytes()).is_some(),
         ValueKind::Address => address_of(word).is_some(),
         ValueKind::Seconds => Seconds::read(word).is_some(),
+        ValueKind::Model => model_of(word).is_some(),
         ValueKind::File => true,
         ValueKind::Flag => false,
     }

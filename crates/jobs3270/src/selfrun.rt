@@ -14,6 +14,7 @@ use crate::socket_terminal::SocketTerminal;
 use crate::streams::{Sink, Source};
 use crate::task::end_by;
 use crate::term;
+use codes3270::Model;
 use host_core::MOST_CONNECTIONS;
 use keyboard::Key;
 use mio::net::TcpStream;
@@ -57,12 +58,12 @@ struct LoopbackRun {
     turns: u32,
 }
 
-/// Terminals without connections.
+/// Terminals of model 2 without connections.
 fn idle_terminals(alloc: Global) -> Result<Vec<SocketTerminal>, AllocError> {
     let mut terminals = Vec::with_capacity(alloc, TERMINALS)?;
     for _ in 0..TERMINALS {
         terminals.push(SocketTerminal {
-            terminal: Terminal::new(alloc)?,
+            terminal: Terminal::new(alloc, Model::M2)?,
             socket: None,
         })?;
     }

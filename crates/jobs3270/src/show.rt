@@ -6,30 +6,37 @@ use crate::fault::Fault;
 use crate::page::page_of;
 use crate::streams::{Sink, Source};
 use crate::task::{Task, run};
+use codes3270::Model;
 use std::alloc::Global;
 
-/// Applies the commands of the input, one a line in hexadecimal, in order to one blank screen, and prints that screen and the
-/// cursor. A refused command is reported in the output and changes nothing. Writes a fault that ends the run to `faults` as one
-/// line.
+/// Applies the commands of the input, one a line in hexadecimal, in order to one blank screen of a model, and prints that screen,
+/// a line for each row of its size, and the cursor. A refused command is reported in the output and changes nothing. Writes a fault
+/// that ends the run to `faults` as one line.
 ///
 /// Returns the exit status: 0 if the whole page was printed; 1 if the input can't be read, has more than `MOST_BYTES` bytes, takes
 /// more than `MOST_READS` reads, isn't UTF-8, or has a line that isn't hexadecimal; 3 if memory is refused; 6 if the output fails.
 pub fn run_show<I: Source, O: Sink, E: Sink>(
     alloc: Global,
+    model: Model,
     input: &mut I,
     out: &mut O,
     faults: &mut E,
 ) -> u8
-    ensures { IsEnd Show (InPieces I.gave input.old input.new) (I.seen input.old) (I.seen input.new) (O.seen out.old) (O.seen out.new) (E.seen faults.old) (E.seen faults.new) result }
+    ensures { IsEnd (Show model) (InPieces I.gave input.old input.new) (I.seen input.old) (I.seen input.new) (O.seen out.old) (O.seen out.new) (E.seen faults.old) (E.seen faults.new) result }
 {
-    run(alloc, Task::Show, input, out, faults)
+    run(alloc, Task::Show(model), input, out, faults)
 }
 
-/// Prints the page of a text.
-pub(crate) fn print_page<O: Sink>(alloc: Global, text: &str, out: &mut O) -> Result<(), Fault>
-    ensures { EndsPrinting Show (ending_of result) text.now (O.seen out.old) (O.seen out.new) }
+/// Prints the page of a text, on a screen of this model.
+pub(crate) fn print_page<O: Sink>(
+    alloc: Global,
+    model: Model,
+    text: &str,
+    out: &mut O,
+) -> Result<(), Fault>
+    ensures { EndsPrinting (Show model) (ending_of result) text.now (O.seen out.old) (O.seen out.new) }
 {
-    let Ok(page) = page_of(alloc, text) else {
+    let Ok(page) = page_of(alloc, model, text) else {
         return Err(Fault::NoMemory);
     };
     if out.write_all(page.text.as_bytes()).is_err() {

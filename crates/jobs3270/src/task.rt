@@ -8,6 +8,7 @@ use crate::input::read_whole;
 use crate::script::print_script;
 use crate::show::print_page;
 use crate::streams::{Sink, Source};
+use codes3270::Model;
 use std::alloc::Global;
 
 /// A job that opens no socket.
@@ -15,8 +16,8 @@ use std::alloc::Global;
 pub(crate) enum Task {
     /// `run_script`'s.
     Script,
-    /// `run_show`'s.
-    Show,
+    /// `run_show`'s, on a screen of this model.
+    Show(Model),
 }
 
 /// Does a task and returns the exit status. A fault that ends the run is written to `faults` as one line.
@@ -66,6 +67,6 @@ fn print<O: Sink>(alloc: Global, task: Task, text: &str, out: &mut O) -> Result<
 {
     match task {
         Task::Script => print_script(alloc, text, out),
-        Task::Show => print_page(alloc, text, out),
+        Task::Show(model) => print_page(alloc, model, text, out),
     }
 }

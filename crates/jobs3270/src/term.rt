@@ -13,6 +13,7 @@ use crate::script_line::behind;
 use crate::streams::{CountedReader, CountedWriter, Sink, Source};
 use crate::task::end_by;
 use crate::term_line::TerminalCommand;
+use codes3270::Model;
 use std::alloc::{AllocError, Global};
 use std::net::{Ipv4Addr, TcpStream};
 use term_core::Terminal;
@@ -88,19 +89,20 @@ fn do_lines<D: Source, U: Sink, O: Sink>(
     Ok(())
 }
 
-/// Does the commands of a script, one a line, at a terminal on a wire. The terminal requests this LU, if there is one. The output of
+/// Does the commands of a script, one a line, at a terminal of a model on a wire. The terminal requests this LU, if there is one. The output of
 /// each line is printed as soon as it is done.
 ///
 /// NotUnderstood, with the number, from 1 on, of the first line that isn't understood, after the output of the lines before it;
 /// NoMemory if memory is refused; OutputFailed if the output fails.
 pub fn operate<D: Source, U: Sink, O: Sink>(
     alloc: Global,
+    model: Model,
     lu: Option<Lu>,
     script: &str,
     wire: &mut Wire<D, U>,
     out: &mut O,
 ) -> Result<(), Fault> {
-    let mut terminal = Terminal::new(alloc)?;
+    let mut terminal = Terminal::new(alloc, model)?;
     terminal.connected(lu);
     let mut text = String::new(alloc);
     do_lines(alloc, &mut terminal, wire, script, &mut text, out)
@@ -110,6 +112,7 @@ pub fn operate<D: Source, U: Sink, O: Sink>(
 fn term<I: Source, O: Sink>(
     rt: &HostRuntime,
     port: Port,
+    model: Model,
     lu: Option<Lu>,
     input: &mut I,
     out: &mut O,
@@ -122,10 +125,10 @@ fn term<I: Source, O: Sink>(
         down: CountedReader::new(&stream),
         up: CountedWriter::new(&stream),
     };
-    operate(rt.alloc(), lu, script.as_str(), &mut wire, out)
+    operate(rt.alloc(), model, lu, script.as_str(), &mut wire, out)
 }
 
-/// Connects a terminal to the host on a port of 127.0.0.1, and does the commands of the input there, one a line: presses keys, waits for
+/// Connects a terminal of a model to the host on a port of 127.0.0.1, and does the commands of the input there, one a line: presses keys, waits for
 /// the host, and prints what the operator sees. The terminal requests this LU, if there is one. Writes a fault that ends the run to
 /// `faults` as one line.
 ///
@@ -135,12 +138,13 @@ fn term<I: Source, O: Sink>(
 pub fn run_term<I: Source, O: Sink, E: Sink>(
     rt: &HostRuntime,
     port: Port,
+    model: Model,
     lu: Option<Lu>,
     input: &mut I,
     out: &mut O,
     faults: &mut E,
 ) -> u8 {
-    match term(rt, port, lu, input, out) {
+    match term(rt, port, model, lu, input, out) {
         Ok(()) => 0,
         Err(fault) => end_by(fault, faults),
     }

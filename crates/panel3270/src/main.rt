@@ -89,14 +89,16 @@ fn do_job<R: Net + Wait + Clock>(rt: &HostRuntime, waiting: &R, job: Job<'_>) ->
     let mut faults = CountedWriter::new(rt.stderr());
     match job {
         Job::Script => run_script(alloc, &mut input, &mut out, &mut faults),
-        Job::Show => run_show(alloc, &mut input, &mut out, &mut faults),
+        Job::Show { model } => run_show(alloc, model, &mut input, &mut out, &mut faults),
         Job::Selfrun { turns } => {
             run_selfrun(rt, alloc, turns, &mut input, &mut out, &mut faults)
         }
         Job::Check { file } => check(rt, file),
         Job::Host { port, turns } => run_host(rt, alloc, port, turns, &mut input, &mut faults),
         Job::Serve { service, panels } => serve(rt, waiting, &service, panels),
-        Job::Term { port, lu } => run_term(rt, port, lu, &mut input, &mut out, &mut faults),
+        Job::Term { port, lu, model } => {
+            run_term(rt, port, model, lu, &mut input, &mut out, &mut faults)
+        }
         Job::Help(topic) => run_help(topic, &mut out, &mut faults),
         Job::Version => run_version(&mut out, &mut faults),
     }

@@ -12,5 +12,5 @@ invariant-loop-index l = record {
   pattern : split_terminator_pattern (enumerate_source l.index-iterator) ≡ 10;
   so_far : (printed : List ℕ) (not_hex : Option ℕ)
       → Prints (enumerate_count l.index-iterator + 1) (lines_left (enumerate_source l.index-iterator)) l.screen printed not_hex
-      → IsPage l.input (string_bytes l.text ++ printed) not_hex;
+      → IsPage l.fn.model l.input (string_bytes l.text ++ printed) not_hex;
 }

@@ -7,11 +7,13 @@ use Rattle.jobs3270.proofs.page.take_command.Goals as goal
 
 pub returns-in-Ok : goal.returns-in-Ok
 returns-in-Ok c =
-    ([], TakesCommand.applied c.in-Ok.command c.in-Ok.ensures.found c.apply.ensures.screen refl, sym (append-nil (string_bytes c.args.text.now)))
+    let found = rw (c.size.ensures.size, c.alternate.ensures, c.model.ensures) at c.in-Ok.ensures.found in
+    ([], TakesCommand.accepted c.in-Ok.command found c.apply.ensures.screen refl, sym (append-nil (string_bytes c.args.text.now)))
 
 pub returns-in-Err : goal.returns-in-Err
 returns-in-Err c =
+    let found = rw (c.size.ensures.size, c.alternate.ensures, c.model.ensures) at c.in-Err.ensures.found in
     let text : c.sense_text-response.result.now ≡ sense_text (sense_of c.in-Err.fault) = c.sense_text-response.ensures ∙ ap sense_text c.sense.ensures in
     IfOk-weaker c.write.result _ _
-    (λ _ written. (refusal_line c.in-Err.fault, TakesCommand.refused c.in-Err.fault c.in-Err.ensures.found refl refl, rw (← text) written))
+    (λ _ written. (refusal_line c.in-Err.fault, TakesCommand.refused c.in-Err.fault found refl refl, rw (← text) written))
     c.write.ensures.bytes
