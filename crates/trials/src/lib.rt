@@ -25,6 +25,7 @@ pub use dialogue::run_dialogues;
 pub use fault::{Fault, expect, expect_bytes_of, expect_number, expect_of, print_result};
 pub use fuzz::run_fuzz;
 pub use growths::try_growth;
+pub use models::model_number;
 pub use serving::{Range, run_serving};
 pub use speed::{Scale, measure};
 pub use worlds::run_worlds;

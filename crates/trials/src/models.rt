@@ -3,31 +3,30 @@ use crate::fault::Fault;
 use codes3270::Model;
 use std::alloc::AllocError;
 
-/// All models, by their numbers from 2 on.
+/// All models.
 pub(crate) const MODELS: [Model; 4] = [Model::M2, Model::M3, Model::M4, Model::M5];
-
-/// The model with a number.
-pub(crate) fn model_named(name: &str) -> Result<Model, Fault> {
-    match name {
-        "2" => Ok(Model::M2),
-        "3" => Ok(Model::M3),
-        "4" => Ok(Model::M4),
-        "5" => Ok(Model::M5),
-        _ => Err(Fault::Needs("the number of a model, 2 to 5")),
-    }
-}
 
 /// The type of a model 2.
 const TYPE: &[u8] = b"IBM-3278-2";
 
-/// The digit at the end of a model's type.
-fn digit_of(model: Model) -> u8 {
+/// The number of a model, with which its type ends.
+pub fn model_number(model: Model) -> &'static str {
     match model {
-        Model::M2 => b'2',
-        Model::M3 => b'3',
-        Model::M4 => b'4',
-        Model::M5 => b'5',
+        Model::M2 => "2",
+        Model::M3 => "3",
+        Model::M4 => "4",
+        Model::M5 => "5",
     }
+}
+
+/// The model with a number.
+pub(crate) fn model_numbered(number: &str) -> Result<Model, Fault> {
+    for model in MODELS {
+        if model_number(model) == number {
+            return Ok(model);
+        }
+    }
+    Err(Fault::Needs("a model, 2 to 5"))
 }
 
 /// Appends bytes, with a model's type in the place of a model 2's.
@@ -40,7 +39,7 @@ pub(crate) fn put_as_model(
         out.push(*byte)?;
         if out.as_slice().ends_with(TYPE) {
             out.pop();
-            out.push(digit_of(model))?;
+            out.extend_from_slice(model_number(model).as_bytes())?;
         }
     }
     Ok(())

@@ -31,7 +31,7 @@ mod sights;
 use crate::bytes::{bytes_of, expect_spelt, first_of};
 use crate::dialogue::subject::Subject;
 use crate::fault::{Fault, expect_text};
-use crate::models::model_named;
+use crate::models::model_numbered;
 use crate::stops::expect_fed;
 use codes3270::Model;
 use keyboard::Key;
@@ -86,8 +86,8 @@ fn connect(terminal: &mut Terminal, name: &str) -> Result<(), Fault> {
 
 impl Desk {
     /// Puts a fresh terminal of a model in the place of the one before.
-    fn replace(&mut self, name: &str) -> Result<(), Fault> {
-        self.terminal = Terminal::new(self.alloc, model_named(name)?)?;
+    fn replace(&mut self, number: &str) -> Result<(), Fault> {
+        self.terminal = Terminal::new(self.alloc, model_numbered(number)?)?;
         Ok(())
     }
 

@@ -95,7 +95,8 @@ struct Applying<'a> {
 
 impl Work for Applying<'_> {
     fn go(&mut self) -> io::Result<Done> {
-        let (size, alternate) = (self.screen.size(), self.screen.model().alternate());
+        let size = self.screen.size();
+        let alternate = self.screen.model().alternate();
         match read_command(self.command, size, alternate) {
             Ok(command) => {
                 self.screen.apply(&command);
