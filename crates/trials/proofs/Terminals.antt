@@ -8,7 +8,7 @@ use Rattle.tn3270e_msg.specs.declared.cause.Stop.{Stop}
 use Rattle.tn3270e_msg.specs.declared.cause.Stop.TheVariants as stop
 use Rattle.world3270.specs.ByteRuns.{AllHappen, Runs, StopsAt}
 use Rattle.world3270.specs.ByteSteps.{Connects, ConnectsIf, GoesDown, Happens, HappensIf, Presses, Steps, down_came, free_number, has_place, host_gone, host_gone_below, host_gone_if, host_told, saw_loss, terminal_anew, terminal_gone_if, terminal_told, sent_of, up_came}
-use Rattle.world3270.specs.ByteWorld.{ByteWorld, TerminalSlot, alone, down_of, host_there, is_senders, new_slot, attached_slot, slot_at, terminal_at, transits_at, with_host, with_slot}
+use Rattle.world3270.specs.ByteWorld.{ByteWorld, TerminalSlot, alone, down_of, host_there, is_senders, model_at, new_slot, attached_slot, slot_at, terminal_at, transits_at, with_host, with_slot}
 use Rattle.world3270.specs.TrackedTerminals.{tracked_after_key}
 use Rattle.world3270.specs.declared.event.Event.{Event}
 use Rattle.world3270.specs.declared.event.Event.TheVariants as event
@@ -51,8 +51,8 @@ saw terminal None world = refl
 saw terminal (Some number) world = one_set world terminal (alone (slot_at terminal world))
 
 anew : (terminal : ℕ) (at : Option ℕ) (world : ByteWorld) → Keeps world (terminal_anew terminal at world)
-anew terminal None world = one_set world terminal new_slot
-anew terminal (Some number) world = one_set world terminal new_slot
+anew terminal None world = one_set world terminal (new_slot (model_at terminal world))
+anew terminal (Some number) world = one_set world terminal (new_slot (model_at terminal world))
 
 gone_there : (there : Bool) (number : ℕ) (world : ByteWorld) → Keeps world (if there then host_gone number world else world)
 gone_there true number world = refl
@@ -74,7 +74,7 @@ presses terminal key old answer new (Presses.done is made) =
 connects : (terminal : ℕ) (wanted : Option (List ℕ)) (number : ℕ) (old : ByteWorld) (answer : Stepped) (new : ByteWorld)
     → Connects terminal wanted number old answer new → Keeps old new
 connects terminal wanted number old answer new (Connects.refused is same) = ap count same
-connects terminal wanted number old answer new (Connects.done is made) = ap count made ∙ one_set old terminal (attached_slot wanted number)
+connects terminal wanted number old answer new (Connects.done is made) = ap count made ∙ one_set old terminal (attached_slot (model_at terminal old) wanted number)
 
 connects_if : (terminal : ℕ) (wanted : Option (List ℕ)) (at : Option ℕ) (old : ByteWorld) (answer : Stepped) (new : ByteWorld)
     → ConnectsIf terminal wanted at old answer new → Keeps old new

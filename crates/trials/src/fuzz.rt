@@ -2,7 +2,8 @@
 //! are turned, spans left out, repeated, replaced or put in, halves swapped, the end cut off, or all replaced.
 //!
 //! A host gets these bytes on one connection beside two that are bound, and acts after each record; or a terminal gets them, and
-//! keys are pressed. That is done three times: whole, in random pieces, and byte by byte. The results must be the same:
+//! keys are pressed. The terminal's model is drawn, too: where the dialogue has a model 2's type, the bytes have the type of that
+//! model. That is done three times: whole, in random pieces, and byte by byte. The results must be the same:
 //! how many bytes are taken and why no more, phase, turn, belief or screen, and the output. The two other connections must be in the
 //! same state as at a host with no third client; and the LU of the connection that got the bytes is granted again, at once if the
 //! host closed it.

@@ -4,18 +4,19 @@ ghost use Rattle.host_core.specs.State.{most_connections};
 
 use crate::dialogue::View;
 use crate::fault::Fault;
-use codes3270::{Addr, CELL_COUNT};
+use crate::places::{cell_at, cells_known, fact_at, known_at, value_at};
+use codes3270::MOST_CELLS;
 use host_core::Host;
 use presentation::Screen;
 use shadow::{Fact, Shadow};
 use std::alloc::Global;
 use term_core::Terminal;
 
-/// Whether the same characters are believed of the field whose attribute is at an address, if one is.
-fn tell_same_text(one: &Shadow, other: &Shadow, at: Addr) -> bool {
-    for index in 0..CELL_COUNT {
-        let value = one.value(at, index);
-        if value != other.value(at, index) {
+/// Whether the same characters are believed of the field whose attribute is at a place, if one is.
+fn tell_same_text(one: &Shadow, other: &Shadow, place: u16) -> bool {
+    for index in 0..MOST_CELLS {
+        let value = value_at(one, place, index);
+        if value != value_at(other, place, index) {
             return false;
         }
         if value.is_none() {
@@ -27,15 +28,16 @@ fn tell_same_text(one: &Shadow, other: &Shadow, at: Addr) -> bool {
 
 /// Whether the same is believed of a cell, and of the field whose attribute is there, if one is. The characters of an exact field
 /// are known, cell by cell.
-fn believe_same_at(one: &Shadow, other: &Shadow, at: Addr) -> bool {
-    let fact = one.fact(at);
-    one.known(at) == other.known(at)
-        && fact == other.fact(at)
-        && (matches!(fact, None | Some(Fact::Exact)) || tell_same_text(one, other, at))
+fn believe_same_at(one: &Shadow, other: &Shadow, place: u16) -> bool {
+    let fact = fact_at(one, place);
+    known_at(one, place) == known_at(other, place)
+        && fact == fact_at(other, place)
+        && (matches!(fact, None | Some(Fact::Exact)) || tell_same_text(one, other, place))
 }
 
 fn believe_same(one: &Shadow, other: &Shadow) -> bool {
-    Addr::all().all(|at| believe_same_at(one, other, at))
+    let cells = cells_known(one);
+    cells == cells_known(other) && (0..cells).all(|place| believe_same_at(one, other, place))
 }
 
 /// Whether a connection looks the same at two hosts.
@@ -66,11 +68,13 @@ pub fn expect_hosts_alike(
     Err(Fault::Wrong(wrong))
 }
 
-/// Whether two screens have the same cells, cursor and AID.
+/// Whether two screens have the same size, cells, cursor and AID.
 pub fn screens_look_same(one: &Screen, other: &Screen) -> bool {
-    one.cursor().get() == other.cursor().get()
+    let cells = one.size().cells();
+    cells == other.size().cells()
+        && one.cursor().get() == other.cursor().get()
         && one.aid() == other.aid()
-        && Addr::all().all(|at| one.cell(at) == other.cell(at))
+        && (0..cells).all(|place| cell_at(one, place) == cell_at(other, place))
 }
 
 /// Whether two terminals look the same.

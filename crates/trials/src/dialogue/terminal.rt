@@ -1,6 +1,7 @@
 //! Dialogues with a terminal. A line holds if the terminal does what it expects.
 //!
 //! ```text
+//! model M              the terminal is a fresh one of this model, 2 to 5; it is of model 2 where no line says so
 //! connect [LU]         a connection begins, on which the terminal asks for this LU, if one
 //! host BYTES           the host sends these; the terminal takes all of them and goes on
 //! cut BYTES            the host sends the front of these; the dialogue is held once for each place to cut them at
@@ -30,7 +31,9 @@ mod sights;
 use crate::bytes::{bytes_of, expect_spelt, first_of};
 use crate::dialogue::subject::Subject;
 use crate::fault::{Fault, expect_text};
+use crate::models::model_numbered;
 use crate::stops::expect_fed;
+use codes3270::Model;
 use keyboard::Key;
 use keys::{key_or_character, press};
 use sights::{Sight, read_sight, seen};
@@ -82,6 +85,12 @@ fn connect(terminal: &mut Terminal, name: &str) -> Result<(), Fault> {
 }
 
 impl Desk {
+    /// Puts a fresh terminal of a model in the place of the one before.
+    fn replace(&mut self, number: &str) -> Result<(), Fault> {
+        self.terminal = Terminal::new(self.alloc, model_numbered(number)?)?;
+        Ok(())
+    }
+
     /// Takes bytes of the host.
     fn hear(&mut self, bytes: &[u8]) {
         self.fed = feed(&mut self.terminal, bytes);
@@ -174,7 +183,7 @@ impl Subject for Desk {
     fn fresh(alloc: Global, holding: usize) -> Result<Desk, AllocError> {
         Ok(Desk {
             alloc,
-            terminal: Terminal::new(alloc)?,
+            terminal: Terminal::new(alloc, Model::M2)?,
             fed: Fed {
                 taken: 0,
                 stop: Stop::Going,
@@ -198,6 +207,7 @@ impl Subject for Desk {
             "key" => self.press_named(words),
             "type" => self.type_text(words),
             "lost" => self.lose(words),
+            "model" => self.replace(words),
             "restart" => {
                 self.terminal.restart();
                 Ok(())

@@ -1,5 +1,7 @@
 //! How the bytes of a dialogue are changed.
 use crate::fuzz::chance::Chance;
+use crate::models::put_as_model;
+use codes3270::Model;
 use std::alloc::{AllocError, Global};
 
 /// A change of bytes: at a place, and there of a span of them.
@@ -102,14 +104,15 @@ fn put_changed(
     }
 }
 
-/// A dialogue's bytes, after none to three changes.
+/// A dialogue's bytes for a terminal of a model, after none to three changes.
 pub(crate) fn changed(
     alloc: Global,
     chance: &mut Chance,
+    model: Model,
     bytes: &[u8],
 ) -> Result<Vec<u8>, AllocError> {
     let mut now = Vec::new(alloc);
-    now.extend_from_slice(bytes)?;
+    put_as_model(&mut now, model, bytes)?;
     for _ in 0..chance.below(MOST_CHANGES + 1) {
         let change = CHANGES[chance.below(CHANGES.len())];
         let mut next = Vec::new(alloc);

@@ -9,10 +9,10 @@ use crate::fuzz::role::Role;
 use crate::fuzz::script::{Script, Speech};
 use crate::fuzz::tally::Tally;
 use crate::likeness::expect_hosts_alike;
+use crate::places::known_at;
 use crate::readers::read_host;
 use crate::sign_on::NOTE;
 use crate::stops::expect_stop;
-use codes3270::Addr;
 use host_core::{Acted, Host, Phase};
 use std::alloc::{AllocError, Global};
 use std::array;
@@ -39,11 +39,11 @@ struct HostAt<'a> {
 fn is_refused(host: &Host, conn: usize) -> bool
     requires { conn < most_connections }
 {
-    match (host.phase(conn), Addr::new(0)) {
-        (Phase::Bound(_), Some(start)) => {
-            host.pending(conn).is_none() && host.shadow(conn).known(start).is_none()
+    match host.phase(conn) {
+        Phase::Bound(_) => {
+            host.pending(conn).is_none() && known_at(host.shadow(conn), 0).is_none()
         }
-        _ => false,
+        Phase::Free | Phase::Talking | Phase::Closed(_) => false,
     }
 }
 

@@ -6,12 +6,16 @@ use crate::fuzz::cutting::Input;
 use crate::fuzz::hosts::Hosts;
 use crate::fuzz::script::{Script, With};
 use crate::fuzz::terminals::Terminals;
+use crate::models::MODELS;
+use codes3270::Model;
 use std::alloc::Global;
 
-/// What a round tells an end of a kind: the bytes of the dialogue with a name, as they were changed, and the seeds of the rest.
+/// What a round tells an end of a kind: the bytes of the dialogue with a name, for a terminal of a model, as they were changed, and the
+/// seeds of the rest.
 #[derive(Drop)]
 pub(crate) struct Round {
     with: With,
+    model: Model,
     pub(crate) name: String,
     pub(crate) bytes: Vec<u8>,
     cuts: u64,
@@ -26,9 +30,11 @@ impl Round {
         let Some(dialogue) = script.dialogues.get(place) else {
             return Err(Fault::Needs("a dialogue"));
         };
-        let bytes = changed(alloc, &mut chance, dialogue.bytes.as_slice())?;
+        let model = MODELS[chance.below(MODELS.len())];
+        let bytes = changed(alloc, &mut chance, model, dialogue.bytes.as_slice())?;
         Ok(Round {
             with: dialogue.with,
+            model,
             name: dialogue.name.clone()?,
             bytes,
             cuts: chance.seed(),
@@ -45,7 +51,7 @@ impl Round {
     ) -> Result<(), Fault> {
         match self.with {
             With::Host => hosts.compare(script, self.input()),
-            With::Terminal => terminals.compare(self.input()),
+            With::Terminal => terminals.compare(self.model, self.input()),
         }
     }
 

@@ -4,6 +4,7 @@ use crate::fuzz::cutting::{Cutting, End, Input, feed_in_pieces};
 use crate::fuzz::tally::Tally;
 use crate::likeness::terminals_look_same;
 use crate::stops::expect_stop;
+use codes3270::Model;
 use keyboard::Key;
 use std::alloc::{AllocError, Global};
 use term_core::{TermPhase, Terminal};
@@ -100,10 +101,17 @@ impl Terminals {
     pub(crate) fn new(alloc: Global) -> Result<Terminals, AllocError> {
         Ok(Terminals {
             alloc,
-            whole: Terminal::new(alloc)?,
-            cut: Terminal::new(alloc)?,
+            whole: Terminal::new(alloc, Model::M2)?,
+            cut: Terminal::new(alloc, Model::M2)?,
             tally: Tally::new(),
         })
+    }
+
+    /// Puts fresh terminals of a model in the place of both.
+    fn replace(&mut self, model: Model) -> Result<(), AllocError> {
+        self.whole = Terminal::new(self.alloc, model)?;
+        self.cut = Terminal::new(self.alloc, model)?;
+        Ok(())
     }
 
     /// Feeds the other terminal the bytes in pieces, and expects the same results as whole.
@@ -116,8 +124,9 @@ impl Terminals {
         expect_same_page(self.alloc, cutting.name(), &self.whole, &self.cut)
     }
 
-    /// Feeds both the same bytes, and expects the same results however they are cut.
-    pub(crate) fn compare(&mut self, input: Input<'_>) -> Result<(), Fault> {
+    /// Feeds terminals of a model the same bytes, and expects the same results however they are cut.
+    pub(crate) fn compare(&mut self, model: Model, input: Input<'_>) -> Result<(), Fault> {
+        self.replace(model)?;
         let fed = run(&mut self.whole, Cutting::Whole, input)?;
         self.expect_cut(Cutting::Pieces, input, fed)?;
         self.expect_cut(Cutting::Single, input, fed)?;

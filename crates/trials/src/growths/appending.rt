@@ -2,7 +2,7 @@
 
 use crate::growths::story::{FIELDS, MIXED};
 use crate::sign_on::NOTE;
-use codes3270::{Addr, Attr, Wcc};
+use codes3270::{Attr, Model, Wcc};
 use datastream::{CommandCode, CommandWriter, Want, Wanted, read_command};
 use presentation::Screen;
 use shadow::Shadow;
@@ -38,18 +38,18 @@ pub(crate) struct Appended {
 
 /// A screen with modified fields.
 fn screen_of_fields() -> Screen {
-    let mut screen = Screen::blank();
-    if let Ok(command) = read_command(FIELDS) {
+    let mut screen = Screen::blank(Model::M2);
+    if let Ok(command) = read_command(FIELDS, screen.size(), screen.model().alternate()) {
         screen.apply(&command);
     }
     screen
 }
 
-/// Appends what it takes to have an `A` in each cell of a screen of which nothing is known.
-fn put_paint(out: &mut Vec<u8>, cursor: Addr) -> Result<(), AllocError> {
+/// Appends what it takes to have an `A` in each cell, and the cursor where a screen has it, if nothing is known of that.
+fn put_paint(out: &mut Vec<u8>, screen: &Screen) -> Result<(), AllocError> {
     let shadow = Shadow::blank();
-    let mut wanted = Wanted::filled(Want::Char(0xC1));
-    wanted.set_cursor_and_reset(cursor, false);
+    let mut wanted = Wanted::filled(Want::Char(0xC1), screen.size());
+    wanted.set_cursor_and_reset(screen.cursor(), false);
     if shadow.fits(&wanted) {
         shadow.paint(out, &wanted)
     } else {
@@ -87,7 +87,7 @@ impl Appended {
             Appends::InsertCursor => CommandWriter::new(out).ic(),
             Appends::ReadBuffer => self.screen.put_read_buffer(out),
             Appends::ReadModified => self.screen.put_read_modified(out, false),
-            Appends::Paint => put_paint(out, at),
+            Appends::Paint => put_paint(out, &self.screen),
         }
     }
 }

@@ -9,6 +9,7 @@ use crate::growths::terminals::{Attached, Does};
 use crate::growths::trial::{Came, try_on};
 use crate::growths::worlds::{Lets, Small};
 use crate::worlds::ScriptedEvent;
+use codes3270::Model;
 use std::io;
 
 /// A call, by what it is made on.
@@ -23,7 +24,7 @@ pub(crate) enum Call {
 }
 
 /// Each with its name: the crate's, the call's, and in some cases on what.
-pub(crate) static CALLS: [(&str, Call); 40] = [
+pub(crate) static CALLS: [(&str, Call); 43] = [
     ("telnet_wire:Decoder::new", Call::Make(Makes::Decoder)),
     ("telnet_wire:put_record", Call::Append(Appends::Record)),
     ("telnet_wire:put_option", Call::Append(Appends::Option)),
@@ -104,7 +105,22 @@ pub(crate) static CALLS: [(&str, Call); 40] = [
         "term_core:Terminal::screen_text",
         Call::Make(Makes::ScreenText),
     ),
-    ("term_core:Terminal::new", Call::Make(Makes::Terminal)),
+    (
+        "term_core:Terminal::new",
+        Call::Make(Makes::Terminal(Model::M2)),
+    ),
+    (
+        "term_core:Terminal::new,model-3",
+        Call::Make(Makes::Terminal(Model::M3)),
+    ),
+    (
+        "term_core:Terminal::new,model-4",
+        Call::Make(Makes::Terminal(Model::M4)),
+    ),
+    (
+        "term_core:Terminal::new,model-5",
+        Call::Make(Makes::Terminal(Model::M5)),
+    ),
     ("term_core:Terminal::feed", Call::Terminal(Does::Feed)),
     (
         "term_core:Terminal::press,enter",

@@ -4,6 +4,7 @@ use crate::growths::appending::{Appended, Appends};
 use crate::growths::trial::{Answer, Trial, made};
 use crate::readers::{read_panels, read_parts, read_pool};
 use crate::sign_on::{NOTE, PANELS};
+use codes3270::Model;
 use host_core::Host;
 use lu_pool::Pool;
 use panels::{Characters, Message, PanelSet, Values};
@@ -32,7 +33,7 @@ pub(crate) enum Makes {
     ValueNew,
     /// Of a field that has a shorter one.
     ValueAgain,
-    Terminal,
+    Terminal(Model),
     ScreenLines,
     ScreenText,
 }
@@ -73,7 +74,7 @@ fn noted(alloc: Global) -> Result<Texts, AllocError> {
 /// What is there beside the panels.
 fn beside(alloc: Global) -> Result<(Texts, Terminal), AllocError> {
     let texts = noted(alloc)?;
-    Ok((texts, Terminal::new(alloc)?))
+    Ok((texts, Terminal::new(alloc, Model::M2)?))
 }
 
 /// Whether the panels with a number want the same screen.
@@ -174,7 +175,7 @@ impl Trial for Maker {
             Makes::ValuesAgain => made(self.texts.values.clone()),
             Makes::ValueNew => made(self.texts.values.set(FIELDS, &NOTE)),
             Makes::ValueAgain => made(self.texts.values.set(0, &NOTE)),
-            Makes::Terminal => made(Terminal::new(alloc)),
+            Makes::Terminal(model) => made(Terminal::new(alloc, model)),
             Makes::ScreenLines => made(screen_lines(alloc, self.terminal.screen())),
             Makes::ScreenText => made(self.terminal.screen_text(alloc)),
         }

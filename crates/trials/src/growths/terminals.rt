@@ -3,6 +3,7 @@ use crate::growths::story::{PAINT, READ_BUFFER, with_options};
 use crate::growths::trial::{Answer, Trial};
 use crate::likeness::terminals_look_same;
 use crate::sign_on::{DO_TN3270E, IS_LU, IS_RESPONSES, SEND_TYPE};
+use codes3270::Model;
 use keyboard::{Key, Pressed};
 use std::alloc::Global;
 use std::io;
@@ -76,7 +77,7 @@ impl Trial for Attached {
 
     fn before(alloc: Global, does: Does) -> io::Result<Attached> {
         let bytes = with_options(alloc, &STORY)?;
-        let mut terminal = Terminal::new(alloc)?;
+        let mut terminal = Terminal::new(alloc, Model::M2)?;
         prepare(&mut terminal, does);
         Ok(Attached {
             does,

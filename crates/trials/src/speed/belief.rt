@@ -1,9 +1,12 @@
 //! What it costs a host to hear a terminal, and to paint its screen.
+ghost use Rattle.std.specs.Prelude.{IsTrue};
+ghost use Rattle.codes3270.specs.Size.{cells_in};
 ghost use Rattle.datastream.specs.Wanted.{IsProper};
+ghost use Rattle.shadow.specs.Belief.{IsOfSize};
 
 use crate::speed::screens::{FEW, Layout, MANY, USUAL, attribute, full_screen};
 use crate::speed::{Case, Done, NOTHING, Scale, Work, go_often, report};
-use codes3270::{CELLS, Display};
+use codes3270::{CELLS, Display, Model, Size};
 use datastream::{Form, Inbound, Memory, Want, Wanted, read_command, read_inbound};
 use presentation::Screen;
 use shadow::{Shadow, plain};
@@ -32,7 +35,7 @@ static FORMS: [(&str, Form); 2] = [
 /// The belief once a command was carried out.
 fn believed(bytes: &[u8]) -> Shadow {
     let mut shadow = Shadow::blank();
-    if let Ok(command) = read_command(bytes) {
+    if let Ok(command) = read_command(bytes, Size::base(), Size::base()) {
         if plain(&command) {
             shadow.sent_taken(&command);
         }
@@ -43,8 +46,8 @@ fn believed(bytes: &[u8]) -> Shadow {
 fn put(wanted: &mut Wanted, place: u16, want: Want)
     requires { IsProper want }
 {
-    if place < CELLS {
-        wanted.put(place as usize, want);
+    if place < wanted.size().cells() {
+        wanted.put(usize::from(place), want);
     }
 }
 
@@ -60,7 +63,7 @@ fn put_cell(wanted: &mut Wanted, place: u16, is_attribute: bool, is_changed: boo
 
 /// The layout, of which the first cells are others.
 fn changed(layout: Layout, changed_cells: u16) -> Wanted {
-    let mut wanted = Wanted::filled(Want::Char(0xC1));
+    let mut wanted = Wanted::filled(Want::Char(0xC1), Size::base());
     let mut until_field = 0u16;
     for place in 0..CELLS {
         put_cell(&mut wanted, place, until_field == 0, place < changed_cells);
@@ -117,13 +120,23 @@ fn paints(
 
 /// Puts what a terminal sends of a screen that a command wrote.
 fn put_read(sent: &mut Vec<u8>, command: &[u8], form: Form) -> Result<(), Memory> {
-    let mut screen = Screen::blank();
-    if let Ok(command) = read_command(command) {
+    let mut screen = Screen::blank(Model::M2);
+    if let Ok(command) = read_command(command, screen.size(), screen.model().alternate()) {
         screen.apply(&command);
     }
     match form {
         Form::Buffer => screen.put_read_buffer(sent),
         Form::All | Form::Modified => screen.put_read_modified(sent, true),
+    }
+}
+
+/// Whether what is believed, if anything is, is of a screen of this size.
+fn is_of_size(shadow: &Shadow, size: Size) -> bool
+    ensures { IsTrue result → IsOfSize (cells_in size) shadow.now }
+{
+    match shadow.size() {
+        Some(known) => known.cells() == size.cells(),
+        None => true,
     }
 }
 
@@ -137,6 +150,9 @@ struct Hearing<'a> {
 
 impl Work for Hearing<'_> {
     fn go(&mut self) -> io::Result<Done> {
+        if !is_of_size(&self.shadow, self.inbound.size()) {
+            return Ok(NOTHING);
+        }
         match self.shadow.heard(&self.inbound) {
             Ok(()) => Ok(Done {
                 count: 1,
@@ -155,7 +171,7 @@ fn hear_often(
     command: &[u8],
     sent: &[u8],
 ) -> io::Result<Done> {
-    let Ok(inbound) = read_inbound(sent, form) else {
+    let Ok(inbound) = read_inbound(sent, form, Size::base()) else {
         return Ok(NOTHING);
     };
     let mut work = Hearing {

@@ -1,6 +1,6 @@
 //! Screens that a command fills.
 use crate::speed::{Case, Done, Scale, Work, go_often};
-use codes3270::{Addr, Attr, CELLS, Display, Wcc};
+use codes3270::{Addr, Attr, CELLS, Display, Model, Wcc};
 use datastream::{CommandCode, CommandWriter, Memory, read_command};
 use presentation::Screen;
 use std::alloc::Global;
@@ -95,7 +95,9 @@ struct Applying<'a> {
 
 impl Work for Applying<'_> {
     fn go(&mut self) -> io::Result<Done> {
-        match read_command(self.command) {
+        let size = self.screen.size();
+        let alternate = self.screen.model().alternate();
+        match read_command(self.command, size, alternate) {
             Ok(command) => {
                 self.screen.apply(&command);
                 Ok(Done {
@@ -117,7 +119,7 @@ fn apply_often(rt: &HostRuntime, scale: Scale, layout: Layout) -> io::Result<Don
     };
     let bytes = full_screen(rt.alloc(), layout)?;
     let mut work = Applying {
-        screen: &mut Screen::blank(),
+        screen: &mut Screen::blank(Model::M2),
         command: bytes.as_slice(),
     };
     go_often(rt, scale, case, &mut work)

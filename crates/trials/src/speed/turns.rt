@@ -3,6 +3,7 @@
 ghost use Rattle.std.specs.Prelude.{◌<◌};
 ghost use Rattle.host_core.specs.State.{most_connections};
 
+use crate::models::MODELS;
 use crate::readers::read_host;
 use crate::speed::{Case, Done, NOTHING, Scale, Work, go_often};
 use host_core::{Host, MOST_CONNECTIONS, Phase};
@@ -78,14 +79,14 @@ fn turn(host: &mut Host, conn: usize, terminal: &mut Terminal) -> io::Result<Don
     })
 }
 
-/// A terminal on a connection number, once it shows its first panel.
+/// A terminal on a connection number, once it shows its first panel. The numbers have terminals of models 2 to 5 in turn.
 fn seat(alloc: Global, host: &mut Host, conn: usize) -> io::Result<Terminal>
     requires { conn < most_connections }
 {
     if host.phase(conn) == Phase::Free {
         host.open(conn)?;
     }
-    let mut terminal = Terminal::new(alloc)?;
+    let mut terminal = Terminal::new(alloc, MODELS[conn % MODELS.len()])?;
     terminal.connected(None);
     settle(host, conn, &mut terminal);
     Ok(terminal)

@@ -2,6 +2,7 @@
 use crate::bytes::put_often;
 use crate::speed::screens::{USUAL, put_full_screen};
 use crate::speed::{Case, Done, Scale, Work, go_often};
+use codes3270::Model;
 use datastream::Memory;
 use std::alloc::Global;
 use std::io;
@@ -205,7 +206,7 @@ fn print_often(rt: &HostRuntime, scale: Scale, terminal: &Terminal) -> io::Resul
 }
 
 fn feed_new(rt: &HostRuntime, scale: Scale, stream: &[u8]) -> io::Result<Done> {
-    let mut terminal = Terminal::new(rt.alloc())?;
+    let mut terminal = Terminal::new(rt.alloc(), Model::M2)?;
     terminal.connected(Lu::read(b"PNL01"));
     feed_often(rt, scale, &mut terminal, stream)
 }

@@ -1,46 +1,49 @@
 //! Whether a screen is as a host believes it to be.
-use codes3270::{Addr, Cell};
+use crate::places::{cell_at, cells_known, fact_at, known_at, value_at};
+use codes3270::Cell;
 use presentation::Screen;
 use shadow::{Fact, Shadow};
 
-/// Whether the screen has just the fields that the host believes in, each with the attribute and the text that it believes; or no
-/// fields, and what is known of each cell.
+/// Whether the screen has the size that the host believes it to have, and just the fields that the host believes in, each with the
+/// attribute and the text that it believes; or no fields, and what is known of each cell.
 pub(crate) fn is_believed(shadow: &Shadow, screen: &Screen) -> bool {
+    let cells = screen.size().cells();
+    let known = cells_known(shadow);
     let has_fields = has_fields(shadow);
-    for at in Addr::all() {
-        if !is_believed_at(shadow, screen, at, has_fields) {
-            return false;
-        }
-    }
-    true
+    (known == 0 || known == cells)
+        && (0..cells).all(|place| is_believed_at(shadow, screen, place, has_fields))
 }
 
 /// Whether the host believes in a field.
 fn has_fields(shadow: &Shadow) -> bool {
-    for at in Addr::all() {
-        if shadow.fact(at).is_some() {
+    for place in 0..cells_known(shadow) {
+        if fact_at(shadow, place).is_some() {
             return true;
         }
     }
     false
 }
 
-/// Whether a field is at an address exactly where one is believed to be, with its attribute and its text; or where no field is
+fn has_character(screen: &Screen, place: u16) -> bool {
+    matches!(cell_at(screen, place), Some(Cell::Char(_)))
+}
+
+/// Whether a field is at a place exactly where one is believed to be, with its attribute and its text; or where no field is
 /// believed in, what is known of the cell.
-fn is_believed_at(shadow: &Shadow, screen: &Screen, at: Addr, has_fields: bool) -> bool {
-    match shadow.fact(at) {
-        None => screen.cell(at).is_character() && (has_fields || is_there(shadow, screen, at)),
-        Some(fact) => !screen.cell(at).is_character()
-            && is_there(shadow, screen, at)
-            && has_text(shadow, screen, at, fact),
+fn is_believed_at(shadow: &Shadow, screen: &Screen, place: u16, has_fields: bool) -> bool {
+    match fact_at(shadow, place) {
+        None => has_character(screen, place) && (has_fields || is_there(shadow, screen, place)),
+        Some(fact) => !has_character(screen, place)
+            && is_there(shadow, screen, place)
+            && has_text(shadow, screen, place, fact),
     }
 }
 
 /// Whether what is known of a cell, if something is, is there. MDT may differ.
-fn is_there(shadow: &Shadow, screen: &Screen, at: Addr) -> bool {
-    match shadow.known(at) {
+fn is_there(shadow: &Shadow, screen: &Screen, place: u16) -> bool {
+    match known_at(shadow, place) {
         None => true,
-        Some(known) => unmarked(known) == unmarked(screen.cell(at)),
+        Some(known) => Some(unmarked(known)) == cell_at(screen, place).map(unmarked),
     }
 }
 
@@ -52,8 +55,8 @@ fn unmarked(cell: Cell) -> Cell {
     }
 }
 
-/// Whether the field whose attribute is at an address has the text that is believed.
-fn has_text(shadow: &Shadow, screen: &Screen, at: Addr, fact: Fact) -> bool {
+/// Whether the field whose attribute is at a place has the text that is believed.
+fn has_text(shadow: &Shadow, screen: &Screen, at: u16, fact: Fact) -> bool {
     let mut is_exact = true;
     let mut is_text = true;
     let mut is_null = true;
@@ -61,24 +64,22 @@ fn has_text(shadow: &Shadow, screen: &Screen, at: Addr, fact: Fact) -> bool {
     let mut size = 0usize;
     let mut count = 0usize;
     // Behind the last cell comes the first; the field ends at an attribute, at the latest at its own.
-    for place in Addr::all()
-        .chain(Addr::all())
-        .skip(usize::from(at.get()) + 1)
-    {
-        let Cell::Char(code) = screen.cell(place) else {
+    let cells = screen.size().cells();
+    for place in (0..cells).chain(0..cells).skip(usize::from(at) + 1) {
+        let Some(Cell::Char(code)) = cell_at(screen, place) else {
             break;
         };
-        is_exact = is_exact && shadow.value(at, size) == Some(code);
+        is_exact = is_exact && value_at(shadow, at, size) == Some(code);
         size = size.saturating_add(1);
         are_known = are_known && is_there(shadow, screen, place);
         if code != 0 {
-            is_text = is_text && shadow.value(at, count) == Some(code);
+            is_text = is_text && value_at(shadow, at, count) == Some(code);
             count = count.saturating_add(1);
             is_null = false;
         }
     }
-    is_exact = is_exact && shadow.value(at, size).is_none();
-    is_text = is_text && shadow.value(at, count).is_none();
+    is_exact = is_exact && value_at(shadow, at, size).is_none();
+    is_text = is_text && value_at(shadow, at, count).is_none();
     match fact {
         Fact::Exact => is_exact,
         Fact::ExactOrNulls => is_exact || is_null,

@@ -1,5 +1,6 @@
 //! Runs of show and script whose input breaks off or is long, or whose output fails. A helper owns one run, and compares how it ended.
 use crate::jobs::memory::{Paper, Pieces, expect_written, paper_with};
+use codes3270::Model;
 use jobs3270::{CountedReader, CountedWriter, MOST_BYTES, MOST_READS, run_script, run_show};
 use std::alloc::{AllocError, Global};
 use trials::{Fault, expect_number};
@@ -25,7 +26,7 @@ fn shown(alloc: Global, input: Pieces<'_>, room: usize) -> Outcome {
     let mut input = CountedReader::new(input);
     let mut out = paper_with(alloc, room);
     let mut faults = paper_with(alloc, usize::MAX);
-    let status = run_show(alloc, &mut input, &mut out, &mut faults);
+    let status = run_show(alloc, Model::M2, &mut input, &mut out, &mut faults);
     outcome_of(status, out, faults)
 }
 

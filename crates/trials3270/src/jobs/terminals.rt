@@ -1,5 +1,6 @@
 //! A terminal on a wire in memory, which gives a byte at a time: what is printed, and what is sent.
 use crate::jobs::memory::{Pieces, expect_written, paper_with};
+use codes3270::Model;
 use jobs3270::{CountedReader, Wire, operate};
 use std::alloc::{AllocError, Global};
 use tn3270e_msg::Lu;
@@ -32,7 +33,8 @@ fn operated(alloc: Global, script: &str, came: Pieces<'_>, room: Room) -> Outcom
         up: paper_with(alloc, sent_room),
     };
     let mut out = paper_with(alloc, out_room);
-    let ending = operate(alloc, Lu::read(b"PNL01"), script, &mut wire, &mut out);
+    let lu = Lu::read(b"PNL01");
+    let ending = operate(alloc, Model::M2, lu, script, &mut wire, &mut out);
     let Wire { up, .. } = wire;
     Outcome {
         ending,

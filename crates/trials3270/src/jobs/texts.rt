@@ -1,9 +1,12 @@
 //! The commands of lines and of words, as texts: what a script would spell, with all defaults filled in.
+use codes3270::Model;
 use jobs3270::{
-    FileName, Job, ScriptCommand, Service, TerminalCommand, Topic, WordFault, typed_text,
+    FileName, Job, Port, ScriptCommand, Service, TerminalCommand, Topic, WordFault, typed_text,
 };
 use std::fmt;
 use std::fmt::{Display, Formatter, Write};
+use tn3270e_msg::Lu;
+use trials::model_number;
 use world3270::Event;
 
 /// The command of a line of a script, and the line, which has the text that is typed.
@@ -131,11 +134,26 @@ fn write_service<W: Write>(f: &mut Formatter<W>, service: &Service) -> fmt::Resu
     }
 }
 
+/// The host's port, the LU that the terminal asks for, if one, and its model.
+fn write_term<W: Write>(
+    f: &mut Formatter<W>,
+    port: Port,
+    lu: &Option<Lu>,
+    model: Model,
+) -> fmt::Result {
+    let port = port.get();
+    match lu {
+        Some(lu) => write!(f, "term of {lu} at {port}")?,
+        None => write!(f, "term at {port}")?,
+    }
+    write!(f, ", model {}", model_number(model))
+}
+
 impl Display for CommandLine<'_> {
     fn fmt<W: Write>(&self, f: &mut Formatter<W>) -> fmt::Result {
         match &self.0 {
             Ok(Job::Script) => f.write_str("script"),
-            Ok(Job::Show) => f.write_str("show"),
+            Ok(Job::Show { model }) => write!(f, "show, model {}", model_number(*model)),
             Ok(Job::Selfrun { turns }) => write!(f, "selfrun, {} turns", turns.get()),
             Ok(Job::Host { port, turns }) => {
                 write!(f, "host at {}, {} turns", port.get(), turns.get())
@@ -148,8 +166,7 @@ impl Display for CommandLine<'_> {
                 write_service(f, service)?;
                 write_file(f, panels)
             }
-            Ok(Job::Term { port, lu: None }) => write!(f, "term at {}", port.get()),
-            Ok(Job::Term { port, lu: Some(lu) }) => write!(f, "term of {lu} at {}", port.get()),
+            Ok(Job::Term { port, lu, model }) => write_term(f, *port, lu, *model),
             Ok(Job::Help(topic)) => write!(f, "help of {}", topic_name(*topic)),
             Ok(Job::Version) => f.write_str("version"),
             Err(WordFault::Refused) => f.write_str("refused"),

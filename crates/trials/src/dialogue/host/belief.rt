@@ -1,5 +1,6 @@
 //! What is believed of a screen, in words and in bytes.
-use codes3270::{Addr, CELL_COUNT, Cell, attr_code};
+use crate::places::{cells_known, fact_at, known_at, value_at};
+use codes3270::{Cell, MOST_CELLS, attr_code};
 use shadow::{Fact, Shadow};
 use std::alloc::{AllocError, Global};
 
@@ -16,8 +17,8 @@ pub(crate) fn belief_word(shadow: &Shadow) -> &'static str {
 
 /// No cell is known, and no field.
 fn knows_nothing(shadow: &Shadow) -> bool {
-    for at in Addr::all() {
-        if shadow.known(at).is_some() || shadow.fact(at).is_some() {
+    for place in 0..cells_known(shadow) {
+        if known_at(shadow, place).is_some() || fact_at(shadow, place).is_some() {
             return false;
         }
     }
@@ -26,18 +27,18 @@ fn knows_nothing(shadow: &Shadow) -> bool {
 
 /// Each cell is known to be null, and no field is.
 fn knows_nulls(shadow: &Shadow) -> bool {
-    for at in Addr::all() {
-        let is_null = matches!(shadow.known(at), Some(Cell::Char(0)));
-        if !is_null || shadow.fact(at).is_some() {
+    for place in 0..cells_known(shadow) {
+        let is_null = matches!(known_at(shadow, place), Some(Cell::Char(0)));
+        if !is_null || fact_at(shadow, place).is_some() {
             return false;
         }
     }
     true
 }
 
-/// What is believed of the field whose attribute is at an address.
-pub(crate) fn fact_word(shadow: &Shadow, at: Addr) -> &'static str {
-    match shadow.fact(at) {
+/// What is believed of the field whose attribute is at a place.
+pub(crate) fn fact_word(shadow: &Shadow, place: u16) -> &'static str {
+    match fact_at(shadow, place) {
         Some(Fact::Exact) => "Exact",
         Some(Fact::ExactOrNulls) => "ExactOrNulls",
         Some(Fact::Text) => "Text",
@@ -48,9 +49,9 @@ pub(crate) fn fact_word(shadow: &Shadow, at: Addr) -> &'static str {
 }
 
 /// Appends the characters that this fact speaks of.
-fn put_text(bytes: &mut Vec<u8>, shadow: &Shadow, at: Addr) -> Result<(), AllocError> {
-    for index in 0..CELL_COUNT {
-        match shadow.value(at, index) {
+fn put_text(bytes: &mut Vec<u8>, shadow: &Shadow, place: u16) -> Result<(), AllocError> {
+    for index in 0..MOST_CELLS {
+        match value_at(shadow, place, index) {
             Some(byte) => bytes.push(byte)?,
             None => return Ok(()),
         }
@@ -59,28 +60,28 @@ fn put_text(bytes: &mut Vec<u8>, shadow: &Shadow, at: Addr) -> Result<(), AllocE
 }
 
 /// The characters that this fact speaks of.
-pub(crate) fn text_of(alloc: Global, shadow: &Shadow, at: Addr) -> Result<Vec<u8>, AllocError> {
+pub(crate) fn text_of(alloc: Global, shadow: &Shadow, place: u16) -> Result<Vec<u8>, AllocError> {
     let mut bytes = Vec::new(alloc);
-    put_text(&mut bytes, shadow, at)?;
+    put_text(&mut bytes, shadow, place)?;
     Ok(bytes)
 }
 
 /// Appends what is believed of each field: its attribute's address and code, the fact, and the characters.
 pub(crate) fn put_fields(bytes: &mut Vec<u8>, shadow: &Shadow) -> Result<(), AllocError> {
-    for at in Addr::all() {
-        put_field(bytes, shadow, at)?;
+    for place in 0..cells_known(shadow) {
+        put_field(bytes, shadow, place)?;
     }
     Ok(())
 }
 
-fn put_field(bytes: &mut Vec<u8>, shadow: &Shadow, at: Addr) -> Result<(), AllocError> {
-    if shadow.fact(at).is_none() {
+fn put_field(bytes: &mut Vec<u8>, shadow: &Shadow, place: u16) -> Result<(), AllocError> {
+    if fact_at(shadow, place).is_none() {
         return Ok(());
     }
-    bytes.extend_from_slice(&at.get().to_be_bytes())?;
-    if let Some(Cell::Attr(attr)) = shadow.known(at) {
+    bytes.extend_from_slice(&place.to_be_bytes())?;
+    if let Some(Cell::Attr(attr)) = known_at(shadow, place) {
         bytes.extend_from_slice(&[attr_code(attr)])?;
     }
-    bytes.extend_from_slice(fact_word(shadow, at).as_bytes())?;
-    put_text(bytes, shadow, at)
+    bytes.extend_from_slice(fact_word(shadow, place).as_bytes())?;
+    put_text(bytes, shadow, place)
 }

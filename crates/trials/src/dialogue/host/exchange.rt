@@ -10,7 +10,7 @@ use crate::dialogue::host::view::View;
 use crate::fault::{Fault, expect_bytes, expect_text};
 use crate::readers::read_host;
 use crate::stops::expect_fed;
-use codes3270::Addr;
+use codes3270::MOST_CELLS;
 use host_core::{Host, MOST_CONNECTIONS};
 use shadow::Shadow;
 use std::alloc::Global;
@@ -46,16 +46,16 @@ pub(crate) struct Exchange {
     kept: Option<View>,
 }
 
-/// What is believed of the field at an address: how, and of which characters.
+/// What is believed of the field at a place: how, and of which characters.
 fn expect_field(
     alloc: Global,
     shadow: &Shadow,
-    at: Addr,
+    place: u16,
     fact: &str,
     words: &str,
 ) -> Result<(), Fault> {
-    expect_text(alloc, fact, fact_word(shadow, at))?;
-    expect_spelt(alloc, words, text_of(alloc, shadow, at)?.as_slice())
+    expect_text(alloc, fact, fact_word(shadow, place))?;
+    expect_spelt(alloc, words, text_of(alloc, shadow, place)?.as_slice())
 }
 
 impl Exchange {
@@ -223,14 +223,14 @@ impl Exchange {
         }
     }
 
-    /// Expects this to be believed of the field at an address.
-    fn expect_fact(&self, conn: usize, at: u16, fact: &str, words: &str) -> Result<(), Fault>
+    /// Expects this to be believed of the field at a place.
+    fn expect_fact(&self, conn: usize, place: u16, fact: &str, words: &str) -> Result<(), Fault>
         requires { conn < most_connections }
     {
-        let Some(at) = Addr::new(at) else {
+        if usize::from(place) >= MOST_CELLS {
             return Err(Fault::Needs("an address"));
-        };
-        expect_field(self.alloc, self.host.shadow(conn), at, fact, words)
+        }
+        expect_field(self.alloc, self.host.shadow(conn), place, fact, words)
     }
 
     /// Expects to see this.

@@ -1,8 +1,9 @@
 //! What is to be seen of a terminal, in words.
 use crate::bytes::{first_of, number_of};
 use crate::fault::Fault;
+use crate::places::cell_at;
 use crate::stops::stop_text;
-use codes3270::{Addr, Cell, aid_byte, attr_code};
+use codes3270::{Cell, aid_byte, attr_code};
 use std::alloc::{AllocError, Global};
 use term_core::{Terminal, screen_lines};
 use tn3270e_msg::Fed;
@@ -93,16 +94,14 @@ fn yes_or_no(answer: bool) -> &'static str {
     if answer { "yes" } else { "no" }
 }
 
-fn cell_seen(alloc: Global, terminal: &Terminal, at: u16) -> Result<String, AllocError> {
-    let Some(at) = Addr::new(at) else {
-        return String::from_str(alloc, "no cell");
-    };
-    match terminal.screen().cell(at) {
-        Cell::Char(code) => byte_seen(alloc, code),
-        Cell::Attr(attr) => {
+fn cell_seen(alloc: Global, terminal: &Terminal, place: u16) -> Result<String, AllocError> {
+    match cell_at(terminal.screen(), place) {
+        Some(Cell::Char(code)) => byte_seen(alloc, code),
+        Some(Cell::Attr(attr)) => {
             let code = attr_code(attr);
             format!(in alloc; "1D {code:02X}")
         }
+        None => String::from_str(alloc, "no cell"),
     }
 }
 
