@@ -1,5 +1,5 @@
 -- The time limits of a connection that is served (our profile). Times are milliseconds of the server's time, limits are seconds.
-use Rattle.std.specs.Prelude.{ℕ, ◌-◌, ◌*◌, Bool, ◌&&◌, ◌==◌, not, nat_lt, nat_le, if◌then◌else◌}
+use Rattle.std.specs.Prelude.{ℕ, ◌-◌, ◌*◌, Bool, ◌&&◌, ◌||◌, ◌==◌, not, nat_lt, nat_le, if◌then◌else◌}
 use Rattle.jobs3270.specs.declared.service.TimeLimits.{TimeLimits}
 use Rattle.jobs3270.specs.declared.limits.Activity.{Activity}
 use Rattle.jobs3270.specs.declared.limits.Due.{Due}
@@ -18,6 +18,14 @@ due limits bound activity now =
     if is_over limits.idle (now - activity.heard) then due_now.Disconnect overdue.Idle else
     if bound && is_over limits.keepalive (now - activity.kept_alive) then due_now.KeepAlive else
     due_now.Nothing
+
+-- how long the limits aren't applied if no byte moves
+abbrev pub limits_interval : ℕ
+limits_interval = 100
+
+-- Whether the limits of all connections are applied after a turn: a byte moved in it, or they were applied last this long before.
+abbrev pub are_applied : (moved : Bool) → (applied now : ℕ) → Bool
+are_applied moved applied now = moved || nat_le limits_interval (now - applied)
 
 -- ---- what happened on a connection
 

@@ -1,9 +1,12 @@
 //! The time limits of a connection: when it is sent IAC NOP, and when it is dropped.
 ghost use Rattle.std.specs.Prelude.{◌≡◌};
-ghost use Rattle.jobs3270.specs.Timing.{due, heard, is_over, is_unanswered, kept_alive, new_activity};
+ghost use Rattle.jobs3270.specs.Timing.{are_applied, due, heard, is_over, is_unanswered, kept_alive, new_activity};
 
 use crate::job::Seconds;
 use crate::service::TimeLimits;
+
+/// How many milliseconds after the time limits were applied last they are applied again though no byte moved.
+const LIMITS_INTERVAL: u64 = 100;
 
 /// The limit for which a connection is dropped.
 #[derive(Clone, Copy)]
@@ -46,6 +49,13 @@ fn is_over(limit: Seconds, millis: u64) -> bool
 {
     let seconds = limit.get() as u64;
     0 < seconds && seconds * 1000 <= millis
+}
+
+/// Whether the time limits are applied after a turn, by whether a byte moved in it and when they were applied last.
+pub(crate) fn are_applied(moved: bool, applied: u64, now: u64) -> bool
+    ensures { result ≡ are_applied moved applied now }
+{
+    moved || now.saturating_sub(applied) >= LIMITS_INTERVAL
 }
 
 impl Activity {

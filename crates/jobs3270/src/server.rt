@@ -5,17 +5,18 @@ ghost use Rattle.host_core.specs.declared.phase.Phase.TheVariants as phase;
 ghost use Rattle.jobs3270.specs.Notices.{is_bound, is_new, is_shown};
 
 use crate::fault::Fault;
-use crate::limits::{Activity, Due};
+use crate::limits::{Activity, Due, are_applied};
 use crate::notice::{Client, Ending, Notice, Usage, bound_in_turn, ending_of};
 use crate::service::TimeLimits;
 use crate::sockets::Sockets;
-use host_core::{Acted, Host, MOST_CONNECTIONS, Phase, Served, Turn, serve_turn};
+use host_core::{Acted, Host, MOST_CONNECTIONS, Phase, Rejection, Served, Turn, serve_turn};
 use mio::net::{TcpListener, TcpStream};
 use mio::{Events, Interest, Poll, Token};
 use std::alloc::{AllocError, Global};
 use std::io;
 use std::net::{Net, SocketAddr};
 use std::time::Duration;
+use tn3270e_msg::Lu;
 
 /// The longest wait of a turn, in milliseconds.
 const LONGEST_WAIT: u64 = 10;
@@ -81,6 +82,8 @@ pub struct Server {
     infos: Vec<Option<ConnectionInfo>>,
     /// The server's time, in milliseconds.
     now: u64,
+    /// When the time limits were applied last, in milliseconds of that time.
+    applied: u64,
     listener: TcpListener,
     poll: Poll,
     events: Events,
@@ -181,6 +184,7 @@ impl Server {
             sockets,
             infos,
             now: 0,
+            applied: 0,
             listener,
             poll,
             events,
@@ -311,9 +315,6 @@ impl Server {
     fn serve<W: Watcher>(&mut self, conn: usize, watcher: &mut W) -> Result<bool, Fault>
         requires { conn < most_connections }
     {
-        let Some(info) = self.info(conn) else {
-            return Ok(false);
-        };
         let before = self.host.phase(conn);
         let pending = self.host.pending(conn);
         let waiting = self.host.out(conn).len();
@@ -323,11 +324,12 @@ impl Server {
         if let Served::Memory = served {
             return Err(Fault::NoMemory);
         }
-        self.report_talk(conn, info.client, &before, watcher)?;
+        let after = self.host.phase(conn);
+        self.report_talk(conn, &before, &after, watcher)?;
         if is_shown(pending, self.host.pending(conn), self.host.turn(conn)) {
-            self.report_screen(conn, info, &before, watcher)?;
+            self.report_screen(conn, &before, watcher)?;
         }
-        match ending_of(&self.host.phase(conn), served) {
+        match ending_of(&after, served) {
             Some(ending) => self.end(conn, is_bound(&before), ending, watcher)?,
             None => {}
         }
@@ -335,24 +337,45 @@ impl Server {
     }
 
     /// Hands the watcher each rejection of the connection that wasn't reported yet, and the LU that its terminal was bound to in the
-    /// turn. `before`: its phase before the turn.
+    /// turn, by its phases before and after the turn.
     fn report_talk<W: Watcher>(
         &mut self,
         conn: usize,
-        client: Client,
         before: &Phase,
+        after: &Phase,
         watcher: &mut W,
     ) -> Result<(), Fault>
         requires { conn < most_connections }
     {
         for _ in 0..MOST_REJECTIONS {
             match self.host.next_rejection(conn) {
-                Some(rejection) => watcher.notice(&Notice::Rejected(client, rejection))?,
+                Some(rejection) => self.report_rejection(conn, rejection, watcher)?,
                 None => break,
             }
         }
-        match bound_in_turn(before, &self.host.phase(conn)) {
-            Some(lu) => watcher.notice(&Notice::Bound(client, lu)),
+        match bound_in_turn(before, after) {
+            Some(lu) => self.report_bound(conn, lu, watcher),
+            None => Ok(()),
+        }
+    }
+
+    /// Hands the watcher a rejection.
+    fn report_rejection<W: Watcher>(
+        &self,
+        conn: usize,
+        rejection: Rejection,
+        watcher: &mut W,
+    ) -> Result<(), Fault> {
+        match self.info(conn) {
+            Some(info) => watcher.notice(&Notice::Rejected(info.client, rejection)),
+            None => Ok(()),
+        }
+    }
+
+    /// Hands the watcher the LU that a terminal was bound to.
+    fn report_bound<W: Watcher>(&self, conn: usize, lu: Lu, watcher: &mut W) -> Result<(), Fault> {
+        match self.info(conn) {
+            Some(info) => watcher.notice(&Notice::Bound(info.client, lu)),
             None => Ok(()),
         }
     }
@@ -361,19 +384,26 @@ impl Server {
     fn report_screen<W: Watcher>(
         &mut self,
         conn: usize,
-        info: ConnectionInfo,
         before: &Phase,
         watcher: &mut W,
     ) -> Result<(), Fault>
         requires { conn < most_connections }
     {
         if is_bound(before) {
-            self.keep_info(ConnectionInfo {
-                turns: info.turns.saturating_add(1),
-                ..info
-            });
+            self.count_turn(conn);
         }
         watcher.shown(&self.host, conn)
+    }
+
+    /// Counts a screen that was shown after the first one.
+    fn count_turn(&mut self, conn: usize) {
+        match self.info(conn) {
+            Some(info) => self.keep_info(ConnectionInfo {
+                turns: info.turns.saturating_add(1),
+                ..info
+            }),
+            None => {}
+        }
     }
 
     /// Ends a connection: frees its number and its LU, and closes its socket. `bound`: whether its terminal is bound to an LU.
@@ -395,16 +425,22 @@ impl Server {
         watcher.notice(&Notice::Ended(info.client, ending, usage))
     }
 
-    /// Does what the time limits ask for at this time, in milliseconds: sends IAC NOP, or drops a connection. Sends IAC NOP also where
-    /// bytes came and nothing was sent in the last turn, since it carries the acknowledgement that the peer's TCP waits for. Answers
-    /// whether it did something. NoMemory if memory is refused, and any fault of the watcher.
+    /// Takes the time after a turn, in milliseconds. If a byte was read or written in it or the host acted (`moved`), and else ten times
+    /// a second, does what the time limits ask for: sends IAC NOP, or drops a connection. Sends IAC NOP also where bytes came and
+    /// nothing was sent in the turn, since it carries the acknowledgement that the peer's TCP waits for. Answers whether it did
+    /// something. NoMemory if memory is refused, and any fault of the watcher.
     pub fn keep_time<W: Watcher>(
         &mut self,
         now: u64,
+        moved: bool,
         limits: &TimeLimits,
         watcher: &mut W,
     ) -> Result<bool, Fault> {
         self.now = now;
+        if !are_applied(moved, self.applied, now) {
+            return Ok(false);
+        }
+        self.applied = now;
         let mut acted = false;
         for conn in 0..MOST_CONNECTIONS {
             if self.sockets.is_connected(conn) {

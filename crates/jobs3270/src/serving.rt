@@ -132,7 +132,7 @@ fn serve_on<R: Wait + Clock, W: Watcher>(
     for _ in rt.forever() {
         moved = server.turn(patience(moved), watcher)?;
         uptime.read(rt);
-        moved |= server.keep_time(uptime.millis(), limits, watcher)?;
+        moved |= server.keep_time(uptime.millis(), moved, limits, watcher)?;
         moved |= watcher.turned(server, uptime.millis());
     }
     unreachable!()
