@@ -8,9 +8,11 @@ use Rattle.std.proofs.lemmas.List.{get_or-set_other, get_or-set_same, get_or-rep
 use Rattle.std.proofs.lemmas.Nat.Bits.{bit_at-lt, bit_at_set_same, bit_at_set_other, bit_at_clear_same, bit_at_clear_other}
 use Rattle.codes3270.specs.Attribute.{attr_of}
 use Rattle.codes3270.specs.declared.attribute.Attr.{Attr as Attribute}
+use Rattle.codes3270.specs.declared.attribute.Cell.TheVariants.{Char as CharCell, Attr as AttrCell}
 use Rattle.datastream.specs.declared.wanted.Want.{Want}
 use Rattle.datastream.specs.declared.wanted.Want.TheVariants.{Char, Attr, Keep}
 use Rattle.datastream.specs.CellBits.{bit_of, has_bit, kept, Marks, AreBits}
+use Rattle.datastream.specs.CellCodes.{cell_of}
 use Rattle.datastream.specs.Wanted.{IsProper, is_attribute, is_character, byte_of, want_kept, want_by, AreKept}
 
 -- ---- one word
@@ -120,10 +122,20 @@ module _ {A : Type 0} where
       let few : cell < n = subst (λ m. cell < m) (length-replicate n p) inside in
       put cell few ∙ sym (ap holds (get_or-replicate n cell p d few))
 
+-- what a cell's code and mark are
+
+pub attribute_got : (mark : Bool) (code : ℕ) (attribute : Attribute) → cell_of mark code ≡ AttrCell attribute → (mark ≡ true) × (attribute ≡ attr_of code)
+attribute_got true code attribute is = (refl, cc)
+attribute_got false code attribute is = cc
+
+pub character_got : (mark : Bool) (code byte : ℕ) → cell_of mark code ≡ CharCell byte → (mark ≡ false) × (code ≡ byte)
+character_got true code byte is = cc
+character_got false code byte is = (refl, cc)
+
 -- ---- wanted cells
 
 -- a bit that is put is the one that a function answers
-bits_by : (b answer : Bool) → answer ≡ b → (words words_ : List ℕ) (at : ℕ) → ((other : ℕ) → has_bit words_ other ≡ (if nat_eq other at then answer else has_bit words other))
+pub bits_by : (b answer : Bool) → answer ≡ b → (words words_ : List ℕ) (at : ℕ) → ((other : ℕ) → has_bit words_ other ≡ (if nat_eq other at then answer else has_bit words other))
     → (other : ℕ) → has_bit words_ other ≡ (if nat_eq other at then b else has_bit words other)
 bits_by b answer e words words_ at bits other = bits other ∙ ap (λ v. if nat_eq other at then v else has_bit words other) e
 
@@ -200,25 +212,21 @@ module _ (n : ℕ) (attributes characters : List ℕ) (w : Want) (byte : ℕ) (i
 
 module _ (attributes characters bytes : List ℕ) (at : ℕ) (within : at < length bytes) (now : List Want)
     (view : kept (want_by attributes characters) 0 bytes ≡ now) where
-  want_read : (w : Want) → w ≡ want_kept (has_bit attributes at) (has_bit characters at) (get_or bytes at 0) → w ≡ get_or now at w
+  pub want_read : (w : Want) → want_kept (has_bit attributes at) (has_bit characters at) (get_or bytes at 0) ≡ w → w ≡ get_or now at w
   want_read w is =
-      is ∙ sym (kept_at (want_by attributes characters) bytes at (get_or bytes at 0) w within (get_or_default bytes at 0 (get_or bytes at 0) within))
+      sym is ∙ sym (kept_at (want_by attributes characters) bytes at (get_or bytes at 0) w within (get_or_default bytes at 0 (get_or bytes at 0) within))
       ∙ ap (λ (ws : List Want). get_or ws at w) view
 
-  pub attribute_read : (attribute : Attribute) → attribute ≡ attr_of (get_or bytes at 0) → has_bit attributes at ≡ true → Attr attribute ≡ get_or now at (Attr attribute)
-  attribute_read attribute is a = want_read (Attr attribute) (ap Attr is ∙ sym (ap (λ b. want_kept b (has_bit characters at) (get_or bytes at 0)) a))
+-- what is wanted by the cell that is kept
+pub attribute_wanted : (mark character : Bool) (code : ℕ) (attribute : Attribute) → cell_of mark code ≡ AttrCell attribute → want_kept mark character code ≡ Attr attribute
+attribute_wanted mark character code attribute is =
+    let got = attribute_got mark code attribute is in
+    ap (λ (b : Bool). want_kept b character code) got.0 ∙ ap Attr (sym got.1)
 
-  pub character_read : has_bit attributes at ≡ false → has_bit characters at ≡ true → Char (get_or bytes at 0) ≡ get_or now at (Char (get_or bytes at 0))
-  character_read a k = want_read (Char (get_or bytes at 0))
-      (sym (ap (λ b. want_kept b (has_bit characters at) (get_or bytes at 0)) a ∙ ap (λ b. want_kept false b (get_or bytes at 0)) k))
-
-  pub keep_read : has_bit attributes at ≡ false → has_bit characters at ≡ false → Keep ≡ get_or now at Keep
-  keep_read a k = want_read Keep
-      (sym (ap (λ b. want_kept b (has_bit characters at) (get_or bytes at 0)) a ∙ ap (λ b. want_kept false b (get_or bytes at 0)) k))
-
--- the same character under another name
-pub character_seen : (now : List Want) (at byte other : ℕ) → byte ≡ other → Char other ≡ get_or now at (Char other) → Char byte ≡ get_or now at (Char byte)
-character_seen now at byte other same is = subst (λ (b : ℕ). Char b ≡ get_or now at (Char b)) (sym same) is
+pub character_wanted : (mark character : Bool) (code byte : ℕ) → cell_of mark code ≡ CharCell byte → character ≡ true → want_kept mark character code ≡ Char byte
+character_wanted mark character code byte is wanted =
+    let got = character_got mark code byte is in
+    ap (λ (b : Bool). want_kept b character code) got.0 ∙ ap (λ (b : Bool). want_kept false b code) wanted ∙ ap Char got.1
 
 -- the bits of a word, by the cells
 pub marked_bits : (holds : Want → Bool) (bits : List ℕ) (cells now : List Want) (size most word result : ℕ) → size ≤ length cells → size ≤ most → cells ≡ now → Marks holds bits cells

@@ -21,4 +21,5 @@ pub mod InboundSent
 pub mod InboundSlices
 pub mod Round
 pub mod Keeping
+pub mod Splices
 pub mod Words

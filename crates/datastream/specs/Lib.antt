@@ -21,5 +21,6 @@ pub mod InboundReading
 pub mod InboundFields
 pub mod InboundReturned
 pub mod CellBits
+pub mod CellCodes
 pub mod Wanted
 pub mod Senses

@@ -19,6 +19,9 @@
 //!
 //! [`read_inbound`] reads what the terminal sends, in one of three [`Form`]s, and answers it or the first fault in it.
 //!
+//! A screen of any size is kept in a [`PackedCell`] for each cell, or in [`PackedCells`] with [`CellBits`] beside them, here and in
+//! the crates above. A [`Ring`] walks over it, round the end.
+//!
 //! `specs/` has the definitions: `Grammar` says which bytes are commands and where others go wrong, `Writing` what is
 //! written, `InboundText` which bytes are inbound data, `Screen`, `Fields` and `Span` what a screen is, `Meaning` what a
 //! command makes of it, `Inbound` what is sent of it, `Held` what keys keep of it, `Note` which writes put characters over
@@ -26,7 +29,7 @@
 //! the laws as their contracts.
 #![tactic(auto)]
 
-mod cell_bits;
+mod cell_store;
 mod command;
 mod command_code;
 mod fault;
@@ -41,7 +44,7 @@ mod orders;
 mod wanted;
 mod writer;
 
-pub use cell_bits::CellBits;
+pub use cell_store::{CellBits, HasCells, PackedCell, PackedCells, Ring};
 pub use command::{Command, read_command};
 pub use command_code::CommandCode;
 pub use fault::{CommandFault, Sense};

@@ -1,13 +1,15 @@
 //! What a screen is wanted to be.
-ghost use Rattle.std.specs.Prelude.{◌≡◌, ◌<◌, ◌≤◌, ◌+◌, ◌*◌, ◌++◌, All, false, length, map, replicate, drop, slice_get, slice_set, slice_index_or, Some};
+ghost use Rattle.std.specs.Prelude.{◌≡◌, ◌<◌, ◌≤◌, ◌+◌, ◌*◌, ◌++◌, All, false, not, length, map, replicate, drop, slice_get, slice_set, slice_index_or, Some};
 ghost use Rattle.codes3270.specs.Size.{cells_in, most_cells};
 ghost use Rattle.datastream.specs.CellBits.{word_count, AreBits};
+ghost use Rattle.datastream.specs.CellCodes.{code_in};
+ghost use Rattle.datastream.specs.Screen.{is_char};
 ghost use Rattle.datastream.specs.Wanted.{IsProper, WantedScreen, want_kept};
 ghost use Rattle.datastream.specs.declared.wanted.Want.TheVariants.{Keep};
 ghost use Rattle.datastream.specs.Wanted.{is_attribute as is_attribute_wanted, is_character as is_character_wanted, byte_of as byte_wanted};
 
-use crate::cell_bits::CellBits;
-use codes3270::{Addr, Attr, MOST_CELLS, Size, attr_code};
+use crate::cell_store::{CellBits, HasCells, PackedCell, PackedCells, Ring};
+use codes3270::{Addr, Attr, Cell, Size};
 use std::marker::Model;
 
 /// What a cell is wanted to have (our profile).
@@ -28,47 +30,34 @@ pub enum Want {
 /// the size and the cells that a screen of this size has.
 #[derive(Clone, Debug, Drop)]
 pub struct Wanted {
-    /// Characters, and the codes of attributes; null where the cell is kept.
-    bytes: [u8; MOST_CELLS],
-    attributes: CellBits,
+    /// A null character where the cell is kept.
+    cells: PackedCells,
     characters: CellBits,
-    size: Size,
     cursor: Addr,
     reset: bool,
 }
 
 impl Model for Wanted {
-    ghost use Rattle.std.specs.Prelude.{take};
-    ghost use Rattle.codes3270.specs.Size.{cells_in};
     ghost use Rattle.datastream.specs.CellBits.{kept};
     ghost use Rattle.datastream.specs.Wanted.{WantedScreen, IsScreen, AreKept, want_by};
 
     ghost Value = { WantedScreen };
 
-    ghost view = { λ wanted. record { size = wanted.size; cells = kept (want_by wanted.attributes wanted.characters) 0 (take (cells_in wanted.size) wanted.bytes); cursor = wanted.cursor; reset = wanted.reset } };
+    ghost view = { λ wanted. record { size = wanted.cells.size; cells = kept (want_by wanted.cells.attributes wanted.characters) 0 wanted.cells.codes; cursor = wanted.cursor; reset = wanted.reset } };
 
-    ghost invariant = { λ wanted. IsScreen (record { size = wanted.size; cells = kept (want_by wanted.attributes wanted.characters) 0 (take (cells_in wanted.size) wanted.bytes); cursor = wanted.cursor; reset = wanted.reset }) × AreKept wanted.attributes wanted.characters (take (cells_in wanted.size) wanted.bytes) };
+    ghost invariant = { λ wanted. IsScreen (record { size = wanted.cells.size; cells = kept (want_by wanted.cells.attributes wanted.characters) 0 wanted.cells.codes; cursor = wanted.cursor; reset = wanted.reset }) × AreKept wanted.cells.attributes wanted.characters wanted.cells.codes };
 }
 
-/// What is kept of a cell in its byte.
-fn byte_of(want: Want) -> u8
-    ensures byte { result ≡ byte_wanted want }
-    ensures kept { want_kept (is_attribute_wanted want) (is_character_wanted want) result ≡ want }
+/// What is kept of a cell, but for whether a character is wanted there.
+fn packed(want: Want) -> PackedCell
+    ensures byte { code_in result ≡ byte_wanted want }
+    ensures attribute { not (is_char result) ≡ is_attribute_wanted want }
+    ensures kept { want_kept (is_attribute_wanted want) (is_character_wanted want) (code_in result) ≡ want }
 {
     match want {
-        Want::Char(byte) => byte,
-        Want::Attr(attr) => attr_code(attr),
-        Want::Keep => 0,
-    }
-}
-
-fn is_attribute(want: Want) -> bool
-    ensures { result ≡ is_attribute_wanted want }
-{
-    match want {
-        Want::Attr(_) => true,
-        Want::Char(_) => false,
-        Want::Keep => false,
+        Want::Char(byte) => PackedCell::character(byte),
+        Want::Attr(attr) => PackedCell::new(Cell::Attr(attr)),
+        Want::Keep => PackedCell::character(0),
     }
 }
 
@@ -82,25 +71,17 @@ fn is_character(want: Want) -> bool
     }
 }
 
-fn same_bytes(byte: u8) -> [u8; MOST_CELLS]
-    ensures { result ≡ replicate most_cells byte }
-{
-    [byte; MOST_CELLS]
-}
-
 impl Wanted {
     /// The same of each cell of a screen of this size, and the cursor at the first.
     pub fn filled(want: Want, size: Size) -> Wanted
         requires { IsProper want }
         ensures { result ≡ record { size = size; cells = replicate (cells_in size) want; cursor = 0; reset = false } }
     {
-        // For the contract: there is room for the screen, and it has a first cell.
+        // For the contract: the screen has a first cell.
         let _cells = size.cells();
         Wanted {
-            bytes: same_bytes(byte_of(want)),
-            attributes: CellBits::all(is_attribute(want)),
+            cells: PackedCells::filled(packed(want), size),
             characters: CellBits::all(is_character(want)),
-            size,
             cursor: Addr::first(),
             reset: false,
         }
@@ -114,8 +95,7 @@ impl Wanted {
         ensures size { length self.new.cells ≡ cells_in self.new.size }
         ensures proper { All IsProper self.new.cells }
     {
-        self.bytes[cell] = byte_of(want);
-        self.attributes.put(cell, is_attribute(want));
+        self.cells.set(cell, packed(want));
         self.characters.put(cell, is_character(want));
     }
 
@@ -135,17 +115,17 @@ impl Wanted {
         ensures cells { length self.now.cells ≡ cells_in self.now.size }
         ensures few { cells_in self.now.size ≤ most_cells }
     {
-        self.size
+        self.cells.size()
     }
 
     /// How many cells the screen has.
-    fn cell_count(&self) -> usize
+    fn count(&self) -> usize
         ensures count { result ≡ cells_in self.now.size }
         ensures size { length self.now.cells ≡ result }
         ensures few { result ≤ most_cells }
         ensures proper { All IsProper self.now.cells }
     {
-        usize::from(self.size.cells())
+        self.cells.len()
     }
 
     /// What each cell is wanted to have, by address.
@@ -154,12 +134,9 @@ impl Wanted {
         ensures size { length result ≡ cells_in self.now.size }
         ensures proper { All IsProper result }
     {
-        let cells = self.cell_count();
-        Wants {
-            wanted: self,
-            cells,
-            next: cells,
-        }
+        // For the contract: there is a want for each cell.
+        let _count = self.count();
+        Ring::all(self)
     }
 
     /// What the cells behind an address are wanted to have, and then all cells.
@@ -168,11 +145,9 @@ impl Wanted {
         ensures cells { result ≡ drop (cell + 1) self.now.cells ++ self.now.cells }
         ensures few { length result ≤ 2 * cells_in self.now.size }
     {
-        Wants {
-            wanted: self,
-            cells: self.cell_count(),
-            next: cell + 1,
-        }
+        // For the contract: there is a want for each cell.
+        let _count = self.count();
+        Ring::ahead(self, cell)
     }
 
     /// What a cell is wanted to have.
@@ -191,13 +166,15 @@ impl Wanted {
         ensures size { length self.now.cells ≡ cells_in self.now.size }
         ensures proper { IsProper result }
     {
-        let byte = self.bytes[cell];
-        if self.attributes.has(cell) {
-            Want::Attr(Attr::from_code(byte))
-        } else if self.characters.has(cell) {
-            Want::Char(byte)
-        } else {
-            Want::Keep
+        match self.cells.get(cell) {
+            Cell::Attr(attr) => Want::Attr(attr),
+            Cell::Char(byte) => {
+                if self.characters.has(cell) {
+                    Want::Char(byte)
+                } else {
+                    Want::Keep
+                }
+            }
         }
     }
 
@@ -207,8 +184,7 @@ impl Wanted {
         ensures size { length self.now.cells ≡ cells_in self.now.size }
         ensures proper { All IsProper self.now.cells }
     {
-        let cells = usize::from(self.size.cells());
-        &self.bytes[..cells]
+        self.cells.codes()
     }
 
     /// A bit for each of 64 cells, set where an attribute is wanted.
@@ -216,7 +192,7 @@ impl Wanted {
         requires { index < word_count }
         ensures { AreBits (cells_in self.now.size) (λ cell. is_attribute_wanted (slice_index_or self.now.cells cell Keep)) index result }
     {
-        self.attributes.word(index)
+        self.cells.attribute_word(index)
     }
 
     /// A bit for each of 64 cells, set where a character is wanted.
@@ -244,45 +220,20 @@ impl Wanted {
 }
 
 /// The wants that are left of a walk, which may go on round the end. Contracts see their list.
-#[derive(Drop)]
-pub struct Wants<'a> {
-    wanted: &'a Wanted,
-    /// How many cells the screen has.
-    cells: usize,
-    next: usize,
-}
+pub type Wants<'a> = Ring<'a, Wanted>;
 
-impl<'a> Model for Wants<'a> {
-    ghost use Rattle.std.specs.Prelude.{◌≡◌, ◌≤◌, ◌++◌, List, length, drop};
-    ghost use Rattle.codes3270.specs.Size.{cells_in, most_cells};
-    ghost use Rattle.datastream.specs.declared.wanted.Want.{Want};
+impl HasCells for Wanted {
+    type Cell = Want;
 
-    ghost Value = { List Want };
+    ghost cells = { λ wanted. wanted.cells };
 
-    ghost view = { λ wants. drop wants.next (wants.wanted.now.cells ++ wants.wanted.now.cells) };
+    fn cell_at(&self, at: usize) -> Want {
+        // For the contract: there is a want for each cell.
+        let _count = self.count();
+        self.at(at)
+    }
 
-    ghost invariant = { λ wants. (wants.cells ≡ cells_in wants.wanted.now.size) × (length wants.wanted.now.cells ≡ wants.cells) × (wants.cells ≤ most_cells) };
-}
-
-impl<'a> Iterator for Wants<'a> {
-    ghost use Rattle.std.specs.Iterator.{YieldsFirst, item_count};
-
-    type Item = Want;
-
-    ghost next_gives = { YieldsFirst (λ wants. wants) };
-
-    ghost remaining = { item_count (λ wants. wants) };
-
-    fn next(&mut self) -> Option<Want> {
-        let at = self.next;
-        if at < self.cells {
-            self.next = at + 1;
-            Some(self.wanted.at(at))
-        } else if at < 2 * self.cells {
-            self.next = at + 1;
-            Some(self.wanted.at(at - self.cells))
-        } else {
-            None
-        }
+    fn cell_count(&self) -> usize {
+        self.count()
     }
 }

@@ -1,18 +1,16 @@
 -- The characters before the first attribute of a list of cells.
 use Rattle.std.proofs.Common.{◌≡◌, ℕ, ◌+◌, ◌<◌, ◌≤◌, ◌==◌, not, Bool, true, false, cond, List, [], ◌∷◌, ◌++◌, length, get_or, take, drop, arith, sym, ◌∙◌, ap, refl, suc, zero, length-append, length-drop, length-take-le}
 use Rattle.std.specs.List.{list_all, flat_map, prefix_len}
-use Rattle.std.proofs.lemmas.List.{drop_more, append-nil}
+use Rattle.std.proofs.lemmas.List.{drop_more, get_or_default, append-nil}
 use Rattle.std.proofs.lemmas.List.Elements.{filter-append}
 use Rattle.codes3270.specs.declared.attribute.Cell.{Cell}
 use Rattle.codes3270.specs.declared.attribute.Cell.TheVariants.{Char, Attr}
 use Rattle.datastream.specs.Screen.{text_before_attribute, is_char, is_char_at, ring, field_text, places_from}
-use Rattle.datastream.specs.Inbound.{without_nulls}
+use Rattle.datastream.specs.Inbound.{is_modified, without_nulls}
 
 -- the first cell, and the rest
-pub text_more : (cells : List Cell) (place byte : ℕ) (d : Cell) → place < length cells → get_or cells place d ≡ Char byte → without_nulls (text_before_attribute (drop place cells)) ≡ without_nulls (byte ∷ []) ++ without_nulls (text_before_attribute (drop (place + 1) cells))
-text_more cells place byte d below read =
-    rw (drop_more cells place d below, read)
-    (filter-append (λ (b : ℕ). not (b == 0)) (byte ∷ []) (text_before_attribute (drop (place + 1) cells)))
+pub text_more : (byte : ℕ) (cell : Cell) (cells : List Cell) → cell ≡ Char byte → without_nulls (text_before_attribute (cell ∷ cells)) ≡ without_nulls (byte ∷ []) ++ without_nulls (text_before_attribute cells)
+text_more byte cell cells is = rw is (filter-append (λ (b : ℕ). not (b == 0)) (byte ∷ []) (text_before_attribute cells))
 
 pub text_ends : (cells : List Cell) (place : ℕ) (d : Cell) → place < length cells → is_char (get_or cells place d) ≡ false → text_before_attribute (drop place cells) ≡ []
 text_ends cells place d below test = rw (drop_more cells place d below) (at_attribute (get_or cells place d) (drop (place + 1) cells) test)
@@ -33,15 +31,23 @@ text_before_attribute-append (Char byte ∷ xs) ys =
     ∙ cons-cond (list_all is_char xs) byte (text_before_attribute xs ++ text_before_attribute ys) (text_before_attribute xs)
 text_before_attribute-append (Attr attribute ∷ xs) ys = refl
 
-choose-text : (test : Bool) (x y : List ℕ) → without_nulls (cond test (x ++ y) x) ≡ without_nulls x ++ without_nulls (cond test y [])
-choose-text true x y = filter-append (λ (b : ℕ). not (b == 0)) x y
-choose-text false x y = sym (append-nil (without_nulls x))
+-- an attribute ends the text before it
+text_stops : (cells : List Cell) (at : ℕ) → at < length cells → is_char_at cells at ≡ false → text_before_attribute (take (suc at) cells) ≡ text_before_attribute cells
+text_stops [] at below stands = absurd (omega arith)
+text_stops (Attr attribute ∷ cells) zero below stands = refl
+text_stops (Attr attribute ∷ cells) (suc at) below stands = refl
+text_stops (Char byte ∷ cells) zero below stands = cc
+text_stops (Char byte ∷ cells) (suc at) below stands = ap (λ (text : List ℕ). byte ∷ text) (text_stops cells at (omega arith) stands)
 
--- the part of a field up to the last cell, and what is left of it from the first cell on
-pub field_text_split : (cells : List Cell) (place : ℕ) → without_nulls (field_text cells place) ≡ without_nulls (text_before_attribute (drop (place + 1) cells)) ++ without_nulls (cond (list_all is_char (drop (place + 1) cells)) (text_before_attribute (take (place + 1) cells)) [])
-field_text_split cells place =
-    ap without_nulls (text_before_attribute-append (drop (place + 1) cells) (take (place + 1) cells))
-    ∙ choose-text (list_all is_char (drop (place + 1) cells)) (text_before_attribute (drop (place + 1) cells)) (text_before_attribute (take (place + 1) cells))
+-- a walk from an attribute on, round the end, finds its field's text
+pub text_ahead : (cells : List Cell) (at : ℕ) → at < length cells → is_char_at cells at ≡ false → text_before_attribute (drop (at + 1) cells ++ cells) ≡ field_text cells at
+text_ahead cells at below stands =
+    let back : List Cell = drop (at + 1) cells in
+    let behind : at + 1 ≡ suc at = omega arith in
+    let stops : text_before_attribute (take (at + 1) cells) ≡ text_before_attribute cells = ap (λ (n : ℕ). text_before_attribute (take n cells)) behind ∙ text_stops cells at below stands in
+    text_before_attribute-append back cells
+    ∙ ap (λ (text : List ℕ). cond (list_all is_char back) (text_before_attribute back ++ text) (text_before_attribute back)) (sym stops)
+    ∙ sym (text_before_attribute-append back (take (at + 1) cells))
 
 -- the entries of one place, and of those behind it
 pub places_from_more : {A : Type 0} (entry : ℕ → List A) (passes : Cell → Bool) (cells : List Cell) (place : ℕ) (d : Cell) → place < length cells → flat_map entry (places_from passes place (drop place cells)) ≡ flat_map entry (places_from passes place (take 1 (drop place cells))) ++ flat_map entry (places_from passes (place + 1) (drop (place + 1) cells))
@@ -52,6 +58,23 @@ places_from_more {A = A} entry passes cells place d below =
     at_cell : (test : Bool) → flat_map entry (cond test (place ∷ places_from passes (place + 1) (drop (place + 1) cells)) (places_from passes (place + 1) (drop (place + 1) cells))) ≡ flat_map entry (cond test (place ∷ []) []) ++ flat_map entry (places_from passes (place + 1) (drop (place + 1) cells))
     at_cell true = ap (λ (front : List A). front ++ flat_map entry (places_from passes (place + 1) (drop (place + 1) cells))) (sym (append-nil (entry place)))
     at_cell false = refl
+
+-- the entry of one place that passes
+pub one_entry : {A : Type 0} (entry : ℕ → List A) (passes : Cell → Bool) (cells : List Cell) (place : ℕ) (cell : Cell) → place < length cells → cell ≡ get_or cells place cell → passes cell ≡ true
+    → flat_map entry (places_from passes place (take 1 (drop place cells))) ≡ entry place
+one_entry {A = A} entry passes cells place cell below is test =
+    let here : take 1 (drop place cells) ≡ cell ∷ [] = ap (take 1) (drop_more cells place cell below) ∙ ap (λ (c : Cell). c ∷ []) (sym is) in
+    ap (λ (one : List Cell). flat_map entry (places_from passes place one)) here
+    ∙ ap (λ (t : Bool). flat_map entry (cond t (place ∷ []) [])) test ∙ append-nil (entry place)
+
+-- where MDT is on an attribute stands
+pub modified_stands : (cells : List Cell) (place : ℕ) (cell : Cell) → place < length cells → cell ≡ get_or cells place cell → is_modified cell ≡ true → is_char_at cells place ≡ false
+modified_stands cells place cell below is test =
+    ap is_char (get_or_default cells place (Char 0) cell below ∙ sym is) ∙ no_character cell test
+  where
+    no_character : (some : Cell) → is_modified some ≡ true → is_char some ≡ false
+    no_character (Char byte) on = cc
+    no_character (Attr attribute) on = refl
 
 pub length-text_before_attribute : (cells : List Cell) → length (text_before_attribute cells) ≡ prefix_len is_char cells
 length-text_before_attribute [] = refl

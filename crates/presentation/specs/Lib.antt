@@ -5,4 +5,3 @@ pub mod Index
 pub mod Fields
 pub mod Glyph
 pub mod Answering
-pub mod TwoBytes

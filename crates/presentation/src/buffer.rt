@@ -1,13 +1,13 @@
 //! The character buffer of a screen, with its model, its size, its cursor and its AID.
-ghost use Rattle.std.specs.Prelude.{◌≡◌, ◌<◌, Some, length, replicate, slice_get, slice_set};
+ghost use Rattle.std.specs.Prelude.{◌≡◌, ◌<◌, ◌+◌, ◌++◌, Some, drop, length, replicate, slice_get, slice_set};
 ghost use Rattle.codes3270.specs.Size.{cells_in, most_cells};
 ghost use Rattle.codes3270.specs.declared.attribute.Cell.TheVariants.{Char};
 ghost use Rattle.codes3270.specs.Aid.{IsRealAid};
 ghost use Rattle.datastream.specs.InboundFields.{IsStorableCell};
 ghost use Rattle.presentation.specs.Sizes.{IsSized, blank_of};
 
-use crate::packed_cell::PackedCell;
 use codes3270::{Addr, Aid, MOST_CELLS, Model, Size};
+use datastream::{HasCells, PackedCell, Ring};
 use std::marker;
 
 /// The cells of a screen (GA23-0059-07 on the character buffer), with room for the largest; its model and its size, the
@@ -86,6 +86,16 @@ impl Buffer {
         &self.cells[..count]
     }
 
+    /// The cells behind an address, and then all cells.
+    pub(crate) fn ahead(&self, at: Addr) -> Ring<'_, Buffer>
+        requires { at < cells_in self.now.size }
+        ensures { result ≡ drop (at + 1) self.now.screen.cells ++ self.now.screen.cells }
+    {
+        // For the contract: the screen has the cell.
+        let _cells = self.cells();
+        Ring::ahead(self, at.get() as usize)
+    }
+
     /// What a cell holds.
     pub(crate) fn cell(&self, at: Addr) -> PackedCell
         requires { at < cells_in self.now.size }
@@ -112,5 +122,21 @@ impl Buffer {
         ensures sized { IsSized self.now }
     {
         self.cursor
+    }
+}
+
+impl HasCells for Buffer {
+    type Cell = PackedCell;
+
+    ghost cells = { λ buffer. buffer.screen.cells };
+
+    fn cell_at(&self, at: usize) -> PackedCell {
+        // For the contract: there is room for the screen.
+        let _count = self.cell_count();
+        self.cells[at]
+    }
+
+    fn cell_count(&self) -> usize {
+        usize::from(self.size.cells())
     }
 }

@@ -7,8 +7,8 @@ ghost use Rattle.datastream.specs.Span.{distance};
 ghost use Rattle.datastream.specs.Screen.{last_attribute, is_char, is_open_attribute, ring, protects};
 ghost use Rattle.datastream.specs.Meaning.{filled, opened, erased, unmodified, modified, open_unmodified, tab_stop, home, is_start};
 
-use crate::packed_cell::PackedCell;
 use codes3270::{Addr, Attr, Cell, Size};
+use datastream::PackedCell;
 
 /// A null in each cell.
 pub(crate) fn clear(cells: &mut [PackedCell])

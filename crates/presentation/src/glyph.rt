@@ -4,8 +4,8 @@ ghost use Rattle.codes3270.specs.Size.{cells_in};
 ghost use Rattle.presentation.specs.Glyph.{glyph_at, glyph_of, glyph_of_code, is_hidden, hidden_from, shown, all_glyphs};
 
 use crate::Screen;
-use crate::packed_cell::PackedCell;
 use codes3270::{Addr, Attr, Cell, Display, to_latin1};
+use datastream::PackedCell;
 use std::marker::Model;
 
 fn glyph_of_code(code: u8) -> char

@@ -6,9 +6,9 @@ ghost use Rattle.presentation.specs.Places.{attribute_places};
 ghost use Rattle.presentation.specs.Index.{AreAscending, IsNearest};
 ghost use Rattle.arrayvec.specs.ArrayVec.{array_vec_len};
 
-use crate::packed_cell::PackedCell;
 use arrayvec::ArrayVec;
 use codes3270::{Addr, MOST_CELLS};
+use datastream::PackedCell;
 
 /// Lists the addresses of the attributes, ascending.
 pub(crate) fn list_attributes(cells: &[PackedCell], listed: &mut ArrayVec<u16, MOST_CELLS>)

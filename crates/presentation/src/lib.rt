@@ -17,7 +17,6 @@ mod cells;
 mod fields;
 mod glyph;
 mod index;
-mod packed_cell;
 mod read;
 mod screen;
 mod write;

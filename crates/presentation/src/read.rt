@@ -1,11 +1,11 @@
 //! What reads answer.
-ghost use Rattle.std.specs.Prelude.{◌≡◌, ◌+◌, ◌%◌, ◌<◌, ◌∷◌, [], ◌++◌, length, take, drop, OnOk, OnErr, ◌&&◌, not};
+ghost use Rattle.std.specs.Prelude.{◌≡◌, ◌+◌, ◌%◌, ◌<◌, ◌∷◌, [], ◌++◌, length, take, drop, OnOk, OnErr, ◌&&◌, not, false};
 ghost use Rattle.codes3270.specs.Size.{cells_in};
 ghost use Rattle.std.specs.List.{flat_map};
 ghost use Rattle.codes3270.specs.Address.{address_bytes};
 ghost use Rattle.codes3270.specs.Aid.{is_short_aid};
 ghost use Rattle.codes3270.specs.Appending.{Appends, AppendsSome};
-ghost use Rattle.datastream.specs.Screen.{text_before_attribute, field_text, places_from};
+ghost use Rattle.datastream.specs.Screen.{is_char_at, text_before_attribute, places_from};
 ghost use Rattle.datastream.specs.Inbound.{without_nulls, modified_field, modified_text, read_modified, is_modified, cell_bytes, read_buffer};
 ghost use Rattle.datastream.specs.InboundText.{IsInbound};
 ghost use Rattle.datastream.specs.InboundFields.{modified_data, buffer_data};
@@ -13,10 +13,9 @@ ghost use Rattle.presentation.specs.Answering.{form_of};
 ghost use Rattle.presentation.specs.Sizes.{IsSized};
 
 use crate::buffer::Buffer;
-use crate::packed_cell::PackedCell;
 use crate::{Screen, cells};
-use codes3270::{Addr, Aid, Cell, Size, addr_to_bytes, aid_byte, attr_code};
-use datastream::{Memory, SET_BUFFER_ADDRESS, START_FIELD};
+use codes3270::{Addr, Aid, Cell, addr_to_bytes, aid_byte, attr_code};
+use datastream::{Memory, PackedCell, Ring, SET_BUFFER_ADDRESS, START_FIELD};
 
 fn put_byte(out: &mut Vec<u8>, byte: u8) -> Result<(), Memory>
     ensures { AppendsSome out.old out.new result (byte ∷ []) }
@@ -42,8 +41,8 @@ fn put_unless_null(out: &mut Vec<u8>, byte: u8) -> Result<(), Memory>
 }
 
 /// The characters before the first attribute, without nulls.
-fn put_text(out: &mut Vec<u8>, cells: &[PackedCell]) -> Result<(), Memory>
-    ensures { AppendsSome out.old out.new result (without_nulls (text_before_attribute cells.now)) }
+fn put_text(out: &mut Vec<u8>, cells: Ring<'_, Buffer>) -> Result<(), Memory>
+    ensures { AppendsSome out.old out.new result (without_nulls (text_before_attribute cells.entry)) }
 {
     for cell in cells {
         let Cell::Char(byte) = cell.get() else {
@@ -54,29 +53,15 @@ fn put_text(out: &mut Vec<u8>, cells: &[PackedCell]) -> Result<(), Memory>
     Ok(())
 }
 
-/// The text of the field whose attribute is at `at`, round the end, without nulls.
-fn put_field_text(out: &mut Vec<u8>, cells: &[PackedCell], at: Addr) -> Result<(), Memory>
-    requires { at < length cells.now }
-    ensures { AppendsSome out.old out.new result (without_nulls (field_text cells.now at)) }
+/// SBA, the field's first address and its text, round the end, without nulls.
+fn put_field(out: &mut Vec<u8>, buffer: &Buffer, at: Addr) -> Result<(), Memory>
+    requires address { at < cells_in buffer.now.size }
+    requires attribute { is_char_at buffer.now.screen.cells at ≡ false }
+    ensures { AppendsSome out.old out.new result (modified_field buffer.now.screen.cells at) }
 {
-    let (front, back) = cells.split_at(at.get() as usize + 1);
-    put_text(out, back)?;
-    if cells::has_only_characters(back) {
-        put_text(out, front)
-    } else {
-        Ok(())
-    }
-}
-
-/// SBA, the field's first address and its text.
-fn put_field(out: &mut Vec<u8>, cells: &[PackedCell], at: Addr, size: Size) -> Result<(), Memory>
-    requires size { length cells.now ≡ cells_in size }
-    requires address { at < cells_in size }
-    ensures { AppendsSome out.old out.new result (modified_field cells.now at) }
-{
-    let [high, low] = addr_to_bytes(at.next(size));
+    let [high, low] = addr_to_bytes(at.next(buffer.size));
     put_bytes(out, &[SET_BUFFER_ADDRESS, high, low])?;
-    put_field_text(out, cells, at)
+    put_text(out, buffer.ahead(at))
 }
 
 fn is_modified_attribute(cell: PackedCell) -> bool
@@ -89,44 +74,38 @@ fn is_modified_attribute(cell: PackedCell) -> bool
 }
 
 #[inline(always)]
-fn put_field_if_modified(
-    out: &mut Vec<u8>,
-    cells: &[PackedCell],
-    place: u16,
-    size: Size,
-) -> Result<(), Memory>
-    requires size { length cells.now ≡ cells_in size }
-    requires place { place < cells_in size }
-    ensures { let places = places_from is_modified place (take 1 (drop place cells.now)) in
-        AppendsSome out.old out.new result (flat_map (modified_field cells.now) places) }
+fn put_field_if_modified(out: &mut Vec<u8>, buffer: &Buffer, place: u16) -> Result<(), Memory>
+    requires { place < cells_in buffer.now.size }
+    ensures { let cells = buffer.now.screen.cells in
+        let places = places_from is_modified place (take 1 (drop place cells)) in
+        AppendsSome out.old out.new result (flat_map (modified_field cells) places) }
 {
+    let cells = buffer.cells();
     if is_modified_attribute(cells[usize::from(place)]) {
-        put_field(out, cells, Addr::first().forward(place, size), size)
+        put_field(out, buffer, Addr::first().forward(place, buffer.size))
     } else {
         Ok(())
     }
 }
 
 /// The modified fields, by the addresses of their attributes.
-fn put_modified_fields(out: &mut Vec<u8>, cells: &[PackedCell], size: Size) -> Result<(), Memory>
-    requires { length cells.now ≡ cells_in size }
-    ensures { let places = places_from is_modified 0 cells.now in
-        AppendsSome out.old out.new result (flat_map (modified_field cells.now) places) }
+fn put_modified_fields(out: &mut Vec<u8>, buffer: &Buffer) -> Result<(), Memory>
+    ensures { let places = places_from is_modified 0 buffer.now.screen.cells in
+        AppendsSome out.old out.new result (flat_map (modified_field buffer.now.screen.cells) places) }
 {
-    for place in 0..size.cells() {
-        put_field_if_modified(out, cells, place, size)?;
+    for place in 0..buffer.size.cells() {
+        put_field_if_modified(out, buffer, place)?;
     }
     Ok(())
 }
 
-fn put_modified_text(out: &mut Vec<u8>, cells: &[PackedCell], size: Size) -> Result<(), Memory>
-    requires { length cells.now ≡ cells_in size }
-    ensures { AppendsSome out.old out.new result (modified_text cells.now) }
+fn put_modified_text(out: &mut Vec<u8>, buffer: &Buffer) -> Result<(), Memory>
+    ensures { AppendsSome out.old out.new result (modified_text buffer.now.screen.cells) }
 {
-    if cells::has_only_characters(cells) {
-        put_text(out, cells)
+    if cells::has_only_characters(buffer.cells()) {
+        put_text(out, Ring::all(buffer))
     } else {
-        put_modified_fields(out, cells, size)
+        put_modified_fields(out, buffer)
     }
 }
 
@@ -177,7 +156,7 @@ impl Buffer {
             AppendsSome out.old out.new result bytes }
     {
         put_bytes(out, &addr_to_bytes(self.cursor))?;
-        put_modified_text(out, self.cells(), self.size)
+        put_modified_text(out, self)
     }
 
     fn put_modified(&self, out: &mut Vec<u8>, all: bool) -> Result<(), Memory>

@@ -11,11 +11,10 @@ ghost use Rattle.presentation.specs.Applied.{asked_by};
 ghost use Rattle.presentation.specs.Sizes.{HasSize, IsReadFor, applied, blank_of};
 
 use crate::buffer::{Buffer, with_real_key};
-use crate::packed_cell::PackedCell;
 use crate::{Applied, cells, index};
 use arrayvec::ArrayVec;
 use codes3270::{Addr, Aid, Cell, MOST_CELLS, Model, Size};
-use datastream::Command;
+use datastream::{Command, PackedCell};
 use std::marker;
 
 /// The screen of a terminal of a model (GA23-0059-07 on the character buffer and on screen sizes): its size, its cells, the

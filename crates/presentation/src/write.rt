@@ -14,9 +14,8 @@ ghost use Rattle.datastream.specs.InboundFields.{IsStorableCell};
 
 use crate::buffer::Buffer;
 use crate::cells;
-use crate::packed_cell::PackedCell;
 use codes3270::{Addr, Aid, Cell, Size, Wcc};
-use datastream::{Command, CommandCode, Order, Orders};
+use datastream::{Command, CommandCode, Order, Orders, PackedCell};
 
 /// What a command asks of the keyboard and the alarm (GA23-0059-07, "Write Control Character (WCC)").
 #[derive(Clone, Copy, Debug, PartialEq, Eq)]

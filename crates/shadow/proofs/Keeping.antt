@@ -1,9 +1,10 @@
 -- CellBeliefs that are kept by bits and bytes.
-use Rattle.std.proofs.Common.{◌≡◌, ℕ, ◌+◌, ◌<◌, ◌≤◌, Bool, true, false, List, ◌++◌, length, length-append, append_assoc, replicate, take, drop, set, get_or, refl, ap, sym, subst, arith, ◌∙◌, ne_eqb, eq-eqb, inl, inr, if◌then◌else◌}
+use Rattle.std.proofs.Common.{◌≡◌, ℕ, ◌<◌, Bool, true, false, List, length, replicate, set, get_or, refl, ap, sym, subst, arith, ◌∙◌, ne_eqb, eq-eqb, inl, inr, if◌then◌else◌}
 use Rattle.std.specs.Prelude.{nat_eq}
 use Rattle.std.proofs.lemmas.Bool.{cases_eq}
-use Rattle.std.proofs.lemmas.List.{get_or-set_other, get_or-set_same, get_or-replicate, get_or_default, set-get_or, length-set, length-replicate, length-take-le, length-drop, take_at, take-append-drop, take-append-le, drop-append-le, get_or-take}
+use Rattle.std.proofs.lemmas.List.{get_or-set_other, get_or-set_same, get_or-replicate, get_or_default, set-get_or, length-set, length-replicate}
 use Rattle.codes3270.specs.declared.attribute.Attr.{Attr as Attribute}
+use Rattle.codes3270.specs.declared.attribute.Cell.TheVariants.{Char as CharCell, Attr as AttrCell}
 use Rattle.codes3270.specs.Attribute.{attr_of}
 use Rattle.shadow.specs.declared.mdt_state.MdtState.{MdtState}
 use Rattle.shadow.specs.declared.cell_belief.TextKnowledge.{TextKnowledge}
@@ -12,7 +13,8 @@ use Rattle.shadow.specs.declared.cell_belief.CellBelief.TheVariants.{Attr, Known
 use Rattle.shadow.specs.declared.cell_beliefs.Head.{Head}
 use Rattle.shadow.specs.InPlace.{is_attribute}
 use Rattle.datastream.specs.CellBits.{has_bit, kept}
-use Rattle.datastream.proofs.Keeping.{length_kept, kept_at, kept_set, kept_all}
+use Rattle.datastream.specs.CellCodes.{cell_of}
+use Rattle.datastream.proofs.Keeping.{length_kept, kept_at, kept_set, kept_all, bits_by, attribute_got, character_got}
 use Rattle.shadow.specs.PackedBeliefs.{no_head, head_of, with_head, is_known, is_told, place_kept, place_by, MarksKnown}
 
 -- one place is kept anew
@@ -46,11 +48,6 @@ module _ (heads : List Head) (attributes known told attributes_ known_ told_ : L
   pub set_kept : (bytes : List ℕ) (byte : ℕ) → place_kept (head_of p) (is_attribute p) (is_known p) (is_told p) byte ≡ p
       → kept (place_by (set heads at (head_of p)) attributes_ known_ told_) 0 (set bytes at byte) ≡ set (kept (place_by heads attributes known told) 0 bytes) at p
   set_kept bytes byte is = kept_set (place_by heads attributes known told) (place_by (set heads at (head_of p)) attributes_ known_ told_) bytes at byte p apart_same (here_is byte is)
-
--- a bit that is put is the one that a function answers
-pub bits_by : (b answer : Bool) → answer ≡ b → (words words_ : List ℕ) (at : ℕ) → ((other : ℕ) → has_bit words_ other ≡ (if nat_eq other at then answer else has_bit words other))
-    → (other : ℕ) → has_bit words_ other ≡ (if nat_eq other at then b else has_bit words other)
-bits_by b answer e words words_ at bits other = bits other ∙ ap (λ v. if nat_eq other at then v else has_bit words other) e
 
 -- the bits of what is known
 
@@ -133,28 +130,37 @@ module _ (heads : List Head) (attributes known told bytes : List ℕ) (at : ℕ)
       is ∙ sym (kept_at (place_by heads attributes known told) bytes at (get_or bytes at 0) p within (get_or_default bytes at 0 (get_or bytes at 0) within))
       ∙ ap (λ (ps : List CellBelief). get_or ps at p) view
 
-  pub attribute_read : at < length heads → (d : Head) (attribute : Attribute) → attribute ≡ attr_of (get_or bytes at 0) → has_bit attributes at ≡ true
+  pub attribute_read : at < length heads → (d : Head) (attribute : Attribute) → cell_of (has_bit attributes at) (get_or bytes at 0) ≡ AttrCell attribute
       → Attr attribute (get_or heads at d).mark (get_or heads at d).knowledge ≡ get_or now at (Attr attribute (get_or heads at d).mark (get_or heads at d).knowledge)
-  attribute_read inside d attribute is a =
+  attribute_read inside d attribute is =
+      let got = attribute_got (has_bit attributes at) (get_or bytes at 0) attribute is in
       place_read (Attr attribute (get_or heads at d).mark (get_or heads at d).knowledge)
-      (ap (λ (x : Attribute). Attr x (get_or heads at d).mark (get_or heads at d).knowledge) is
+      (ap (λ (x : Attribute). Attr x (get_or heads at d).mark (get_or heads at d).knowledge) got.1
       ∙ ap (λ (h : Head). Attr (attr_of (get_or bytes at 0)) h.mark h.knowledge) (get_or_default heads at d no_head inside)
-      ∙ sym (ap (λ b. place_kept (get_or heads at no_head) b (has_bit known at) (has_bit told at) (get_or bytes at 0)) a))
+      ∙ sym (ap (λ b. place_kept (get_or heads at no_head) b (has_bit known at) (has_bit told at) (get_or bytes at 0)) got.0))
 
-  pub known_read : has_bit attributes at ≡ false → has_bit known at ≡ true → Known (get_or bytes at 0) ≡ get_or now at (Known (get_or bytes at 0))
-  known_read a k = place_read (Known (get_or bytes at 0))
-      (sym (ap (λ b. place_kept (get_or heads at no_head) b (has_bit known at) (has_bit told at) (get_or bytes at 0)) a
+  pub known_read : (char : ℕ) → cell_of (has_bit attributes at) (get_or bytes at 0) ≡ CharCell char → has_bit known at ≡ true → Known char ≡ get_or now at (Known char)
+  known_read char is k =
+      let got = character_got (has_bit attributes at) (get_or bytes at 0) char is in
+      place_read (Known char)
+      (ap Known (sym got.1)
+      ∙ sym (ap (λ b. place_kept (get_or heads at no_head) b (has_bit known at) (has_bit told at) (get_or bytes at 0)) got.0
       ∙ ap (λ b. place_kept (get_or heads at no_head) false b (has_bit told at) (get_or bytes at 0)) k))
 
-  pub told_read : has_bit attributes at ≡ false → has_bit known at ≡ false → has_bit told at ≡ true → Told (get_or bytes at 0) ≡ get_or now at (Told (get_or bytes at 0))
-  told_read a k t = place_read (Told (get_or bytes at 0))
-      (sym (ap (λ b. place_kept (get_or heads at no_head) b (has_bit known at) (has_bit told at) (get_or bytes at 0)) a
+  pub told_read : (char : ℕ) → cell_of (has_bit attributes at) (get_or bytes at 0) ≡ CharCell char → has_bit known at ≡ false → has_bit told at ≡ true → Told char ≡ get_or now at (Told char)
+  told_read char is k t =
+      let got = character_got (has_bit attributes at) (get_or bytes at 0) char is in
+      place_read (Told char)
+      (ap Told (sym got.1)
+      ∙ sym (ap (λ b. place_kept (get_or heads at no_head) b (has_bit known at) (has_bit told at) (get_or bytes at 0)) got.0
       ∙ ap (λ b. place_kept (get_or heads at no_head) false b (has_bit told at) (get_or bytes at 0)) k
       ∙ ap (λ b. place_kept (get_or heads at no_head) false false b (get_or bytes at 0)) t))
 
-  pub unknown_read : has_bit attributes at ≡ false → has_bit known at ≡ false → has_bit told at ≡ false → Unknown ≡ get_or now at Unknown
-  unknown_read a k t = place_read Unknown
-      (sym (ap (λ b. place_kept (get_or heads at no_head) b (has_bit known at) (has_bit told at) (get_or bytes at 0)) a
+  pub unknown_read : (char : ℕ) → cell_of (has_bit attributes at) (get_or bytes at 0) ≡ CharCell char → has_bit known at ≡ false → has_bit told at ≡ false → Unknown ≡ get_or now at Unknown
+  unknown_read char is k t =
+      let got = character_got (has_bit attributes at) (get_or bytes at 0) char is in
+      place_read Unknown
+      (sym (ap (λ b. place_kept (get_or heads at no_head) b (has_bit known at) (has_bit told at) (get_or bytes at 0)) got.0
       ∙ ap (λ b. place_kept (get_or heads at no_head) false b (has_bit told at) (get_or bytes at 0)) k
       ∙ ap (λ b. place_kept (get_or heads at no_head) false false b (get_or bytes at 0)) t))
 
@@ -165,58 +171,8 @@ module _ (heads : List Head) (attributes known told bytes : List ℕ) (at : ℕ)
       ∙ ap (λ b. place_kept (get_or heads at no_head) b (has_bit known at) (has_bit told at) (get_or bytes at 0)) a
       ∙ ap (λ b. place_kept (get_or heads at no_head) false b (has_bit told at) (get_or bytes at 0)) k
 
--- ---- the places that a screen of n cells has
-
-pub size_kept : (f : ℕ → ℕ → CellBelief) (n : ℕ) (bytes : List ℕ) (now : List CellBelief) → kept f 0 (take n bytes) ≡ now → n ≤ length bytes → length now ≡ n
-size_kept f n bytes now view few = sym (ap length view) ∙ length_kept f 0 (take n bytes) ∙ length-take-le n bytes few
-
--- what is put between two of them
-pub taken_between : (n from to : ℕ) (mid bytes : List ℕ) → from + length mid ≡ to → to ≤ n → n ≤ length bytes
-    → take n (take from bytes ++ (mid ++ drop to bytes)) ≡ take from (take n bytes) ++ (mid ++ drop to (take n bytes))
-taken_between n from to mid bytes there inside few =
-    let front : List ℕ = take n bytes in
-    let back : List ℕ = drop n bytes in
-    let both : front ++ back ≡ bytes = take-append-drop n bytes in
-    let long : length front ≡ n = length-take-le n bytes few in
-    let first : take from bytes ≡ take from front = ap (take from) (sym both) ∙ take-append-le from front back (omega (arith, long, there, inside)) in
-    let last : drop to bytes ≡ drop to front ++ back = ap (drop to) (sym both) ∙ drop-append-le to front back (omega (arith, long, inside)) in
-    let whole : List ℕ = take from front ++ (mid ++ drop to front) in
-    let size : length whole ≡ n =
-    omega (arith, long, there, inside, length-append (take from front) (mid ++ drop to front), length-append mid (drop to front), length-take-le from front (omega (arith, long, there, inside)), length-drop to front) in
-    ap (λ (bs : List ℕ). take n (bs ++ (mid ++ drop to bytes))) first
-    ∙ ap (λ (bs : List ℕ). take n (take from front ++ (mid ++ bs))) last
-    ∙ ap (λ (bs : List ℕ). take n (take from front ++ bs)) (sym (append_assoc mid (drop to front) back))
-    ∙ ap (take n) (sym (append_assoc (take from front) (mid ++ drop to front) back))
-    ∙ take_at whole back n size
-
-pub spliced_size : (from to : ℕ) (mid bytes : List ℕ) → from + length mid ≡ to → to ≤ length bytes → length (take from bytes ++ (mid ++ drop to bytes)) ≡ length bytes
-spliced_size from to mid bytes there inside =
-    omega (arith, there, inside, length-append (take from bytes) (mid ++ drop to bytes), length-append mid (drop to bytes), length-take-le from bytes (omega (arith, there, inside)), length-drop to bytes)
-
--- what is read of them
-module _ (heads : List Head) (attributes known told bytes : List ℕ) (n at : ℕ) (few : n ≤ length bytes) (within : at < n) (now : List CellBelief)
-    (view : kept (place_by heads attributes known told) 0 (take n bytes) ≡ now) where
-  low : at < length (take n bytes)
-  low = let long = length-take-le n bytes few in omega (arith, long, within)
-
-  same_byte : get_or (take n bytes) at 0 ≡ get_or bytes at 0
-  same_byte = get_or-take n bytes at 0 within
-
-  pub attribute_there : at < length heads → (d : Head) (attribute : Attribute) → attribute ≡ attr_of (get_or bytes at 0) → has_bit attributes at ≡ true
-      → Attr attribute (get_or heads at d).mark (get_or heads at d).knowledge ≡ get_or now at (Attr attribute (get_or heads at d).mark (get_or heads at d).knowledge)
-  attribute_there inside d attribute is a = attribute_read heads attributes known told (take n bytes) at low now view inside d attribute (is ∙ ap attr_of (sym same_byte)) a
-
-  pub known_there : has_bit attributes at ≡ false → has_bit known at ≡ true → Known (get_or bytes at 0) ≡ get_or now at (Known (get_or bytes at 0))
-  known_there a k = subst (λ (b : ℕ). Known b ≡ get_or now at (Known b)) same_byte (known_read heads attributes known told (take n bytes) at low now view a k)
-
-  pub told_there : has_bit attributes at ≡ false → has_bit known at ≡ false → has_bit told at ≡ true → Told (get_or bytes at 0) ≡ get_or now at (Told (get_or bytes at 0))
-  told_there a k t = subst (λ (b : ℕ). Told b ≡ get_or now at (Told b)) same_byte (told_read heads attributes known told (take n bytes) at low now view a k t)
-
-  pub unknown_there : has_bit attributes at ≡ false → has_bit known at ≡ false → has_bit told at ≡ false → Unknown ≡ get_or now at Unknown
-  unknown_there a k t = unknown_read heads attributes known told (take n bytes) at low now view a k t
-
-  pub character_there : has_bit attributes at ≡ false → has_bit known at ≡ true → get_or now at Unknown ≡ Known (get_or bytes at 0)
-  character_there a k = character_seen heads attributes known told (take n bytes) at low now view a k ∙ ap Known same_byte
+pub size_kept : (f : ℕ → ℕ → CellBelief) (bytes : List ℕ) (now : List CellBelief) → kept f 0 bytes ≡ now → length now ≡ length bytes
+size_kept f bytes now view = sym (ap length view) ∙ length_kept f 0 bytes
 
 -- ---- the head of an attribute is held anew
 

@@ -1,18 +1,19 @@
 //! The places of a screen of any size, kept by bits and bytes.
-ghost use Rattle.std.specs.Prelude.{◌≡◌, ◌<◌, ◌≤◌, ◌+◌, ◌++◌, ◌*◌, ◌-◌, length, replicate, slice_index_or, slice_set, take, drop};
+ghost use Rattle.std.specs.Prelude.{◌≡◌, ◌<◌, ◌≤◌, ◌+◌, ◌++◌, ◌*◌, ◌-◌, not, length, replicate, slice_index_or, slice_set, take, drop};
 ghost use Rattle.codes3270.specs.Size.{cells_in, most_cells};
+ghost use Rattle.datastream.specs.CellCodes.{code_in};
+ghost use Rattle.datastream.specs.Screen.{is_char};
 ghost use Rattle.shadow.specs.Filled.{Fill, front_filled};
 ghost use Rattle.shadow.specs.InPlace.{is_attribute as is_attribute_held, chars_known};
 ghost use Rattle.shadow.specs.Looks.{SetUnless};
 ghost use Rattle.shadow.specs.declared.cell_belief.CellBelief.TheVariants.{Known, Unknown};
 ghost use Rattle.shadow.specs.PackedBeliefs.{head_of as head_held, with_head, is_known as is_known_held, is_told as is_told_held, place_kept};
 
-use crate::asking::is_attribute;
 use crate::cell_belief::{CellBelief, TextKnowledge};
 use crate::mdt_state::MdtState;
 use crate::searching::differing;
-use codes3270::{Attr, MOST_CELLS, Size, attr_code};
-use datastream::CellBits;
+use codes3270::{Cell, MOST_CELLS, Size};
+use datastream::{CellBits, HasCells, PackedCell, PackedCells, Ring};
 use std::marker::Model;
 
 /// What is held with an attribute.
@@ -26,18 +27,16 @@ struct Head {
 /// this size has, by address.
 #[derive(Drop)]
 pub(crate) struct CellBeliefs {
-    /// Characters, and the codes of attributes.
-    bytes: [u8; MOST_CELLS],
+    /// The attributes, and the characters that are known or told.
+    cells: PackedCells,
     heads: [Head; MOST_CELLS],
-    attributes: CellBits,
     /// The attributes, and the characters that are known.
     known: CellBits,
     told: CellBits,
-    size: Size,
 }
 
 impl Model for CellBeliefs {
-    ghost use Rattle.std.specs.Prelude.{◌≡◌, ◌≤◌, List, length, take};
+    ghost use Rattle.std.specs.Prelude.{◌≡◌, ◌≤◌, List, length};
     ghost use Rattle.codes3270.specs.Size.{cells_in, most_cells};
     ghost use Rattle.shadow.specs.declared.cell_belief.CellBelief.{CellBelief};
     ghost use Rattle.datastream.specs.CellBits.{kept};
@@ -45,22 +44,23 @@ impl Model for CellBeliefs {
 
     ghost Value = { List CellBelief };
 
-    ghost view = { λ places. kept (place_by places.heads places.attributes places.known places.told) 0 (take (cells_in places.size) places.bytes) };
+    ghost view = { λ places. kept (place_by places.heads places.cells.attributes places.known places.told) 0 places.cells.codes };
 
     ghost invariant = { λ places.
-        (length places.bytes ≡ most_cells) × (length places.heads ≡ most_cells) × (cells_in places.size ≤ most_cells)
-        × MarksKnown places.known (kept (place_by places.heads places.attributes places.known places.told) 0 (take (cells_in places.size) places.bytes)) };
+        (length places.heads ≡ most_cells) × (length places.cells.codes ≡ cells_in places.cells.size) × (cells_in places.cells.size ≤ most_cells)
+        × MarksKnown places.known (kept (place_by places.heads places.cells.attributes places.known places.told) 0 places.cells.codes) };
 }
 
-/// What is kept of a place in its byte.
-fn byte_of(place: CellBelief) -> u8
-    ensures { place_kept (head_held place) (is_attribute_held place) (is_known_held place) (is_told_held place) result ≡ place }
+/// What is kept of a place, but for what is held with an attribute, and whether a character is known or told.
+fn packed(place: CellBelief) -> PackedCell
+    ensures attribute { not (is_char result) ≡ is_attribute_held place }
+    ensures kept { place_kept (head_held place) (is_attribute_held place) (is_known_held place) (is_told_held place) (code_in result) ≡ place }
 {
     match place {
-        CellBelief::Attr(attr, _, _) => attr_code(attr),
-        CellBelief::Known(char) => char,
-        CellBelief::Told(char) => char,
-        CellBelief::Unknown => 0,
+        CellBelief::Attr(attr, _, _) => PackedCell::new(Cell::Attr(attr)),
+        CellBelief::Known(char) => PackedCell::character(char),
+        CellBelief::Told(char) => PackedCell::character(char),
+        CellBelief::Unknown => PackedCell::character(0),
     }
 }
 
@@ -103,37 +103,10 @@ fn is_told(place: CellBelief) -> bool
     }
 }
 
-fn null_bytes() -> [u8; MOST_CELLS]
-    ensures { result ≡ replicate most_cells 0 }
-{
-    [0; MOST_CELLS]
-}
-
 fn no_heads() -> [Head; MOST_CELLS]
     ensures { length result ≡ most_cells }
 {
     [NO_HEAD; MOST_CELLS]
-}
-
-/// Puts bytes from an index on. One byte is stored, which is then cheaper than a copy.
-fn put_bytes(bytes: &mut [u8], from: usize, text: &[u8])
-    requires { from + length text.now ≤ length bytes.old }
-    ensures { bytes.new ≡ take from bytes.old ++ (text.now ++ drop (from + length text.now) bytes.old) }
-{
-    if let [byte] = text {
-        bytes[from] = *byte;
-    } else {
-        bytes[from..from + text.len()].copy_from_slice(text);
-    }
-}
-
-/// Puts nulls from an index to another.
-fn put_nulls(bytes: &mut [u8], from: usize, to: usize)
-    requires order { from ≤ to }
-    requires few { to ≤ length bytes.old }
-    ensures { bytes.new ≡ take from bytes.old ++ (replicate (to - from) 0 ++ drop to bytes.old) }
-{
-    bytes[from..to].fill(0);
 }
 
 impl CellBeliefs {
@@ -141,15 +114,11 @@ impl CellBeliefs {
     pub(crate) fn unknown(size: Size) -> CellBeliefs
         ensures { result ≡ replicate (cells_in size) Unknown }
     {
-        // For the contract: there is room for the screen.
-        let _cells = size.cells();
         CellBeliefs {
-            bytes: null_bytes(),
+            cells: PackedCells::filled(PackedCell::character(0), size),
             heads: no_heads(),
-            attributes: CellBits::all(false),
             known: CellBits::all(false),
             told: CellBits::all(false),
-            size,
         }
     }
 
@@ -158,7 +127,7 @@ impl CellBeliefs {
         ensures cells { cells_in result ≡ length self.now }
         ensures few { length self.now ≤ most_cells }
     {
-        self.size
+        self.cells.size()
     }
 
     /// How many places there are.
@@ -167,7 +136,7 @@ impl CellBeliefs {
         ensures few { result ≤ most_cells }
         ensures some { 0 < result }
     {
-        usize::from(self.size.cells())
+        self.cells.len()
     }
 
     /// What is held at an address.
@@ -177,16 +146,20 @@ impl CellBeliefs {
     {
         // For the contract: there is room for the screen.
         let _cells = self.len();
-        let byte = self.bytes[at];
-        if self.attributes.has(at) {
-            let head = self.heads[at];
-            CellBelief::Attr(Attr::from_code(byte), head.mark, head.knowledge)
-        } else if self.known.has(at) {
-            CellBelief::Known(byte)
-        } else if self.told.has(at) {
-            CellBelief::Told(byte)
-        } else {
-            CellBelief::Unknown
+        match self.cells.get(at) {
+            Cell::Attr(attr) => {
+                let head = self.heads[at];
+                CellBelief::Attr(attr, head.mark, head.knowledge)
+            }
+            Cell::Char(char) => {
+                if self.known.has(at) {
+                    CellBelief::Known(char)
+                } else if self.told.has(at) {
+                    CellBelief::Told(char)
+                } else {
+                    CellBelief::Unknown
+                }
+            }
         }
     }
 
@@ -198,9 +171,8 @@ impl CellBeliefs {
     {
         // For the contract: there is room for the screen.
         let _cells = self.len();
-        self.bytes[at] = byte_of(place);
+        self.cells.set(at, packed(place));
         self.heads[at] = head_of(place);
-        self.attributes.put(at, is_attribute(place));
         self.known.put(at, is_known(place));
         self.told.put(at, is_told(place));
     }
@@ -220,12 +192,9 @@ impl CellBeliefs {
         ensures nulls { self.new ≡ replicate (cells_in size) (Known 0) }
         ensures size { length self.new ≡ cells_in size }
     {
-        let cells = usize::from(size.cells());
-        put_nulls(self.bytes.as_mut_slice(), 0, cells);
-        self.attributes = CellBits::all(false);
+        self.cells.clear(size);
         self.known = CellBits::all(true);
         self.told = CellBits::all(false);
-        self.size = size;
     }
 
     /// The first attribute from an address on, or the number of places.
@@ -235,7 +204,9 @@ impl CellBeliefs {
         ensures stands { length (chars_known (drop result self.now)) ≡ 0 }
         ensures within { result ≤ length self.now }
     {
-        self.attributes.first_from(from, self.len())
+        // For the contract: there is room for the screen.
+        let _cells = self.len();
+        self.cells.attribute_from(from)
     }
 
     /// The attribute at an address.
@@ -247,7 +218,7 @@ impl CellBeliefs {
         // For the contract: there is room for the screen.
         let _cells = self.len();
         let head = self.heads[at];
-        CellBelief::Attr(Attr::from_code(self.bytes[at]), head.mark, head.knowledge)
+        CellBelief::Attr(self.cells.attribute_at(at), head.mark, head.knowledge)
     }
 
     /// The number of characters after an address, round the end, before the first attribute. `next` is that attribute's
@@ -286,7 +257,7 @@ impl CellBeliefs {
     {
         // For the contract: there is room for the screen.
         let _cells = self.len();
-        put_nulls(self.bytes.as_mut_slice(), from, to);
+        self.cells.put_nulls(from, to);
         self.known.put_range(from, to, true);
     }
 
@@ -300,7 +271,7 @@ impl CellBeliefs {
         // For the contract: there is room for the screen.
         let _cells = self.len();
         let count = text.len().min(to - from);
-        put_bytes(self.bytes.as_mut_slice(), from, &text[..count]);
+        self.cells.put_characters(from, &text[..count]);
         self.known.put_range(from, to, false);
         self.told.put_range(from, to, true);
         self.told.put_range(from + count, to, false);
@@ -312,9 +283,10 @@ impl CellBeliefs {
         requires whole { length bytes.now ≡ length self.now }
         ensures { SetUnless (length self.now) (λ cell. slice_index_or self.now cell Unknown ≡ Known (slice_index_or bytes.now cell 0)) word result }
     {
-        let cells = self.len();
-        let unknown = self.attributes.word(word) | !self.known.word(word);
-        unknown | differing(bytes, &self.bytes[..cells], word)
+        // For the contract: there is room for the screen.
+        let _cells = self.len();
+        let unknown = self.cells.attribute_word(word) | !self.known.word(word);
+        unknown | differing(bytes, self.cells.codes(), word)
     }
 
     /// The places after an address, and then all places.
@@ -323,54 +295,25 @@ impl CellBeliefs {
         ensures places { result ≡ drop (place + 1) self.now ++ self.now }
         ensures few { length result ≤ 2 * most_cells }
     {
-        Ahead {
-            places: self,
-            cells: self.len(),
-            next: place + 1,
-        }
+        // For the contract: there is room for the screen.
+        let _cells = self.len();
+        Ring::ahead(self, place)
     }
 }
 
 /// The places that are left of a walk round the end. Contracts see their list.
-#[derive(Drop)]
-pub(crate) struct Ahead<'a> {
-    places: &'a CellBeliefs,
-    /// How many places there are.
-    cells: usize,
-    next: usize,
-}
+pub(crate) type Ahead<'a> = Ring<'a, CellBeliefs>;
 
-impl<'a> Model for Ahead<'a> {
-    ghost use Rattle.std.specs.Prelude.{◌≡◌, ◌≤◌, ◌++◌, List, length, drop};
-    ghost use Rattle.codes3270.specs.Size.{most_cells};
-    ghost use Rattle.shadow.specs.declared.cell_belief.CellBelief.{CellBelief};
+impl HasCells for CellBeliefs {
+    type Cell = CellBelief;
 
-    ghost Value = { List CellBelief };
+    ghost cells = { λ places. places };
 
-    ghost view = { λ ahead. drop ahead.next (ahead.places.now ++ ahead.places.now) };
+    fn cell_at(&self, at: usize) -> CellBelief {
+        self.get(at)
+    }
 
-    ghost invariant = { λ ahead. (length ahead.places.now ≡ ahead.cells) × (ahead.cells ≤ most_cells) };
-}
-
-impl<'a> Iterator for Ahead<'a> {
-    ghost use Rattle.std.specs.Iterator.{YieldsFirst, item_count};
-
-    type Item = CellBelief;
-
-    ghost next_gives = { YieldsFirst (λ ahead. ahead) };
-
-    ghost remaining = { item_count (λ ahead. ahead) };
-
-    fn next(&mut self) -> Option<CellBelief> {
-        let at = self.next;
-        if at < self.cells {
-            self.next = at + 1;
-            Some(self.places.get(at))
-        } else if at < 2 * self.cells {
-            self.next = at + 1;
-            Some(self.places.get(at - self.cells))
-        } else {
-            None
-        }
+    fn cell_count(&self) -> usize {
+        self.len()
     }
 }

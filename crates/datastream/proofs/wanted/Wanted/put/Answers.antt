@@ -1,11 +1,13 @@
-use Rattle.std.proofs.Common.{◌≡◌, ◌∙◌, ℕ, Bool, List, All, length, set, take, ap, subst, sym, arith}
+use Rattle.std.proofs.Common.{◌≡◌, ◌∙◌, ℕ, Bool, List, All, length, set, not, ap, subst, sym, arith}
 use Rattle.std.proofs.lemmas.List.{length-set}
 use Rattle.std.proofs.lemmas.List.Elements.{All-set}
 use Rattle.codes3270.specs.Size.{Shape, cells_in}
 use Rattle.datastream.specs.CellBits.{kept}
-use Rattle.datastream.specs.Wanted.{IsProper, WantedScreen, AreKept, want_by}
+use Rattle.datastream.specs.CellCodes.{code_in}
+use Rattle.datastream.specs.Screen.{is_char}
+use Rattle.datastream.specs.Wanted.{IsProper, IsScreen, WantedScreen, AreKept, want_by}
 use Rattle.datastream.specs.declared.wanted.Want.{Want}
-use Rattle.datastream.proofs.Keeping.{take-set, length_kept, put_kept, put_are_kept}
+use Rattle.datastream.proofs.Keeping.{length_kept, put_kept, put_are_kept}
 use Rattle.datastream.proofs.wanted.Wanted.put.Goals as goal
 
 abbrev made : Shape → List Want → ℕ → Bool → WantedScreen
@@ -14,42 +16,40 @@ made size cells cursor reset = record { size = size; cells = cells; cursor = cur
 pub invariant_of-self : goal.invariant_of-self
 invariant_of-self c =
     let i = c.self.inside in
-    let n : ℕ = cells_in i.size in
-    let seen : List ℕ = take n i.bytes in
-    let same_cells : n ≡ cells_in c.args.self.now.size = ap (λ (screen : WantedScreen). cells_in screen.size) c.self.view_is in
+    let same_cells : cells_in i.cells.size ≡ cells_in c.args.self.now.size = ap (λ (screen : WantedScreen). cells_in screen.size) c.self.view_is in
     let before = c.self.invariant.0 in
-    let cut = take-set i.bytes n c.args.cell c.byte_of.result in
-    let same_size = length_kept (want_by i.attributes i.characters) 0 seen in
+    let same_size = length_kept (want_by i.cells.attributes i.characters) 0 i.cells.codes in
+    let now : List Want = kept (want_by c.set.new.self.attributes c.put.new.self) 0 c.set.new.self.codes in
     let same =
-    ap (λ (bytes : List ℕ). kept (want_by c.put.new.self c.put-2.new.self) 0 bytes) cut
-    ∙ put_kept i.attributes i.characters seen c.args.cell c.args.want (omega (arith, before.size, same_size, same_cells, c.requires.in_range)) c.self.invariant.1
-    c.byte_of.result c.byte_of.ensures.byte c.byte_of.ensures.kept c.put.new.self c.put-2.new.self
-    c.is_attribute.result c.is_character.result c.is_attribute.ensures c.is_character.ensures c.put.ensures c.put-2.ensures in (
-      record {
-        size = ap length same ∙ length-set (kept (want_by i.attributes i.characters) 0 seen) c.args.cell c.args.want ∙ before.size;
+    ap (λ (codes : List ℕ). kept (want_by c.set.new.self.attributes c.put.new.self) 0 codes) c.set.ensures.codes
+    ∙ put_kept i.cells.attributes i.characters i.cells.codes c.args.cell c.args.want (omega (arith, before.size, same_size, same_cells, c.requires.in_range)) c.self.invariant.1
+    (code_in c.packed.result) c.packed.ensures.byte c.packed.ensures.kept c.set.new.self.attributes c.put.new.self
+    (not (is_char c.packed.result)) c.is_character.result c.packed.ensures.attribute c.is_character.ensures c.set.ensures.attributes c.put.ensures in (
+      subst (λ (size : Shape). IsScreen (made size now i.cursor i.reset)) (sym c.set.ensures.size) (record {
+        size = ap length same ∙ length-set (kept (want_by i.cells.attributes i.characters) 0 i.cells.codes) c.args.cell c.args.want ∙ before.size;
         few = before.few;
         proper = subst (λ (cells : List Want). All IsProper cells) (sym same)
-            (All-set IsProper (kept (want_by i.attributes i.characters) 0 seen) c.args.cell c.args.want c.requires.proper before.proper);
+            (All-set IsProper (kept (want_by i.cells.attributes i.characters) 0 i.cells.codes) c.args.cell c.args.want c.requires.proper before.proper);
         cursor_in_range = before.cursor_in_range;
-      },
-      subst (λ (bytes : List ℕ). AreKept c.put.new.self c.put-2.new.self bytes) (sym cut)
-          (put_are_kept i.attributes i.characters seen c.args.cell c.args.want (omega (arith, before.size, same_size, same_cells, c.requires.in_range)) c.self.invariant.1
-          c.byte_of.result c.byte_of.ensures.byte c.byte_of.ensures.kept c.put.new.self c.put-2.new.self
-          c.is_attribute.result c.is_character.result c.is_attribute.ensures c.is_character.ensures c.put.ensures c.put-2.ensures),
+      }),
+      subst (λ (codes : List ℕ). AreKept c.set.new.self.attributes c.put.new.self codes) (sym c.set.ensures.codes)
+          (put_are_kept i.cells.attributes i.characters i.cells.codes c.args.cell c.args.want (omega (arith, before.size, same_size, same_cells, c.requires.in_range)) c.self.invariant.1
+          (code_in c.packed.result) c.packed.ensures.byte c.packed.ensures.kept c.set.new.self.attributes c.put.new.self
+          (not (is_char c.packed.result)) c.is_character.result c.packed.ensures.attribute c.is_character.ensures c.set.ensures.attributes c.put.ensures),
     )
 
 pub returns-clause-put : goal.returns-clause-put
 returns-clause-put c =
     let i = c.self.inside in
-    let n : ℕ = cells_in i.size in
-    let seen : List ℕ = take n i.bytes in
-    let same_cells : n ≡ cells_in c.args.self.now.size = ap (λ (screen : WantedScreen). cells_in screen.size) c.self.view_is in
-    let same_size = length_kept (want_by i.attributes i.characters) 0 seen in
-    ap (λ (cells : List Want). made i.size cells i.cursor i.reset)
-    (ap (λ (bytes : List ℕ). kept (want_by c.put.new.self c.put-2.new.self) 0 bytes) (take-set i.bytes n c.args.cell c.byte_of.result)
-    ∙ put_kept i.attributes i.characters seen c.args.cell c.args.want (omega (arith, c.self.invariant.0.size, same_size, same_cells, c.requires.in_range)) c.self.invariant.1
-    c.byte_of.result c.byte_of.ensures.byte c.byte_of.ensures.kept c.put.new.self c.put-2.new.self
-    c.is_attribute.result c.is_character.result c.is_attribute.ensures c.is_character.ensures c.put.ensures c.put-2.ensures)
+    let same_cells : cells_in i.cells.size ≡ cells_in c.args.self.now.size = ap (λ (screen : WantedScreen). cells_in screen.size) c.self.view_is in
+    let same_size = length_kept (want_by i.cells.attributes i.characters) 0 i.cells.codes in
+    let now : List Want = kept (want_by c.set.new.self.attributes c.put.new.self) 0 c.set.new.self.codes in
+    ap (λ (size : Shape). made size now i.cursor i.reset) c.set.ensures.size
+    ∙ ap (λ (cells : List Want). made i.cells.size cells i.cursor i.reset)
+    (ap (λ (codes : List ℕ). kept (want_by c.set.new.self.attributes c.put.new.self) 0 codes) c.set.ensures.codes
+    ∙ put_kept i.cells.attributes i.characters i.cells.codes c.args.cell c.args.want (omega (arith, c.self.invariant.0.size, same_size, same_cells, c.requires.in_range)) c.self.invariant.1
+    (code_in c.packed.result) c.packed.ensures.byte c.packed.ensures.kept c.set.new.self.attributes c.put.new.self
+    (not (is_char c.packed.result)) c.is_character.result c.packed.ensures.attribute c.is_character.ensures c.set.ensures.attributes c.put.ensures)
     ∙ ap (λ (screen : WantedScreen). made screen.size (set screen.cells c.args.cell c.args.want) screen.cursor screen.reset) c.self.view_is
 
 pub returns-clause-size : goal.returns-clause-size

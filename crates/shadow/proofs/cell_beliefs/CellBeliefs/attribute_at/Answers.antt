@@ -1,23 +1,34 @@
-use Rattle.std.proofs.Common.{◌≡◌, ◌<◌, ◌≤◌, ◌∙◌, ℕ, arith, sym, length, take}
-use Rattle.std.proofs.lemmas.List.{length-take-le}
-use Rattle.codes3270.specs.Size.{cells_in}
+use Rattle.std.proofs.Common.{◌≡◌, ◌<◌, ◌∙◌, Bool, true, arith, ap, sym, length}
+use Rattle.std.specs.Prelude.{slice_index_or}
+use Rattle.codes3270.specs.declared.attribute.Cell.TheVariants.{Attr as AttrCell}
+use Rattle.datastream.specs.CellBits.{has_bit}
+use Rattle.datastream.specs.CellCodes.{cell_of}
 use Rattle.shadow.specs.PackedBeliefs.{place_by}
 use Rattle.shadow.specs.declared.mdt_state.MdtState.TheVariants.{On}
 use Rattle.shadow.specs.declared.cell_belief.TextKnowledge.TheVariants.{Cells}
-use Rattle.shadow.proofs.Keeping.{size_kept, attribute_there}
+use Rattle.shadow.proofs.Keeping.{size_kept, attribute_read}
 use Rattle.shadow.proofs.Stretches.{attribute_bit, stands_attribute}
 use Rattle.shadow.proofs.cell_beliefs.CellBeliefs.attribute_at.Goals as goal
+
+pub attribute_at-requires-clause-attribute : goal.attribute_at-requires-clause-attribute
+attribute_at-requires-clause-attribute c =
+    let i = c.self.inside in
+    let size : length c.args.self.now ≡ length i.cells.codes = size_kept (place_by i.heads i.cells.attributes i.known i.told) i.cells.codes c.args.self.now c.self.view_is in
+    let low : c.args.at < length i.cells.codes = omega (arith, c.requires.placed, size) in
+    sym (attribute_bit i.heads i.cells.attributes i.known i.told i.cells.codes c.args.self.now c.self.view_is c.args.at low) ∙ stands_attribute c.args.self.now c.args.at c.requires.placed c.requires.stands
 
 pub returns : goal.returns
 returns c =
     let i = c.self.inside in
-    let n : ℕ = cells_in i.size in
-    let few : n ≤ length i.bytes = omega (arith, c.self.invariant.0, c.self.invariant.2) in
-    let size : length c.args.self.now ≡ n = size_kept (place_by i.heads i.attributes i.known i.told) n i.bytes c.args.self.now c.self.view_is few in
-    let long : length (take n i.bytes) ≡ n = length-take-le n i.bytes few in
-    let now = c.args.self.now in
-    let low : c.args.at < n = omega (arith, c.requires.placed, size) in
-    attribute_there i.heads i.attributes i.known i.told i.bytes n c.args.at few low now c.self.view_is
-    (omega (arith, c.self.invariant.1, c.self.invariant.2, low)) (record { mark = On; knowledge = Cells }) c.from_code.result c.from_code.ensures
-    (sym (attribute_bit i.heads i.attributes i.known i.told (take n i.bytes) now c.self.view_is c.args.at (omega (arith, long, low)))
-    ∙ stands_attribute now c.args.at c.requires.placed c.requires.stands)
+    let size : length c.args.self.now ≡ length i.cells.codes = size_kept (place_by i.heads i.cells.attributes i.known i.told) i.cells.codes c.args.self.now c.self.view_is in
+    let low : c.args.at < length i.cells.codes = omega (arith, c.requires.placed, size) in
+    let is : has_bit i.cells.attributes c.args.at ≡ true =
+    sym (attribute_bit i.heads i.cells.attributes i.known i.told i.cells.codes c.args.self.now c.self.view_is c.args.at low) ∙ stands_attribute c.args.self.now c.args.at c.requires.placed c.requires.stands in
+    attribute_read i.heads i.cells.attributes i.known i.told i.cells.codes c.args.at low c.args.self.now c.self.view_is (omega (arith, c.self.invariant.0, c.self.invariant.1, c.self.invariant.2, low)) (record { mark = On; knowledge = Cells }) c.attribute_at.result
+    (ap (λ (mark : Bool). cell_of mark (slice_index_or i.cells.codes c.args.at 0)) is ∙ ap AttrCell (sym c.attribute_at.ensures))
+
+pub attribute_at-requires-clause-placed : goal.attribute_at-requires-clause-placed
+attribute_at-requires-clause-placed c =
+    let i = c.self.inside in
+    let size : length c.args.self.now ≡ length i.cells.codes = size_kept (place_by i.heads i.cells.attributes i.known i.told) i.cells.codes c.args.self.now c.self.view_is in
+    omega (arith, c.requires.placed, size, c.self.invariant.1)

@@ -1,5 +1,4 @@
-use Rattle.std.proofs.Common.{◌≡◌, ℕ, sym, arith, length}
-use Rattle.codes3270.specs.Size.{cells_in}
+use Rattle.std.proofs.Common.{◌≡◌, arith, length}
 use Rattle.shadow.specs.PackedBeliefs.{place_by}
 use Rattle.shadow.proofs.Keeping.{size_kept}
 use Rattle.shadow.proofs.cell_beliefs.CellBeliefs.size.Goals as goal
@@ -7,11 +6,11 @@ use Rattle.shadow.proofs.cell_beliefs.CellBeliefs.size.Goals as goal
 pub returns-clause-cells : goal.returns-clause-cells
 returns-clause-cells c =
     let i = c.self.inside in
-    sym (size_kept (place_by i.heads i.attributes i.known i.told) (cells_in i.size) i.bytes c.args.self.now c.self.view_is (omega (arith, c.self.invariant.0, c.self.invariant.2)))
+    let size : length c.args.self.now ≡ length i.cells.codes = size_kept (place_by i.heads i.cells.attributes i.known i.told) i.cells.codes c.args.self.now c.self.view_is in
+    rw c.size.ensures.size (omega (arith, size, c.size.ensures.cells))
 
 pub returns-clause-few : goal.returns-clause-few
 returns-clause-few c =
     let i = c.self.inside in
-    let n : ℕ = cells_in i.size in
-    let size : length c.args.self.now ≡ n = size_kept (place_by i.heads i.attributes i.known i.told) n i.bytes c.args.self.now c.self.view_is (omega (arith, c.self.invariant.0, c.self.invariant.2)) in
-    omega (arith, size, c.self.invariant.2)
+    let size : length c.args.self.now ≡ length i.cells.codes = size_kept (place_by i.heads i.cells.attributes i.known i.told) i.cells.codes c.args.self.now c.self.view_is in
+    omega (arith, size, c.size.ensures.cells, c.size.ensures.few)

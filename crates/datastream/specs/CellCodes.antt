@@ -1,0 +1,29 @@
+-- For proofs alone: a cell as a code and a mark (our profile). The mark says whether it has an attribute; the code is its
+-- character's, or the byte that its attribute is written as (GA23-0059-07 on field attributes).
+use Rattle.std.specs.Prelude.{◌≡◌, ℕ, Bool, true, false, not, List}
+use Rattle.std.proofs.Common.{refl}
+use Rattle.codes3270.specs.Attribute.{attr_of, attr_byte}
+use Rattle.codes3270.specs.Size.{Shape}
+use Rattle.codes3270.specs.declared.attribute.Cell.{Cell}
+use Rattle.codes3270.specs.declared.attribute.Cell.TheVariants.{Char, Attr}
+use Rattle.datastream.specs.Screen.{is_char}
+
+abbrev pub code_in : Cell → ℕ
+code_in (Char code) = code
+code_in (Attr attribute) = attr_byte attribute
+
+-- the cell that has an attribute, or else a character, of this code
+abbrev pub cell_of : Bool → ℕ → Cell
+cell_of true code = Attr (attr_of code)
+cell_of false code = Char code
+
+-- that the mark says which is what the cell says
+pub has_attribute : (is_attribute : Bool) (code : ℕ) → not (is_char (cell_of is_attribute code)) ≡ is_attribute
+has_attribute true code = refl
+has_attribute false code = refl
+
+-- the cells of a screen: its size, a code for each of its cells, and words with a bit for each, set where the code is an attribute's
+pub record Packed : Type 0 where
+  pub size : Shape
+  pub codes : List ℕ
+  pub attributes : List ℕ

@@ -1,0 +1,190 @@
+//! The cells of a screen, in a byte and a bit each.
+ghost use Rattle.std.specs.Prelude.{◌≡◌, ◌<◌, ◌≤◌, ◌+◌, ◌-◌, ◌++◌, ℕ, false, true, not, nat_eq, if◌then◌else◌, length, replicate, take, drop, slice_index_or, slice_set};
+ghost use Rattle.codes3270.specs.Size.{cells_in, most_cells};
+ghost use Rattle.codes3270.specs.Attribute.{attr_of};
+ghost use Rattle.datastream.specs.CellBits.{has_bit, word_count, AreBits};
+ghost use Rattle.datastream.specs.CellCodes.{Packed, cell_of, code_in};
+ghost use Rattle.datastream.specs.Screen.{is_char};
+
+use super::cell_bits::CellBits;
+use super::packed_cell::PackedCell;
+use codes3270::{Attr, Cell, MOST_CELLS, Size};
+use std::marker::Model;
+
+/// The cells of a screen, which may have any size: a code for each, and a bit that is set if the code is an
+/// attribute's. Whoever has cells of which there is more to know keeps that beside them. Contracts see the size,
+/// the codes of the cells that the screen has, and the bits.
+#[derive(Clone, Debug, Drop)]
+pub struct PackedCells {
+    /// There is room for the largest screen.
+    codes: [u8; MOST_CELLS],
+    attributes: CellBits,
+    size: Size,
+}
+
+impl Model for PackedCells {
+    ghost use Rattle.std.specs.Prelude.{◌≡◌, ◌≤◌, length, take};
+    ghost use Rattle.codes3270.specs.Size.{cells_in, most_cells};
+    ghost use Rattle.datastream.specs.CellCodes.{Packed};
+
+    ghost Value = { Packed };
+
+    ghost view = { λ cells. record { size = cells.size; codes = take (cells_in cells.size) cells.codes; attributes = cells.attributes } };
+
+    ghost invariant = { λ cells. (length cells.codes ≡ most_cells) × (cells_in cells.size ≤ most_cells) };
+}
+
+fn same_codes(code: u8) -> [u8; MOST_CELLS]
+    ensures { result ≡ replicate most_cells code }
+{
+    [code; MOST_CELLS]
+}
+
+/// Puts codes from an index on. One code is stored, which is then cheaper than a copy.
+fn put_in(codes: &mut [u8], from: usize, text: &[u8])
+    requires { from + length text.now ≤ length codes.old }
+    ensures { codes.new ≡ take from codes.old ++ (text.now ++ drop (from + length text.now) codes.old) }
+{
+    if let [code] = text {
+        codes[from] = *code;
+    } else {
+        codes[from..from + text.len()].copy_from_slice(text);
+    }
+}
+
+/// Puts nulls from an index to another.
+fn put_nulls_in(codes: &mut [u8], from: usize, to: usize)
+    requires order { from ≤ to }
+    requires few { to ≤ length codes.old }
+    ensures { codes.new ≡ take from codes.old ++ (replicate (to - from) 0 ++ drop to codes.old) }
+{
+    codes[from..to].fill(0);
+}
+
+impl PackedCells {
+    /// The same in each cell of a screen of this size.
+    pub fn filled(cell: PackedCell, size: Size) -> PackedCells
+        ensures size { result.size ≡ size }
+        ensures codes { result.codes ≡ replicate (cells_in size) (code_in cell) }
+        ensures attributes { (at : ℕ) → at < most_cells → has_bit result.attributes at ≡ not (is_char cell) }
+        ensures few { cells_in size ≤ most_cells }
+    {
+        // For the contract: there is room for the screen.
+        let _cells = size.cells();
+        PackedCells {
+            codes: same_codes(cell.code()),
+            attributes: CellBits::all(!cell.is_character()),
+            size,
+        }
+    }
+
+    /// The size of the screen.
+    pub fn size(&self) -> Size
+        ensures size { result ≡ self.now.size }
+        ensures cells { length self.now.codes ≡ cells_in self.now.size }
+        ensures few { cells_in self.now.size ≤ most_cells }
+    {
+        self.size
+    }
+
+    /// How many cells the screen has.
+    pub fn len(&self) -> usize
+        ensures cells { result ≡ cells_in self.now.size }
+        ensures len { result ≡ length self.now.codes }
+        ensures few { result ≤ most_cells }
+        ensures some { 0 < result }
+    {
+        usize::from(self.size.cells())
+    }
+
+    /// What the cell with an address has.
+    pub fn get(&self, at: usize) -> Cell
+        requires { at < cells_in self.now.size }
+        ensures { result ≡ cell_of (has_bit self.now.attributes at) (slice_index_or self.now.codes at 0) }
+    {
+        let code = self.codes[at];
+        if self.attributes.has(at) {
+            Cell::Attr(Attr::from_code(code))
+        } else {
+            Cell::Char(code)
+        }
+    }
+
+    /// Stores a cell.
+    pub fn set(&mut self, at: usize, cell: PackedCell)
+        requires { at < cells_in self.old.size }
+        ensures size { self.new.size ≡ self.old.size }
+        ensures codes { self.new.codes ≡ slice_set self.old.codes at (code_in cell) }
+        ensures attributes { (other : ℕ) → has_bit self.new.attributes other ≡ (if nat_eq other at then not (is_char cell) else has_bit self.old.attributes other) }
+    {
+        self.codes[at] = cell.code();
+        self.attributes.put(at, !cell.is_character());
+    }
+
+    /// The codes of all cells, by address.
+    pub fn codes(&self) -> &[u8]
+        ensures codes { result.now ≡ self.now.codes }
+        ensures cells { length self.now.codes ≡ cells_in self.now.size }
+    {
+        let cells = usize::from(self.size.cells());
+        &self.codes[..cells]
+    }
+
+    /// A bit for each of 64 cells, set where an attribute is.
+    pub fn attribute_word(&self, index: usize) -> u64
+        requires { index < word_count }
+        ensures { AreBits most_cells (has_bit self.now.attributes) index result }
+    {
+        self.attributes.word(index)
+    }
+
+    /// The first attribute from an address on, or the number of cells.
+    pub fn attribute_from(&self, from: usize) -> usize
+        requires { from ≤ cells_in self.now.size }
+        ensures from { from ≤ result }
+        ensures within { result ≤ cells_in self.now.size }
+        ensures clear { (at : ℕ) → from ≤ at → at < result → has_bit self.now.attributes at ≡ false }
+        ensures set { result < cells_in self.now.size → has_bit self.now.attributes result ≡ true }
+    {
+        self.attributes
+            .first_from(from, usize::from(self.size.cells()))
+    }
+
+    /// The attribute at an address where one is.
+    pub fn attribute_at(&self, at: usize) -> Attr
+        requires placed { at < cells_in self.now.size }
+        requires attribute { has_bit self.now.attributes at ≡ true }
+        ensures { result ≡ attr_of (slice_index_or self.now.codes at 0) }
+    {
+        Attr::from_code(self.codes[at])
+    }
+
+    /// Puts the codes of characters in cells that have characters, from an address on.
+    pub fn put_characters(&mut self, from: usize, text: &[u8])
+        requires { from + length text.now ≤ cells_in self.old.size }
+        ensures { self.new ≡ record self.old { codes = take from self.old.codes ++ (text.now ++ drop (from + length text.now) self.old.codes) } }
+    {
+        put_in(self.codes.as_mut_slice(), from, text);
+    }
+
+    /// Puts nulls in cells that have characters, from an address to another.
+    pub fn put_nulls(&mut self, from: usize, to: usize)
+        requires order { from ≤ to }
+        requires few { to ≤ cells_in self.old.size }
+        ensures { self.new ≡ record self.old { codes = take from self.old.codes ++ (replicate (to - from) 0 ++ drop to self.old.codes) } }
+    {
+        put_nulls_in(self.codes.as_mut_slice(), from, to);
+    }
+
+    /// A null in each cell of a screen of this size.
+    pub fn clear(&mut self, size: Size)
+        ensures size { self.new.size ≡ size }
+        ensures codes { self.new.codes ≡ replicate (cells_in size) 0 }
+        ensures attributes { (at : ℕ) → at < most_cells → has_bit self.new.attributes at ≡ false }
+        ensures few { cells_in size ≤ most_cells }
+    {
+        put_nulls_in(self.codes.as_mut_slice(), 0, usize::from(size.cells()));
+        self.attributes = CellBits::all(false);
+        self.size = size;
+    }
+}

@@ -1,0 +1,96 @@
+//! Walks over the cells of a screen, round the end.
+ghost use Rattle.std.specs.Prelude.{◌≡◌, ◌<◌, ◌≤◌, ◌+◌, ◌*◌, ◌++◌, length, drop};
+ghost use Rattle.codes3270.specs.Size.{most_cells};
+
+use std::marker::Model;
+
+/// What has something for each cell of a screen, which may have any size.
+pub trait HasCells {
+    ghost use Rattle.std.specs.Prelude.{◌≡◌, ◌<◌, ◌≤◌, List, length, slice_index_or};
+    ghost use Rattle.codes3270.specs.Size.{most_cells};
+
+    /// What it has for each cell.
+    type Cell;
+
+    ghost cells: { Self → List Self.Cell };
+
+    /// What it has for the cell with an address.
+    fn cell_at(&self, at: usize) -> Self::Cell
+        requires { at < length (cells self.now) }
+        ensures { result ≡ slice_index_or (cells self.now) at result };
+
+    /// How many cells there are.
+    fn cell_count(&self) -> usize
+        ensures count { result ≡ length (cells self.now) }
+        ensures few { result ≤ most_cells };
+}
+
+/// The cells that are left of a walk, which may go on round the end. Contracts see their list.
+#[derive(Drop)]
+pub struct Ring<'a, C: HasCells> {
+    holder: &'a C,
+    /// How many cells there are.
+    cells: usize,
+    next: usize,
+}
+
+impl<'a, C: HasCells> Model for Ring<'a, C> {
+    ghost use Rattle.std.specs.Prelude.{◌≡◌, ◌≤◌, ◌++◌, List, length, drop};
+    ghost use Rattle.codes3270.specs.Size.{most_cells};
+
+    ghost Value = { List C.Cell };
+
+    ghost view = { λ ring. drop ring.next (C.cells ring.holder.now ++ C.cells ring.holder.now) };
+
+    ghost invariant = { λ ring. (length (C.cells ring.holder.now) ≡ ring.cells) × (ring.cells ≤ most_cells) };
+}
+
+impl<'a, C: HasCells> Ring<'a, C> {
+    /// All cells, by address.
+    pub fn all(holder: &'a C) -> Ring<'a, C>
+        ensures { result ≡ C.cells holder.now }
+    {
+        let cells = holder.cell_count();
+        Ring {
+            holder,
+            cells,
+            next: cells,
+        }
+    }
+
+    /// The cells behind an address, and then all cells.
+    pub fn ahead(holder: &'a C, at: usize) -> Ring<'a, C>
+        requires { at < length (C.cells holder.now) }
+        ensures cells { result ≡ drop (at + 1) (C.cells holder.now) ++ C.cells holder.now }
+        ensures few { length result ≤ 2 * length (C.cells holder.now) }
+    {
+        Ring {
+            holder,
+            cells: holder.cell_count(),
+            next: at + 1,
+        }
+    }
+}
+
+impl<'a, C: HasCells> Iterator for Ring<'a, C> {
+    ghost use Rattle.std.specs.Iterator.{YieldsFirst, item_count};
+
+    type Item = C::Cell;
+
+    ghost next_gives = { YieldsFirst (λ ring. ring) };
+
+    ghost remaining = { item_count (λ ring. ring) };
+
+    fn next(&mut self) -> Option<C::Cell> {
+        let at = self.next;
+        if at < self.cells {
+            self.next = at + 1;
+            Some(self.holder.cell_at(at))
+        } else if at < 2 * self.cells {
+            self.next = at + 1;
+            Some(self.holder.cell_at(at - self.cells))
+        } else {
+            None
+        }
+    }
+}
