@@ -1,32 +1,78 @@
 //! Worked dialogues: what is believed after commands were taken and data was heard. They are tables of steps, which one function takes
 //! in turn.
+ghost use Rattle.std.specs.Prelude.{IfSome, IsTrue};
+ghost use Rattle.codes3270.specs.Size.{cells_in};
+ghost use Rattle.shadow.specs.Belief.{HasCell, IsOfSize};
+
 use crate::Tried;
 use crate::bytes::{Run, spelt};
 use crate::report::Report;
-use codes3270::{Addr, Attr, CELL_COUNT, Cell};
-use datastream::{Form, InboundFault, read_command, read_inbound};
+use codes3270::{Addr, Attr, CELL_COUNT, Cell, Model, Size};
+use datastream::{Command, CommandCode, Form, Inbound, InboundFault, read_command, read_inbound};
 use shadow::{Fact, HeardFault, Shadow, plain};
 
 // ---- what is asked of a belief
 
-/// Takes in that a command was carried out, if it is a plain write.
-pub(crate) fn take(shadow: &mut Shadow, bytes: &[u8]) -> bool {
-    match read_command(bytes) {
-        Ok(command) => {
-            let is_plain = plain(&command);
-            if is_plain {
-                shadow.sent_taken(&command);
-            }
-            is_plain
-        }
+/// The size of the screen of which something is known; 24 by 80 if nothing is.
+pub(crate) fn size_of(shadow: &Shadow) -> Size
+    ensures { IsOfSize (cells_in result) shadow.now }
+{
+    match shadow.size() {
+        Some(size) => size,
+        None => Size::base(),
+    }
+}
+
+/// Whether a screen of which something is known has as many cells as one of a size.
+fn has_size(shadow: &Shadow, size: Size) -> bool
+    ensures { IsTrue result → IsOfSize (cells_in size) shadow.now }
+{
+    size_of(shadow).cells() == size.cells()
+}
+
+/// Takes in that a command was carried out, if it is a plain write to a screen of the size that is believed.
+pub(crate) fn take_command(shadow: &mut Shadow, command: &Command<'_>) -> bool {
+    let is_sized = command.code() != CommandCode::Write || has_size(shadow, command.size());
+    let is_taken = is_sized && plain(command);
+    if is_taken {
+        shadow.sent_taken(command);
+    }
+    is_taken
+}
+
+/// Takes in that a terminal of a model carried out a command, if it is a plain write.
+pub(crate) fn take_on(shadow: &mut Shadow, model: Model, bytes: &[u8]) -> bool {
+    match read_command(bytes, size_of(shadow), model.alternate()) {
+        Ok(command) => take_command(shadow, &command),
         Err(_) => false,
     }
 }
 
+/// Takes in that a terminal of model 2 did.
+pub(crate) fn take(shadow: &mut Shadow, bytes: &[u8]) -> bool {
+    take_on(shadow, Model::M2, bytes)
+}
+
+/// Hears data of a terminal whose screen has the size that is believed.
+pub(crate) fn hear_inbound(
+    shadow: &mut Shadow,
+    inbound: &Inbound<'_>,
+) -> Option<Result<(), HeardFault>> {
+    if has_size(shadow, inbound.size()) {
+        Some(shadow.heard(inbound))
+    } else {
+        None
+    }
+}
+
 /// Hears the data of a terminal: None if the bytes are no inbound data.
-fn hear(shadow: &mut Shadow, bytes: &[u8], form: Form) -> Option<Result<(), HeardFault>> {
-    match read_inbound(bytes, form) {
-        Ok(inbound) => Some(shadow.heard(&inbound)),
+pub(crate) fn hear(
+    shadow: &mut Shadow,
+    bytes: &[u8],
+    form: Form,
+) -> Option<Result<(), HeardFault>> {
+    match read_inbound(bytes, form, size_of(shadow)) {
+        Ok(inbound) => hear_inbound(shadow, &inbound),
         Err(_) => None,
     }
 }
@@ -76,24 +122,35 @@ fn refuses_runs(report: &mut Report, shadow: &mut Shadow, runs: &[Run]) -> bool 
     }
 }
 
+/// The address of a place on the screen of which something is known, if it has one.
+fn place_on(shadow: &Shadow, place: u16) -> Option<Addr>
+    ensures { IfSome result (λ addr. HasCell addr shadow.now) }
+{
+    Addr::new(place, size_of(shadow))
+}
+
 pub(crate) fn fact_at(shadow: &Shadow, place: u16) -> Option<Fact> {
-    match Addr::new(place) {
+    match place_on(shadow, place) {
         Some(addr) => shadow.fact(addr),
+        None => None,
+    }
+}
+
+pub(crate) fn value_at(shadow: &Shadow, place: u16, index: usize) -> Option<u8> {
+    match place_on(shadow, place) {
+        Some(addr) => shadow.value(addr, index),
         None => None,
     }
 }
 
 /// Whether the fact of a field speaks of this text.
 fn has_value(report: &mut Report, shadow: &Shadow, place: u16, text: &[u8]) -> bool {
-    let Some(addr) = Addr::new(place) else {
-        return false;
-    };
     for index in 0..text.len() {
-        if !report.same(&Some(text[index]), &shadow.value(addr, index)) {
+        if !report.same(&Some(text[index]), &value_at(shadow, place, index)) {
             return report.differs_at("character", index);
         }
     }
-    report.same(&None, &shadow.value(addr, text.len()))
+    report.same(&None, &value_at(shadow, place, text.len()))
 }
 
 /// Whether a field has this fact, which speaks of this text.
@@ -102,7 +159,7 @@ fn believes(report: &mut Report, shadow: &Shadow, place: u16, fact: Fact, text: 
 }
 
 pub(crate) fn known_at(shadow: &Shadow, place: u16) -> Option<Cell> {
-    match Addr::new(place) {
+    match place_on(shadow, place) {
         Some(addr) => shadow.known(addr),
         None => None,
     }
@@ -112,12 +169,25 @@ fn knows(report: &mut Report, shadow: &Shadow, place: u16, cell: Cell) -> bool {
     report.same(&Some(cell), &known_at(shadow, place))
 }
 
+/// Whether the screen of which something is known has a model's alternate size, or nothing is known.
+fn has_alternate_size(report: &mut Report, shadow: &Shadow, model: Option<Model>) -> bool {
+    let wanted = match model {
+        Some(model) => Some(model.alternate()),
+        None => None,
+    };
+    report.same(&wanted, &shadow.size())
+}
+
 // ---- steps
 
 /// A step of a dialogue: what is taken or heard, and what is believed then.
 pub(crate) enum Step {
     /// A command was carried out, a plain write.
     Take(&'static [u8]),
+    /// A terminal of this model carried out a plain write.
+    TakeOn(Model, &'static [u8]),
+    /// Something is known of a screen of this model's alternate size, or nothing of any.
+    Size(Option<Model>),
     /// A key's data is heard.
     Hear(&'static [u8]),
     /// Long data of this form and number of bytes is heard.
@@ -141,6 +211,11 @@ pub(crate) enum Step {
 fn is_so(report: &mut Report, shadow: &mut Shadow, step: &Step) -> bool {
     match step {
         Step::Take(command) => report.holds("it is a plain write", take(shadow, command)),
+        Step::TakeOn(model, command) => report.holds(
+            "it is a plain write",
+            take_on(shadow, *model, command),
+        ),
+        Step::Size(model) => has_alternate_size(report, shadow, *model),
         Step::Hear(data) => hears(report, shadow, data, Form::Modified),
         Step::HearRuns(runs, form, length) => hears_runs(report, shadow, runs, *form, *length),
         Step::Refuse(data, form, fault) => refuses(report, shadow, data, *form, *fault),
@@ -244,7 +319,7 @@ fn a_panel_answers(report: &mut Report) -> bool {
 /// A cursor beyond the screen: no inbound data at all.
 fn a_cursor_beyond_is_no_data(report: &mut Report, shadow: &mut Shadow) -> bool {
     let bytes = [0x7D, 0x5E, 0x40];
-    let fault = read_inbound(&bytes, Form::Modified).err();
+    let fault = read_inbound(&bytes, Form::Modified, size_of(shadow)).err();
     report.same(&None, &hear(shadow, &bytes, Form::Modified))
         && report.same(&Some(InboundFault::BadAddress), &fault)
 }
@@ -409,6 +484,31 @@ static STORED: [Step; 12] = [
     Step::Unknown(0),
 ];
 
+/// The size is that of the last erase; Clear and an attention key keep it. The addresses of what is heard are below it.
+static SIZED: [Step; 16] = [
+    Step::Size(None),
+    // A field in the last cells of a model 3's screen, which goes on at 0.
+    Step::TakeOn(
+        Model::M3,
+        b"\x7E\xC3\x11\xE7\x7E\x1D\x40\x13\x11\x40\xC1\x1D\x60",
+    ),
+    Step::Size(Some(Model::M3)),
+    Step::Text(2558, Fact::Exact, &[0, 0]),
+    Step::Char(2557, 0),
+    Step::Hear(b"\x7D\xE7\x7F\x11\xE7\x7F\xC1"),
+    Step::Text(2558, Fact::Text, &[0xC1]),
+    Step::Unknown(2559),
+    Step::Hear(&[0x6D]),
+    Step::Size(Some(Model::M3)),
+    Step::Char(2559, 0),
+    // An Erase/Write gives 24 by 80, and an attention key keeps it.
+    Step::TakeOn(Model::M3, b"\xF5\xC3\x11\x5D\x7F\x1D\x60"),
+    Step::Size(Some(Model::M2)),
+    Step::Attr(1919, 0x60),
+    Step::Hear(&[0x6C]),
+    Step::Size(Some(Model::M2)),
+];
+
 /// What is tried here.
 pub(crate) enum Check {
     Unreturned,
@@ -422,9 +522,10 @@ pub(crate) enum Check {
     Cleared,
     Protected,
     Stored,
+    Sized,
 }
 
-pub(crate) static CHECKS: [(&str, Check); 11] = [
+pub(crate) static CHECKS: [(&str, Check); 12] = [
     (
         "an unreturned field is as it was or null",
         Check::Unreturned,
@@ -451,6 +552,7 @@ pub(crate) static CHECKS: [(&str, Check); 11] = [
         Check::Protected,
     ),
     ("a write makes known what it stores", Check::Stored),
+    ("the size is that of the last erase", Check::Sized),
 ];
 
 impl Tried for Check {
@@ -467,6 +569,7 @@ impl Tried for Check {
             Check::Cleared => begins_with(report, &CLEARED),
             Check::Protected => begins_with(report, &PROTECTED),
             Check::Stored => begins_with(report, &STORED),
+            Check::Sized => begins_with(report, &SIZED),
         }
     }
 }

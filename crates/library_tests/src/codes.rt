@@ -5,9 +5,9 @@ use crate::report::Report;
 use crate::{Tried, all_so, at, prints};
 use codes3270::laws::{code_laws, size_laws};
 use codes3270::{
-    Addr, AddrFault, Aid, Attr, CELL_COUNT, CELLS, COLUMNS, Cell, Display, PaNo, PfNo, ROWS, Wcc,
-    addr_from_bytes, addr_to_bytes, aid_byte, aid_from_byte, attr_code, from_latin1, storable,
-    to_latin1,
+    Addr, AddrFault, Aid, Attr, CELL_COUNT, CELLS, COLUMNS, Cell, Display, MOST_CELLS, Model, PaNo,
+    PfNo, ROWS, Size, Wcc, addr_from_bytes, addr_to_bytes, aid_byte, aid_from_byte, attr_code,
+    from_latin1, storable, to_latin1,
 };
 
 // ---- rows
@@ -23,9 +23,14 @@ enum Named {
 
 /// A row of a table: a value and its code.
 enum Row {
-    /// Bytes are read as the address with this number, and are those that are written or others.
-    Address(u16, [u8; 2], bool),
-    NoAddress([u8; 2]),
+    /// On a screen of the alternate size of a model bytes are read as the address with this number, and are those that are
+    /// written or others.
+    Address(Model, u16, [u8; 2], bool),
+    NoAddress(Model, [u8; 2]),
+    /// No address has this number.
+    Beyond(Model, u16),
+    /// That size has these rows, columns and cells, and a walk round its end goes so.
+    Walk(Model, [u16; 3], [u16; 8]),
     /// An attribute's code: protected, numeric, display, modified data tag.
     Attribute(u8, bool, bool, Display, bool),
     /// The attribute of a code is written as another once its modified data tag is set so.
@@ -48,12 +53,21 @@ enum Row {
 impl Tried for Row {
     fn is_so(&self, report: &mut Report) -> bool {
         match self {
-            Row::Address(number, bytes, is_written) => {
-                is_read_as(report, *bytes, *number)
-                    && report.same(is_written, &is_written_as(*number, *bytes))
+            Row::Address(model, number, bytes, is_written) => {
+                let size = (*model).alternate();
+                is_read_as(report, *bytes, *number, size)
+                    && report.same(is_written, &is_written_as(*number, *bytes, size))
             }
-            Row::NoAddress(bytes) => {
-                report.same(&Err(AddrFault::TooLarge), &number_read(*bytes))
+            Row::NoAddress(model, bytes) => {
+                let number = number_read(*bytes, (*model).alternate());
+                report.same(&Err(AddrFault::TooLarge), &number)
+            }
+            Row::Beyond(model, number) => {
+                let addr = Addr::new(*number, (*model).alternate());
+                report.holds("there is no such address", addr.is_none())
+            }
+            Row::Walk(model, measures, places) => {
+                goes_round_the_screen(report, (*model).alternate(), measures, places)
             }
             Row::Attribute(code, protected, numeric, display, mdt) => {
                 let attr = Attr {
@@ -107,35 +121,37 @@ static SIX_BIT_RUNS: [(u8, u8); 11] = [
 ];
 
 /// Whether the address with this number is written as these bytes.
-fn is_written_as(number: u16, bytes: [u8; 2]) -> bool {
-    match Addr::new(number) {
+fn is_written_as(number: u16, bytes: [u8; 2], size: Size) -> bool {
+    match Addr::new(number, size) {
         Some(addr) => addr_to_bytes(addr) == bytes,
         None => false,
     }
 }
 
 /// The number of the address that bytes are read as.
-fn number_read(bytes: [u8; 2]) -> Result<u16, AddrFault> {
-    match addr_from_bytes(bytes) {
+fn number_read(bytes: [u8; 2], size: Size) -> Result<u16, AddrFault> {
+    match addr_from_bytes(bytes, size) {
         Ok(addr) => Ok(addr.get()),
         Err(fault) => Err(fault),
     }
 }
 
 /// Whether the bytes are read as the address with this number.
-fn is_read_as(report: &mut Report, bytes: [u8; 2], number: u16) -> bool {
-    report.same(&Ok(number), &number_read(bytes))
-        && match (addr_from_bytes(bytes), Addr::new(number)) {
+fn is_read_as(report: &mut Report, bytes: [u8; 2], number: u16, size: Size) -> bool {
+    report.same(&Ok(number), &number_read(bytes, size))
+        && match (addr_from_bytes(bytes, size), Addr::new(number, size)) {
             (Ok(read), Some(addr)) => read == addr,
             _ => false,
         }
 }
 
-/// Whether the code is the value's, as the low six bits of an address, and as the high ones if there are any.
+/// Whether the code is the value's, as the low six bits of an address, and as the high ones if there are any on the largest
+/// screen.
 fn is_code_of(value: u8, code: u8) -> bool {
+    let size = Model::M5.alternate();
     let high = u16::from(value) * 64;
-    is_written_as(u16::from(value), [0x40, code])
-        && (Addr::new(high).is_none() || is_written_as(high, [code, 0x40]))
+    is_written_as(u16::from(value), [0x40, code], size)
+        && (Addr::new(high, size).is_none() || is_written_as(high, [code, 0x40], size))
 }
 
 /// Whether the runs are the codes of the values from 0 to 63.
@@ -156,61 +172,122 @@ fn each_six_bit_value_has_its_code(report: &mut Report) -> bool {
 
 /// Those that aren't written have fourteen bits, or other codes. Then come bytes beyond the screen.
 static ADDRESSES: [Row; 14] = [
-    Row::Address(0, [0x40, 0x40], true),
-    Row::Address(79, [0xC1, 0x4F], true),
-    Row::Address(80, [0xC1, 0x50], true),
-    Row::Address(1919, [0x5D, 0x7F], true),
-    Row::Address(1919, [0x07, 0x7F], false),
-    Row::Address(0, [0x00, 0x00], false),
-    Row::Address(320, [0x01, 0x40], false),
-    Row::Address(1, [0x80, 0x81], false),
-    Row::Address(1, [0xC0, 0xC1], false),
-    Row::Address(1919, [0xDD, 0xFF], false),
-    Row::NoAddress([0x5E, 0x40]),
-    Row::NoAddress([0x07, 0x80]),
-    Row::NoAddress([0x3F, 0xFF]),
-    Row::NoAddress([0x7F, 0x7F]),
+    Row::Address(Model::M2, 0, [0x40, 0x40], true),
+    Row::Address(Model::M2, 79, [0xC1, 0x4F], true),
+    Row::Address(Model::M2, 80, [0xC1, 0x50], true),
+    Row::Address(Model::M2, 1919, [0x5D, 0x7F], true),
+    Row::Address(Model::M2, 1919, [0x07, 0x7F], false),
+    Row::Address(Model::M2, 0, [0x00, 0x00], false),
+    Row::Address(Model::M2, 320, [0x01, 0x40], false),
+    Row::Address(Model::M2, 1, [0x80, 0x81], false),
+    Row::Address(Model::M2, 1, [0xC0, 0xC1], false),
+    Row::Address(Model::M2, 1919, [0xDD, 0xFF], false),
+    Row::NoAddress(Model::M2, [0x5E, 0x40]),
+    Row::NoAddress(Model::M2, [0x07, 0x80]),
+    Row::NoAddress(Model::M2, [0x3F, 0xFF]),
+    Row::NoAddress(Model::M2, [0x7F, 0x7F]),
+];
+
+/// The last address of each model's screen, with twelve bits and with fourteen, and the first beyond.
+static LAST_ADDRESSES: [Row; 16] = [
+    Row::Beyond(Model::M2, 1920),
+    Row::Address(Model::M3, 2559, [0xE7, 0x7F], true),
+    Row::Address(Model::M3, 2559, [0x09, 0xFF], false),
+    Row::NoAddress(Model::M3, [0xE8, 0x40]),
+    Row::NoAddress(Model::M3, [0x0A, 0x00]),
+    Row::Beyond(Model::M3, 2560),
+    Row::Address(Model::M4, 3439, [0xF5, 0x6F], true),
+    Row::Address(Model::M4, 3439, [0x0D, 0x6F], false),
+    Row::NoAddress(Model::M4, [0xF5, 0xF0]),
+    Row::NoAddress(Model::M4, [0x0D, 0x70]),
+    Row::Beyond(Model::M4, 3440),
+    Row::Address(Model::M5, 3563, [0xF7, 0x6B], true),
+    Row::Address(Model::M5, 3563, [0x0D, 0xEB], false),
+    Row::NoAddress(Model::M5, [0xF7, 0x6C]),
+    Row::NoAddress(Model::M5, [0x0D, 0xEC]),
+    Row::Beyond(Model::M5, 3564),
 ];
 
 fn addresses_are_written_and_read(report: &mut Report) -> bool {
-    all_so(report, &ADDRESSES)
-        && Addr::new(1920).is_none()
-        && prints(report, &AddrFault::TooLarge, "address beyond the screen")
+    all_so(report, &ADDRESSES) && prints(report, &AddrFault::TooLarge, "address beyond the screen")
 }
 
-fn goes_round(report: &mut Report, last: Addr) -> bool {
+/// Each model's alternate size. The places are the first cell, the one after it, and then from the last cell: the next one, a
+/// row on, the whole screen on, a row back; and from the first: a cell back, the whole screen back.
+static WALKS: [Row; 4] = [
+    Row::Walk(
+        Model::M2,
+        [24, 80, 1920],
+        [0, 1, 0, 79, 1919, 1839, 1919, 0],
+    ),
+    Row::Walk(
+        Model::M3,
+        [32, 80, 2560],
+        [0, 1, 0, 79, 2559, 2479, 2559, 0],
+    ),
+    Row::Walk(
+        Model::M4,
+        [43, 80, 3440],
+        [0, 1, 0, 79, 3439, 3359, 3439, 0],
+    ),
+    Row::Walk(
+        Model::M5,
+        [27, 132, 3564],
+        [0, 1, 0, 131, 3563, 3431, 3563, 0],
+    ),
+];
+
+fn goes_round(report: &mut Report, size: Size, wanted: &[u16; 8]) -> bool {
+    let (columns, cells) = (size.cols(), size.cells());
+    if cells < columns {
+        return false;
+    }
+    let first = Addr::first();
+    let last = at(cells - 1, size);
     let places = [
-        Addr::first().get(),
-        Addr::first().next().get(),
-        last.next().get(),
-        last.forward(80).get(),
-        last.forward(1920).get(),
-        last.backward(80).get(),
-        Addr::first().backward(1).get(),
-        Addr::first().backward(1920).get(),
+        first.get(),
+        first.next(size).get(),
+        last.next(size).get(),
+        last.forward(columns, size).get(),
+        last.forward(cells, size).get(),
+        last.backward(columns, size).get(),
+        first.backward(1, size).get(),
+        first.backward(cells, size).get(),
     ];
-    report.same(&[0, 1, 0, 79, 1919, 1839, 1919, 0], &places)
+    report.same(wanted, &places)
 }
 
 /// Whether a walk over all addresses goes from the first to the last.
-fn all_are_in_order(report: &mut Report) -> bool {
+fn all_are_in_order(report: &mut Report, size: Size) -> bool {
     let mut place = 0u16;
-    for addr in Addr::all() {
+    for addr in Addr::all(size) {
         if !report.same(&place, &addr.get()) {
             return false;
         }
         place = place.saturating_add(1);
     }
-    report.same(&CELLS, &place)
+    report.same(&size.cells(), &place)
+}
+
+fn goes_round_the_screen(
+    report: &mut Report,
+    size: Size,
+    measures: &[u16; 3],
+    places: &[u16; 8],
+) -> bool {
+    report.same(measures, &[size.rows(), size.cols(), size.cells()])
+        && goes_round(report, size, places)
+        && all_are_in_order(report, size)
 }
 
 fn addresses_go_round_the_screen(report: &mut Report) -> bool {
     size_laws();
     code_laws();
     report.same(&[24, 80, 1920], &[ROWS, COLUMNS, CELLS])
-        && goes_round(report, at(1919))
         && report.same(&1920, &CELL_COUNT)
-        && all_are_in_order(report)
+        && report.same(&3564, &MOST_CELLS)
+        && report.same(&Model::M2.alternate(), &Size::base())
+        && all_so(report, &WALKS)
 }
 
 // ---- attributes and write control characters
@@ -441,6 +518,7 @@ fn cells_hold_characters_or_attributes(report: &mut Report) -> bool {
 pub(crate) enum Check {
     SixBits,
     Addresses,
+    LastAddresses,
     RoundTheScreen,
     Attributes,
     OtherBits,
@@ -451,9 +529,10 @@ pub(crate) enum Check {
     Cells,
 }
 
-pub(crate) static CHECKS: [(&str, Check); 10] = [
+pub(crate) static CHECKS: [(&str, Check); 11] = [
     ("each six bit value has its code", Check::SixBits),
     ("addresses are written and read", Check::Addresses),
+    ("each size has its last address", Check::LastAddresses),
     ("addresses go round the screen", Check::RoundTheScreen),
     ("attributes have their codes", Check::Attributes),
     ("other bits of an attribute are dropped", Check::OtherBits),
@@ -472,6 +551,7 @@ impl Tried for Check {
         match self {
             Check::SixBits => each_six_bit_value_has_its_code(report),
             Check::Addresses => addresses_are_written_and_read(report),
+            Check::LastAddresses => all_so(report, &LAST_ADDRESSES),
             Check::RoundTheScreen => addresses_go_round_the_screen(report),
             Check::Attributes => all_so(report, &ATTRIBUTES),
             Check::OtherBits => all_so(report, &OTHER_BITS),

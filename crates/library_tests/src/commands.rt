@@ -4,7 +4,7 @@
 use crate::bytes::{Adds, Room, is_added};
 use crate::report::Report;
 use crate::{Tried, all_so, at, prints};
-use codes3270::{Addr, Attr, CELL_COUNT, CELLS, COLUMNS, Wcc};
+use codes3270::{Addr, Attr, CELLS, COLUMNS, Model, Size, Wcc};
 use datastream::laws::{
     fields_both_ways, kept_since_the_write, one_reading, spans_are_steps, tabs_by_place,
     what_a_note_keeps, written_is_read,
@@ -38,12 +38,12 @@ enum Shown {
     Ic,
 }
 
-fn order_of(shown: &Shown) -> Order {
+fn order_of(shown: &Shown, size: Size) -> Order {
     match shown {
-        Shown::Sba(place) => Order::Sba(at(*place)),
+        Shown::Sba(place) => Order::Sba(at(*place, size)),
         Shown::Sf(code) => Order::Sf(Attr::from_code(*code)),
-        Shown::Ra(place, byte) => Order::Ra(at(*place), *byte),
-        Shown::Eua(place) => Order::Eua(at(*place)),
+        Shown::Ra(place, byte) => Order::Ra(at(*place, size), *byte),
+        Shown::Eua(place) => Order::Eua(at(*place, size)),
         Shown::Char(byte) => Order::Char(*byte),
         Shown::Pt => Order::Pt,
         Shown::Ic => Order::Ic,
@@ -54,7 +54,7 @@ fn order_of(shown: &Shown) -> Order {
 fn gives(report: &mut Report, command: &Command, wanted: &[Shown]) -> bool {
     let mut orders = command.orders();
     for shown in wanted {
-        if !report.same(&Some(order_of(shown)), &orders.next()) {
+        if !report.same(&Some(order_of(shown, command.size())), &orders.next()) {
             return false;
         }
     }
@@ -69,11 +69,23 @@ fn reads(
     wcc: Option<Wcc>,
     orders: &[Shown],
 ) -> bool {
-    match read_command(bytes) {
+    match read_command(bytes, Size::base(), Size::base()) {
         Ok(command) => report.same(&code, &command.code())
             && report.same(&wcc, &command.wcc())
             && gives(report, &command, orders),
         Err(fault) => report.same(&None, &Some(fault)),
+    }
+}
+
+/// The models of whose alternate sizes a screen has one now, and one after Erase/Write Alternate.
+struct Sizes(Model, Model);
+
+/// What bytes are for a screen of these sizes: a command that leaves this size, or none for a fault.
+fn size_read(bytes: &[u8], sizes: &Sizes) -> Result<Size, CommandFault> {
+    let Sizes(now, alternate) = sizes;
+    match read_command(bytes, (*now).alternate(), (*alternate).alternate()) {
+        Ok(command) => Ok(command.size()),
+        Err(fault) => Err(fault),
     }
 }
 
@@ -128,6 +140,10 @@ enum Row {
     Written(&'static [u8], Calls),
     /// They are no command, and this is the first fault.
     Fault(&'static [u8], CommandFault),
+    /// For a screen of these sizes they are a command that leaves it in this model's alternate size.
+    Leaves(Sizes, &'static [u8], Model),
+    /// For a screen of these sizes they are no command, and this is the first fault.
+    FaultIn(Sizes, &'static [u8], CommandFault),
     /// A fault is printed so.
     Text(CommandFault, &'static str),
 }
@@ -142,7 +158,18 @@ impl Tried for Row {
                 !(*code).has_orders() && reads(report, bytes, *code, None, &[])
             }
             Row::Written(bytes, calls) => is_added(report, calls, bytes, &Room::New),
-            Row::Fault(bytes, fault) => report.same(&Some(*fault), &read_command(bytes).err()),
+            Row::Fault(bytes, fault) => {
+                report.same(
+                    &Err(*fault),
+                    &size_read(bytes, &Sizes(Model::M2, Model::M2)),
+                )
+            }
+            Row::Leaves(sizes, bytes, model) => {
+                report.same(&Ok((*model).alternate()), &size_read(bytes, sizes))
+            }
+            Row::FaultIn(sizes, bytes, fault) => {
+                report.same(&Err(*fault), &size_read(bytes, sizes))
+            }
             Row::Text(fault, text) => prints(report, fault, text),
         }
     }
@@ -256,6 +283,115 @@ static FAULTS: [Row; 24] = [
         &[0xF1, 0xC3, 0xC1, 0x13, 0x00, 0x08, 0x11],
         CommandFault::BadOrder,
     ),
+];
+
+const TOO_LARGE: CommandFault = CommandFault::BadAddress;
+
+/// An address is judged by the size that holds after the erase: 24 by 80 after Erase/Write, the alternate size after
+/// Erase/Write Alternate, and the present one for all else.
+static SIZES: [Row; 24] = [
+    Row::Leaves(
+        Sizes(Model::M2, Model::M2),
+        b"\x7E\xC3\x11\x5D\x7F",
+        Model::M2,
+    ),
+    Row::FaultIn(
+        Sizes(Model::M2, Model::M2),
+        b"\x7E\xC3\x11\x5E\x40",
+        TOO_LARGE,
+    ),
+    Row::Leaves(
+        Sizes(Model::M2, Model::M3),
+        b"\x7E\xC3\x11\xE7\x7F\xC1\x13",
+        Model::M3,
+    ),
+    Row::FaultIn(
+        Sizes(Model::M2, Model::M3),
+        b"\x7E\xC3\x11\xE8\x40\xC1",
+        TOO_LARGE,
+    ),
+    Row::FaultIn(
+        Sizes(Model::M2, Model::M3),
+        b"\xF1\xC3\x11\xE7\x7F\xC1",
+        TOO_LARGE,
+    ),
+    Row::Leaves(
+        Sizes(Model::M3, Model::M3),
+        b"\xF1\xC3\x11\xE7\x7F\xC1",
+        Model::M3,
+    ),
+    Row::FaultIn(
+        Sizes(Model::M3, Model::M3),
+        b"\xF1\xC3\x11\xE8\x40\xC1",
+        TOO_LARGE,
+    ),
+    Row::FaultIn(
+        Sizes(Model::M3, Model::M3),
+        b"\xF5\xC3\x11\xE7\x7F\xC1",
+        TOO_LARGE,
+    ),
+    Row::FaultIn(
+        Sizes(Model::M3, Model::M3),
+        b"\xF5\xC3\x11\x5E\x40",
+        TOO_LARGE,
+    ),
+    Row::Leaves(
+        Sizes(Model::M3, Model::M3),
+        b"\xF5\xC3\x11\x5D\x7F",
+        Model::M2,
+    ),
+    Row::Leaves(
+        Sizes(Model::M2, Model::M4),
+        b"\x7E\xC3\x11\xF5\x6F",
+        Model::M4,
+    ),
+    Row::FaultIn(
+        Sizes(Model::M2, Model::M4),
+        b"\x7E\xC3\x11\xF5\xF0",
+        TOO_LARGE,
+    ),
+    Row::Leaves(
+        Sizes(Model::M2, Model::M5),
+        b"\x7E\xC3\x11\xF7\x6B",
+        Model::M5,
+    ),
+    Row::FaultIn(
+        Sizes(Model::M2, Model::M5),
+        b"\x7E\xC3\x11\xF7\x6C",
+        TOO_LARGE,
+    ),
+    // With fourteen bits, and where RA and EUA stop.
+    Row::Leaves(
+        Sizes(Model::M5, Model::M5),
+        b"\x01\xC3\x11\x0D\xEB",
+        Model::M5,
+    ),
+    Row::FaultIn(
+        Sizes(Model::M5, Model::M5),
+        b"\x01\xC3\x11\x0D\xEC",
+        TOO_LARGE,
+    ),
+    Row::Leaves(
+        Sizes(Model::M5, Model::M5),
+        b"\xF1\xC3\x3C\xF7\x6B\x5C\x12\xF7\x6B",
+        Model::M5,
+    ),
+    Row::FaultIn(
+        Sizes(Model::M5, Model::M5),
+        b"\xF1\xC3\x3C\xF7\x6C\x5C",
+        TOO_LARGE,
+    ),
+    Row::FaultIn(
+        Sizes(Model::M5, Model::M5),
+        b"\xF1\xC3\x12\xF7\x6C",
+        TOO_LARGE,
+    ),
+    // Reads and Erase All Unprotected keep the size.
+    Row::Leaves(Sizes(Model::M4, Model::M4), b"\xF2", Model::M4),
+    Row::Leaves(Sizes(Model::M4, Model::M4), b"\xF6", Model::M4),
+    Row::Leaves(Sizes(Model::M4, Model::M4), b"\x6E", Model::M4),
+    Row::Leaves(Sizes(Model::M4, Model::M4), b"\x6F", Model::M4),
+    Row::Leaves(Sizes(Model::M2, Model::M4), b"\x6F", Model::M2),
 ];
 
 static COMMANDS: [Row; 6] = [
@@ -379,21 +515,24 @@ fn a_call_appends_its_bytes_or_changes_nothing(report: &mut Report) -> bool {
 
 /// An attribute in the first cell and a character in the last, and the cursor at 7.
 fn example(reset: bool) -> Wanted {
-    let mut wanted = Wanted::filled(Want::Keep);
+    let mut wanted = Wanted::filled(Want::Keep, Size::base());
     wanted.put(0, Want::Attr(Attr::from_code(0x60)));
-    wanted.put(CELL_COUNT - 1, Want::Char(0xC1));
-    wanted.set_cursor_and_reset(at(7), reset);
+    wanted.put(1919, Want::Char(0xC1));
+    wanted.set_cursor_and_reset(at(7, wanted.size()), reset);
     wanted
 }
 
 /// Whether each cell of the example is as it was wanted.
 fn names_each_cell(report: &mut Report, wanted: &Wanted) -> bool {
     let attr = Want::Attr(Attr::from_code(0x60));
-    report.same(&attr, &wanted.want(at(0)))
-        && report.same(&Want::Keep, &wanted.want(at(1)))
-        && report.same(&Want::Char(0xC1), &wanted.want(at(CELLS - 1)))
+    let size = wanted.size();
+    let last = at(CELLS - 1, size);
+    report.same(&Size::base(), &size)
+        && report.same(&attr, &wanted.want(at(0, size)))
+        && report.same(&Want::Keep, &wanted.want(at(1, size)))
+        && report.same(&Want::Char(0xC1), &wanted.want(last))
         && report.same(&Some(attr), &wanted.cells().next())
-        && report.same(&Some(attr), &wanted.ahead(CELL_COUNT - 1).next())
+        && report.same(&Some(attr), &wanted.ahead(usize::from(last.get())).next())
         && report.same(&7, &wanted.cursor().get())
         && wanted.reset()
 }
@@ -414,6 +553,7 @@ pub(crate) enum Check {
     Writes,
     OtherCommands,
     FirstFault,
+    Sizes,
     Orders,
     Written,
     Appends,
@@ -422,7 +562,7 @@ pub(crate) enum Check {
     Laws,
 }
 
-pub(crate) static CHECKS: [(&str, Check); 9] = [
+pub(crate) static CHECKS: [(&str, Check); 10] = [
     (
         "each write has two codes and a write control character",
         Check::Writes,
@@ -432,6 +572,10 @@ pub(crate) static CHECKS: [(&str, Check); 9] = [
         Check::OtherCommands,
     ),
     ("the first fault is answered", Check::FirstFault),
+    (
+        "addresses are judged by the size after the erase",
+        Check::Sizes,
+    ),
     ("orders are read one by one", Check::Orders),
     ("commands are written", Check::Written),
     (
@@ -449,6 +593,7 @@ impl Tried for Check {
             Check::Writes => all_so(report, &WRITES),
             Check::OtherCommands => all_so(report, &OTHERS),
             Check::FirstFault => all_so(report, &FAULTS),
+            Check::Sizes => all_so(report, &SIZES),
             Check::Orders => all_so(report, &COMMANDS),
             Check::Written => commands_are_written(report, &mut Vec::new(report.alloc)),
             Check::Appends => a_call_appends_its_bytes_or_changes_nothing(report),

@@ -2,7 +2,7 @@
 use crate::bytes::{Run, spelt};
 use crate::report::Report;
 use crate::{Tried, all_so, at, prints};
-use codes3270::{Addr, Attr, CELL_COUNT, Cell, aid_byte};
+use codes3270::{Addr, Attr, CELL_COUNT, Cell, Model, Size, aid_byte};
 use datastream::laws::{parts_are_fields, sent_is_read};
 use datastream::{Form, Inbound, InboundFault, Part, read_inbound};
 
@@ -32,9 +32,9 @@ enum Shown {
     Char(u8),
 }
 
-fn part_of(shown: &Shown) -> Part {
+fn part_of(shown: &Shown, size: Size) -> Part {
     match shown {
-        Shown::At(place) => Part::At(at(*place)),
+        Shown::At(place) => Part::At(at(*place, size)),
         Shown::Attr(code) => Part::Attr(Attr::from_code(*code)),
         Shown::Char(byte) => Part::Char(*byte),
     }
@@ -45,7 +45,7 @@ fn has_parts(report: &mut Report, inbound: &Inbound<'_>, wanted: &[(Shown, usize
     let mut parts = inbound.parts();
     for (shown, count) in wanted {
         for _ in 0..*count {
-            if !report.same(&Some(part_of(shown)), &parts.next()) {
+            if !report.same(&Some(part_of(shown, inbound.size())), &parts.next()) {
                 return false;
             }
         }
@@ -61,7 +61,7 @@ fn has_cells(report: &mut Report, inbound: &Inbound<'_>, wanted: &[(Shown, usize
     let mut cells = inbound.cells();
     for (shown, count) in wanted {
         for _ in 0..*count {
-            if !report.same(&part_of(shown).cell(), &cells.next()) {
+            if !report.same(&part_of(shown, inbound.size()).cell(), &cells.next()) {
                 return false;
             }
         }
@@ -107,8 +107,8 @@ fn has(report: &mut Report, inbound: &Inbound<'_>, form: Form, outcome: &Outcome
     is_so && report.same(&form, &inbound.form())
 }
 
-fn comes_to(report: &mut Report, bytes: &[u8], form: Form, outcome: &Outcome) -> bool {
-    match (read_inbound(bytes, form), outcome) {
+fn comes_to(report: &mut Report, bytes: &[u8], size: Size, form: Form, outcome: &Outcome) -> bool {
+    match (read_inbound(bytes, form, size), outcome) {
         (Ok(inbound), _) => has(report, &inbound, form, outcome),
         (Err(fault), Outcome::Fault(wanted)) => report.same(wanted, &fault),
         (Err(fault), _) => report.same(&None, &Some(fault)),
@@ -119,8 +119,10 @@ fn comes_to(report: &mut Report, bytes: &[u8], form: Form, outcome: &Outcome) ->
 enum Row {
     /// What bytes of a form come to.
     Data(&'static [u8], Form, Outcome),
-    /// The result of a buffer of these runs.
-    Buffer(&'static [Run], Outcome),
+    /// What they come to from a screen of this model's alternate size.
+    DataOf(Model, &'static [u8], Form, Outcome),
+    /// The result of a buffer of these runs, from a screen of this model's alternate size.
+    Buffer(Model, &'static [Run], Outcome),
     /// A fault is printed so.
     Text(InboundFault, &'static str),
 }
@@ -128,9 +130,20 @@ enum Row {
 impl Tried for Row {
     fn is_so(&self, report: &mut Report) -> bool {
         match self {
-            Row::Data(bytes, form, outcome) => comes_to(report, bytes, *form, outcome),
-            Row::Buffer(runs, outcome) => match spelt(report.alloc, runs) {
-                Ok(bytes) => comes_to(report, bytes.as_slice(), Form::Buffer, outcome),
+            Row::Data(bytes, form, outcome) => {
+                comes_to(report, bytes, Size::base(), *form, outcome)
+            }
+            Row::DataOf(model, bytes, form, outcome) => {
+                comes_to(report, bytes, (*model).alternate(), *form, outcome)
+            }
+            Row::Buffer(model, runs, outcome) => match spelt(report.alloc, runs) {
+                Ok(bytes) => comes_to(
+                    report,
+                    bytes.as_slice(),
+                    (*model).alternate(),
+                    Form::Buffer,
+                    outcome,
+                ),
                 Err(_) => false,
             },
             Row::Text(fault, text) => prints(report, fault, text),
@@ -315,6 +328,7 @@ const BEGUN: Run = (b"\x6C\xC2\xE9\x1D\xF0", 1);
 
 /// A whole buffer. The last cell is null.
 static WHOLE_BUFFER: [Row; 1] = [Row::Buffer(
+    Model::M2,
     &[BEGUN, (b"\xC1", CELL_COUNT - 2), (b"\x00", 1)],
     Outcome::Cells(
         169,
@@ -329,27 +343,126 @@ static WHOLE_BUFFER: [Row; 1] = [Row::Buffer(
 static OTHER_BUFFERS: [Row; 5] = [
     // Too many.
     Row::Buffer(
+        Model::M2,
         &[BEGUN, (b"\xC1", CELL_COUNT)],
         Outcome::Fault(InboundFault::BadForm),
     ),
     // Too few.
     Row::Buffer(
+        Model::M2,
         &[BEGUN, (b"\xC1", CELL_COUNT - 2)],
         Outcome::Fault(InboundFault::Short),
     ),
     // An attribute cut.
     Row::Buffer(
+        Model::M2,
         &[BEGUN, (b"\xC1", CELL_COUNT - 2), (b"\x1D", 1)],
         Outcome::Fault(InboundFault::Short),
     ),
     // One cut after the last.
     Row::Buffer(
+        Model::M2,
         &[BEGUN, (b"\xC1", CELL_COUNT - 1), (b"\x1D", 1)],
         Outcome::Fault(InboundFault::BadForm),
     ),
     // Unstorable.
     Row::Buffer(
+        Model::M2,
         &[BEGUN, (b"\xC1", CELL_COUNT - 2), (b"\x11", 1)],
+        Outcome::Fault(InboundFault::BadForm),
+    ),
+];
+
+/// The cursor and a field in the last cell of each model's screen, and beyond it.
+static LAST_CELLS: [Row; 9] = [
+    Row::DataOf(
+        Model::M3,
+        b"\x7D\xE7\x7F\x11\xE7\x7F\xC1",
+        Form::Modified,
+        Outcome::Fields(0x7D, Some(2559), b"", &[(2559, &[0xC1])]),
+    ),
+    Row::DataOf(
+        Model::M3,
+        b"\x7D\xE8\x40",
+        Form::Modified,
+        Outcome::Fault(InboundFault::BadAddress),
+    ),
+    Row::DataOf(
+        Model::M3,
+        b"\x7D\xE7\x7F\x11\xE8\x40\xC1",
+        Form::Modified,
+        Outcome::Fault(InboundFault::BadAddress),
+    ),
+    Row::DataOf(
+        Model::M2,
+        b"\x7D\xE7\x7F",
+        Form::Modified,
+        Outcome::Fault(InboundFault::BadAddress),
+    ),
+    Row::DataOf(
+        Model::M4,
+        b"\x6C\xF5\x6F\x11\xF5\x6F\xC1",
+        Form::All,
+        Outcome::Fields(0x6C, Some(3439), b"", &[(3439, &[0xC1])]),
+    ),
+    Row::DataOf(
+        Model::M4,
+        b"\x6C\xF5\xF0",
+        Form::All,
+        Outcome::Fault(InboundFault::BadAddress),
+    ),
+    Row::DataOf(
+        Model::M5,
+        b"\x7D\xF7\x6B\x11\xF7\x6B\xC1",
+        Form::Modified,
+        Outcome::Fields(0x7D, Some(3563), b"", &[(3563, &[0xC1])]),
+    ),
+    Row::DataOf(
+        Model::M5,
+        b"\x7D\xF7\x6C",
+        Form::Modified,
+        Outcome::Fault(InboundFault::BadAddress),
+    ),
+    Row::DataOf(
+        Model::M4,
+        b"\x7D\xF7\x6B",
+        Form::Modified,
+        Outcome::Fault(InboundFault::BadAddress),
+    ),
+];
+
+/// Whole buffers of the other sizes, and one with a cell too few or too many.
+static SIZED_BUFFERS: [Row; 5] = [
+    Row::Buffer(
+        Model::M3,
+        &[BEGUN, (b"\xC1", 2558), (b"\x00", 1)],
+        Outcome::Cells(
+            169,
+            &[
+                (Shown::Attr(0xF0), 1),
+                (Shown::Char(0xC1), 2558),
+                (Shown::Char(0x00), 1),
+            ],
+        ),
+    ),
+    Row::Buffer(
+        Model::M4,
+        &[BEGUN, (b"\xC1", 3439)],
+        Outcome::Cells(169, &[(Shown::Attr(0xF0), 1), (Shown::Char(0xC1), 3439)]),
+    ),
+    Row::Buffer(
+        Model::M5,
+        &[BEGUN, (b"\xC1", 3563)],
+        Outcome::Cells(169, &[(Shown::Attr(0xF0), 1), (Shown::Char(0xC1), 3563)]),
+    ),
+    Row::Buffer(
+        Model::M5,
+        &[BEGUN, (b"\xC1", 3562)],
+        Outcome::Fault(InboundFault::Short),
+    ),
+    Row::Buffer(
+        Model::M5,
+        &[BEGUN, (b"\xC1", 3564)],
         Outcome::Fault(InboundFault::BadForm),
     ),
 ];
@@ -383,12 +496,14 @@ pub(crate) enum Check {
     FirstFault,
     EveryCell,
     OtherBuffers,
+    LastCells,
+    SizedBuffers,
     NoCell,
     Laws,
     Texts,
 }
 
-pub(crate) static CHECKS: [(&str, Check); 10] = [
+pub(crate) static CHECKS: [(&str, Check); 12] = [
     ("enter sends the modified fields", Check::Fields),
     ("a field that wraps comes last", Check::Wrapped),
     ("parts are in the order of the bytes", Check::InOrder),
@@ -399,6 +514,11 @@ pub(crate) static CHECKS: [(&str, Check); 10] = [
     ("the first fault is answered", Check::FirstFault),
     ("a buffer has every cell", Check::EveryCell),
     ("a buffer has no other number of cells", Check::OtherBuffers),
+    ("addresses are those of the screen's size", Check::LastCells),
+    (
+        "a buffer has the cells of the screen's size",
+        Check::SizedBuffers,
+    ),
     ("an address is no cell", Check::NoCell),
     ("laws do nothing", Check::Laws),
     ("faults are printed", Check::Texts),
@@ -414,6 +534,8 @@ impl Tried for Check {
             Check::FirstFault => all_so(report, &FAULTS),
             Check::EveryCell => all_so(report, &WHOLE_BUFFER),
             Check::OtherBuffers => all_so(report, &OTHER_BUFFERS),
+            Check::LastCells => all_so(report, &LAST_CELLS),
+            Check::SizedBuffers => all_so(report, &SIZED_BUFFERS),
             Check::NoCell => an_address_is_no_cell(report),
             Check::Laws => {
                 parts_are_fields();

@@ -5,6 +5,9 @@
 //! They are a library that a program runs, and no tests: a crate with tests is proved as a program, which loads all that it stands on.
 #![tactic(auto)]
 
+ghost use Rattle.std.specs.Prelude.{◌<◌};
+ghost use Rattle.codes3270.specs.Size.{cells_in};
+
 mod beliefs;
 mod bytes;
 mod codes;
@@ -19,11 +22,12 @@ mod pools;
 mod report;
 mod reports;
 mod screens;
+mod sizes;
 mod talks;
 mod terminals;
 mod wire;
 
-use codes3270::Addr;
+use codes3270::{Addr, Size};
 pub use former::{compare, compare_speed};
 use report::Report;
 pub use reports::compare_reports;
@@ -36,9 +40,13 @@ trait Tried {
     fn is_so(&self, report: &mut Report) -> bool;
 }
 
-/// The address of a place on the screen. The checks ask for no place beyond.
-fn at(place: u16) -> Addr {
-    match Addr::new(place) {
+/// The address of a place on a screen of a size. The checks ask for no place beyond.
+fn at(place: u16, size: Size) -> Addr
+    ensures { result < cells_in size }
+{
+    // For the contract: the screen has a first cell.
+    let _cells = size.cells();
+    match Addr::new(place, size) {
         Some(addr) => addr,
         None => Addr::first(),
     }
@@ -115,6 +123,7 @@ enum Seen {
     Paints,
     PanelTexts,
     Screens,
+    Sizes,
     Terminals,
 }
 
@@ -124,7 +133,7 @@ enum Library {
 }
 
 /// In the order in which they are tried.
-static LIBRARIES: [Library; 13] = [
+static LIBRARIES: [Library; 14] = [
     Library::Seen(Seen::Beliefs),
     Library::Sent(Sent::Codes),
     Library::Sent(Sent::Commands),
@@ -135,6 +144,7 @@ static LIBRARIES: [Library; 13] = [
     Library::Seen(Seen::PanelTexts),
     Library::Sent(Sent::Pools),
     Library::Seen(Seen::Screens),
+    Library::Seen(Seen::Sizes),
     Library::Sent(Sent::Talks),
     Library::Seen(Seen::Terminals),
     Library::Sent(Sent::Wire),
@@ -159,6 +169,7 @@ fn try_seen(rt: &(impl Print + AllocGlobal), library: &Seen) -> io::Result<bool>
         Seen::Paints => try_all(rt, "paints", &paints::CHECKS),
         Seen::PanelTexts => try_all(rt, "panel texts", &panel_texts::CHECKS),
         Seen::Screens => try_all(rt, "screens", &screens::CHECKS),
+        Seen::Sizes => try_all(rt, "sizes", &sizes::CHECKS),
         Seen::Terminals => try_all(rt, "terminals", &terminals::CHECKS),
     }
 }

@@ -2,6 +2,7 @@
 use crate::bytes::{Adds, Room, is_added};
 use crate::report::Report;
 use crate::{Tried, all_so, prints};
+use codes3270::Model;
 use telnet_wire::put_record;
 use tn3270e_msg::laws::{flag_laws, one_reading};
 use tn3270e_msg::{
@@ -30,6 +31,8 @@ enum Row {
     Device(&'static [u8], Option<Device>),
     /// The text of a device.
     DeviceText(Device, &'static [u8]),
+    /// The models of a device, and of the same with extended attributes; a terminal of this model is the former.
+    DeviceOf(Model, Device, Device),
     /// A payload is no message.
     NoMessage(&'static [u8], SubFault),
     /// Faults are printed so.
@@ -50,6 +53,11 @@ impl Tried for Row {
             Row::Name(bytes, name) => is_kept_as(report, bytes, *name),
             Row::Device(text, device) => report.same(device, &Device::read(text)),
             Row::DeviceText(device, text) => report.same_bytes(text, (*device).text()),
+            Row::DeviceOf(model, plain, extended) => {
+                report.same(plain, &Device::of(*model))
+                    && report.same(model, &(*plain).model())
+                    && report.same(model, &(*extended).model())
+            }
             Row::NoMessage(bytes, fault) => report.same(&Some(*fault), &read_sub(bytes).err()),
             Row::HeadText(fault, text) => prints(report, fault, text),
             Row::SubText(fault, text) => prints(report, fault, text),
@@ -176,7 +184,7 @@ static NAMES: [Row; 11] = [
     Row::Name(b"\xc1", None),
 ];
 
-static DEVICES: [Row; 11] = [
+static DEVICES: [Row; 15] = [
     Row::Device(b"IBM-3278-2", Some(Device::Model2)),
     Row::Device(b"ibm-3278-2-e", Some(Device::Model2E)),
     Row::Device(b"IBM-3278-3", Some(Device::Model3)),
@@ -188,6 +196,10 @@ static DEVICES: [Row; 11] = [
     Row::Device(b"IBM-3278-6", None),
     Row::Device(b"IBM-3279-2", None),
     Row::DeviceText(Device::Model5E, b"IBM-3278-5-E"),
+    Row::DeviceOf(Model::M2, Device::Model2, Device::Model2E),
+    Row::DeviceOf(Model::M3, Device::Model3, Device::Model3E),
+    Row::DeviceOf(Model::M4, Device::Model4, Device::Model4E),
+    Row::DeviceOf(Model::M5, Device::Model5, Device::Model5E),
 ];
 
 static NO_MESSAGES: [Row; 13] = [

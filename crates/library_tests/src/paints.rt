@@ -1,14 +1,18 @@
 //! Worked dialogues that end in a paint: the bytes that make of a screen that is believed the one that is wanted.
+ghost use Rattle.std.specs.Prelude.{◌≡◌};
+ghost use Rattle.std.specs.List.{list_any};
 ghost use Rattle.datastream.specs.Wanted.{IsProper};
+ghost use Rattle.shadow.specs.Fits.{is_keep, is_paintable};
 
 use crate::beliefs::{
-    SECOND_FIELD, SIGN_ON, Step, fact_at, follows, known_at, refuses, sign_on, take,
+    SECOND_FIELD, SIGN_ON, Step, fact_at, follows, known_at, refuses, sign_on, size_of, take,
+    take_on,
 };
 use crate::bytes::{Run, spelt};
 use crate::report::Report;
 use crate::{Tried, at};
-use codes3270::{Addr, Attr, CELL_COUNT, CELLS, Cell, storable};
-use datastream::{Form, Want, Wanted};
+use codes3270::{Attr, CELL_COUNT, Cell, Model, Size, storable};
+use datastream::{Form, Want, Wanted, Wants};
 use shadow::{Fact, HeardFault, Shadow};
 
 // ---- what is wanted
@@ -21,8 +25,9 @@ fn keep(wanted: &mut Wanted, from: u16, to: u16) {
 
 /// Wants each known cell as it is believed, with MDT off, and a null in each other cell.
 fn wanted_again(shadow: &Shadow) -> Wanted {
-    let mut wanted = Wanted::filled(Want::Char(0));
-    for place in 0..CELLS {
+    let size = size_of(shadow);
+    let mut wanted = Wanted::filled(Want::Char(0), size);
+    for place in 0..size.cells() {
         match known_at(shadow, place) {
             Some(Cell::Attr(attr)) => put(&mut wanted, place, Want::Attr(attr.with_mdt(false))),
             Some(Cell::Char(byte)) => put_char(&mut wanted, place, byte),
@@ -35,9 +40,15 @@ fn wanted_again(shadow: &Shadow) -> Wanted {
 fn put(wanted: &mut Wanted, place: u16, want: Want)
     requires { IsProper want }
 {
-    if place < CELLS {
-        wanted.put(place as usize, want);
+    if place < wanted.size().cells() {
+        wanted.put(usize::from(place), want);
     }
+}
+
+/// Sets where the cursor is wanted, and whether each MDT is reset.
+fn set_cursor(wanted: &mut Wanted, cursor: u16, reset: bool) {
+    let cursor = at(cursor, wanted.size());
+    wanted.set_cursor_and_reset(cursor, reset);
 }
 
 fn put_char(wanted: &mut Wanted, place: u16, byte: u8) {
@@ -58,7 +69,7 @@ fn put_text(wanted: &mut Wanted, from: u16, text: &[u8]) {
 fn with_text(shadow: &Shadow, from: u16, text: &[u8], cursor: u16, reset: bool) -> Wanted {
     let mut wanted = wanted_again(shadow);
     put_text(&mut wanted, from, text);
-    wanted.set_cursor_and_reset(at(cursor), reset);
+    set_cursor(&mut wanted, cursor, reset);
     wanted
 }
 
@@ -71,7 +82,7 @@ fn again(shadow: &Shadow) -> Wanted {
 fn keeping(to: u16) -> Wanted {
     let mut wanted = wanted_again(&sign_on());
     keep(&mut wanted, 167, to);
-    wanted.set_cursor_and_reset(at(167), false);
+    set_cursor(&mut wanted, 167, false);
     wanted
 }
 
@@ -81,15 +92,36 @@ fn sign_on_again(message: &[u8]) -> Wanted {
     keep(&mut wanted, 167, 175);
     keep(&mut wanted, 247, 251);
     put_text(&mut wanted, 1841, message);
-    wanted.set_cursor_and_reset(at(167), false);
+    set_cursor(&mut wanted, 167, false);
     wanted
 }
 
 // ---- what is painted
 
+/// Whether some cell is to be kept.
+fn keeps_any(cells: Wants<'_>) -> bool
+    ensures { result ≡ list_any is_keep cells.entry }
+{
+    for want in cells {
+        match want {
+            Want::Keep => return true,
+            Want::Attr(_) => {}
+            Want::Char(_) => {}
+        }
+    }
+    false
+}
+
+/// Whether a wanted screen can be painted: it fits what is believed, or keeps nothing.
+pub(crate) fn can_paint(shadow: &Shadow, wanted: &Wanted) -> bool
+    ensures { result ≡ is_paintable shadow.now wanted.now }
+{
+    !keeps_any(wanted.cells()) || shadow.fits(wanted)
+}
+
 /// Whether a wanted screen can be painted, and its bytes are added.
 fn is_painted(shadow: &Shadow, out: &mut Vec<u8>, wanted: &Wanted) -> bool {
-    shadow.fits(wanted) && shadow.paint(out, wanted).is_ok()
+    can_paint(shadow, wanted) && shadow.paint(out, wanted).is_ok()
 }
 
 /// Whether these bytes paint a wanted screen.
@@ -281,13 +313,13 @@ static ERASED_INPUT: [Step; 7] = [
 /// A panel that greets Ann, on a screen of nulls.
 fn greeting() -> Wanted {
     let label = Attr::from_code(0xF0);
-    let mut wanted = Wanted::filled(Want::Char(0));
+    let mut wanted = Wanted::filled(Want::Char(0), Size::base());
     put(&mut wanted, 0, Want::Attr(label));
     put_text(&mut wanted, 1, &[0xC8, 0xC5, 0xD3, 0xD3, 0xD6]);
     put(&mut wanted, 7, Want::Attr(label));
     put_text(&mut wanted, 8, &[0xC1, 0xD5, 0xD5]);
     put(&mut wanted, 1840, Want::Attr(Attr::from_code(0xF8)));
-    wanted.set_cursor_and_reset(Addr::first(), true);
+    set_cursor(&mut wanted, 0, true);
     wanted
 }
 
@@ -342,7 +374,7 @@ fn typed_again(shadow: &Shadow) -> Wanted {
     let mut wanted = wanted_again(shadow);
     keep(&mut wanted, 1, 3);
     put_text(&mut wanted, 1841, NOT_ACTIVE);
-    wanted.set_cursor_and_reset(at(1), false);
+    set_cursor(&mut wanted, 1, false);
     wanted
 }
 
@@ -354,6 +386,80 @@ fn a_field_that_may_be_null_is_read_first(report: &mut Report) -> bool {
     let bytes =
         b"\xF1\xC2\x11\x5C\xF1\xD2\xC5\xE8\x40\xD5\xD6\xE3\x40\xC1\xC3\xE3\xC9\xE5\xC5\x11\x40\xC1\x13";
     is_taken && follows(report, &mut shadow, &READ_FIRST) && paints(report, &shadow, &wanted, bytes)
+}
+
+// ---- other sizes
+
+/// A screen of a model's alternate size: nulls, an attribute at a place, and a character in the last cell.
+fn marked(model: Model, place: u16, last: u16) -> Wanted {
+    let mut wanted = Wanted::filled(Want::Char(0), model.alternate());
+    put(&mut wanted, place, Want::Attr(Attr::from_code(0xF8)));
+    put_char(&mut wanted, last, 0xC1);
+    set_cursor(&mut wanted, 0, false);
+    wanted
+}
+
+/// What paints such a screen of each model over one of another size.
+const MARKED_2: &[u8] = b"\xF5\xC2\x11\x5C\xF0\x1D\xF8\x11\x5D\x7F\xC1\x11\x40\x40\x13";
+
+const MARKED_3: &[u8] = b"\x7E\xC2\x11\xE6\xF0\x1D\xF8\x11\xE7\x7F\xC1\x11\x40\x40\x13";
+
+const MARKED_4: &[u8] = b"\x7E\xC2\x11\xF4\x60\x1D\xF8\x11\xF5\x6F\xC1\x11\x40\x40\x13";
+
+const MARKED_5: &[u8] = b"\x7E\xC2\x11\xF5\xE8\x1D\xF8\x11\xF7\x6B\xC1\x11\x40\x40\x13";
+
+/// Whether a screen of a model is painted so over another size, and then only the cursor over itself.
+fn replaces(
+    report: &mut Report,
+    shadow: &mut Shadow,
+    model: Model,
+    wanted: &Wanted,
+    bytes: &[u8],
+) -> bool {
+    report.holds("the sizes differ", !shadow.fits(wanted))
+        && paints(report, shadow, wanted, bytes)
+        && take_on(shadow, model, bytes)
+        && paints(report, shadow, wanted, b"\xF1\xC2\x11\x40\x40\x13")
+}
+
+fn another_size_is_erased(report: &mut Report) -> bool {
+    let mut shadow = sign_on();
+    paints(
+        report,
+        &Shadow::blank(),
+        &marked(Model::M5, 3432, 3563),
+        MARKED_5,
+    ) && replaces(
+        report,
+        &mut shadow,
+        Model::M3,
+        &marked(Model::M3, 2480, 2559),
+        MARKED_3,
+    ) && replaces(
+        report,
+        &mut shadow,
+        Model::M3,
+        &marked(Model::M2, 1840, 1919),
+        MARKED_2,
+    ) && replaces(
+        report,
+        &mut shadow,
+        Model::M4,
+        &marked(Model::M4, 3360, 3439),
+        MARKED_4,
+    ) && replaces(
+        report,
+        &mut shadow,
+        Model::M5,
+        &marked(Model::M5, 3432, 3563),
+        MARKED_5,
+    ) && replaces(
+        report,
+        &mut shadow,
+        Model::M2,
+        &marked(Model::M2, 1840, 1919),
+        MARKED_2,
+    )
 }
 
 // ---- memory
@@ -432,9 +538,10 @@ pub(crate) enum Check {
     MaybeNull,
     Appends,
     OpenMdt,
+    AnotherSize,
 }
 
-pub(crate) static CHECKS: [(&str, Check); 12] = [
+pub(crate) static CHECKS: [(&str, Check); 13] = [
     ("a screen of attributes is read", Check::Attributes),
     ("a screen of characters is read", Check::Characters),
     ("a text with a gap is painted anew", Check::Gap),
@@ -450,6 +557,7 @@ pub(crate) static CHECKS: [(&str, Check); 12] = [
         Check::Appends,
     ),
     ("after an attention mdt is open", Check::OpenMdt),
+    ("another size is erased", Check::AnotherSize),
 ];
 
 impl Tried for Check {
@@ -467,6 +575,7 @@ impl Tried for Check {
             Check::MaybeNull => a_field_that_may_be_null_is_read_first(report),
             Check::Appends => a_paint_appends_its_bytes_or_changes_nothing(report),
             Check::OpenMdt => after_an_attention_mdt_is_open(report),
+            Check::AnotherSize => another_size_is_erased(report),
         }
     }
 }

@@ -119,9 +119,10 @@ pub(crate) enum Check {
     Attributes,
     LastCells,
     Values,
+    Models,
 }
 
-pub(crate) static CHECKS: [(&str, Check); 14] = [
+pub(crate) static CHECKS: [(&str, Check); 15] = [
     ("a fault has its place", Check::Place),
     ("values are kept", Check::Kept),
     ("a copy learns alone", Check::Copy),
@@ -136,6 +137,7 @@ pub(crate) static CHECKS: [(&str, Check); 14] = [
     ("fields have their attributes and fills", Check::Attributes),
     ("a field may end before the message", Check::LastCells),
     ("fields are written from their values", Check::Values),
+    ("a panel is laid out on its model's screen", Check::Models),
 ];
 
 impl Tried for Check {
@@ -155,6 +157,7 @@ impl Tried for Check {
             Check::Attributes => screens::FIELDS_SHOWN.is_so(report),
             Check::LastCells => screens::LAST_CELLS_SHOWN.is_so(report),
             Check::Values => screens::VALUES_SHOWN.is_so(report),
+            Check::Models => screens::MODELS_SHOWN.is_so(report),
         }
     }
 }

@@ -8,16 +8,16 @@ use crate::beliefs::SIGN_ON;
 use crate::bytes::{Adds, Room, is_added};
 use crate::report::Report;
 use crate::{Tried, at};
-use by_search::is_as_searched;
-use codes3270::{CELL_COUNT, storable};
+pub(crate) use by_search::is_as_searched;
+use codes3270::{CELL_COUNT, Model, storable};
 use datastream::read_command;
 use presentation::{Applied, Field, Screen};
 
 // ---- what is asked of a screen
 
-/// What a command asks for; None if the bytes spell no command.
-fn obey(screen: &mut Screen, command: &[u8]) -> Option<Applied> {
-    match read_command(command) {
+/// What a command asks for; None if the bytes spell no command for a screen of this size.
+pub(crate) fn obey(screen: &mut Screen, command: &[u8]) -> Option<Applied> {
+    match read_command(command, screen.size(), screen.model().alternate()) {
         Ok(command) => Some(screen.apply(&command)),
         Err(_) => None,
     }
@@ -33,27 +33,41 @@ fn obeys(screen: &mut Screen, command: &[u8], count: usize) -> bool {
     true
 }
 
+/// Stores a character in a cell that holds one.
+pub(crate) fn store(screen: &mut Screen, place: u16, code: u8) {
+    let here = at(place, screen.size());
+    if screen.cell(here).is_character() && storable(code) {
+        screen.set_char(here, code);
+    }
+}
+
+/// Sets MDT in the field of a cell.
+pub(crate) fn mark(screen: &mut Screen, place: u16) {
+    let here = at(place, screen.size());
+    if let Some(field) = screen.field_at(here) {
+        let attr = at(field.attr.get(), screen.size());
+        if !screen.cell(attr).is_character() {
+            screen.set_mdt(attr);
+        }
+    }
+}
+
 /// Types characters as keys would: stores them from a place on, and sets MDT in their field.
 fn type_at(screen: &mut Screen, place: u16, codes: &[u8]) {
-    let first = at(place);
-    let mut next = first;
+    let mut next = place;
     for code in codes {
-        if screen.cell(next).is_character() && storable(*code) {
-            screen.set_char(next, *code);
-        }
-        next = next.next();
+        store(screen, next, *code);
+        next = next.saturating_add(1) % screen.size().cells();
     }
-    if let Some(field) = screen.field_at(first) {
-        screen.set_mdt(field.attr);
-    }
+    mark(screen, place);
 }
 
 /// The address of a field's attribute, and how many cells it has.
 type Extent = (u16, u16);
 
-fn field(extent: &Extent) -> Field {
+fn field(screen: &Screen, extent: &Extent) -> Field {
     Field {
-        attr: at(extent.0),
+        attr: at(extent.0, screen.size()),
         length: extent.1,
     }
 }
@@ -62,17 +76,31 @@ fn field(extent: &Extent) -> Field {
 fn lists(report: &mut Report, screen: &Screen, extents: &[Extent]) -> bool {
     let mut fields = screen.fields();
     for extent in extents {
-        if !report.same(&Some(field(extent)), &fields.next()) {
+        if !report.same(&Some(field(screen, extent)), &fields.next()) {
             return false;
         }
     }
     report.same(&None, &fields.next())
 }
 
+/// Whether two screens have the same model, size, cursor, AID and cells.
+pub(crate) fn are_same(one: &Screen, other: &Screen) -> bool {
+    let (size, other_size) = (one.size(), other.size());
+    for place in 0..size.cells() {
+        if one.cell(at(place, size)) != other.cell(at(place, other_size)) {
+            return false;
+        }
+    }
+    one.model() == other.model()
+        && size == other_size
+        && one.cursor() == other.cursor()
+        && one.aid() == other.aid()
+}
+
 /// Whether a copy, if there is memory for one, is the same as the screen.
 fn is_copied(screen: &Screen) -> bool {
     match screen.clone() {
-        Ok(copy) => copy == *screen,
+        Ok(copy) => are_same(&copy, screen),
         Err(_) => true,
     }
 }
@@ -143,9 +171,10 @@ fn is_so(report: &mut Report, screen: &mut Screen, step: &Step) -> bool {
         }
         Step::Fields(extents) => lists(report, screen, extents),
         Step::Field(place, extent) => {
-            report.same(&Some(field(extent)), &screen.field_at(at(*place)))
+            let found = screen.field_at(at(*place, screen.size()));
+            report.same(&Some(field(screen, extent)), &found)
         }
-        Step::NoField(place) => report.same(&None, &screen.field_at(at(*place))),
+        Step::NoField(place) => { report.same(&None, &screen.field_at(at(*place, screen.size()))) }
         Step::Searched => is_as_searched(report, screen),
         Step::Copied => report.holds("a copy is the same", is_copied(screen)),
         Step::Modified(bytes) => {
@@ -169,7 +198,7 @@ fn follows(report: &mut Report, screen: &mut Screen, steps: &[Step]) -> bool {
 /// Whether each dialogue is so, with a blank screen.
 fn begin(report: &mut Report, dialogues: &[&[Step]]) -> bool {
     for (index, steps) in dialogues.iter().enumerate() {
-        if !follows(report, &mut Screen::blank(), steps) {
+        if !follows(report, &mut Screen::blank(Model::M2), steps) {
             return report.differs_at("dialogue", index);
         }
     }

@@ -2,6 +2,7 @@
 //! talk answers its cause again. trials3270's dialogues have what is sent, the phase after it and why an end closes, byte for byte.
 use crate::Tried;
 use crate::report::Report;
+use codes3270::Model;
 use telnet_wire::{Item, Verb};
 use tn3270e_msg::laws::talks_agree;
 use tn3270e_msg::{Cause, Device, HostTalk, Lu, Reply, TermTalk};
@@ -24,6 +25,7 @@ fn has_device_and_lu(report: &mut Report, host: &mut HostTalk, lu: Lu) -> bool {
     let _ = host.take(&Item::Sub(b"\x28\x03\x07\x02"));
     report.holds("a host that asks has no device", has_none)
         && report.same(&Some(Device::Model2), &host.device())
+        && report.same(&Some(Model::M2), &host.model())
         && report.same(&Some(lu), &host.lu())
 }
 
@@ -38,6 +40,7 @@ fn has_neither(report: &mut Report, host: &mut HostTalk) -> bool {
             host.take(&tn3270e(Verb::Will)) == CLOSED,
         )
         && report.same(&None, &host.device())
+        && report.same(&None, &host.model())
         && report.same(&None, &host.lu())
 }
 
@@ -76,7 +79,11 @@ fn has_its_lu(report: &mut Report, granted: &mut TermTalk, refused: &mut TermTal
 }
 
 fn a_terminal_has_the_lu_that_it_is_granted(report: &mut Report) -> bool {
-    has_its_lu(report, &mut TermTalk::new(None), &mut TermTalk::new(None))
+    has_its_lu(
+        report,
+        &mut TermTalk::new(Model::M2, None),
+        &mut TermTalk::new(Model::M2, None),
+    )
 }
 
 /// What is tried here.

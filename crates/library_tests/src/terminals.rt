@@ -1,11 +1,12 @@
-//! Growths refused in turn. The dialogues of `trials3270` have what a terminal shows and sends, byte for byte.
+//! Growths refused in turn, and what the size of a model shows and sends. The dialogues of `trials3270` have what a terminal shows and sends, byte for byte.
 //!
 //! In an ordinary run no growth is refused. `rt try --fail-alloc N -- libraries` in crates/trials3270 refuses the Nth one. The helpers then
 //! ask again, and the checks hold for each N.
 
 use crate::Tried;
 use crate::report::Report;
-use codes3270::Aid;
+use crate::screens::are_same;
+use codes3270::{Aid, Model};
 use keyboard::{Key, Pressed};
 use std::alloc::Global;
 use telnet_wire::Memory;
@@ -62,11 +63,11 @@ const READ_BUFFER: &[u8] = b"\x00\x00\x00\x00\x01\xf2\xff\xef";
 const READ_AND_SHOW_HI: &[u8] = b"\x00\x00\x00\x00\x01\xf2\xff\xef\
 \x00\x00\x02\x00\x00\xf5\xc3\x11\x40\x40\x1d\x60\xc8\xc9\x1d\x40\x13\xff\xef";
 
-/// A terminal that isn't attached.
-fn new_terminal(alloc: Global) -> Result<Terminal, Memory> {
-    match Terminal::new(alloc) {
+/// A terminal of a model that isn't attached; if memory is refused, another is made.
+fn new_terminal(alloc: Global, model: Model) -> Result<Terminal, Memory> {
+    match Terminal::new(alloc, model) {
         Ok(terminal) => Ok(terminal),
-        Err(_) => Terminal::new(alloc),
+        Err(_) => Terminal::new(alloc, model),
     }
 }
 
@@ -107,7 +108,7 @@ fn same(report: &mut Report, one: &Terminal, other: &Terminal) -> bool {
         && report.same_bytes(other.out(), one.out())
         && report.holds(
             "screens of twins are the same",
-            one.screen() == other.screen(),
+            are_same(one.screen(), other.screen()),
         )
 }
 
@@ -189,14 +190,14 @@ fn stay_alike(report: &mut Report, terminal: &mut Terminal, twin: &mut Terminal)
 }
 
 fn has_a_twin(report: &mut Report, terminal: &mut Terminal) -> bool {
-    match new_terminal(report.alloc) {
+    match new_terminal(report.alloc, Model::M2) {
         Ok(mut twin) => stay_alike(report, terminal, &mut twin),
         Err(_) => false,
     }
 }
 
 fn a_refused_growth_changes_nothing(report: &mut Report) -> bool {
-    match new_terminal(report.alloc) {
+    match new_terminal(report.alloc, Model::M2) {
         Ok(mut terminal) => has_a_twin(report, &mut terminal),
         Err(_) => false,
     }
@@ -225,20 +226,168 @@ fn shows_each_time(report: &mut Report, terminal: &mut Terminal) -> bool {
     done
 }
 
-/// Whether it shows `HI`; if memory is refused the call is repeated.
-fn shows_hi(report: &mut Report, terminal: &Terminal) -> bool {
+/// Whether it shows this; if memory is refused the call is repeated.
+fn shows(report: &mut Report, terminal: &Terminal, wanted: &str) -> bool {
     match terminal.screen_text(report.alloc) {
-        Ok(text) => report.same(&HI_SHOWN, &text.as_str()),
+        Ok(text) => report.same(&wanted, &text.as_str()),
         Err(_) => match terminal.screen_text(report.alloc) {
-            Ok(text) => report.same(&HI_SHOWN, &text.as_str()),
+            Ok(text) => report.same(&wanted, &text.as_str()),
             Err(_) => false,
         },
     }
 }
 
 fn bytes_are_fed_again_after_a_refused_growth(report: &mut Report) -> bool {
-    match new_terminal(report.alloc) {
-        Ok(mut terminal) => shows_each_time(report, &mut terminal) && shows_hi(report, &terminal),
+    match new_terminal(report.alloc, Model::M2) {
+        Ok(mut terminal) => shows_each_time(report, &mut terminal)
+            && shows(report, &terminal, HI_SHOWN),
+        Err(_) => false,
+    }
+}
+
+// ---- models
+
+/// What is done at a terminal, and what it then has to send.
+enum Act {
+    Feed(&'static [u8], &'static [u8]),
+    Down,
+    Enter(&'static [u8]),
+}
+
+/// Whether it has these bytes to send, which are then sent.
+fn sends(report: &mut Report, terminal: &mut Terminal, bytes: &[u8]) -> bool {
+    let is_so = report.same_bytes(bytes, terminal.out());
+    let count = terminal.out().len();
+    terminal.sent(count);
+    is_so
+}
+
+fn acts(report: &mut Report, terminal: &mut Terminal, act: &Act) -> bool {
+    match act {
+        Act::Feed(bytes, answer) => {
+            feed(terminal, bytes);
+            sends(report, terminal, answer)
+        }
+        Act::Down => press(terminal, Key::CursorDown).is_ok() && sends(report, terminal, b""),
+        Act::Enter(data) => press(terminal, Key::Enter).is_ok() && sends(report, terminal, data),
+    }
+}
+
+/// Whether a terminal that asks for no LU does so, in turn.
+fn follows(report: &mut Report, terminal: &mut Terminal, acts_in_turn: &[Act]) -> bool {
+    if let TermPhase::Idle = terminal.phase() {
+        terminal.connected(None);
+    }
+    for (index, act) in acts_in_turn.iter().enumerate() {
+        if !acts(report, terminal, act) {
+            return report.differs_at("act", index);
+        }
+    }
+    true
+}
+
+/// A terminal of model 3: a character in the last cell of its alternate size, and two commands that are refused with
+/// OPERATION-CHECK, as the size that would hold after them has no such cell.
+static MODEL_3: [Act; 7] = [
+    Act::Feed(b"\xff\xfd\x28", b"\xff\xfb\x28"),
+    Act::Feed(
+        b"\xff\xfa\x28\x08\x02\xff\xf0",
+        b"\xff\xfa\x28\x02\x07\x49\x42\x4D\x2D\x33\x32\x37\x38\x2D\x33\xff\xf0",
+    ),
+    Act::Feed(
+        b"\xff\xfa\x28\x02\x04IBM-3278-3\x01PNL01\xff\xf0",
+        b"\xff\xfa\x28\x03\x07\x02\xff\xf0",
+    ),
+    Act::Feed(b"\xff\xfa\x28\x03\x04\x02\xff\xf0", b""),
+    Act::Feed(
+        b"\x00\x00\x02\x00\x00\x7E\xC3\x11\xE7\x7F\xC1\x13\xff\xef",
+        b"\x02\x00\x00\x00\x00\x00\xff\xef",
+    ),
+    Act::Feed(
+        b"\x00\x00\x02\x00\x01\xF1\xC3\x11\xE8\x40\xC1\xff\xef",
+        b"\x02\x00\x01\x00\x01\x02\xff\xef",
+    ),
+    Act::Feed(
+        b"\x00\x00\x02\x00\x02\xF5\xC3\x11\xE7\x7F\xC1\xff\xef",
+        b"\x02\x00\x01\x00\x02\x02\xff\xef",
+    ),
+];
+
+/// 32 lines, the last with a character in its last column.
+const LAST_CELL_SHOWN: &str = "
+
+
+
+
+
+
+
+
+
+
+
+
+
+
+
+
+
+
+
+
+
+
+
+
+
+
+
+
+
+
+                                                                               A
+cursor 0 lock free aid 60
+";
+
+/// A terminal of model 5: its rows have 132 cells.
+static MODEL_5: [Act; 7] = [
+    Act::Feed(b"\xff\xfd\x28", b"\xff\xfb\x28"),
+    Act::Feed(
+        b"\xff\xfa\x28\x08\x02\xff\xf0",
+        b"\xff\xfa\x28\x02\x07IBM-3278-5\xff\xf0",
+    ),
+    Act::Feed(
+        b"\xff\xfa\x28\x02\x04IBM-3278-5\x01PNL01\xff\xf0",
+        b"\xff\xfa\x28\x03\x07\x02\xff\xf0",
+    ),
+    Act::Feed(b"\xff\xfa\x28\x03\x04\x02\xff\xf0", b""),
+    Act::Feed(
+        b"\x00\x00\x00\x00\x00\x7E\xC3\x1D\x40\x11\x40\x40\x13\xff\xef",
+        b"",
+    ),
+    Act::Down,
+    Act::Enter(b"\x00\x00\x00\x00\x00\x7D\xC2\xC4\xff\xef"),
+];
+
+fn follows_and_shows(
+    report: &mut Report,
+    terminal: &mut Terminal,
+    acts_in_turn: &[Act],
+    text: &str,
+) -> bool {
+    follows(report, terminal, acts_in_turn) && shows(report, terminal, text)
+}
+
+fn a_model_3_has_32_rows(report: &mut Report) -> bool {
+    match new_terminal(report.alloc, Model::M3) {
+        Ok(mut terminal) => { follows_and_shows(report, &mut terminal, &MODEL_3, LAST_CELL_SHOWN) }
+        Err(_) => false,
+    }
+}
+
+fn a_model_5_has_132_columns(report: &mut Report) -> bool {
+    match new_terminal(report.alloc, Model::M5) {
+        Ok(mut terminal) => follows(report, &mut terminal, &MODEL_5),
         Err(_) => false,
     }
 }
@@ -247,14 +396,18 @@ fn bytes_are_fed_again_after_a_refused_growth(report: &mut Report) -> bool {
 pub(crate) enum Check {
     RefusedGrowth,
     FedAgain,
+    Model3,
+    Model5,
 }
 
-pub(crate) static CHECKS: [(&str, Check); 2] = [
+pub(crate) static CHECKS: [(&str, Check); 4] = [
     ("a refused growth changes nothing", Check::RefusedGrowth),
     (
         "bytes are fed again after a refused growth",
         Check::FedAgain,
     ),
+    ("a model 3 has 32 rows", Check::Model3),
+    ("a model 5 has 132 columns", Check::Model5),
 ];
 
 impl Tried for Check {
@@ -262,6 +415,8 @@ impl Tried for Check {
         match self {
             Check::RefusedGrowth => a_refused_growth_changes_nothing(report),
             Check::FedAgain => bytes_are_fed_again_after_a_refused_growth(report),
+            Check::Model3 => a_model_3_has_32_rows(report),
+            Check::Model5 => a_model_5_has_132_columns(report),
         }
     }
 }

@@ -1,11 +1,14 @@
 //! What former and present take, side by side, in nanoseconds.
+use crate::at;
+use crate::beliefs::{hear_inbound, known_at, take_command};
 use crate::former::bodies::FormerWanted;
 use crate::former::subjects::Subjects;
 use crate::former::wanting::{Wanting, put, wanted_of};
-use codes3270::{Addr, Aid, Attr, CELLS, Display, PaNo, Wcc};
+use crate::paints::can_paint;
+use crate::screens::obey;
+use codes3270::{Addr, Aid, Attr, CELLS, Display, PaNo, Size, Wcc};
 use datastream::{
-    Command, CommandCode, CommandWriter, Form, Inbound, Memory, Want, Wanted, read_command,
-    read_inbound,
+    CommandCode, CommandWriter, Form, Inbound, Memory, Want, Wanted, read_command, read_inbound,
 };
 use shadow::plain;
 use std::alloc::Global;
@@ -67,7 +70,8 @@ fn command_of(alloc: Global, fields: u16) -> Result<Vec<u8>, Memory> {
 #[derive(Clone, Copy)]
 enum Act<'a> {
     Hear(&'a Inbound<'a>),
-    Apply(&'a Command<'a>),
+    /// Reads a command for the screen, and applies it.
+    Apply(&'a [u8]),
     Walk(Walk),
 }
 
@@ -86,8 +90,10 @@ fn once_formerly(subjects: &mut Subjects, act: Act<'_>) -> usize {
             let _heard = subjects.former_shadow.heard(inbound);
             0
         }
-        Act::Apply(command) => {
-            let _applied = subjects.former_screen.apply(command);
+        Act::Apply(bytes) => {
+            if let Ok(command) = read_command(bytes, Size::base(), Size::base()) {
+                let _applied = subjects.former_screen.apply(&command);
+            }
             0
         }
         Act::Walk(walk) => walk_formerly(subjects, walk),
@@ -98,11 +104,11 @@ fn once_formerly(subjects: &mut Subjects, act: Act<'_>) -> usize {
 fn once_now(subjects: &mut Subjects, act: Act<'_>) -> usize {
     match act {
         Act::Hear(inbound) => {
-            let _heard = subjects.shadow.heard(inbound);
+            let _heard = hear_inbound(&mut subjects.shadow, inbound);
             0
         }
-        Act::Apply(command) => {
-            let _applied = subjects.screen.apply(command);
+        Act::Apply(bytes) => {
+            let _applied = obey(&mut subjects.screen, bytes);
             0
         }
         Act::Walk(walk) => walk_now(subjects, walk),
@@ -146,7 +152,7 @@ fn hears_form(
 ) -> io::Result<()> {
     let mut bytes = Vec::new(rt.alloc());
     subjects.put_answer(&mut bytes, form)?;
-    match read_inbound(bytes.as_slice(), form) {
+    match read_inbound(bytes.as_slice(), form, Size::base()) {
         Ok(inbound) => measure(rt, what, fields, ROUNDS, subjects, Act::Hear(&inbound)),
         Err(_) => Ok(()),
     }
@@ -159,7 +165,7 @@ fn takes(
     subjects: &mut Subjects,
     bytes: &[u8],
 ) -> io::Result<()> {
-    let Ok(command) = read_command(bytes) else {
+    let Ok(command) = read_command(bytes, Size::base(), Size::base()) else {
         return Ok(());
     };
     if !plain(&command) {
@@ -172,7 +178,7 @@ fn takes(
     let former = start.elapsed(rt)?;
     let start = Instant::now(rt)?;
     for _ in 0..ROUNDS {
-        subjects.shadow.sent_taken(&command);
+        let _taken = take_command(&mut subjects.shadow, &command);
     }
     let present = start.elapsed(rt)?;
     tell(rt, what, fields, ROUNDS, former, present)
@@ -190,7 +196,7 @@ fn changed(subjects: &Subjects, cells: u16) -> Wanted {
 fn paints(rt: &HostRuntime, subjects: &Subjects, cells: u16) -> io::Result<()> {
     let wanted = changed(subjects, cells);
     let former_wanted = FormerWanted::new(&wanted);
-    if !subjects.shadow.fits(&wanted) {
+    if !can_paint(&subjects.shadow, &wanted) {
         return Ok(());
     }
     let mut out = Vec::new(rt.alloc());
@@ -217,29 +223,30 @@ fn paints(rt: &HostRuntime, subjects: &Subjects, cells: u16) -> io::Result<()> {
 }
 
 /// Whether a walk counts a cell, by former bodies.
-fn counts_formerly(subjects: &Subjects, walk: Walk, at: Addr) -> bool {
+fn counts_formerly(subjects: &Subjects, walk: Walk, place: u16) -> bool {
     match walk {
-        Walk::Known => subjects.former_shadow.known(at).is_some(),
-        Walk::Fields => subjects.former_screen.field_at(at.get()).is_some(),
-        Walk::Printed => subjects.former_screen.glyph_at(at.get()) != ' ',
+        Walk::Known => subjects.former_shadow.known(place).is_some(),
+        Walk::Fields => subjects.former_screen.field_at(place).is_some(),
+        Walk::Printed => subjects.former_screen.glyph_at(place) != ' ',
     }
 }
 
 fn walk_formerly(subjects: &Subjects, walk: Walk) -> usize {
     let mut count = 0usize;
     for place in 0..CELLS {
-        let counts = counts_formerly(subjects, walk, Addr::first().forward(place));
+        let counts = counts_formerly(subjects, walk, place);
         count = count.saturating_add(usize::from(counts));
     }
     count
 }
 
 /// Whether a walk counts a cell.
-fn counts_now(subjects: &Subjects, walk: Walk, at: Addr) -> bool {
+fn counts_now(subjects: &Subjects, walk: Walk, place: u16) -> bool {
+    let screen = &subjects.screen;
     match walk {
-        Walk::Known => subjects.shadow.known(at).is_some(),
-        Walk::Fields => subjects.screen.field_at(at).is_some(),
-        Walk::Printed => subjects.screen.glyph_at(at) != ' ',
+        Walk::Known => known_at(&subjects.shadow, place).is_some(),
+        Walk::Fields => screen.field_at(at(place, screen.size())).is_some(),
+        Walk::Printed => screen.glyph_at(at(place, screen.size())) != ' ',
     }
 }
 
@@ -258,7 +265,7 @@ fn walk_now(subjects: &Subjects, walk: Walk) -> usize {
     }
     let mut count = 0usize;
     for place in 0..CELLS {
-        let counts = counts_now(subjects, walk, Addr::first().forward(place));
+        let counts = counts_now(subjects, walk, place);
         count = count.saturating_add(usize::from(counts));
     }
     count
@@ -272,16 +279,14 @@ fn figures_of(rt: &HostRuntime, subjects: &mut Subjects, fields: u16) -> io::Res
     let bytes = command_of(rt.alloc(), fields)?;
     subjects.begin();
     let _alike = subjects.write(bytes.as_slice());
-    if let Ok(command) = read_command(bytes.as_slice()) {
-        measure(
-            rt,
-            "apply, fields",
-            fields,
-            ROUNDS,
-            subjects,
-            Act::Apply(&command),
-        )?;
-    }
+    measure(
+        rt,
+        "read and apply, fields",
+        fields,
+        ROUNDS,
+        subjects,
+        Act::Apply(bytes.as_slice()),
+    )?;
     takes(
         rt,
         "sent_taken, Erase/Write, fields",

@@ -1,7 +1,10 @@
 //! Whether former and present answer the same.
+use crate::at;
+use crate::beliefs::{fact_at, known_at, value_at};
 use crate::former::bodies::{FormerScreen, FormerShadow, FormerWanted, Known, known_in};
 use crate::former::wanting::{WANTINGS, wanted_of};
-use codes3270::{Addr, CELLS};
+use crate::paints::can_paint;
+use codes3270::{CELLS, Size};
 use datastream::{Memory, Wanted};
 use presentation::Screen;
 use shadow::{Fact, Shadow};
@@ -50,10 +53,10 @@ impl Answers {
 }
 
 /// The text that a fact speaks of, character by character.
-fn texts_alike(former: &FormerShadow, shadow: &Shadow, at: Addr) -> Alike {
+fn texts_alike(former: &FormerShadow, shadow: &Shadow, place: u16) -> Alike {
     for index in 0..usize::from(CELLS) {
-        let value = shadow.value(at, index);
-        alike_at(former.value(at, index) == value, "value", at.get())?;
+        let value = value_at(shadow, place, index);
+        alike_at(former.value(place, index) == value, "value", place)?;
         if value.is_none() {
             return Ok(());
         }
@@ -66,13 +69,13 @@ fn otherwise_at(
     former: &FormerShadow,
     cells: &[Known],
     shadow: &Shadow,
-    at: Addr,
+    place: u16,
 ) -> Option<&'static str> {
-    if known_in(cells, usize::from(at.get())) != shadow.known(at) {
+    if known_in(cells, usize::from(place)) != known_at(shadow, place) {
         Some("known")
-    } else if former.fact(at) != shadow.fact(at) {
+    } else if former.fact(place) != fact_at(shadow, place) {
         Some("fact")
-    } else if former.value(at, 0) != shadow.value(at, 0) {
+    } else if former.value(place, 0) != value_at(shadow, place, 0) {
         Some("value")
     } else {
         None
@@ -80,17 +83,18 @@ fn otherwise_at(
 }
 
 /// What is believed of a cell, and of the field whose attribute is there. The characters of an exact field are known, cell by cell.
-fn facts_alike_at(former: &FormerShadow, cells: &[Known], shadow: &Shadow, at: Addr) -> Alike {
-    match (otherwise_at(former, cells, shadow, at), shadow.fact(at)) {
-        (Some(what), _) => alike_at(false, what, at.get()),
+fn facts_alike_at(former: &FormerShadow, cells: &[Known], shadow: &Shadow, place: u16) -> Alike {
+    let otherwise = otherwise_at(former, cells, shadow, place);
+    match (otherwise, fact_at(shadow, place)) {
+        (Some(what), _) => alike_at(false, what, place),
         (None, None | Some(Fact::Exact)) => Ok(()),
-        (None, Some(_)) => texts_alike(former, shadow, at),
+        (None, Some(_)) => texts_alike(former, shadow, place),
     }
 }
 
 fn facts_alike(former: &FormerShadow, cells: &[Known], shadow: &Shadow) -> Alike {
     for place in 0..CELLS {
-        facts_alike_at(former, cells, shadow, Addr::first().forward(place))?;
+        facts_alike_at(former, cells, shadow, place)?;
     }
     Ok(())
 }
@@ -105,10 +109,10 @@ fn paints_alike(
     answers.clear();
     let former_wanted = FormerWanted::new(wanted);
     let former_fits = former.fits(&former_wanted);
-    if !shadow.fits(wanted) {
-        return alike_at(!former_fits, "fits", 0);
+    alike_at(former_fits == shadow.fits(wanted), "fits", 0)?;
+    if !former_fits || !can_paint(shadow, wanted) {
+        return Ok(());
     }
-    alike_at(former_fits, "fits", 0)?;
     let former_put = former.paint(&mut answers.former, &former_wanted);
     let put = shadow.paint(&mut answers.present, wanted);
     answers.alike(former_put, put, "paint")
@@ -129,22 +133,22 @@ pub(crate) fn beliefs_alike(
 }
 
 /// The field of a cell: its attribute's place, and its length.
-fn field_of(screen: &Screen, at: Addr) -> Option<(u16, usize)> {
-    match screen.field_at(at) {
+fn field_of(screen: &Screen, place: u16) -> Option<(u16, usize)> {
+    match screen.field_at(at(place, screen.size())) {
         Some(field) => Some((field.attr.get(), usize::from(field.length))),
         None => None,
     }
 }
 
 /// A cell, what is printed of it, alone and among all, and its field.
-fn cell_alike(former: &FormerScreen, screen: &Screen, at: Addr, printed: Option<char>) -> Alike {
-    let place = at.get();
+fn cell_alike(former: &FormerScreen, screen: &Screen, place: u16, printed: Option<char>) -> Alike {
+    let here = at(place, screen.size());
     let glyph = former.glyph_at(place);
-    alike_at(former.cell(place) == screen.cell(at), "cell", place)?;
-    alike_at(glyph == screen.glyph_at(at), "glyph", place)?;
+    alike_at(former.cell(place) == screen.cell(here), "cell", place)?;
+    alike_at(glyph == screen.glyph_at(here), "glyph", place)?;
     alike_at(printed == Some(glyph), "glyphs", place)?;
     alike_at(
-        former.field_at(place) == field_of(screen, at),
+        former.field_at(place) == field_of(screen, place),
         "field at",
         place,
     )
@@ -153,7 +157,7 @@ fn cell_alike(former: &FormerScreen, screen: &Screen, at: Addr, printed: Option<
 fn cells_alike(former: &FormerScreen, screen: &Screen) -> Alike {
     let mut glyphs = screen.glyphs();
     for place in 0..CELLS {
-        cell_alike(former, screen, Addr::first().forward(place), glyphs.next())?;
+        cell_alike(former, screen, place, glyphs.next())?;
     }
     Ok(())
 }
@@ -206,6 +210,7 @@ pub(crate) fn screens_alike(
     )?;
     alike_at(former.aid == screen.aid(), "AID", 0)?;
     alike_at(former.home() == screen.home().get(), "home", former.home())?;
+    alike_at(screen.size() == Size::base(), "size", 0)?;
     cells_alike(former, screen)?;
     fields_alike(former, screen)?;
     reads_alike(former, screen, answers)

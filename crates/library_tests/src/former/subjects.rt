@@ -1,9 +1,12 @@
 //! Former and present, side by side.
+use crate::at;
+use crate::beliefs::{hear, take};
 use crate::former::bodies::{FormerScreen, FormerShadow};
 use crate::former::likeness::{Alike, Answers, alike_at, beliefs_alike, screens_alike};
 use crate::former::script::Step;
-use codes3270::{Addr, Cell, addr_from_bytes, aid_from_byte, storable};
-use datastream::{Command, Form, Memory, read_command, read_inbound};
+use crate::screens::{mark, obey, store};
+use codes3270::{CELLS, Cell, Model, Size, addr_from_bytes, aid_from_byte, storable};
+use datastream::{Form, Memory, read_command, read_inbound};
 use presentation::Screen;
 use shadow::{Shadow, plain};
 use std::alloc::Global;
@@ -40,7 +43,7 @@ impl Subjects {
             former_shadow: FormerShadow::Nothing,
             shadow: Shadow::blank(),
             former_screen: FormerScreen::blank(),
-            screen: Screen::blank(),
+            screen: Screen::blank(Model::M2),
             answers: Answers {
                 former: Vec::new(alloc),
                 present: Vec::new(alloc),
@@ -60,69 +63,63 @@ impl Subjects {
         self.former_shadow = FormerShadow::Nothing;
         self.shadow = Shadow::blank();
         self.former_screen = FormerScreen::blank();
-        self.screen = Screen::blank();
+        self.screen = Screen::blank(Model::M2);
     }
 
-    fn obey(&mut self, command: &Command<'_>) -> Alike {
-        let former = self.former_screen.apply(command);
-        let applied = self.screen.apply(command);
+    /// Both screens execute a command, which is read for 24 by 80, and both beliefs take it if it is a plain write.
+    pub(crate) fn write(&mut self, bytes: &[u8]) -> Alike {
+        let Ok(command) = read_command(bytes, Size::base(), Size::base()) else {
+            count(&mut self.tally.unread);
+            return Ok(());
+        };
+        let former = self.former_screen.apply(&command);
+        let applied = obey(&mut self.screen, bytes);
         count(&mut self.tally.obeyed);
-        if plain(command) {
-            self.former_shadow.sent_taken(command);
-            self.shadow.sent_taken(command);
+        if plain(&command) {
+            self.former_shadow.sent_taken(&command);
+            let is_taken = take(&mut self.shadow, bytes);
+            alike_at(is_taken, "taken", 0)?;
             count(&mut self.tally.taken);
         }
-        alike_at(former == applied, "applied", 0)
-    }
-
-    pub(crate) fn write(&mut self, bytes: &[u8]) -> Alike {
-        match read_command(bytes) {
-            Ok(command) => self.obey(&command),
-            Err(_) => {
-                count(&mut self.tally.unread);
-                Ok(())
-            }
-        }
+        alike_at(applied == Some(former), "applied", 0)
     }
 
     pub(crate) fn hear(&mut self, bytes: &[u8], form: Form) -> Alike {
-        let Ok(inbound) = read_inbound(bytes, form) else {
+        let Ok(inbound) = read_inbound(bytes, form, Size::base()) else {
             count(&mut self.tally.unread);
             return Ok(());
         };
         let former = self.former_shadow.heard(&inbound);
-        let heard = self.shadow.heard(&inbound);
-        match heard {
+        let heard = hear(&mut self.shadow, bytes, form);
+        match former {
             Ok(()) => count(&mut self.tally.heard),
             Err(_) => count(&mut self.tally.refused),
         }
-        alike_at(former == heard, "heard", 0)
+        alike_at(heard == Some(former), "heard", 0)
     }
 
-    /// Stores characters from an address on, and modifies the field there.
-    fn type_at(&mut self, from: Addr, chars: &[u8]) {
-        let mut at = from;
+    /// Stores characters from a place on, and modifies the field there.
+    fn type_at(&mut self, from: u16, chars: &[u8]) {
+        let mut place = from;
         for char in chars {
-            if storable(*char) && matches!(self.screen.cell(at), Cell::Char(_)) {
-                self.screen.set_char(at, *char);
-                self.former_screen.set_char(at.get(), *char);
+            if storable(*char) && matches!(self.former_screen.cell(place), Cell::Char(_)) {
+                self.former_screen.set_char(place, *char);
             }
-            at = at.next();
+            store(&mut self.screen, place, *char);
+            place = place.saturating_add(1) % CELLS;
         }
-        if let Some(field) = self.screen.field_at(from) {
-            self.screen.set_mdt(field.attr);
+        mark(&mut self.screen, from);
+        if let Some((attr, _)) = self.former_screen.field_at(from) {
+            self.former_screen.set_mdt(attr);
         }
-        if let Some((place, _)) = self.former_screen.field_at(from.get()) {
-            self.former_screen.set_mdt(place);
-        }
-        self.screen.set_cursor(at);
-        self.former_screen.cursor = at.get();
+        self.screen.set_cursor(at(place, self.screen.size()));
+        self.former_screen.cursor = place;
     }
 
     fn type_bytes(&mut self, bytes: &[u8]) {
         if let [high, low, chars @ ..] = bytes {
-            if let Ok(from) = addr_from_bytes([*high, *low]) {
-                self.type_at(from, chars);
+            if let Ok(from) = addr_from_bytes([*high, *low], Size::base()) {
+                self.type_at(from.get(), chars);
             }
         }
     }

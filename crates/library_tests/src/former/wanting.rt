@@ -1,5 +1,7 @@
-//! Screens that are wanted where something is believed.
-use codes3270::{Addr, Attr, CELLS, Cell, Display, storable};
+//! Screens of 24 by 80 that are wanted where something is believed.
+use crate::at;
+use crate::beliefs::known_at;
+use codes3270::{Attr, CELLS, Cell, Display, Size, storable};
 use datastream::{Want, Wanted};
 use shadow::Shadow;
 
@@ -33,7 +35,10 @@ pub(crate) const WANTINGS: [Wanting; 6] = [
 const CHANGED_EVERY: u16 = 7;
 
 pub(crate) fn put(wanted: &mut Wanted, place: u16, want: Want) {
-    let place = usize::from(place % CELLS);
+    if wanted.size().cells() <= place {
+        return;
+    }
+    let place = usize::from(place);
     match want {
         Want::Char(byte) => {
             if storable(byte) {
@@ -49,7 +54,7 @@ pub(crate) fn put(wanted: &mut Wanted, place: u16, want: Want) {
 fn is_open_at_first(shadow: &Shadow) -> bool {
     let mut is_open = false;
     for place in 0..CELLS {
-        if let Some(Cell::Attr(attr)) = shadow.known(Addr::first().forward(place)) {
+        if let Some(Cell::Attr(attr)) = known_at(shadow, place) {
             is_open = !attr.protected;
         }
     }
@@ -69,19 +74,17 @@ fn want_of(wanting: Wanting, place: u16, known: Option<Cell>, is_open: bool) -> 
 
 /// What is known, or much of it.
 fn wanted_by(wanting: Wanting, shadow: &Shadow) -> Wanted {
-    let mut wanted = Wanted::filled(Want::Char(0));
+    let mut wanted = Wanted::filled(Want::Char(0), Size::base());
     let mut is_open = is_open_at_first(shadow);
     for place in 0..CELLS {
-        let known = shadow.known(Addr::first().forward(place));
+        let known = known_at(shadow, place);
         if let Some(Cell::Attr(attr)) = known {
             is_open = !attr.protected;
         }
         put(&mut wanted, place, want_of(wanting, place, known, is_open));
     }
-    wanted.set_cursor_and_reset(
-        Addr::first().forward(CHANGED_EVERY),
-        wanting == Wanting::Changed,
-    );
+    let cursor = at(CHANGED_EVERY, wanted.size());
+    wanted.set_cursor_and_reset(cursor, wanting == Wanting::Changed);
     wanted
 }
 
@@ -97,8 +100,8 @@ fn bright() -> Attr {
 pub(crate) fn wanted_of(wanting: Wanting, shadow: &Shadow) -> Wanted {
     match wanting {
         Wanting::Known | Wanting::Changed | Wanting::Kept => wanted_by(wanting, shadow),
-        Wanting::Nulls => Wanted::filled(Want::Char(0)),
-        Wanting::Attributes => Wanted::filled(Want::Attr(bright())),
-        Wanting::AllKept => Wanted::filled(Want::Keep),
+        Wanting::Nulls => Wanted::filled(Want::Char(0), Size::base()),
+        Wanting::Attributes => Wanted::filled(Want::Attr(bright()), Size::base()),
+        Wanting::AllKept => Wanted::filled(Want::Keep, Size::base()),
     }
 }

@@ -3,7 +3,7 @@
 use super::texts::SIGN_ON;
 use crate::Tried;
 use crate::report::Report;
-use codes3270::{Aid, Attr, PfNo, aid_from_byte};
+use codes3270::{Aid, Attr, Model, PfNo, aid_from_byte};
 use datastream::{Want, Wants};
 use panels::{Field, Message, Next, Panel, PanelSet, Values};
 
@@ -150,6 +150,8 @@ enum Step {
     Panel(usize, Asked),
     /// Its first panel, and the numbers of panels and LUs.
     Has(usize, usize, usize),
+    /// In a session of this model the panel at an index is shown as the one at another.
+    Shown(usize, Model, usize),
 }
 
 fn is_so(report: &mut Report, set: &PanelSet, values: &mut Values, step: &Step) -> bool {
@@ -163,6 +165,9 @@ fn is_so(report: &mut Report, set: &PanelSet, values: &mut Values, step: &Step) 
             Some(panel) => is_asked(report, panel, values, asked),
             None => false,
         },
+        Step::Shown(index, model, shown) => {
+            *index < set.len() && report.same(shown, &set.shown(*index, *model))
+        }
         Step::Has(start, count, lus) => {
             report.same(start, &set.start())
                 && report.same(count, &set.len())
@@ -382,5 +387,37 @@ pub(super) static VALUES_SHOWN: Dialogue = Dialogue {
         Step::Letters,
         Step::Panel(0, Asked::Shown(Message::Plain, VALUES_SCREEN, 1)),
         Step::Panel(0, Asked::Kept(&[(1, 4), (5, 7), (8, 10)], KEPT_SCREEN)),
+    ],
+};
+
+// ---- models
+
+const WIDE: &str =
+    "start = \"WIDE\"\nlus = []\n[[panel]]\nname = \"WIDE\"\nmodel = 5\notherwise = \"NARROW\"\ntext = [{row = 1, col = 132, text = \"W\"}]\nfield = [{name = \"f\", row = 26, col = 131, length = 2, fill = \"7\"}]\n[[panel]]\nname = \"NARROW\"\nmodel = 2\ntext = [{row = 1, col = 2, text = \"N\"}]\n[[panel]]\nname = \"TALL\"\nmodel = 4\notherwise = \"NARROW\"\nfield = [{name = \"g\", row = 42, col = 80, length = 1}]\n";
+
+/// Rows of 132 cells, of which the last begins at 3,432.
+const WIDE_SCREEN: &[Item] = &[
+    (130, 0xF0, &[0xE6]),
+    (3429, 0x40, &[0xF7, 0x00]),
+    (3432, 0xF8, &[]),
+];
+
+const NARROW_SCREEN: &[Item] = &[(0, 0xF0, &[0xD5]), (1840, 0xF8, &[])];
+
+/// 43 rows.
+const TALL_SCREEN: &[Item] = &[(3358, 0x40, &[]), (3360, 0xF8, &[])];
+
+pub(super) static MODELS_SHOWN: Dialogue = Dialogue {
+    text: WIDE,
+    steps: &[
+        Step::Panel(0, Asked::Shown(Message::Fresh, WIDE_SCREEN, 3430)),
+        Step::Panel(1, Asked::Shown(Message::Fresh, NARROW_SCREEN, 0)),
+        Step::Panel(2, Asked::Shown(Message::Fresh, TALL_SCREEN, 3359)),
+        Step::Shown(0, Model::M5, 0),
+        Step::Shown(0, Model::M2, 1),
+        Step::Shown(0, Model::M4, 1),
+        Step::Shown(1, Model::M5, 1),
+        Step::Shown(2, Model::M4, 2),
+        Step::Shown(2, Model::M5, 1),
     ],
 };

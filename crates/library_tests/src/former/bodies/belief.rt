@@ -5,7 +5,7 @@ use crate::former::bodies::laying::{Cells, Chars, fields_of, laid_out, push_char
 use crate::former::bodies::painting::{fits_fields, put_cells};
 use crate::former::bodies::wanted::FormerWanted;
 use arrayvec::ArrayVec;
-use codes3270::{Addr, Aid, CELL_COUNT, Cell, Wcc};
+use codes3270::{Aid, CELL_COUNT, Cell, Wcc};
 use datastream::{Command, CommandCode, CommandWriter, Form, Inbound, Memory, Order, Orders};
 use shadow::{Fact, HeardFault, MdtState};
 
@@ -183,24 +183,24 @@ impl FormerShadow {
         }
     }
 
-    pub(crate) fn known(&self, at: Addr) -> Option<Cell> {
-        known_in(self.cells().as_slice(), usize::from(at.get()))
+    pub(crate) fn known(&self, place: u16) -> Option<Cell> {
+        known_in(self.cells().as_slice(), usize::from(place))
     }
 
-    pub(crate) fn fact(&self, at: Addr) -> Option<Fact> {
+    pub(crate) fn fact(&self, place: u16) -> Option<Fact> {
         match self {
             FormerShadow::Formatted(fields) => {
-                let head = fields.field_with(usize::from(at.get()))?;
+                let head = fields.field_with(usize::from(place))?;
                 Some(head.fact)
             }
             _ => None,
         }
     }
 
-    pub(crate) fn value(&self, at: Addr, index: usize) -> Option<u8> {
+    pub(crate) fn value(&self, place: u16, index: usize) -> Option<u8> {
         match self {
             FormerShadow::Formatted(fields) => {
-                let head = fields.field_with(usize::from(at.get()))?;
+                let head = fields.field_with(usize::from(place))?;
                 fields.lent(head).text.get(index).copied()
             }
             _ => None,

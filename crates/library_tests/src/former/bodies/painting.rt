@@ -1,8 +1,9 @@
 //! The bytes of a paint, and whether what is to be kept is believed to be there.
+use crate::at;
 use crate::former::bodies::cells::next_of;
 use crate::former::bodies::fields::{Fields, Known};
 use crate::former::bodies::wanted::FormerWanted;
-use codes3270::{Addr, Attr, CELLS, Cell, attr_code, storable};
+use codes3270::{Attr, CELLS, Cell, Size, attr_code, storable};
 use datastream::{CommandWriter, Memory, Want};
 use shadow::MdtState;
 
@@ -89,10 +90,10 @@ fn cell_to_store(want: Want, known: Known, behind: &[Want], whole: &[Want]) -> O
 }
 
 /// Puts a cell, with its address unless the write is at it.
-fn put_store(out: &mut Vec<u8>, at: Option<u16>, place: u16, cell: Cell) -> Result<(), Memory> {
+fn put_store(out: &mut Vec<u8>, next: Option<u16>, place: u16, cell: Cell) -> Result<(), Memory> {
     let mut writer = CommandWriter::new(out);
-    if at != Some(place) {
-        writer.sba(Addr::first().forward(place % CELLS))?;
+    if next != Some(place) {
+        writer.sba(at(place, Size::base()))?;
     }
     match cell {
         Cell::Attr(attr) => writer.sf(attr),
@@ -108,15 +109,15 @@ pub(crate) fn put_cells(
     known: &[Known],
 ) -> Result<(), Memory> {
     let wants = wanted.cells.as_slice();
-    let mut at = None;
+    let mut next = None;
     for place in 0..CELLS {
         let index = usize::from(place);
         let want = wants.get(index).copied().unwrap_or(Want::Keep);
         let known = known.get(index).copied().unwrap_or_default();
         let behind = wants.get(index.saturating_add(1)..).unwrap_or(&[]);
         if let Some(cell) = cell_to_store(want, known, behind, wants) {
-            put_store(out, at, place, cell)?;
-            at = Some(next_of(place));
+            put_store(out, next, place, cell)?;
+            next = Some(next_of(place));
         }
     }
     let mut writer = CommandWriter::new(out);

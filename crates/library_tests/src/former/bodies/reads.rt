@@ -1,7 +1,8 @@
 //! What a screen's reads answered.
-use crate::former::bodies::cells::{cell_at, cells_before, cells_from, is_character};
+use crate::at;
+use crate::former::bodies::cells::{cell_at, cells_before, cells_from, is_character, next_of};
 use crate::former::bodies::screen::FormerScreen;
-use codes3270::{Addr, CELLS, Cell, addr_to_bytes, aid_byte, attr_code};
+use codes3270::{CELLS, Cell, Size, addr_to_bytes, aid_byte, attr_code};
 use datastream::{Memory, SET_BUFFER_ADDRESS, START_FIELD};
 
 /// The characters before the first attribute, without nulls. Answers whether there are characters alone.
@@ -17,11 +18,11 @@ fn put_text(out: &mut Vec<u8>, cells: &[Cell]) -> Result<bool, Memory> {
 }
 
 /// SBA, the field's first address and its text, round the end.
-fn put_field(out: &mut Vec<u8>, cells: &[Cell], at: u16) -> Result<(), Memory> {
-    let [high, low] = addr_to_bytes(Addr::first().forward(at % CELLS).next());
+fn put_field(out: &mut Vec<u8>, cells: &[Cell], place: u16) -> Result<(), Memory> {
+    let [high, low] = addr_to_bytes(at(next_of(place), Size::base()));
     out.extend_from_slice(&[SET_BUFFER_ADDRESS, high, low])?;
-    if put_text(out, cells_from(cells, at.saturating_add(1)))? {
-        put_text(out, cells_before(cells, at))?;
+    if put_text(out, cells_from(cells, place.saturating_add(1)))? {
+        put_text(out, cells_before(cells, place))?;
     }
     Ok(())
 }
@@ -38,7 +39,7 @@ fn put_modified_fields(out: &mut Vec<u8>, cells: &[Cell]) -> Result<(), Memory> 
 
 impl FormerScreen {
     fn put_cursor(&self, out: &mut Vec<u8>) -> Result<(), Memory> {
-        out.extend_from_slice(&addr_to_bytes(Addr::first().forward(self.cursor % CELLS)))
+        out.extend_from_slice(&addr_to_bytes(at(self.cursor, Size::base())))
     }
 
     pub(crate) fn put_read_buffer(&self, out: &mut Vec<u8>) -> Result<(), Memory> {

@@ -1,0 +1,188 @@
+//! Keys in the last row and the last cell of each size.
+use super::{Step, Stroke};
+use codes3270::Model;
+use keyboard::Refusal;
+
+/// Keys in the last row and the last cell of 24 by 80.
+pub(super) static BASE_KEYS: [Step; 38] = [
+    // Without fields: the cursor keys round the ends of rows and columns, and New Line from the last rows.
+    Step::Obey(b"\xF5\xC3\x11\x5D\x7F\x13"),
+    Step::Move(Stroke::NewLine, 0),
+    Step::Move(Stroke::Up, 1840),
+    Step::Move(Stroke::Left, 1839),
+    Step::Move(Stroke::NewLine, 1840),
+    Step::Move(Stroke::Down, 0),
+    Step::Move(Stroke::Left, 1919),
+    Step::Move(Stroke::Down, 79),
+    Step::Move(Stroke::Up, 1919),
+    Step::Move(Stroke::Right, 0),
+    // A field in the last row, and one whose attribute is in the last cell.
+    Step::Obey(b"\xF5\xC3\x11\x5C\xF0\x1D\x40\x11\x5D\x7F\x1D\x40\x11\x40\xC1\x13"),
+    Step::Move(Stroke::Tab, 1841),
+    Step::Move(Stroke::Tab, 0),
+    Step::Move(Stroke::Tab, 1841),
+    Step::Move(Stroke::BackTab, 0),
+    Step::Move(Stroke::BackTab, 1841),
+    Step::Move(Stroke::NewLine, 0),
+    // No cell but those of the last row can be typed into.
+    Step::Obey(b"\xF5\xC3\x1D\x60\x11\x5C\xF1\x1D\x40\x11\x40\xC1\x13"),
+    Step::Move(Stroke::NewLine, 1842),
+    Step::Move(Stroke::NewLine, 1842),
+    Step::Move(Stroke::Home, 1842),
+    // Delete ends with the row, and an inserted character goes on behind the last cell.
+    Step::Obey(b"\xF5\xC3\x11\x5D\x7D\x1D\x40\xC1\xC2\xC3\x1D\x60\x11\x5D\x7E\x13"),
+    Step::Move(Stroke::Delete, 1918),
+    Step::Text(1918, &[0xC2, 0, 0xC3]),
+    Step::Attr(1917, 0xC1),
+    Step::Move(Stroke::Insert, 1918),
+    Step::Move(Stroke::Char('A'), 1919),
+    Step::Text(1918, &[0xC1, 0xC2, 0xC3]),
+    Step::Refuse(Stroke::Char('D'), Refusal::NoRoom),
+    Step::Move(Stroke::Reset, 1919),
+    Step::Move(Stroke::Delete, 1919),
+    Step::Text(1918, &[0xC1, 0, 0xC3]),
+    Step::Move(Stroke::Insert, 1919),
+    Step::Move(Stroke::Char('B'), 0),
+    Step::Text(1918, &[0xC1, 0xC2, 0xC3]),
+    Step::Send(Stroke::Enter),
+    Step::Modified(b"\x7D\x40\x40\x11\x5D\x7E\xC1\xC2\xC3"),
+    Step::Size(Model::M2),
+];
+
+/// Keys in the last row and the last cell of 32 by 80.
+pub(super) static M3_KEYS: [Step; 38] = [
+    // Without fields: the cursor keys round the ends of rows and columns, and New Line from the last rows.
+    Step::Obey(b"\x7E\xC3\x11\xE7\x7F\x13"),
+    Step::Move(Stroke::NewLine, 0),
+    Step::Move(Stroke::Up, 2480),
+    Step::Move(Stroke::Left, 2479),
+    Step::Move(Stroke::NewLine, 2480),
+    Step::Move(Stroke::Down, 0),
+    Step::Move(Stroke::Left, 2559),
+    Step::Move(Stroke::Down, 79),
+    Step::Move(Stroke::Up, 2559),
+    Step::Move(Stroke::Right, 0),
+    // A field in the last row, and one whose attribute is in the last cell.
+    Step::Obey(b"\x7E\xC3\x11\xE6\xF0\x1D\x40\x11\xE7\x7F\x1D\x40\x11\x40\xC1\x13"),
+    Step::Move(Stroke::Tab, 2481),
+    Step::Move(Stroke::Tab, 0),
+    Step::Move(Stroke::Tab, 2481),
+    Step::Move(Stroke::BackTab, 0),
+    Step::Move(Stroke::BackTab, 2481),
+    Step::Move(Stroke::NewLine, 0),
+    // No cell but those of the last row can be typed into.
+    Step::Obey(b"\x7E\xC3\x1D\x60\x11\xE6\xF1\x1D\x40\x11\x40\xC1\x13"),
+    Step::Move(Stroke::NewLine, 2482),
+    Step::Move(Stroke::NewLine, 2482),
+    Step::Move(Stroke::Home, 2482),
+    // Delete ends with the row, and an inserted character goes on behind the last cell.
+    Step::Obey(b"\x7E\xC3\x11\xE7\x7D\x1D\x40\xC1\xC2\xC3\x1D\x60\x11\xE7\x7E\x13"),
+    Step::Move(Stroke::Delete, 2558),
+    Step::Text(2558, &[0xC2, 0, 0xC3]),
+    Step::Attr(2557, 0xC1),
+    Step::Move(Stroke::Insert, 2558),
+    Step::Move(Stroke::Char('A'), 2559),
+    Step::Text(2558, &[0xC1, 0xC2, 0xC3]),
+    Step::Refuse(Stroke::Char('D'), Refusal::NoRoom),
+    Step::Move(Stroke::Reset, 2559),
+    Step::Move(Stroke::Delete, 2559),
+    Step::Text(2558, &[0xC1, 0, 0xC3]),
+    Step::Move(Stroke::Insert, 2559),
+    Step::Move(Stroke::Char('B'), 0),
+    Step::Text(2558, &[0xC1, 0xC2, 0xC3]),
+    Step::Send(Stroke::Enter),
+    Step::Modified(b"\x7D\x40\x40\x11\xE7\x7E\xC1\xC2\xC3"),
+    Step::Size(Model::M3),
+];
+
+/// Keys in the last row and the last cell of 43 by 80.
+pub(super) static M4_KEYS: [Step; 38] = [
+    // Without fields: the cursor keys round the ends of rows and columns, and New Line from the last rows.
+    Step::Obey(b"\x7E\xC3\x11\xF5\x6F\x13"),
+    Step::Move(Stroke::NewLine, 0),
+    Step::Move(Stroke::Up, 3360),
+    Step::Move(Stroke::Left, 3359),
+    Step::Move(Stroke::NewLine, 3360),
+    Step::Move(Stroke::Down, 0),
+    Step::Move(Stroke::Left, 3439),
+    Step::Move(Stroke::Down, 79),
+    Step::Move(Stroke::Up, 3439),
+    Step::Move(Stroke::Right, 0),
+    // A field in the last row, and one whose attribute is in the last cell.
+    Step::Obey(b"\x7E\xC3\x11\xF4\x60\x1D\x40\x11\xF5\x6F\x1D\x40\x11\x40\xC1\x13"),
+    Step::Move(Stroke::Tab, 3361),
+    Step::Move(Stroke::Tab, 0),
+    Step::Move(Stroke::Tab, 3361),
+    Step::Move(Stroke::BackTab, 0),
+    Step::Move(Stroke::BackTab, 3361),
+    Step::Move(Stroke::NewLine, 0),
+    // No cell but those of the last row can be typed into.
+    Step::Obey(b"\x7E\xC3\x1D\x60\x11\xF4\x61\x1D\x40\x11\x40\xC1\x13"),
+    Step::Move(Stroke::NewLine, 3362),
+    Step::Move(Stroke::NewLine, 3362),
+    Step::Move(Stroke::Home, 3362),
+    // Delete ends with the row, and an inserted character goes on behind the last cell.
+    Step::Obey(b"\x7E\xC3\x11\xF5\x6D\x1D\x40\xC1\xC2\xC3\x1D\x60\x11\xF5\x6E\x13"),
+    Step::Move(Stroke::Delete, 3438),
+    Step::Text(3438, &[0xC2, 0, 0xC3]),
+    Step::Attr(3437, 0xC1),
+    Step::Move(Stroke::Insert, 3438),
+    Step::Move(Stroke::Char('A'), 3439),
+    Step::Text(3438, &[0xC1, 0xC2, 0xC3]),
+    Step::Refuse(Stroke::Char('D'), Refusal::NoRoom),
+    Step::Move(Stroke::Reset, 3439),
+    Step::Move(Stroke::Delete, 3439),
+    Step::Text(3438, &[0xC1, 0, 0xC3]),
+    Step::Move(Stroke::Insert, 3439),
+    Step::Move(Stroke::Char('B'), 0),
+    Step::Text(3438, &[0xC1, 0xC2, 0xC3]),
+    Step::Send(Stroke::Enter),
+    Step::Modified(b"\x7D\x40\x40\x11\xF5\x6E\xC1\xC2\xC3"),
+    Step::Size(Model::M4),
+];
+
+/// Keys in the last row and the last cell of 27 by 132.
+pub(super) static M5_KEYS: [Step; 38] = [
+    // Without fields: the cursor keys round the ends of rows and columns, and New Line from the last rows.
+    Step::Obey(b"\x7E\xC3\x11\xF7\x6B\x13"),
+    Step::Move(Stroke::NewLine, 0),
+    Step::Move(Stroke::Up, 3432),
+    Step::Move(Stroke::Left, 3431),
+    Step::Move(Stroke::NewLine, 3432),
+    Step::Move(Stroke::Down, 0),
+    Step::Move(Stroke::Left, 3563),
+    Step::Move(Stroke::Down, 131),
+    Step::Move(Stroke::Up, 3563),
+    Step::Move(Stroke::Right, 0),
+    // A field in the last row, and one whose attribute is in the last cell.
+    Step::Obey(b"\x7E\xC3\x11\xF5\xE8\x1D\x40\x11\xF7\x6B\x1D\x40\x11\x40\xC1\x13"),
+    Step::Move(Stroke::Tab, 3433),
+    Step::Move(Stroke::Tab, 0),
+    Step::Move(Stroke::Tab, 3433),
+    Step::Move(Stroke::BackTab, 0),
+    Step::Move(Stroke::BackTab, 3433),
+    Step::Move(Stroke::NewLine, 0),
+    // No cell but those of the last row can be typed into.
+    Step::Obey(b"\x7E\xC3\x1D\x60\x11\xF5\xE9\x1D\x40\x11\x40\xC1\x13"),
+    Step::Move(Stroke::NewLine, 3434),
+    Step::Move(Stroke::NewLine, 3434),
+    Step::Move(Stroke::Home, 3434),
+    // Delete ends with the row, and an inserted character goes on behind the last cell.
+    Step::Obey(b"\x7E\xC3\x11\xF7\xE9\x1D\x40\xC1\xC2\xC3\x1D\x60\x11\xF7\x6A\x13"),
+    Step::Move(Stroke::Delete, 3562),
+    Step::Text(3562, &[0xC2, 0, 0xC3]),
+    Step::Attr(3561, 0xC1),
+    Step::Move(Stroke::Insert, 3562),
+    Step::Move(Stroke::Char('A'), 3563),
+    Step::Text(3562, &[0xC1, 0xC2, 0xC3]),
+    Step::Refuse(Stroke::Char('D'), Refusal::NoRoom),
+    Step::Move(Stroke::Reset, 3563),
+    Step::Move(Stroke::Delete, 3563),
+    Step::Text(3562, &[0xC1, 0, 0xC3]),
+    Step::Move(Stroke::Insert, 3563),
+    Step::Move(Stroke::Char('B'), 0),
+    Step::Text(3562, &[0xC1, 0xC2, 0xC3]),
+    Step::Send(Stroke::Enter),
+    Step::Modified(b"\x7D\x40\x40\x11\xF7\x6A\xC1\xC2\xC3"),
+    Step::Size(Model::M5),
+];
