@@ -1,6 +1,5 @@
 -- The address that a parse gives is the one that the word writes.
-use Rattle.std.proofs.Common.{◌≡◌, ◌∙◌, refl, sym, ap, subst, arith, ne_eqb, ℕ, List, [], ◌∷◌, ◌++◌, length, Option, Some, None, option_map, Result, Ok, Err, append-nil, lit≤}
-use Rattle.std.specs.Option.{option_map_or}
+use Rattle.std.proofs.Common.{◌≡◌, ◌∙◌, refl, sym, ap, subst, arith, ne_eqb, ℕ, List, [], ◌∷◌, ◌++◌, length, Some, None, Result, Ok, Err, append-nil, lit≤}
 use Rattle.std.specs.Result.{result_ok}
 use Rattle.std.specs.Net.Grammar.{IsColonHex, IsDotted, IsIpText, Parses}
 use Rattle.std.specs.Net.Reader.{Read, read_ipv4, read_ipv6, whole_value}

@@ -1,5 +1,5 @@
 -- Commands of clap that gain a job, and what a parse by the whole command line says.
-use Rattle.std.proofs.Common.{◌≡◌, ◌∙◌, refl, sym, ap, ap₂, subst, ℕ, ◌||◌, List, [], ◌∷◌, ◌++◌, true, false, Bool, inl, inr, Option, Some, append-nil, append_assoc, ◌+◌, ◌<◌, ◌≤◌, length, map, drop, get_or}
+use Rattle.std.proofs.Common.{◌≡◌, ◌∙◌, refl, sym, ap, ap₂, subst, ℕ, ◌||◌, List, [], ◌∷◌, ◌++◌, true, Bool, inl, inr, Option, Some, append-nil, append_assoc, ◌+◌, ◌<◌, ◌≤◌, length, map, drop, get_or}
 use Rattle.std.specs.Prelude.{IfOk, IfErr}
 use Rattle.std.proofs.lemmas.List.{drop_more, drop_all}
 use Rattle.clap.specs.Built.{AddsArg, AddsSubcommand}

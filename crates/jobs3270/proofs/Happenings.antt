@@ -5,7 +5,7 @@ use Rattle.tn3270e_msg.specs.declared.cause.Stop.{Stop}
 use Rattle.tn3270e_msg.specs.declared.cause.Stop.TheVariants as stop
 use Rattle.world3270.specs.ByteRuns.{AllHappen, refused_at}
 use Rattle.world3270.specs.ByteSteps.{Connects, Happens, HappensIf, Presses, Steps, GoesDown, ConnectsIf, down_came, has_place, host_gone, host_gone_below, host_gone_if, host_told, saw_loss, terminal_anew, terminal_gone_if, terminal_told}
-use Rattle.world3270.specs.ByteWorld.{ByteWorld, TerminalSlot, alone, host_there, is_senders, new_slot, slot_at, terminal_at, transits_at, with_slot}
+use Rattle.world3270.specs.ByteWorld.{ByteWorld, TerminalSlot, alone, host_there, is_senders, model_at, new_slot, slot_at, terminal_at, transits_at, with_slot}
 use Rattle.world3270.specs.declared.event.Event.{Event}
 use Rattle.world3270.specs.declared.event.Event.TheVariants as event
 use Rattle.world3270.specs.declared.event.Stepped.{Stepped}
@@ -88,8 +88,8 @@ sees terminal None old = refl
 sees terminal (Some number) old = one_sits terminal (alone (slot_at terminal old)) old
 
 begins_anew : (terminal : ℕ) (at : Option ℕ) (old : ByteWorld) → AsMany old (terminal_anew terminal at old)
-begins_anew terminal None old = one_sits terminal new_slot old
-begins_anew terminal (Some number) old = one_sits terminal new_slot old
+begins_anew terminal None old = one_sits terminal (new_slot (model_at terminal old)) old
+begins_anew terminal (Some number) old = one_sits terminal (new_slot (model_at terminal old)) old
 
 happens : (event : Event) (old : ByteWorld) (answer : Stepped) (new : ByteWorld) → Happens event old answer new → AsMany old new
 happens (event.Key terminal key) old answer new made = pressed terminal key old answer new made

@@ -1,5 +1,5 @@
 -- A read and a write of the numbers, from those of one number.
-use Rattle.std.proofs.Common.{◌≡◌, ◌<◌, ◌≤◌, ◌+◌, ◌∙◌, ◌||◌, ℕ, List, [], length, Result, get_or, slice_index_or, slice_set, ◌≢◌, ◌⊎◌, ⊎_elim, refl, sym, ap, subst}
+use Rattle.std.proofs.Common.{◌≡◌, ◌<◌, ◌≤◌, ◌+◌, ◌∙◌, ◌||◌, ℕ, List, [], length, Result, get_or, slice_index_or, slice_set, ◌≢◌, ⊎_elim, refl, sym, ap, subst}
 use Rattle.std.proofs.Math.Bool.{or-false}
 use Rattle.std.proofs.lemmas.Bool.{cases_eq}
 use Rattle.std.proofs.lemmas.List.{get_or-set_same, get_or-set_other, get_or_past, get_or_read_under, set-get_or}

@@ -1,9 +1,8 @@
-use Rattle.std.proofs.Common.{◌∙◌, ◌++◌, ap, chars, string_bytes}
+use Rattle.std.proofs.Common.{◌∙◌, ap, chars, string_bytes}
 use Rattle.std.proofs.lemmas.List.{nil_from_length}
 use Rattle.std.proofs.lemmas.Result.{on_ok_weaker}
 use Rattle.std.proofs.lemmas.Str.{IsUtf8-past_char, chars-nil, chars_past_char}
 use Rattle.std.specs.Str.Iter.{chars_rest}
-use Rattle.jobs3270.specs.Operating.{after_text, said_of_text}
 use Rattle.jobs3270.proofs.TextTyped.{all_said, all_typed, said_more, saying_ends, typed_more, typing_ends}
 use Rattle.jobs3270.proofs.operator.type_text.Goals as goal
 

@@ -1,4 +1,4 @@
-use Rattle.std.proofs.Common.{subst, sym, ap}
+use Rattle.std.proofs.Common.{subst}
 use Rattle.lu_pool.specs.Reading.{IsReadFrom, IsRight, IsFirstFault}
 use Rattle.jobs3270.proofs.LuNames.{lus_read}
 use Rattle.jobs3270.proofs.script.application_of.Goals as goal

@@ -1,4 +1,4 @@
-use Rattle.std.proofs.Common.{◌≡◌, ◌∙◌, sym, true, false}
+use Rattle.std.proofs.Common.{◌≡◌, ◌∙◌, sym, true}
 use Rattle.jobs3270.specs.ScriptLines.{is_digits}
 use Rattle.jobs3270.proofs.ScriptLines.{number_parsed, number_is, no_number}
 use Rattle.jobs3270.proofs.script_line.number_of.Goals as goal
