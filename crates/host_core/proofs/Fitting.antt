@@ -1,12 +1,14 @@
 -- What a host paints fits what it believes.
-use Rattle.std.proofs.Common.{◌≡◌, ◌+◌, ℕ, Bool, true, false, not, ◌&&◌, ◌||◌, List, [], ◌∷◌, ◌++◌, refl, ap, ◌∙◌, if◌then◌else◌}
+use Rattle.std.proofs.Common.{◌≡◌, ◌+◌, ℕ, Bool, true, false, not, ◌&&◌, ◌||◌, List, [], ◌∷◌, ◌++◌, refl, ap, sym, ◌∙◌, if◌then◌else◌}
 use Rattle.std.specs.List.{list_any}
+use Rattle.std.proofs.lemmas.Bool.{and_parts}
+use Rattle.codes3270.specs.Size.{cells_in}
 use Rattle.datastream.specs.Wanted.{WantedScreen}
 use Rattle.datastream.specs.declared.wanted.Want.{Want}
 use Rattle.datastream.specs.declared.wanted.Want.TheVariants.{Char, Attr, Keep}
 use Rattle.shadow.specs.Belief.{Belief, Shadow, fields_of}
 use Rattle.shadow.specs.Painted.{keeps_ahead}
-use Rattle.shadow.specs.Fits.{is_keep, is_attribute, fits_from, fits}
+use Rattle.shadow.specs.Fits.{is_keep, is_attribute, fields_fit, fits_from, fits, is_of_size, is_paintable}
 use Rattle.panels.specs.declared.message.Message.{Message}
 use Rattle.panels.specs.Screen.{Values}
 use Rattle.host_core.specs.Application.{Application, IsApplication, KeepsNothing}
@@ -26,17 +28,36 @@ none_ahead (Char byte ∷ wants) h = none_ahead wants h
 none_ahead (Attr attribute ∷ wants) h = refl
 none_ahead (Keep ∷ wants) h = absurd (cc)
 
-fields_fit : (beliefs : List Belief) (whole : List Want) (at : ℕ) (rest : List Want) → list_any is_keep whole ≡ false → list_any is_keep rest ≡ false → fits_from beliefs whole at rest ≡ true
-fields_fit beliefs whole at [] h k = refl
-fields_fit beliefs whole at (Char byte ∷ rest) h k = fields_fit beliefs whole (at + 1) rest h k
-fields_fit beliefs whole at (Keep ∷ rest) h k = absurd (cc)
-fields_fit beliefs whole at (Attr attribute ∷ rest) h k =
-    rw (none_ahead (rest ++ whole) (none_kept-append rest whole k h)) (fields_fit beliefs whole (at + 1) rest h k)
+-- fields that keep nothing fit
+none_kept_fits : (beliefs : List Belief) (whole : List Want) (at : ℕ) (rest : List Want) → list_any is_keep whole ≡ false → list_any is_keep rest ≡ false → fits_from beliefs whole at rest ≡ true
+none_kept_fits beliefs whole at [] h k = refl
+none_kept_fits beliefs whole at (Char byte ∷ rest) h k = none_kept_fits beliefs whole (at + 1) rest h k
+none_kept_fits beliefs whole at (Keep ∷ rest) h k = absurd (cc)
+none_kept_fits beliefs whole at (Attr attribute ∷ rest) h k =
+    rw (none_ahead (rest ++ whole) (none_kept-append rest whole k h)) (none_kept_fits beliefs whole (at + 1) rest h k)
 
-pub whole_fits : (shadow : Shadow) (wanted : WantedScreen) → KeepsNothing wanted → fits shadow wanted ≡ true
-whole_fits shadow wanted h =
-    ap (λ kept. (not kept || list_any is_attribute wanted.cells) && fits_from (fields_of shadow) wanted.cells 0 wanted.cells) h
-    ∙ fields_fit (fields_of shadow) wanted.cells 0 wanted.cells h h
+-- what keeps nothing can be painted
+whole_fits : (shadow : Shadow) (wanted : WantedScreen) → KeepsNothing wanted → is_paintable shadow wanted ≡ true
+whole_fits shadow wanted h = ap (λ kept. not kept || fits shadow wanted) h
+
+-- so can what fits
+fitting_fits : (shadow : Shadow) (wanted : WantedScreen) → fits shadow wanted ≡ true → is_paintable shadow wanted ≡ true
+fitting_fits shadow wanted h = ap (λ fit. not (list_any is_keep wanted.cells) || fit) h ∙ either (not (list_any is_keep wanted.cells))
+  where
+    either : (b : Bool) → (b || true) ≡ true
+    either true = refl
+    either false = refl
+
+-- the fields of what can be painted fit
+pub paintable_fields : (shadow : Shadow) (wanted : WantedScreen) → is_paintable shadow wanted ≡ true → fits_from (fields_of shadow) wanted.cells 0 wanted.cells ≡ true
+paintable_fields shadow wanted h = by_keep (list_any is_keep wanted.cells) refl
+  where
+    by_keep : (b : Bool) → list_any is_keep wanted.cells ≡ b → fits_from (fields_of shadow) wanted.cells 0 wanted.cells ≡ true
+    by_keep false e = none_kept_fits (fields_of shadow) wanted.cells 0 wanted.cells e e
+    by_keep true e =
+        let fit : fits shadow wanted ≡ true = sym (ap (λ kept. not kept || fits shadow wanted) e) ∙ h in
+        (and_parts (not (list_any is_keep wanted.cells) || list_any is_attribute wanted.cells) (fits_from (fields_of shadow) wanted.cells 0 wanted.cells)
+        (and_parts (is_of_size (cells_in wanted.size) shadow) (fields_fit (fields_of shadow) wanted.cells) fit).1).1
 
 whole_paints : (app : Application) (shadow : Shadow) (panel : ℕ) (values : Values) (message : Message) → IsApplication app → IsPaintable app.begins shadow (app.screen panel values message false)
 whole_paints app shadow panel values message is = record {
@@ -52,7 +73,7 @@ paints app conn panel message true values is = by_fit (fits conn.shadow kept) re
     kept = app.screen panel values message true
 
     by_fit : (b : Bool) → fits conn.shadow kept ≡ b → IsPaintable app.begins conn.shadow (if b then kept else app.screen panel values message false)
-    by_fit true e = record { fits = e; showable = is.showable panel values message true }
+    by_fit true e = record { fits = fitting_fits conn.shadow kept e; showable = is.showable panel values message true }
     by_fit false e = whole_paints app conn.shadow panel values message is
 
 pub acts_fit : ActsFit

@@ -13,7 +13,7 @@ use Rattle.panels.specs.declared.panel.Field.{Field}
 use Rattle.panels.proofs.Setting.{put_here, put_there}
 use Rattle.host_core.specs.Acts.{learned, text_known}
 use Rattle.host_core.specs.Does.{Grow}
-use Rattle.host_core.specs.Learning.{is_longer, needs_room}
+use Rattle.host_core.specs.Learning.{is_longer, needs_room, HasField, HaveFields}
 
 -- ---- a value that is set
 
@@ -113,6 +113,20 @@ values_grow shadow fields values apart some =
 
 pub front : (fields : List Field) (i : ℕ) (field : Field) → i < length fields → field ≡ get_or fields i field → drop i fields ≡ field ∷ drop (i + 1) fields
 front fields i field within is = drop_more fields i field within ∙ ap (λ (f : Field). f ∷ drop (i + 1) fields) (sym is)
+
+-- the screen has each field's attribute
+pub has_at : (shadow : Shadow) (fields : List Field) (i : ℕ) (field : Field) → HaveFields shadow fields → i < length fields → field ≡ get_or fields i field → HasField shadow field
+has_at shadow fields i field have within is = subst (HasField shadow) (sym is) (have i field within)
+
+-- a test of fields, up to the one at which it ends
+pub any_here : (test : Field → Bool) (fields : List Field) (i : ℕ) (field : Field) → i < length fields → field ≡ get_or fields i field → test field ≡ true
+    → list_any test (drop i fields) ≡ true
+any_here test fields i field within is holds = ap (list_any test) (front fields i field within is) ∙ ap (λ (b : Bool). b || list_any test (drop (i + 1) fields)) holds
+
+pub any_behind : (test : Field → Bool) (fields : List Field) (i : ℕ) (field : Field) → i < length fields → field ≡ get_or fields i field → test field ≡ false
+    → list_any test (drop (i + 1) fields) ≡ list_any test (drop i fields)
+any_behind test fields i field within is fails =
+    sym (ap (list_any test) (front fields i field within is) ∙ ap (λ (b : Bool). b || list_any test (drop (i + 1) fields)) fails)
 
 -- the fields that are left have the values that they had
 pub Untouched : Values → Values → List Field → ℕ → Type 0

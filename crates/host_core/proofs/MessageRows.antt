@@ -1,7 +1,9 @@
 -- Which screens take notes: those that are painted, what keys leave of them, and those with attributes in the same places.
-use Rattle.std.proofs.Common.{◌≡◌, ◌+◌, ◌&&◌, ◌||◌, not, ℕ, zero, suc, Bool, true, false, List, [], ◌∷◌, ◌++◌, length, map, drop, refl, ap, sym, subst, ◌∙◌, arith}
+use Rattle.std.proofs.Common.{◌≡◌, ◌+◌, ◌==◌, ◌&&◌, ◌||◌, not, ℕ, zero, suc, Bool, true, false, List, [], ◌∷◌, ◌++◌, length, map, drop, refl, ap, sym, subst, ◌∙◌, arith, if◌then◌else◌}
 use Rattle.std.specs.List.{list_all, list_any}
-use Rattle.std.proofs.lemmas.Bool.{and_parts}
+use Rattle.std.specs.Prelude.{replicate}
+use Rattle.std.proofs.lemmas.Bool.{and_parts, eqb-true}
+use Rattle.std.proofs.lemmas.List.{length-replicate}
 use Rattle.codes3270.specs.declared.attribute.Attr.{Attr as Attribute}
 use Rattle.codes3270.specs.declared.attribute.Cell.{Cell}
 use Rattle.codes3270.specs.declared.attribute.Cell.TheVariants.{Char, Attr}
@@ -12,8 +14,9 @@ use Rattle.datastream.specs.Screen.{attribute_in, is_char, last_attribute}
 use Rattle.datastream.specs.declared.wanted.Want.{Want}
 use Rattle.datastream.specs.declared.wanted.Want.TheVariants.{Char as WantChar, Attr as WantAttr, Keep}
 use Rattle.shadow.specs.Belief.{Belief, fields_of}
-use Rattle.shadow.specs.Fits.{is_keep, is_attribute, is_field, fits_field, fits_from}
-use Rattle.shadow.specs.Painted.{keeps_ahead, count_ahead, attr_or_kept, painted_from}
+use Rattle.shadow.specs.Fits.{is_field, fits_field, fits_from}
+use Rattle.shadow.specs.Painted.{keeps_ahead, count_ahead, attr_or_kept, cells_under, painted_from}
+use Rattle.host_core.proofs.Fitting.{paintable_fields}
 use Rattle.host_core.specs.Application.{is_wanted_char, IsMessageRow, message_place}
 use Rattle.host_core.specs.NoteLaws.{IsProtectedRow, PaintsTakeNotes, HeldTakesNotes, SameAttributesTakeNotes}
 
@@ -49,11 +52,18 @@ row_painted beliefs reset whole at (suc row) (Keep ∷ wants) (there ∷ cells) 
 row_painted beliefs reset whole at (suc row) (WantAttr attribute ∷ wants) (there ∷ cells) sized fits is =
     row_painted beliefs reset whole (at + 1) row wants cells (omega arith) (and_parts (fits_field beliefs at attribute (wants ++ whole)) (fits_from beliefs whole (at + 1) wants) fits).1 is
 
+-- a paint has as many cells under it as are wanted
+under_sized : (size : ℕ) (cells : List Cell) → length (cells_under size cells) ≡ size
+under_sized size cells = by_size (length cells == size) refl
+  where
+    by_size : (b : Bool) → (length cells == size) ≡ b → length (if b then cells else replicate size (Char 0)) ≡ size
+    by_size true e = eqb-true (length cells) size e
+    by_size false e = length-replicate size (Char 0)
+
 pub paints_take_notes : PaintsTakeNotes
-paints_take_notes shape shadow wanted screen is sized =
-    row_painted (fields_of shadow) wanted.reset wanted.cells 0 (message_place shape) wanted.cells screen.cells (sized ∙ sym is.showable.cells)
-    (and_parts (not (list_any is_keep wanted.cells) || list_any is_attribute wanted.cells) (fits_from (fields_of shadow) wanted.cells 0 wanted.cells) is.fits).1
-    is.showable.messages
+paints_take_notes shape shadow wanted screen is =
+    row_painted (fields_of shadow) wanted.reset wanted.cells 0 (message_place shape) wanted.cells (cells_under (length wanted.cells) screen.cells)
+    (under_sized (length wanted.cells) screen.cells) (paintable_fields shadow wanted is.fits) is.showable.messages
 
 -- ---- what keys leave
 

@@ -6,7 +6,7 @@ use Rattle.std.specs.declared.alloc.Global.{Global}
 use Rattle.std.proofs.lemmas.List.{take-replicate}
 use Rattle.std.proofs.lemmas.List.Elements.{All-take}
 use Rattle.codes3270.proofs.RoundTrips.{wcc_read_back}
-use Rattle.codes3270.specs.Size.{Shape, model_2}
+use Rattle.codes3270.specs.Size.{Shape, cells_in, model_2}
 use Rattle.datastream.proofs.Written.{orders_written, orders_bytes-chars}
 use Rattle.datastream.specs.Grammar.{CommandParts, IsCommand, write}
 use Rattle.datastream.specs.Note.{quiet}
@@ -79,25 +79,25 @@ each_plain (byte ∷ text) = each_plain text
 note_plain : (shape : Shape) (text : List ℕ) → is_plain (note_command shape text) ≡ true
 note_plain shape text = each_plain (in_cells (shape.columns - 1) text)
 
-note_spelt : (shape : Shape) (text : List ℕ) → IsShape shape → IsNoteText text → IsCommand (note_command shape text) (write_bytes Write quiet (note_orders shape text))
+note_spelt : (shape : Shape) (text : List ℕ) → IsShape shape → IsNoteText text → IsCommand shape shape (note_command shape text) (write_bytes Write quiet (note_orders shape text))
 note_spelt shape text shaped is =
-    write _ _ _ refl (inr refl) (ap Some (sym (wcc_read_back quiet))) (orders_written (note_orders shape text) (orders_proper shape text shaped is)) refl
+    write _ _ _ refl (inr refl) refl (ap Some (sym (wcc_read_back quiet))) (orders_written (cells_in shape) shaped.addresses (note_orders shape text) (orders_proper shape text shaped is)) refl
 
 shaped_2 : IsShape model_2
 shaped_2 = record { columns = omega arith; row = omega arith; addresses = omega arith }
 
 note_again : (number : ℕ) (text sent : List ℕ) → IsNoteText text → sent ≡ write_record number Write quiet (note_orders model_2 text)
-    → command_in (drop 5 sent) ≡ note_command model_2 text
-note_again number text sent is begun = read_behind number Write quiet (note_orders model_2 text) sent (inl refl) (note_spelt model_2 text shaped_2 is) begun
+    → command_in model_2 (drop 5 sent) ≡ note_command model_2 text
+note_again number text sent is begun = read_behind model_2 number Write quiet (note_orders model_2 text) sent refl (note_spelt model_2 text shaped_2 is) begun
 
 pub note_is_kept : (number : ℕ) (text sent : List ℕ) → IsNoteText text → sent ≡ write_record number Write quiet (note_orders model_2 text)
-    → IsPlainWrite (drop 5 sent)
+    → IsPlainWrite model_2 (drop 5 sent)
 note_is_kept number text sent is begun =
-    plain_behind number Write quiet (note_orders model_2 text) sent (inl refl) (note_spelt model_2 text shaped_2 is) (note_plain model_2 text) begun
+    plain_behind model_2 number Write quiet (note_orders model_2 text) sent refl (note_spelt model_2 text shaped_2 is) (note_plain model_2 text) begun
 
 pub note_sent : (conn new : Conn) (text sent : List ℕ) (before after : Vec ℕ Global) → conn.shape ≡ model_2 → IsNoteText text
     → sent ≡ write_record conn.next_seq Write quiet (note_orders model_2 text)
-    → new ≡ record conn { pending = pending_in (unanswered.Noting conn.next_seq) sent; next_seq = next_number conn.next_seq }
+    → new ≡ record conn { pending = pending_in model_2 (unanswered.Noting conn.next_seq) sent; next_seq = next_number conn.next_seq }
     → after.items ≡ before.items ++ sent_bytes (Record sent ∷ [])
     → IsSentOn (noted_as text conn) before after new
 note_sent conn new text sent before after shape is begun changed put = record {

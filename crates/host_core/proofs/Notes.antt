@@ -8,7 +8,7 @@ use Rattle.std.proofs.Math.Nat.{mod-eq_of_lt}
 use Rattle.std.proofs.lemmas.Bool.{and_parts}
 use Rattle.std.proofs.lemmas.Bool.Decides.{nat_tests}
 use Rattle.std.proofs.lemmas.List.Elements.{All-nil, All-cons, All-map, All-take, All-append, All-replicate}
-use Rattle.codes3270.specs.Size.{Shape, cells_in, cell_count}
+use Rattle.codes3270.specs.Size.{Shape, cells_in, most_cells}
 use Rattle.codes3270.specs.Storable.{is_storable, stored_controls}
 use Rattle.codes3270.specs.declared.attribute.Attr.{Attr as Attribute}
 use Rattle.codes3270.specs.declared.attribute.Cell.{Cell}
@@ -53,14 +53,14 @@ few_taken (suc room) (byte ∷ text) = let rest = few_taken room text in omega a
 
 -- ---- the command
 
-address_on : (cells columns count : ℕ) → 1 < columns → columns ≤ cells → cells ≤ count → cells - columns + 1 < count
-address_on cells columns count room row addresses = omega arith
+address_on : (cells columns : ℕ) → 1 < columns → columns ≤ cells → cells - columns + 1 < cells
+address_on cells columns room row = omega arith
 
-pub orders_proper : (shape : Shape) (text : List ℕ) → IsShape shape → IsNoteText text → All IsProper (note_orders shape text)
+pub orders_proper : (shape : Shape) (text : List ℕ) → IsShape shape → IsNoteText text → All (IsProper (cells_in shape)) (note_orders shape text)
 orders_proper shape text shaped is =
-    All-cons IsProper (Sba (message_place shape + 1)) (map Data (in_cells (shape.columns - 1) text))
-    (address_on (cells_in shape) shape.columns cell_count shaped.columns shaped.row shaped.addresses)
-    (All-map IsProper Data (in_cells (shape.columns - 1) text) (text_stored (shape.columns - 1) text is))
+    All-cons (IsProper (cells_in shape)) (Sba (message_place shape + 1)) (map Data (in_cells (shape.columns - 1) text))
+    (address_on (cells_in shape) shape.columns shaped.columns shaped.row)
+    (All-map (IsProper (cells_in shape)) Data (in_cells (shape.columns - 1) text) (text_stored (shape.columns - 1) text is))
 
 is_note : (shape : Shape) (text : List ℕ) → IsNote (note_command shape text)
 is_note shape text = record {
@@ -81,22 +81,33 @@ notes_are_notes shape command shaped note = subst IsProperNote (sym note.is) (re
   proper = orders_proper shape note.text shaped note.is_text;
 })
 
-text_allowed : (text : List ℕ) → All IsStored text → IsAllowed (chars text)
-text_allowed text each = All-map IsProper Data text each
+text_allowed : (size : ℕ) (text : List ℕ) → All IsStored text → IsAllowed size (chars text)
+text_allowed size text each = All-map (IsProper size) Data text each
 
-spelt_call : WrittenIsRead → (address : ℕ) (text : List ℕ) → address < cell_count → All IsStored text → IsSpelt (record { code = Write; wcc = Some quiet; orders = Sba address ∷ map Data text })
-spelt_call law address text on each =
+-- a note that begins at an address, for a screen of this shape
+note_at : Shape → ℕ → List Order → CommandParts
+note_at shape address more = record { code = Write; size = shape; wcc = Some quiet; orders = Sba address ∷ more }
+
+spelt_call : WrittenIsRead → (shape : Shape) (address : ℕ) (text : List ℕ) → cells_in shape ≤ most_cells → address < cells_in shape → All IsStored text → IsSpelt (note_at shape address (map Data text))
+unfolding note_at
+spelt_call law shape address text few on each =
     let calls : List Call = sba address ∷ chars text ∷ [] in
-    let allowed : All IsAllowed calls =
-    All-cons IsAllowed (sba address) (chars text ∷ []) (All-cons IsProper (Sba address) [] on (All-nil IsProper))
-    (All-cons IsAllowed (chars text) [] (text_allowed text each) (All-nil IsAllowed)) in
-    (command_bytes Write quiet calls, subst (λ (more : List Order). IsCommand (record { code = Write; wcc = Some quiet; orders = Sba address ∷ more }) (command_bytes Write quiet calls)) (append-nil (map Data text)) (law Write quiet calls allowed))
+    let allowed : All (IsAllowed (cells_in shape)) calls =
+    All-cons (IsAllowed (cells_in shape)) (sba address) (chars text ∷ []) (All-cons (IsProper (cells_in shape)) (Sba address) [] on (All-nil (IsProper (cells_in shape))))
+    (All-cons (IsAllowed (cells_in shape)) (chars text) [] (text_allowed (cells_in shape) text each) (All-nil (IsAllowed (cells_in shape)))) in (
+      shape,
+      shape,
+      command_bytes Write quiet calls,
+      subst (λ (more : List Order). IsCommand shape shape (note_at shape address more) (command_bytes Write quiet calls)) (append-nil (map Data text))
+          (law shape shape Write quiet calls few allowed),
+    )
 
 note_spelt : WrittenIsRead → (shape : Shape) (command : CommandParts) → IsShape shape → IsNoteOf shape command → IsSpelt command
+unfolding note_at
 note_spelt law shape command shaped note =
     subst IsSpelt (sym note.is)
-    (spelt_call law (message_place shape + 1) (in_cells (shape.columns - 1) note.text)
-    (address_on (cells_in shape) shape.columns cell_count shaped.columns shaped.row shaped.addresses) (text_stored (shape.columns - 1) note.text note.is_text))
+    (spelt_call law shape (message_place shape + 1) (in_cells (shape.columns - 1) note.text) shaped.addresses
+    (address_on (cells_in shape) shape.columns shaped.columns shaped.row) (text_stored (shape.columns - 1) note.text note.is_text))
 
 -- ---- its places: from behind the row's attribute to the screen's end
 

@@ -1,6 +1,7 @@
 -- What a record, an item, a byte and bytes make of a host is determined.
 use Rattle.std.proofs.Common.{◌≡◌, ℕ, Bool, true, false, List, [], ◌∷◌, sym, ◌∙◌, ap, subst, refl, Ok}
 use Rattle.datastream.proofs.InboundData.{first_inbound_fault}
+use Rattle.codes3270.specs.Size.{Shape}
 use Rattle.datastream.specs.InboundText.{InboundParts, IsInbound, IsNoInbound}
 use Rattle.datastream.specs.Laws.{OneInbound}
 use Rattle.datastream.specs.declared.inbound_part.Form.{Form}
@@ -34,8 +35,8 @@ no_other_response kind other is = subst IsOther is other
 data_or_response : (kind : DataType) → kind ≡ Data3270 → kind ≡ Response → ⊥
 data_or_response kind data_is response_is = cc
 
-inbound_or_fault : (form : Form) (parts : InboundParts) (fault : InboundFault) (bytes : List ℕ) → parts.form ≡ form → IsInbound parts bytes → IsNoInbound form fault bytes → ⊥
-inbound_or_fault form parts fault bytes read is wrong = let both = first_inbound_fault form (Ok parts) bytes (read, is) fault wrong in cc
+inbound_or_fault : (size : Shape) (form : Form) (parts : InboundParts) (fault : InboundFault) (bytes : List ℕ) → parts.form ≡ form → parts.size ≡ size → IsInbound parts bytes → IsNoInbound size form fault bytes → ⊥
+inbound_or_fault size form parts fault bytes read sized is wrong = let both = first_inbound_fault form size (Ok parts) bytes (read, sized, is) fault wrong in cc
 
 module _ (one_header : OneHeader) (fault_or_header : FaultIsNoHeader) (one_hearing : OneHearing) (one_inbound : OneInbound) (one_delivery : OneDelivery) (wrong_is_final : WrongIsFinal) where
   same_kind : (bytes : List ℕ) (header other : Header) (body rest : List ℕ) → Begins bytes header body → Begins bytes other rest → header.kind ≡ other.kind
@@ -51,7 +52,7 @@ module _ (one_header : OneHeader) (fault_or_header : FaultIsNoHeader) (one_heari
       absurd (fault_or_header bytes fault1 header2 body2 has1 begins2)
   one_record conn bytes step other (TakesRecord.no_header fault1 has1 e1) (TakesRecord.no_data header2 body2 fault2 begins2 kind2 wrong2 e2) =
       absurd (fault_or_header bytes fault1 header2 body2 has1 begins2)
-  one_record conn bytes step other (TakesRecord.no_header fault1 has1 e1) (TakesRecord.hears header2 body2 parts2 begins2 kind2 form2 is2 e2) =
+  one_record conn bytes step other (TakesRecord.no_header fault1 has1 e1) (TakesRecord.hears header2 body2 parts2 begins2 kind2 form2 size2 is2 e2) =
       absurd (fault_or_header bytes fault1 header2 body2 has1 begins2)
   one_record conn bytes step other (TakesRecord.no_header fault1 has1 e1) (TakesRecord.answered header2 body2 begins2 kind2 e2) =
       absurd (fault_or_header bytes fault1 header2 body2 has1 begins2)
@@ -61,7 +62,7 @@ module _ (one_header : OneHeader) (fault_or_header : FaultIsNoHeader) (one_heari
       e1 ∙ sym e2
   one_record conn bytes step other (TakesRecord.dropped header1 body1 begins1 kind1 e1) (TakesRecord.no_data header2 body2 fault2 begins2 kind2 wrong2 e2) =
       absurd (no_other_data header1.kind kind1 ((same_kind bytes header1 header2 body1 body2 begins1 begins2) ∙ kind2))
-  one_record conn bytes step other (TakesRecord.dropped header1 body1 begins1 kind1 e1) (TakesRecord.hears header2 body2 parts2 begins2 kind2 form2 is2 e2) =
+  one_record conn bytes step other (TakesRecord.dropped header1 body1 begins1 kind1 e1) (TakesRecord.hears header2 body2 parts2 begins2 kind2 form2 size2 is2 e2) =
       absurd (no_other_data header1.kind kind1 ((same_kind bytes header1 header2 body1 body2 begins1 begins2) ∙ kind2))
   one_record conn bytes step other (TakesRecord.dropped header1 body1 begins1 kind1 e1) (TakesRecord.answered header2 body2 begins2 kind2 e2) =
       absurd (no_other_response header1.kind kind1 ((same_kind bytes header1 header2 body1 body2 begins1 begins2) ∙ kind2))
@@ -71,20 +72,20 @@ module _ (one_header : OneHeader) (fault_or_header : FaultIsNoHeader) (one_heari
       absurd (no_other_data header2.kind kind2 (sym (same_kind bytes header1 header2 body1 body2 begins1 begins2) ∙ kind1))
   one_record conn bytes step other (TakesRecord.no_data header1 body1 fault1 begins1 kind1 wrong1 e1) (TakesRecord.no_data header2 body2 fault2 begins2 kind2 wrong2 e2) =
       e1 ∙ sym e2
-  one_record conn bytes step other (TakesRecord.no_data header1 body1 fault1 begins1 kind1 wrong1 e1) (TakesRecord.hears header2 body2 parts2 begins2 kind2 form2 is2 e2) =
-      absurd (inbound_or_fault (form_awaited conn.pending) parts2 fault1 body2 form2 is2 (subst (λ (b : List ℕ). IsNoInbound (form_awaited conn.pending) fault1 b) (same_body bytes header1 header2 body1 body2 begins1 begins2) wrong1))
+  one_record conn bytes step other (TakesRecord.no_data header1 body1 fault1 begins1 kind1 wrong1 e1) (TakesRecord.hears header2 body2 parts2 begins2 kind2 form2 size2 is2 e2) =
+      absurd (inbound_or_fault conn.shape (form_awaited conn.pending) parts2 fault1 body2 form2 size2 is2 (subst (λ (b : List ℕ). IsNoInbound conn.shape (form_awaited conn.pending) fault1 b) (same_body bytes header1 header2 body1 body2 begins1 begins2) wrong1))
   one_record conn bytes step other (TakesRecord.no_data header1 body1 fault1 begins1 kind1 wrong1 e1) (TakesRecord.answered header2 body2 begins2 kind2 e2) =
       absurd (data_or_response header1.kind kind1 ((same_kind bytes header1 header2 body1 body2 begins1 begins2) ∙ kind2))
-  one_record conn bytes step other (TakesRecord.hears header1 body1 parts1 begins1 kind1 form1 is1 e1) (TakesRecord.no_header fault2 has2 e2) =
+  one_record conn bytes step other (TakesRecord.hears header1 body1 parts1 begins1 kind1 form1 size1 is1 e1) (TakesRecord.no_header fault2 has2 e2) =
       absurd (fault_or_header bytes fault2 header1 body1 has2 begins1)
-  one_record conn bytes step other (TakesRecord.hears header1 body1 parts1 begins1 kind1 form1 is1 e1) (TakesRecord.dropped header2 body2 begins2 kind2 e2) =
+  one_record conn bytes step other (TakesRecord.hears header1 body1 parts1 begins1 kind1 form1 size1 is1 e1) (TakesRecord.dropped header2 body2 begins2 kind2 e2) =
       absurd (no_other_data header2.kind kind2 (sym (same_kind bytes header1 header2 body1 body2 begins1 begins2) ∙ kind1))
-  one_record conn bytes step other (TakesRecord.hears header1 body1 parts1 begins1 kind1 form1 is1 e1) (TakesRecord.no_data header2 body2 fault2 begins2 kind2 wrong2 e2) =
-      absurd (inbound_or_fault (form_awaited conn.pending) parts1 fault2 body1 form1 is1 (subst (λ (b : List ℕ). IsNoInbound (form_awaited conn.pending) fault2 b) (sym (same_body bytes header1 header2 body1 body2 begins1 begins2)) wrong2))
-  one_record conn bytes step other (TakesRecord.hears header1 body1 parts1 begins1 kind1 form1 is1 e1) (TakesRecord.hears header2 body2 parts2 begins2 kind2 form2 is2 e2) =
+  one_record conn bytes step other (TakesRecord.hears header1 body1 parts1 begins1 kind1 form1 size1 is1 e1) (TakesRecord.no_data header2 body2 fault2 begins2 kind2 wrong2 e2) =
+      absurd (inbound_or_fault conn.shape (form_awaited conn.pending) parts1 fault2 body1 form1 size1 is1 (subst (λ (b : List ℕ). IsNoInbound conn.shape (form_awaited conn.pending) fault2 b) (sym (same_body bytes header1 header2 body1 body2 begins1 begins2)) wrong2))
+  one_record conn bytes step other (TakesRecord.hears header1 body1 parts1 begins1 kind1 form1 size1 is1 e1) (TakesRecord.hears header2 body2 parts2 begins2 kind2 form2 size2 is2 e2) =
       let is = subst (λ (b : List ℕ). IsInbound parts2 b) (sym (same_body bytes header1 header2 body1 body2 begins1 begins2)) is2 in
-      e1 ∙ ap (λ (parts : InboundParts). data_came parts conn.turn conn.pending conn) (one_inbound body1 parts1 parts2 (form1 ∙ sym form2) is1 is) ∙ sym e2
-  one_record conn bytes step other (TakesRecord.hears header1 body1 parts1 begins1 kind1 form1 is1 e1) (TakesRecord.answered header2 body2 begins2 kind2 e2) =
+      e1 ∙ ap (λ (parts : InboundParts). data_came parts conn.turn conn.pending conn) (one_inbound body1 parts1 parts2 (form1 ∙ sym form2) (size1 ∙ sym size2) is1 is) ∙ sym e2
+  one_record conn bytes step other (TakesRecord.hears header1 body1 parts1 begins1 kind1 form1 size1 is1 e1) (TakesRecord.answered header2 body2 begins2 kind2 e2) =
       absurd (data_or_response header1.kind kind1 ((same_kind bytes header1 header2 body1 body2 begins1 begins2) ∙ kind2))
   one_record conn bytes step other (TakesRecord.answered header1 body1 begins1 kind1 e1) (TakesRecord.no_header fault2 has2 e2) =
       absurd (fault_or_header bytes fault2 header1 body1 has2 begins1)
@@ -92,7 +93,7 @@ module _ (one_header : OneHeader) (fault_or_header : FaultIsNoHeader) (one_heari
       absurd (no_other_response header2.kind kind2 (sym (same_kind bytes header1 header2 body1 body2 begins1 begins2) ∙ kind1))
   one_record conn bytes step other (TakesRecord.answered header1 body1 begins1 kind1 e1) (TakesRecord.no_data header2 body2 fault2 begins2 kind2 wrong2 e2) =
       absurd (data_or_response header1.kind ((same_kind bytes header1 header2 body1 body2 begins1 begins2) ∙ kind2) kind1)
-  one_record conn bytes step other (TakesRecord.answered header1 body1 begins1 kind1 e1) (TakesRecord.hears header2 body2 parts2 begins2 kind2 form2 is2 e2) =
+  one_record conn bytes step other (TakesRecord.answered header1 body1 begins1 kind1 e1) (TakesRecord.hears header2 body2 parts2 begins2 kind2 form2 size2 is2 e2) =
       absurd (data_or_response header1.kind ((same_kind bytes header1 header2 body1 body2 begins1 begins2) ∙ kind2) kind1)
   one_record conn bytes step other (TakesRecord.answered header1 body1 begins1 kind1 e1) (TakesRecord.answered header2 body2 begins2 kind2 e2) =
       e1 ∙ ap (λ (h : Header). response_came h.seq (verdict_of h.flag) conn.pending conn) (one_header bytes header1 header2 body1 body2 begins1 begins2).0 ∙ sym e2

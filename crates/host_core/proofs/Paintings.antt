@@ -1,18 +1,20 @@
 -- A paint that is sent.
-use Rattle.std.proofs.Common.{◌≡◌, ℕ, Bool, true, false, List, [], ◌∷◌, ◌++◌, length, drop, refl, ap, sym, ◌∙◌, Vec, inl, inr}
+use Rattle.std.proofs.Common.{◌≡◌, ◌==◌, ℕ, Bool, true, false, List, [], ◌∷◌, ◌++◌, drop, refl, ap, sym, subst, ◌∙◌, Vec, if◌then◌else◌}
 use Rattle.std.specs.declared.alloc.Global.{Global}
-use Rattle.codes3270.specs.Size.{cells_in}
+use Rattle.std.proofs.lemmas.Bool.{and_parts, eqb-true}
+use Rattle.codes3270.specs.Size.{Shape, cells_in, model_2}
 use Rattle.codes3270.specs.declared.write_control.Wcc.{Wcc}
-use Rattle.datastream.specs.Grammar.{CommandParts, IsCommand}
+use Rattle.datastream.specs.Grammar.{CommandParts, IsCommand, size_after}
+use Rattle.datastream.specs.declared.command_code.CommandCode.TheVariants.{Write, EraseWrite, EraseWriteAlternate}
 use Rattle.datastream.specs.Wanted.{WantedScreen}
 use Rattle.panels.specs.Screen.{Values}
 use Rattle.panels.specs.declared.message.Message.{Message}
 use Rattle.shadow.specs.Belief.{Shadow}
-use Rattle.shadow.specs.Paint.{paint, paint_bytes, paint_code}
+use Rattle.shadow.specs.Paint.{paint, paint_bytes, paint_code, writes_over, is_base_size, erase_code}
 use Rattle.shadow.specs.Stores.{is_plain}
 use Rattle.telnet_wire.specs.Items.{Record, sent_bytes}
 use Rattle.tn3270e_msg.specs.Header.{spelling, always_response, next_number}
-use Rattle.host_core.proofs.Commands.{IsSentCode, read_behind, plain_behind}
+use Rattle.host_core.proofs.Commands.{IsSentCode, sent_command, read_behind, plain_behind}
 use Rattle.host_core.specs.Acts.{Act, done, wanted_by}
 use Rattle.host_core.specs.Application.{Application}
 use Rattle.host_core.specs.Keeps.{command_in, pending_in, IsPlainWrite, IsSentOn}
@@ -22,10 +24,37 @@ use Rattle.host_core.specs.Session.{Conn, Pending}
 use Rattle.host_core.specs.declared.pending.Pending.TheVariants as unanswered
 use Rattle.host_core.specs.declared.turn.Turn.TheVariants as whose
 
-paint_is_sent : (shadow : Shadow) → IsSentCode (paint_code shadow)
-paint_is_sent Shadow.NothingKnown = inr refl
-paint_is_sent (Shadow.Unformatted known) = inr refl
-paint_is_sent (Shadow.Formatted beliefs) = inl refl
+-- ---- the size that it sets
+
+base_is : (size : Shape) → is_base_size size ≡ true → size ≡ model_2
+base_is size is =
+    let parts = and_parts (size.rows == model_2.rows) (size.columns == model_2.columns) is in
+    ap (λ (rows : ℕ). record { rows = rows; columns = size.columns }) (eqb-true size.rows model_2.rows parts.0)
+    ∙ ap (λ (columns : ℕ). record { rows = model_2.rows; columns = columns }) (eqb-true size.columns model_2.columns parts.1)
+
+sets : (n : ℕ) (shadow : Shadow) (wanted : WantedScreen) → size_after (paint_code n shadow wanted) wanted.size wanted.size ≡ wanted.size
+sets n shadow wanted = by_over (writes_over n shadow)
+  where
+    by_base : (b : Bool) → is_base_size wanted.size ≡ b → size_after (if b then EraseWrite else EraseWriteAlternate) wanted.size wanted.size ≡ wanted.size
+    by_base true e = sym (base_is wanted.size e)
+    by_base false e = refl
+
+    by_over : (b : Bool) → size_after (if b then Write else erase_code wanted.size) wanted.size wanted.size ≡ wanted.size
+    by_over true = refl
+    by_over false = by_base (is_base_size wanted.size) refl
+
+is_sent : (n : ℕ) (shadow : Shadow) (wanted : WantedScreen) → IsSentCode (paint_code n shadow wanted)
+is_sent n shadow wanted = by_over (writes_over n shadow)
+  where
+    by_base : (b : Bool) → IsSentCode (if b then EraseWrite else EraseWriteAlternate)
+    by_base true = refl
+    by_base false = refl
+
+    by_over : (b : Bool) → IsSentCode (if b then Write else erase_code wanted.size)
+    by_over true = refl
+    by_over false = by_base (is_base_size wanted.size)
+
+-- ---- its record
 
 -- the record of a paint
 abbrev pub paint_record : ℕ → ℕ → Shadow → WantedScreen → List ℕ
@@ -34,38 +63,50 @@ paint_record size number shadow wanted = spelling (command_header always_respons
 control : WantedScreen → Wcc
 control wanted = record { alarm = false; restore = true; reset = wanted.reset }
 
-paint_again : (size number : ℕ) (shadow : Shadow) (wanted : WantedScreen) (sent : List ℕ)
-    → IsCommand (paint size shadow wanted) (paint_bytes size shadow wanted) → sent ≡ paint_record size number shadow wanted
-    → command_in (drop 5 sent) ≡ paint size shadow wanted
+-- a paint is the write that is read from its bytes, for a screen of the wanted size
+same_paint : (n : ℕ) (shadow : Shadow) (wanted : WantedScreen) → sent_command wanted.size (paint_code n shadow wanted) (control wanted) (paint n shadow wanted).orders ≡ paint n shadow wanted
 unfolding control
-paint_again size number shadow wanted sent spelt begun =
-    read_behind number (paint_code shadow) (control wanted) (paint size shadow wanted).orders sent (paint_is_sent shadow) spelt begun
+same_paint n shadow wanted = ap (λ (size : Shape). record (paint n shadow wanted) { size = size }) (sets n shadow wanted)
 
-pub paint_is_kept : (size number : ℕ) (shadow : Shadow) (wanted : WantedScreen) (sent : List ℕ)
-    → IsCommand (paint size shadow wanted) (paint_bytes size shadow wanted) → is_plain (paint size shadow wanted) ≡ true → sent ≡ paint_record size number shadow wanted
-    → IsPlainWrite (drop 5 sent)
+-- its bytes spell it for a screen of the wanted size
+abbrev pub IsPaintSpelt : ℕ → Shadow → WantedScreen → Type 0
+IsPaintSpelt n shadow wanted = IsCommand wanted.size wanted.size (paint n shadow wanted) (paint_bytes n shadow wanted)
+
+spelt_so : (n : ℕ) (shadow : Shadow) (wanted : WantedScreen) → IsPaintSpelt n shadow wanted
+    → IsCommand wanted.size wanted.size (sent_command wanted.size (paint_code n shadow wanted) (control wanted) (paint n shadow wanted).orders) (paint_bytes n shadow wanted)
+spelt_so n shadow wanted spelt = subst (λ (command : CommandParts). IsCommand wanted.size wanted.size command (paint_bytes n shadow wanted)) (sym (same_paint n shadow wanted)) spelt
+
+paint_again : (n number : ℕ) (shadow : Shadow) (wanted : WantedScreen) (sent : List ℕ) → IsPaintSpelt n shadow wanted → sent ≡ paint_record n number shadow wanted
+    → command_in wanted.size (drop 5 sent) ≡ paint n shadow wanted
 unfolding control
-paint_is_kept size number shadow wanted sent spelt plain begun =
-    plain_behind number (paint_code shadow) (control wanted) (paint size shadow wanted).orders sent (paint_is_sent shadow) spelt plain begun
+paint_again n number shadow wanted sent spelt begun =
+    read_behind wanted.size number (paint_code n shadow wanted) (control wanted) (paint n shadow wanted).orders sent (is_sent n shadow wanted) (spelt_so n shadow wanted spelt) begun
+    ∙ same_paint n shadow wanted
+
+pub paint_is_kept : (n number : ℕ) (shadow : Shadow) (wanted : WantedScreen) (sent : List ℕ) → IsPaintSpelt n shadow wanted → is_plain (paint n shadow wanted) ≡ true
+    → sent ≡ paint_record n number shadow wanted → IsPlainWrite wanted.size (drop 5 sent)
+unfolding control
+paint_is_kept n number shadow wanted sent spelt plain begun =
+    plain_behind wanted.size number (paint_code n shadow wanted) (control wanted) (paint n shadow wanted).orders sent (is_sent n shadow wanted) (spelt_so n shadow wanted spelt)
+    (ap is_plain (same_paint n shadow wanted) ∙ plain) begun
 
 -- the connection once a panel is shown
 shown_conn : Conn → ℕ → Message → Values → Pending → Conn
 shown_conn conn panel message values pending =
     record conn { turn = whose.Terminal; pending = pending; next_seq = next_number conn.next_seq; panel = panel; message = message; values = values }
 
-pub shows : (app : Application) (conn new : Conn) (size panel : ℕ) (message : Message) (keep : Bool) (values : Values) (wanted : WantedScreen) (sent : List ℕ) (before after : Vec ℕ Global)
-    → cells_in conn.shape ≡ size → length wanted.cells ≡ size → wanted ≡ wanted_by app conn panel message keep values
-    → IsCommand (paint size conn.shadow wanted) (paint_bytes size conn.shadow wanted) → sent ≡ paint_record size conn.next_seq conn.shadow wanted
-    → new ≡ record conn { turn = whose.Terminal; pending = pending_in (unanswered.Writing conn.next_seq) sent; next_seq = next_number conn.next_seq; panel = panel; message = message; values = values }
+pub shows : (app : Application) (conn new : Conn) (panel : ℕ) (message : Message) (keep : Bool) (values : Values) (wanted : WantedScreen) (sent : List ℕ) (before after : Vec ℕ Global)
+    → wanted.size ≡ conn.shape → wanted ≡ wanted_by app conn panel message keep values
+    → IsPaintSpelt (cells_in wanted.size) conn.shadow wanted → sent ≡ paint_record (cells_in wanted.size) conn.next_seq conn.shadow wanted
+    → new ≡ record conn { turn = whose.Terminal; pending = pending_in conn.shape (unanswered.Writing conn.next_seq) sent; next_seq = next_number conn.next_seq; panel = panel; message = message; values = values }
     → after.items ≡ before.items ++ sent_bytes (Record sent ∷ [])
     → IsSentOn (done app conn (Act.Show panel message keep values)) before after new
 unfolding shown_conn
-shows app conn new size panel message keep values wanted sent before after sized cells chosen spelt begun is put = record {
+shows app conn new panel message keep values wanted sent before after sized chosen spelt begun is put = record {
   conn = is ∙ ap (λ (command : CommandParts). shown_conn conn panel message values (Pending.Writing conn.next_seq command))
-      (paint_again size conn.next_seq conn.shadow wanted sent spelt begun
-      ∙ ap (λ (n : ℕ). paint n conn.shadow wanted) (sym sized)
-      ∙ ap (λ (w : WantedScreen). paint (cells_in conn.shape) conn.shadow w) chosen);
-  bytes = put ∙ ap (λ (bytes : List ℕ). before.items ++ sent_bytes (Record bytes ∷ []))
-      (begun ∙ ap (λ (n : ℕ). paint_record n conn.next_seq conn.shadow wanted) (sym cells))
+      (ap (λ (size : Shape). command_in size (drop 5 sent)) (sym sized)
+      ∙ paint_again (cells_in wanted.size) conn.next_seq conn.shadow wanted sent spelt begun
+      ∙ ap (λ (w : WantedScreen). paint (cells_in w.size) conn.shadow w) chosen);
+  bytes = put ∙ ap (λ (bytes : List ℕ). before.items ++ sent_bytes (Record bytes ∷ [])) begun
       ∙ ap (λ (w : WantedScreen). before.items ++ sent_bytes (item_sent (ToTerminal.Paint conn.next_seq w conn.shadow) ∷ [])) chosen;
 }

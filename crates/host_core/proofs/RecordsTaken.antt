@@ -2,6 +2,7 @@
 use Rattle.std.proofs.Common.{◌≡◌, ◌≢◌, ◌-◌, ℕ, true, false, List, length, take, drop, refl, ap, sym, ◌∙◌, subst, Option, Some, None, Result, Ok, Err, arith}
 use Rattle.std.specs.Option.{is_some}
 use Rattle.std.proofs.lemmas.List.{take_all, length-drop}
+use Rattle.codes3270.specs.Size.{Shape}
 use Rattle.datastream.specs.InboundText.{InboundParts, IsInbound, IsNoInbound}
 use Rattle.datastream.specs.declared.inbound_part.Form.{Form}
 use Rattle.datastream.specs.declared.inbound_part.Form.TheVariants.{Buffer}
@@ -62,11 +63,11 @@ pub behind : (bytes : List ℕ) → take (length bytes - 5) (drop 5 bytes) ≡ d
 behind bytes = take_all (length bytes - 5) (drop 5 bytes) (omega (arith, length-drop 5 bytes))
 
 -- its bytes are there
-pub write_kept : (pending : Unanswered) (sent : List ℕ) → IsKept pending sent → IsWrite (pending_in pending sent) → IsPlainWrite (drop 5 sent)
-write_kept unanswered.Nothing sent kept is = absurd is
-write_kept (unanswered.Writing number) sent kept is = kept
-write_kept (unanswered.Reading number) sent kept is = absurd is
-write_kept (unanswered.Noting number) sent kept is = kept
+pub write_kept : (shape : Shape) (pending : Unanswered) (sent : List ℕ) → IsKept shape pending sent → IsWrite (pending_in shape pending sent) → IsPlainWrite shape (drop 5 sent)
+write_kept shape unanswered.Nothing sent kept is = absurd is
+write_kept shape (unanswered.Writing number) sent kept is = kept
+write_kept shape (unanswered.Reading number) sent kept is = absurd is
+write_kept shape (unanswered.Noting number) sent kept is = kept
 
 -- ---- a record
 
@@ -82,12 +83,12 @@ other_type SscpLuData no_data no_response = tt
 other_type (Unnamed code) no_data no_response = tt
 
 pub of_no_data : (old : Conn) (bytes : List ℕ) (header : Header) (body : List ℕ) (form : Form) (fault : InboundFault) → Begins bytes header body → header.kind ≡ Data3270
-    → form ≡ form_awaited old.pending → IsNoInbound form fault body → TakesRecord old bytes (silent old (Some BadInbound))
+    → form ≡ form_awaited old.pending → IsNoInbound old.shape form fault body → TakesRecord old bytes (silent old (Some BadInbound))
 of_no_data old bytes header body form fault begins kind awaited wrong =
-    TakesRecord.no_data header body fault begins kind (subst (λ (f : Form). IsNoInbound f fault body) awaited wrong) refl
+    TakesRecord.no_data header body fault begins kind (subst (λ (f : Form). IsNoInbound old.shape f fault body) awaited wrong) refl
 
 pub of_data : (old new : Conn) (bytes : List ℕ) (cause : Option Cause) (header : Header) (body : List ℕ) (form : Form) (parts : InboundParts) → Begins bytes header body → header.kind ≡ Data3270
-    → form ≡ form_awaited old.pending → parts.form ≡ form → IsInbound parts body
+    → form ≡ form_awaited old.pending → parts.form ≡ form → parts.size ≡ old.shape → IsInbound parts body
     → silent new cause ≡ data_came parts old.turn old.pending old → TakesRecord old bytes (silent new cause)
-of_data old new bytes cause header body form parts begins kind awaited read is came =
-    TakesRecord.hears header body parts begins kind (read ∙ awaited) is came
+of_data old new bytes cause header body form parts begins kind awaited read sized is came =
+    TakesRecord.hears header body parts begins kind (read ∙ awaited) sized is came

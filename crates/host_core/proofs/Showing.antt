@@ -3,9 +3,12 @@ use Rattle.std.proofs.Common.{length, drop, ap, sym, subst, ◌∙◌, ◌≡◌
 use Rattle.std.specs.Prelude.{slice_get, slice_index_or, option_map, unwrap_or}
 use Rattle.std.specs.List.{list_all, list_any, range_with_len}
 use Rattle.std.specs.Option.{option_or, option_map_or}
+use Rattle.std.proofs.lemmas.List.Elements.{All-nil}
 use Rattle.std.proofs.lemmas.List.FromFn.{length-map-range_with_len, get_or-map-range_with_len}
 use Rattle.std.proofs.lemmas.Option.{slice_get-get_or}
-use Rattle.codes3270.specs.Size.{cell_count, model_2}
+use Rattle.codes3270.specs.Size.{Shape, alternate_of, cells_in, model_2}
+use Rattle.codes3270.specs.declared.size.Model.{Model}
+use Rattle.codes3270.specs.declared.size.Model.TheVariants.{M2, M3, M4, M5}
 use Rattle.codes3270.specs.declared.attribute.Attr.{Attr}
 use Rattle.datastream.specs.declared.wanted.Want.{Want}
 use Rattle.datastream.specs.declared.wanted.Want.TheVariants as want
@@ -16,10 +19,11 @@ use Rattle.panels.specs.declared.message.Message.TheVariants.{Fresh, Plain, KeyN
 use Rattle.panels.specs.declared.panel.Field.{Field}
 use Rattle.panels.specs.MessageRow.{PanelsLeaveTheRow}
 use Rattle.panels.specs.KeptFields.{FieldsAreKeptWhole, NothingElseIsKept, IsOfField}
-use Rattle.panels.specs.Panel.{PanelParts, Panels, CursorsAreOnTheScreen, HasItemsApart, AreApart}
+use Rattle.panels.specs.Panel.{PanelParts, Panels, AreLaidOut, HaveOtherwise, IsAbove, IsLaidOut, IsOtherwise, HasItemsApart, AreApart, is_shown, shape_of, shown_in, shown_of}
+use Rattle.panels.proofs.Putting.{cursor_within}
 use Rattle.panels.specs.Screen.{Values, distance_in, item_cell, autoskip_attr, shown, text_cell, field_attr, field_content, field_cell, stopper_cell, message_text, message_cell, first_some, wanted_cell, field_numbered, wanted_cursor, screen_of}
 use Rattle.panels.specs.Size.{message_start}
-use Rattle.host_core.specs.Application.{IsMessageRow, IsShowable, is_wanted_char, no_panel, panel_at}
+use Rattle.host_core.specs.Application.{IsMessageRow, IsShowable, is_wanted_char, message_place, no_panel, panel_at}
 use Rattle.host_core.proofs.KeptWhole.{IsInRun, KeptInRuns, kept_whole}
 use Rattle.host_core.specs.Laws.{PanelsAreShown, ScreensAreWanted}
 
@@ -60,12 +64,12 @@ stoppers_kept cell field = by_test (cell == field.extent.first + field.extent.le
     by_test true = refl
     by_test false = tt
 
-message_kept : (fields : List Field) (message : Message) (cell : ℕ) → NotKept (message_cell fields message cell)
-message_kept fields message cell = by_test (nat_lt cell message_start)
+message_kept : (start : ℕ) (fields : List Field) (message : Message) (cell : ℕ) → NotKept (message_cell start fields message cell)
+message_kept start fields message cell = by_test (nat_lt cell start)
   where
-    by_test : (b : Bool) → NotKept (if b then None else Some (item_cell (autoskip_attr true) (message_text fields message) (cell - message_start)))
+    by_test : (b : Bool) → NotKept (if b then None else Some (item_cell (autoskip_attr true) (message_text fields message) (cell - start)))
     by_test true = tt
-    by_test false = item_kept (autoskip_attr true) (message_text fields message) (cell - message_start)
+    by_test false = item_kept (autoskip_attr true) (message_text fields message) (cell - start)
 
 cell_kept : (panel : PanelParts) (values : Values) (message : Message) (cell : ℕ) → is_keep (wanted_cell panel values message false cell) ≡ false
 cell_kept panel values message cell =
@@ -74,29 +78,13 @@ cell_kept panel values message cell =
     (any_kept (text_cell values cell) (λ text. items_kept (autoskip_attr text.bright) (shown values text.content) (distance_in text.extent cell)) panel.texts)
     (or_kept (first_some (field_cell values message false cell) panel.fields) _
     (any_kept (field_cell values message false cell) (λ field. items_kept (field_attr values message false field) (field_content values message field) (distance_in field.extent cell)) panel.fields)
-    (or_kept (message_cell panel.fields message cell) (first_some (stopper_cell cell) panel.fields)
-    (message_kept panel.fields message cell)
+    (or_kept (message_cell (message_start (shape_of panel)) panel.fields message cell) (first_some (stopper_cell cell) panel.fields)
+    (message_kept (message_start (shape_of panel)) panel.fields message cell)
     (any_kept (stopper_cell cell) (stoppers_kept cell) panel.fields))))
 
 none_kept : (cell_of : ℕ → Want) → ((cell : ℕ) → is_keep (cell_of cell) ≡ false) → (cells : List ℕ) → list_any is_keep (map cell_of cells) ≡ false
 none_kept cell_of each [] = refl
 none_kept cell_of each (cell ∷ cells) = rw (each cell) (none_kept cell_of each cells)
-
--- ---- cursors
-
--- a field lies above the row for messages
-field_on : (field : Field) → field.extent.first < cell_count
-field_on field = let some = field.extent.has_cells in let above = field.extent.above_message in omega arith
-
-first_on : (cursor : ℕ) → cursor < cell_count → (found : Option Field) → option_map_or (λ (field : Field). field.extent.first) found cursor < cell_count
-first_on cursor on None = on
-first_on cursor on (Some field) = field_on field
-
-pub cursor_on : (panel : PanelParts) (message : Message) → panel.cursor < cell_count → wanted_cursor panel message < cell_count
-cursor_on panel Fresh on = on
-cursor_on panel Plain on = on
-cursor_on panel KeyNotActive on = on
-cursor_on panel (Required number) on = first_on panel.cursor on (field_numbered number panel.fields)
 
 -- ---- the last row
 
@@ -118,21 +106,32 @@ row_there attribute zero (want.Attr other ∷ cells) guards at each =
 row_there attribute (suc place) (first ∷ cells) guards at each =
     row_there attribute place cells guards at (λ cell after within. each (suc cell) (omega (arith, after)) (omega (arith, within)))
 
-message_row : PanelsLeaveTheRow → (panel : PanelParts) (values : Values) (message : Message) (keep : Bool) → IsMessageRow (drop message_start (screen_of panel values message keep).cells)
-message_row leave panel values message keep =
-    let row = leave panel values message keep in
-    let long : length (screen_of panel values message keep).cells ≡ cell_count = length-map-range_with_len (wanted_cell panel values message keep) 0 cell_count in
-    row_there (autoskip_attr true) message_start (screen_of panel values message keep).cells refl row.attribute (λ cell after within. row.characters cell after (subst (λ (n : ℕ). cell < n) long within))
+-- it starts where the rows for items end
+row_start : (model : Model) → message_start (alternate_of model) ≡ message_place (alternate_of model)
+row_start M2 = refl
+row_start M3 = refl
+row_start M4 = refl
+row_start M5 = refl
+
+message_row : PanelsLeaveTheRow → (panel : PanelParts) (values : Values) (message : Message) (keep : Bool) → IsLaidOut panel
+    → IsMessageRow (drop (message_place (shape_of panel)) (screen_of panel values message keep).cells)
+message_row leave panel values message keep laid =
+    let row = leave panel values message keep laid in
+    let size : ℕ = cells_in (shape_of panel) in
+    let long : length (screen_of panel values message keep).cells ≡ size = length-map-range_with_len (wanted_cell panel values message keep) 0 size in
+    subst (λ (start : ℕ). IsMessageRow (drop start (screen_of panel values message keep).cells)) (row_start panel.model)
+    (row_there (autoskip_attr true) (message_start (shape_of panel)) (screen_of panel values message keep).cells refl row.attribute
+    (λ cell after within. row.characters cell after (subst (λ (n : ℕ). cell < n) long within)))
 
 -- ---- what is kept
 
 -- what is kept is a field's, and so is all between its attribute and the next
-kept_in_runs : FieldsAreKeptWhole → NothingElseIsKept → (panel : PanelParts) (values : Values) (message : Message) (keep : Bool) → HasItemsApart panel → KeptInRuns (screen_of panel values message keep).cells
-kept_in_runs whole nothing panel values message keep apart cell kept = by_field keep (nothing panel values message keep cell kept)
+kept_in_runs : FieldsAreKeptWhole → NothingElseIsKept → (panel : PanelParts) (values : Values) (message : Message) (keep : Bool) → HasItemsApart panel → IsLaidOut panel → KeptInRuns (screen_of panel values message keep).cells
+kept_in_runs whole nothing panel values message keep apart laid cell kept = by_field keep (nothing panel values message keep cell kept)
   where
     run : (i : ℕ) (field : Field) → slice_get panel.fields i ≡ Some field → field.extent.first ≤ cell → cell < field.extent.first + field.extent.length → IsInRun (screen_of panel values message true).cells cell
     run i field at from to =
-        let w = whole panel values message i field apart at in
+        let w = whole panel values message i field apart laid at in
         let some = field.extent.after_attribute in
         record {
           before = field.extent.first - 1;
@@ -149,17 +148,19 @@ kept_in_runs whole nothing panel values message keep apart cell kept = by_field 
     by_field : (k : Bool) → (k ≡ true) × IsOfField panel cell → IsInRun (screen_of panel values message k).cells cell
     by_field k (same, (i, field, at, (from, to))) = subst (λ b. IsInRun (screen_of panel values message b).cells cell) (sym same) (run i field at from to)
 
-keeps_whole_of : FieldsAreKeptWhole → NothingElseIsKept → (panel : PanelParts) (values : Values) (message : Message) (keep : Bool) → HasItemsApart panel → keeps_whole_fields (screen_of panel values message keep) ≡ true
-keeps_whole_of whole nothing panel values message keep apart =
-    kept_whole (screen_of panel values message keep).cells 0 (screen_of panel values message keep).cells (kept_in_runs whole nothing panel values message keep apart) refl
+keeps_whole_of : FieldsAreKeptWhole → NothingElseIsKept → (panel : PanelParts) (values : Values) (message : Message) (keep : Bool) → HasItemsApart panel → IsLaidOut panel → keeps_whole_fields (screen_of panel values message keep) ≡ true
+keeps_whole_of whole nothing panel values message keep apart laid =
+    kept_whole (screen_of panel values message keep).cells 0 (screen_of panel values message keep).cells (kept_in_runs whole nothing panel values message keep apart laid) refl
 
 -- ---- screens
 
-shows : PanelsLeaveTheRow → (panel : PanelParts) (values : Values) (message : Message) (keep : Bool) → panel.cursor < cell_count → keeps_whole_fields (screen_of panel values message keep) ≡ true → IsShowable model_2 (screen_of panel values message keep)
-shows leave panel values message keep on kept = record {
-  cells = length-map-range_with_len (wanted_cell panel values message keep) 0 cell_count;
-  cursor = cursor_on panel message on;
-  messages = message_row leave panel values message keep;
+shows : PanelsLeaveTheRow → (panel : PanelParts) (values : Values) (message : Message) (keep : Bool) → IsLaidOut panel → keeps_whole_fields (screen_of panel values message keep) ≡ true
+    → IsShowable (shape_of panel) (screen_of panel values message keep)
+shows leave panel values message keep laid kept = record {
+  size = refl;
+  cells = length-map-range_with_len (wanted_cell panel values message keep) 0 (cells_in (shape_of panel));
+  cursor = cursor_within panel message laid;
+  messages = message_row leave panel values message keep laid;
   kept = kept;
 }
 
@@ -168,35 +169,67 @@ pub at_panel : (P : PanelParts → Type 0) (found : Option PanelParts) → P no_
 at_panel P None none each = none
 at_panel P (Some panel) none each = each panel refl
 
-abbrev HasCursorOn : PanelParts → Type 0
-HasCursorOn panel = panel.cursor < cell_count
+nowhere_laid : IsLaidOut no_panel
+nowhere_laid = record {
+  texts = All-nil (λ text. IsAbove model_2 text.extent);
+  fields = All-nil (λ field. IsAbove model_2 field.extent);
+  cursor = omega arith;
+}
 
-pub cursors_on : (set : Panels) (number : ℕ) → CursorsAreOnTheScreen set → HasCursorOn (panel_at set number)
-cursors_on set number on = at_panel HasCursorOn (slice_get set.panels number) (omega arith) (on number)
+pub laid_out_at : (set : Panels) (number : ℕ) → AreLaidOut set → IsLaidOut (panel_at set number)
+laid_out_at set number laid = at_panel IsLaidOut (slice_get set.panels (shown_in set M2 number)) nowhere_laid (laid (shown_in set M2 number))
 
 no_items : HasItemsApart no_panel
 no_items = record { texts = λ i j one other less is there. absurd (cc); fields = λ i j one other less is there. absurd (cc); both = λ i j text field is there. absurd (cc) }
 
 all_apart : (set : Panels) (number : ℕ) → AreApart set → HasItemsApart (panel_at set number)
-all_apart set number apart = at_panel HasItemsApart (slice_get set.panels number) no_items (apart number)
+all_apart set number apart = at_panel HasItemsApart (slice_get set.panels (shown_in set M2 number)) no_items (apart (shown_in set M2 number))
+
+-- the panel that is shown is of model 2
+model_shown : (set : Panels) (number : ℕ) (found : Option PanelParts) → HaveOtherwise set → slice_get set.panels number ≡ found
+    → (unwrap_or (slice_get set.panels (option_map_or (shown_of M2 number) found number)) no_panel).model ≡ M2
+model_shown set number None have none = ap (λ (o : Option PanelParts). (unwrap_or o no_panel).model) none
+model_shown set number (Some panel) have there = by_model panel.model panel.otherwise refl (have number panel there)
+  where
+    model_at : Option PanelParts → Model
+    model_at found = (unwrap_or found no_panel).model
+
+    by_model : (model : Model) (otherwise : Option ℕ) → panel.model ≡ model → IsOtherwise set.panels model otherwise
+        → (unwrap_or (slice_get set.panels (if is_shown model M2 then number else unwrap_or otherwise number)) no_panel).model ≡ M2
+    by_model M2 otherwise e is = ap model_at there ∙ e
+    by_model M3 None e is = let wrong : M3 ≡ M2 = is in absurd (cc)
+    by_model M4 None e is = let wrong : M4 ≡ M2 = is in absurd (cc)
+    by_model M5 None e is = let wrong : M5 ≡ M2 = is in absurd (cc)
+    by_model M3 (Some q) e (differs, other, at, base) = ap model_at at ∙ base
+    by_model M4 (Some q) e (differs, other, at, base) = ap model_at at ∙ base
+    by_model M5 (Some q) e (differs, other, at, base) = ap model_at at ∙ base
+
+pub shape_at : (set : Panels) (number : ℕ) → HaveOtherwise set → shape_of (panel_at set number) ≡ model_2
+shape_at set number have = ap alternate_of (model_shown set number (slice_get set.panels number) have refl)
 
 pub panels_shown : PanelsLeaveTheRow → FieldsAreKeptWhole → NothingElseIsKept → PanelsAreShown
-panels_shown leave whole_fields nothing set on apart = record {
+panels_shown leave whole_fields nothing set have laid apart = record {
   shape = record { columns = omega arith; row = omega arith; addresses = omega arith };
-  showable = λ number values message keep. shows leave (panel_at set number) values message keep (cursors_on set number on)
-      (keeps_whole_of whole_fields nothing (panel_at set number) values message keep (all_apart set number apart));
-  whole = λ number values message. none_kept (wanted_cell (panel_at set number) values message false) (cell_kept (panel_at set number) values message) (range_with_len 0 cell_count);
+  showable = λ number values message keep.
+      let panel = panel_at set number in
+      let out = laid_out_at set number laid in
+      subst (λ (shape : Shape). IsShowable shape (screen_of panel values message keep)) (shape_at set number have)
+      (shows leave panel values message keep out (keeps_whole_of whole_fields nothing panel values message keep (all_apart set number apart) out));
+  whole = λ number values message.
+      none_kept (wanted_cell (panel_at set number) values message false) (cell_kept (panel_at set number) values message) (range_with_len 0 (cells_in (shape_of (panel_at set number))));
 }
 
 -- ---- what panels ask for
 
 pub screens_wanted : ScreensAreWanted
 screens_wanted panel values message keep = record {
+  size = refl;
   cells = λ cell within.
+      let size : ℕ = cells_in (shape_of panel) in
       let cells : List Want = (screen_of panel values message keep).cells in
-      let long : length cells ≡ cell_count = length-map-range_with_len (wanted_cell panel values message keep) 0 cell_count in
+      let long : length cells ≡ size = length-map-range_with_len (wanted_cell panel values message keep) 0 size in
       slice_get-get_or cells cell (want.Char 0) (rw long within)
-      ∙ ap Some (get_or-map-range_with_len (wanted_cell panel values message keep) 0 cell_count cell cell (want.Char 0) within (omega arith));
+      ∙ ap Some (get_or-map-range_with_len (wanted_cell panel values message keep) 0 size cell cell (want.Char 0) within (omega arith));
   cursor = refl;
   reset = refl;
 }

@@ -1,5 +1,5 @@
 -- What panels ask for are screens, each cell of which can hold what is wanted of it, where panels and values are of characters.
-use Rattle.std.proofs.Common.{◌≡◌, ◌==◌, nat_lt, ◌<◌, ◌-◌, ◌+◌, ℕ, zero, suc, Bool, true, false, not, Option, None, Some, List, [], ◌∷◌, ◌++◌, map, refl, IfSome, IsTrue, if◌then◌else◌}
+use Rattle.std.proofs.Common.{◌≡◌, ◌==◌, nat_lt, ◌≤◌, ◌-◌, ◌+◌, arith, ℕ, zero, suc, Bool, true, false, not, Option, None, Some, List, [], ◌∷◌, ◌++◌, map, refl, IfSome, IsTrue, if◌then◌else◌}
 use Rattle.std.specs.Prelude.{⊤, codes, slice_get, slice_index_or, option_map, unwrap_or}
 use Rattle.std.specs.List.{All, range_with_len}
 use Rattle.std.specs.Option.{option_or, option_map_or}
@@ -10,7 +10,9 @@ use Rattle.std.proofs.lemmas.List.Elements.{All-nil, All-head, All-tail, All-map
 use Rattle.std.proofs.lemmas.List.FromFn.{length-map-range_with_len}
 use Rattle.std.proofs.lemmas.Map.Views.{IfSome-lookup_from_All}
 use Rattle.codes3270.specs.CodePage.{code_of}
-use Rattle.codes3270.specs.Size.{cell_count}
+use Rattle.codes3270.specs.Size.{alternate_of, cells_in, most_cells}
+use Rattle.codes3270.specs.declared.size.Model.{Model}
+use Rattle.codes3270.specs.declared.size.Model.TheVariants.{M2, M3, M4, M5}
 use Rattle.codes3270.specs.Storable.{is_storable}
 use Rattle.codes3270.specs.declared.attribute.Attr.{Attr}
 use Rattle.datastream.specs.Wanted.{IsProper, IsScreen}
@@ -18,7 +20,8 @@ use Rattle.datastream.specs.declared.wanted.Want.{Want}
 use Rattle.datastream.specs.declared.wanted.Want.TheVariants as want
 use Rattle.panels.proofs.Codes.{character_of_code}
 use Rattle.panels.specs.Characters.{is_character, AreCharacters}
-use Rattle.panels.specs.Panel.{PanelParts, HasCharacters, IsOfCharacters}
+use Rattle.panels.proofs.Putting.{cursor_within}
+use Rattle.panels.specs.Panel.{PanelParts, HasCharacters, IsLaidOut, IsOfCharacters, shape_of, shown_in}
 use Rattle.panels.specs.Screen.{Values, distance_in, item_cell, kept_cell, autoskip_attr, shown, text_cell, is_fresh, field_attr, field_content, field_cell, stopper_cell, coded, field_numbered, message_text, message_cell, first_some, wanted_cell, screen_of}
 use Rattle.panels.specs.Size.{message_start}
 use Rattle.panels.specs.Values.{value_of}
@@ -30,7 +33,7 @@ use Rattle.panels.specs.declared.panel.Field.{Field}
 use Rattle.panels.specs.declared.panel.TextItem.{TextItem}
 use Rattle.host_core.specs.Application.{AreTexts, no_panel, panel_at}
 use Rattle.host_core.specs.Laws.{PanelsAskForScreens}
-use Rattle.host_core.proofs.Showing.{at_panel, cursor_on, cursors_on}
+use Rattle.host_core.proofs.Showing.{at_panel, laid_out_at}
 
 -- ---- texts
 
@@ -141,12 +144,12 @@ stopper_held cell field = by_test (cell == field.extent.first + field.extent.len
     by_test true = refl
     by_test false = tt
 
-message_held : (fields : List Field) (message : Message) (cell : ℕ) → CanBeHeld (message_cell fields message cell)
-message_held fields message cell = by_test (nat_lt cell message_start)
+message_held : (start : ℕ) (fields : List Field) (message : Message) (cell : ℕ) → CanBeHeld (message_cell start fields message cell)
+message_held start fields message cell = by_test (nat_lt cell start)
   where
-    by_test : (b : Bool) → CanBeHeld (if b then None else Some (item_cell (autoskip_attr true) (message_text fields message) (cell - message_start)))
+    by_test : (b : Bool) → CanBeHeld (if b then None else Some (item_cell (autoskip_attr true) (message_text fields message) (cell - start)))
     by_test true = tt
-    by_test false = item_held (autoskip_attr true) (message_text fields message) (cell - message_start) (message_stored fields message)
+    by_test false = item_held (autoskip_attr true) (message_text fields message) (cell - start) (message_stored fields message)
 
 cell_held : (panel : PanelParts) (values : Values) (message : Message) (keep : Bool) (cell : ℕ) → IsOfCharacters panel → AreTexts values → IsProper (wanted_cell panel values message keep cell)
 cell_held panel values message keep cell is texts =
@@ -155,8 +158,8 @@ cell_held panel values message keep cell is texts =
     (any_held (λ text. HasCharacters text.content) (text_cell values cell) (λ text has. text_held values cell text texts has) panel.texts is.texts)
     (or_held (first_some (field_cell values message keep cell) panel.fields) _
     (any_held (λ field. AreCharacters field.fill) (field_cell values message keep cell) (λ field fill. field_held values message keep cell field texts fill) panel.fields is.fills)
-    (or_held (message_cell panel.fields message cell) (first_some (stopper_cell cell) panel.fields)
-    (message_held panel.fields message cell)
+    (or_held (message_cell (message_start (shape_of panel)) panel.fields message cell) (first_some (stopper_cell cell) panel.fields)
+    (message_held (message_start (shape_of panel)) panel.fields message cell)
     (any_held (λ field. ⊤) (stopper_cell cell) (λ field it. stopper_held cell field) panel.fields (λ k d below. tt)))))
 
 -- ---- screens
@@ -164,16 +167,24 @@ cell_held panel values message keep cell is texts =
 all_held : (cell_of : ℕ → Want) → ((cell : ℕ) → IsProper (cell_of cell)) → (cells : List ℕ) → All IsProper (map cell_of cells)
 all_held cell_of each cells = All-map IsProper cell_of cells (λ k d below. each (slice_index_or cells k d))
 
-asks : (panel : PanelParts) (values : Values) (message : Message) (keep : Bool) → AreTexts values → panel.cursor < cell_count → IsOfCharacters panel → IsScreen (screen_of panel values message keep)
-asks panel values message keep texts on is = record {
-  size = length-map-range_with_len (wanted_cell panel values message keep) 0 cell_count;
-  proper = all_held (wanted_cell panel values message keep) (λ cell. cell_held panel values message keep cell is texts) (range_with_len 0 cell_count);
-  cursor_in_range = cursor_on panel message on;
+few : (model : Model) → cells_in (alternate_of model) ≤ most_cells
+few M2 = omega arith
+few M3 = omega arith
+few M4 = omega arith
+few M5 = omega arith
+
+asks : (panel : PanelParts) (values : Values) (message : Message) (keep : Bool) → AreTexts values → IsLaidOut panel → IsOfCharacters panel → IsScreen (screen_of panel values message keep)
+asks panel values message keep texts laid is = record {
+  size = length-map-range_with_len (wanted_cell panel values message keep) 0 (cells_in (shape_of panel));
+  few = few panel.model;
+  proper = all_held (wanted_cell panel values message keep) (λ cell. cell_held panel values message keep cell is texts) (range_with_len 0 (cells_in (shape_of panel)));
+  cursor_in_range = cursor_within panel message laid;
 }
 
 no_characters : IsOfCharacters no_panel
 no_characters = record { texts = All-nil (λ text. HasCharacters text.content); fills = All-nil (λ field. AreCharacters field.fill) }
 
 pub panels_ask : PanelsAskForScreens
-panels_ask set on is number values message keep texts =
-    asks (panel_at set number) values message keep texts (cursors_on set number on) (at_panel IsOfCharacters (slice_get set.panels number) no_characters (is number))
+panels_ask set laid is number values message keep texts =
+    asks (panel_at set number) values message keep texts (laid_out_at set number laid)
+    (at_panel IsOfCharacters (slice_get set.panels (shown_in set M2 number)) no_characters (is (shown_in set M2 number)))

@@ -140,7 +140,7 @@ done app conn (Act.Show panel message keep values) =
     record {
       conn = record conn {
         turn = whose.Terminal;
-        pending = Pending.Writing conn.next_seq (paint (cells_in conn.shape) conn.shadow wanted);
+        pending = Pending.Writing conn.next_seq (paint (cells_in wanted.size) conn.shadow wanted);
         next_seq = next_number conn.next_seq;
         panel = panel;
         message = message;

@@ -1,8 +1,9 @@
 -- What a host shows, and where its keys lead (our profile).
-use Rattle.std.specs.Prelude.{◌≡◌, ◌<◌, ◌≤◌, ◌-◌, ℕ, Bool, true, false, List, [], ◌∷◌, length, drop, slice_get, unwrap_or, All}
+use Rattle.std.specs.Prelude.{◌≡◌, ◌<◌, ◌≤◌, ◌-◌, ℕ, Bool, true, false, List, [], ◌∷◌, length, drop, None, slice_get, unwrap_or, All}
 use Rattle.std.specs.List.{list_any, list_all}
 use Rattle.std.specs.Map.{values_of}
-use Rattle.codes3270.specs.Size.{Shape, cells_in, model_2, cell_count}
+use Rattle.codes3270.specs.Size.{Shape, cells_in, model_2, most_cells}
+use Rattle.codes3270.specs.declared.size.Model.TheVariants.{M2}
 use Rattle.codes3270.specs.declared.attention.Aid.{Aid}
 use Rattle.datastream.specs.Wanted.{WantedScreen, IsScreen}
 use Rattle.datastream.specs.declared.wanted.Want.{Want}
@@ -13,7 +14,7 @@ use Rattle.panels.specs.declared.panel.Field.{Field}
 use Rattle.panels.specs.declared.message.Message.{Message}
 use Rattle.panels.specs.declared.next.Next.{Next}
 use Rattle.panels.specs.Characters.{AreCharacters}
-use Rattle.panels.specs.Panel.{PanelParts, Panels}
+use Rattle.panels.specs.Panel.{PanelParts, Panels, shown_in}
 use Rattle.panels.specs.Next.{next_of}
 use Rattle.panels.specs.Screen.{Values, screen_of}
 
@@ -50,10 +51,11 @@ IsMessageRow (Attr attribute ∷ wants) = (attribute.protected ≡ true) × (lis
 pub record IsShape (shape : Shape) : Type 0 where
   pub columns : 1 < shape.columns
   pub row : shape.columns ≤ cells_in shape
-  pub addresses : cells_in shape ≤ cell_count
+  pub addresses : cells_in shape ≤ most_cells
 
 -- a screen of that shape, with its cursor on it, and its last row for messages; a field is kept whole, or not at all
 pub record IsShowable (shape : Shape) (wanted : WantedScreen) : Type 0 where
+  pub size : wanted.size ≡ shape
   pub cells : length wanted.cells ≡ cells_in shape
   pub cursor : wanted.cursor < cells_in shape
   pub messages : IsMessageRow (drop (message_place shape) wanted.cells)
@@ -83,10 +85,11 @@ AsksForScreens app =
 
 -- one without texts and fields, for a number that no panel has
 abbrev pub no_panel : PanelParts
-no_panel = record { texts = []; fields = []; cursor = 0; targets = [] }
+no_panel = record { model = M2; otherwise = None; texts = []; fields = []; cursor = 0; targets = [] }
 
+-- the panel that is shown where the one with a number is asked for: so far each terminal is shown the panels of a model 2
 abbrev pub panel_at : Panels → ℕ → PanelParts
-panel_at set number = unwrap_or (slice_get set.panels number) no_panel
+panel_at set number = unwrap_or (slice_get set.panels (shown_in set M2 number)) no_panel
 
 abbrev pub application_of : Panels → Application
 application_of set = record {

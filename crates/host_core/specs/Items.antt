@@ -25,15 +25,15 @@ IsOther Data3270 = ⊥
 IsOther Response = ⊥
 IsOther _ = ⊤
 
--- A record comes, once both ends agreed. Without a header the host closes; data is read in the form that it awaits; of a response the
--- header counts alone; other types are dropped.
+-- A record comes, once both ends agreed. Without a header the host closes; data is read in the form that it awaits, by the size of the
+-- terminal's screen; of a response the header counts alone; other types are dropped.
 pub data TakesRecord (conn : Conn) (bytes : List ℕ) (step : HostStep) : Type 0 where
   no_header : (fault : HeadFault) → HasFault bytes fault → step ≡ closed_by BadRecord conn → TakesRecord conn bytes step
   dropped : (header : Header) (body : List ℕ) → Begins bytes header body → IsOther header.kind → step ≡ quiet conn → TakesRecord conn bytes step
   no_data : (header : Header) (body : List ℕ) (fault : InboundFault) → Begins bytes header body → header.kind ≡ Data3270
-      → IsNoInbound (form_awaited conn.pending) fault body → step ≡ closed_by BadInbound conn → TakesRecord conn bytes step
+      → IsNoInbound conn.shape (form_awaited conn.pending) fault body → step ≡ closed_by BadInbound conn → TakesRecord conn bytes step
   hears : (header : Header) (body : List ℕ) (parts : InboundParts) → Begins bytes header body → header.kind ≡ Data3270
-      → parts.form ≡ form_awaited conn.pending → IsInbound parts body → step ≡ data_came parts conn.turn conn.pending conn
+      → parts.form ≡ form_awaited conn.pending → parts.size ≡ conn.shape → IsInbound parts body → step ≡ data_came parts conn.turn conn.pending conn
       → TakesRecord conn bytes step
   answered : (header : Header) (body : List ℕ) → Begins bytes header body → header.kind ≡ Response
       → step ≡ response_came header.seq (verdict_of header.flag) conn.pending conn → TakesRecord conn bytes step

@@ -2,12 +2,13 @@
 use Rattle.std.specs.Prelude.{◌≡◌, ◌≢◌, ◌==◌, ◌&&◌, not, ◌↔◌, ◌<◌, ◌+◌, ⊤, ℕ, Bool, true, false, List, [], ◌∷◌, ◌++◌, drop, Option, Some, None, map, Vec, vec_len, if◌then◌else◌}
 use Rattle.std.specs.Vec.{vec_capacity}
 use Rattle.std.specs.declared.alloc.Global.{Global}
+use Rattle.codes3270.specs.Size.{Shape, cells_in}
 use Rattle.codes3270.specs.WriteControl.{wcc_of}
 use Rattle.codes3270.specs.declared.attention.Aid.TheVariants.{Clear}
-use Rattle.datastream.specs.Grammar.{CommandParts, IsCommand, codes_of}
+use Rattle.datastream.specs.Grammar.{CommandParts, IsCommand, codes_of, size_after}
 use Rattle.datastream.specs.Reading.{orders_in}
 use Rattle.datastream.specs.declared.command_code.CommandCode.{CommandCode}
-use Rattle.datastream.specs.declared.command_code.CommandCode.TheVariants.{Write, EraseWrite}
+use Rattle.datastream.specs.declared.command_code.CommandCode.TheVariants.{Write, EraseWrite, EraseWriteAlternate}
 use Rattle.lu_pool.specs.Asking.{answer_to}
 use Rattle.lu_pool.specs.Pool.{Holds}
 use Rattle.lu_pool.specs.declared.entry.Entry.{Entry}
@@ -42,20 +43,26 @@ use Rattle.host_core.specs.declared.pending.Pending.TheVariants as unanswered
 
 -- ---- a connection
 
--- the write that its bytes spell; the host sends no other than these two
+-- the write that its bytes spell
 abbrev pub code_in : ℕ → CommandCode
-code_in byte = if byte == (codes_of EraseWrite).1 then EraseWrite else Write
+code_in byte =
+    if byte == (codes_of EraseWrite).1 then EraseWrite
+    else if byte == (codes_of EraseWriteAlternate).1 then EraseWriteAlternate
+    else Write
 
-abbrev pub command_in : List ℕ → CommandParts
-command_in (code ∷ wcc ∷ text) = record { code = code_in code; wcc = Some (wcc_of wcc); orders = orders_in text }
-command_in _ = record { code = Write; wcc = None; orders = [] }
+-- for a screen of this shape, which its erases leave as it is
+abbrev pub command_in : Shape → List ℕ → CommandParts
+command_in shape (code ∷ wcc ∷ text) =
+    let size = size_after (code_in code) shape shape in
+    record { code = code_in code; size = size; wcc = Some (wcc_of wcc); orders = orders_in (cells_in size) text }
+command_in shape _ = record { code = Write; size = shape; wcc = None; orders = [] }
 
 -- the command that isn't answered yet; its bytes are those after the header of the record that was sent last
-abbrev pub pending_in : Unanswered → List ℕ → Pending
-pending_in unanswered.Nothing sent = Pending.Nothing
-pending_in (unanswered.Writing number) sent = Pending.Writing number (command_in (drop header_length sent))
-pending_in (unanswered.Reading number) sent = Pending.Reading number
-pending_in (unanswered.Noting number) sent = Pending.Noting number (command_in (drop header_length sent))
+abbrev pub pending_in : Shape → Unanswered → List ℕ → Pending
+pending_in shape unanswered.Nothing sent = Pending.Nothing
+pending_in shape (unanswered.Writing number) sent = Pending.Writing number (command_in shape (drop header_length sent))
+pending_in shape (unanswered.Reading number) sent = Pending.Reading number
+pending_in shape (unanswered.Noting number) sent = Pending.Noting number (command_in shape (drop header_length sent))
 
 abbrev pub number_kept : Unanswered → Option ℕ
 number_kept unanswered.Nothing = None
@@ -63,15 +70,15 @@ number_kept (unanswered.Writing number) = Some number
 number_kept (unanswered.Reading number) = Some number
 number_kept (unanswered.Noting number) = Some number
 
--- a write that the belief can take
-abbrev pub IsPlainWrite : List ℕ → Type 0
-IsPlainWrite bytes = IsCommand (command_in bytes) bytes × (is_plain (command_in bytes) ≡ true)
+-- a write that the belief can take, for a screen of this shape
+abbrev pub IsPlainWrite : Shape → List ℕ → Type 0
+IsPlainWrite shape bytes = IsCommand shape shape (command_in shape bytes) bytes × (is_plain (command_in shape bytes) ≡ true)
 
-abbrev pub IsKept : Unanswered → List ℕ → Type 0
-IsKept unanswered.Nothing sent = ⊤
-IsKept (unanswered.Writing number) sent = IsPlainWrite (drop header_length sent)
-IsKept (unanswered.Reading number) sent = ⊤
-IsKept (unanswered.Noting number) sent = IsPlainWrite (drop header_length sent)
+abbrev pub IsKept : Shape → Unanswered → List ℕ → Type 0
+IsKept shape unanswered.Nothing sent = ⊤
+IsKept shape (unanswered.Writing number) sent = IsPlainWrite shape (drop header_length sent)
+IsKept shape (unanswered.Reading number) sent = ⊤
+IsKept shape (unanswered.Noting number) sent = IsPlainWrite shape (drop header_length sent)
 
 -- ---- items
 

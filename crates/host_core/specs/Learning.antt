@@ -1,11 +1,18 @@
 -- What a host learns of fields (our profile); only private contracts and proofs need it.
-use Rattle.std.specs.Prelude.{ℕ, Bool, true, false, nat_lt, List, length, Option, Some, None}
+use Rattle.std.specs.Prelude.{ℕ, ◌-◌, Bool, true, false, nat_lt, List, All, length, Option, Some, None}
 use Rattle.std.specs.Option.{option_map_or}
-use Rattle.shadow.specs.Belief.{Shadow}
+use Rattle.shadow.specs.Belief.{Shadow, HasCell}
 use Rattle.panels.specs.Screen.{Values}
 use Rattle.panels.specs.Values.{value_of}
 use Rattle.panels.specs.declared.panel.Field.{Field}
 use Rattle.host_core.specs.Acts.{text_known}
+
+-- the screen of which something is known has the cell of a field's attribute
+abbrev pub HasField : Shadow → Field → Type 0
+HasField shadow field = HasCell (field.extent.first - 1) shadow
+
+abbrev pub HaveFields : Shadow → List Field → Type 0
+HaveFields shadow fields = All (HasField shadow) fields
 
 -- whether a text needs more memory than a value has
 abbrev pub is_longer : Option (List ℕ) → List ℕ → Bool

@@ -46,7 +46,7 @@ pub record IsNoteOf (shape : Shape) (command : CommandParts) : Type 0 where
 -- A note is one, of characters that a cell can hold.
 pub record IsProperNote (command : CommandParts) : Type 0 where
   pub note : IsNote command
-  pub proper : All IsProper command.orders
+  pub proper : All (IsProper (cells_in command.size)) command.orders
 
 abbrev pub NotesAreNotes : Type 0
 NotesAreNotes = (shape : Shape) (command : CommandParts) → IsShape shape → IsNoteOf shape command → IsProperNote command
@@ -67,9 +67,9 @@ NotesWriteProtected = (shape : Shape) (command : CommandParts) (cells : List Cel
 
 -- ---- which screens take notes
 
--- What is painted does.
+-- What is painted does, on a screen of any size.
 abbrev pub PaintsTakeNotes : Type 0
-PaintsTakeNotes = (shape : Shape) (shadow : Shadow) (wanted : WantedScreen) (screen : Screen) → IsPaintable shape shadow wanted → length screen.cells ≡ cells_in shape
+PaintsTakeNotes = (shape : Shape) (shadow : Shadow) (wanted : WantedScreen) (screen : Screen) → IsPaintable shape shadow wanted
     → HasMessageRow shape (plainly_painted wanted screen).cells
 
 -- So does what keys leave of such a screen,

@@ -36,7 +36,7 @@ note_orders shape text = Sba (message_place shape + 1) ∷ map Data (in_cells (s
 
 -- A Write that restores nothing, resets nothing and moves no cursor.
 abbrev pub note_command : Shape → List ℕ → CommandParts
-note_command shape text = record { code = Write; wcc = Some quiet; orders = note_orders shape text }
+note_command shape text = record { code = Write; size = shape; wcc = Some quiet; orders = note_orders shape text }
 
 -- in the operator's turn, where nothing waits for an answer
 abbrev pub may_note : Turn → Pending → Bool → Bool

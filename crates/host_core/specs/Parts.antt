@@ -1,6 +1,7 @@
 -- Parts of the host's steps as the code takes them (our profile); only private contracts and proofs need it.
 use Rattle.std.specs.Prelude.{◌≡◌, ⊤, ℕ, List, [], ◌++◌, Option, map, Vec}
 use Rattle.std.specs.declared.alloc.Global.{Global}
+use Rattle.codes3270.specs.Size.{model_2}
 use Rattle.datastream.specs.Grammar.{CommandParts}
 use Rattle.lu_pool.specs.Asking.{answer_to}
 use Rattle.lu_pool.specs.Holders.{granted_if}
@@ -20,9 +21,9 @@ use Rattle.host_core.specs.declared.rejection.Rejection.{Rejection}
 
 -- the write that waits for its answer
 abbrev pub write_of : Pending → CommandParts
-write_of Pending.Nothing = command_in []
+write_of Pending.Nothing = command_in model_2 []
 write_of (Pending.Writing number command) = command
-write_of (Pending.Reading number) = command_in []
+write_of (Pending.Reading number) = command_in model_2 []
 write_of (Pending.Noting number command) = command
 
 -- a write does

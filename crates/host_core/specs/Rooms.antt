@@ -2,14 +2,14 @@
 use Rattle.std.specs.Prelude.{ℕ, ◌+◌, ◌*◌, ◌≤◌, vec_len, Vec}
 use Rattle.std.specs.Vec.{vec_capacity}
 use Rattle.std.specs.declared.alloc.Global.{Global}
-use Rattle.codes3270.specs.Size.{cell_count, model_2}
+use Rattle.codes3270.specs.Size.{cells_in, model_2}
 use Rattle.tn3270e_msg.specs.Header.{header_length}
 use Rattle.tn3270e_msg.specs.Writing.{reply_room}
 use Rattle.host_core.specs.Messages.{ToTerminal}
 
 -- the most bytes of a record that a host sends: a header, and a paint with three bytes for each cell
 abbrev pub record_room : ℕ
-record_room = header_length + (9 + 3 * cell_count)
+record_room = header_length + (9 + 3 * cells_in model_2)
 
 -- with each byte doubled, and its end
 abbrev pub command_room : ℕ

@@ -1,6 +1,7 @@
 -- What a host sends, on the wire (RFC 1647, sections 7, 8.1 and 10.4; the commands are those of GA23-0059-07; which record wants which
 -- response is our profile).
-use Rattle.std.specs.Prelude.{ℕ, List, [], ◌∷◌, ◌++◌, Option, Some, None, length}
+use Rattle.std.specs.Prelude.{ℕ, List, [], ◌∷◌, ◌++◌, Option, Some, None}
+use Rattle.codes3270.specs.Size.{Shape, cells_in}
 use Rattle.codes3270.specs.WriteControl.{wcc_byte}
 use Rattle.codes3270.specs.declared.write_control.Wcc.{Wcc}
 use Rattle.datastream.specs.Grammar.{CommandParts, codes_of}
@@ -26,8 +27,13 @@ behind_code (Some wcc) orders = wcc_byte wcc ∷ orders_bytes orders
 abbrev pub written : CommandParts → List ℕ
 written command = (codes_of command.code).1 ∷ behind_code command.wcc command.orders
 
-abbrev pub read_buffer_command : CommandParts
-read_buffer_command = record { code = ReadBufferCode; wcc = None; orders = [] }
+-- a Read Buffer, to a screen of this size
+abbrev pub read_buffer_command : Shape → CommandParts
+read_buffer_command size = record { code = ReadBufferCode; size = size; wcc = None; orders = [] }
+
+-- its bytes, which are its code alone
+abbrev pub read_buffer_bytes : List ℕ
+read_buffer_bytes = (codes_of ReadBufferCode).1 ∷ []
 
 -- ---- records
 
@@ -41,6 +47,6 @@ command_record flag number command = spelling (command_header flag number) ++ wr
 -- A write wants a response in any case; a Read Buffer wants one where it is refused, since else the data answers it.
 abbrev pub item_sent : ToTerminal → WireItem
 item_sent (ToTerminal.TalksDown saying) = item_of saying
-item_sent (ToTerminal.Paint number wanted believed) = Record (command_record always_response number (paint (length wanted.cells) believed wanted))
-item_sent (ToTerminal.ReadBuffer number) = Record (command_record error_response number read_buffer_command)
+item_sent (ToTerminal.Paint number wanted believed) = Record (command_record always_response number (paint (cells_in wanted.size) believed wanted))
+item_sent (ToTerminal.ReadBuffer number) = Record (spelling (command_header error_response number) ++ read_buffer_bytes)
 item_sent (ToTerminal.Note number command) = Record (command_record always_response number command)

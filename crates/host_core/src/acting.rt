@@ -12,6 +12,7 @@ ghost use Rattle.host_core.specs.Application.{Application, application_of};
 ghost use Rattle.host_core.specs.Choices.{CanBeShown};
 ghost use Rattle.host_core.specs.Does.{Grow};
 ghost use Rattle.host_core.specs.Keeps.{DoesOn, act_of, reads, show_for, show_once, teaches, values_shown};
+ghost use Rattle.host_core.specs.Learning.{HaveFields};
 ghost use Rattle.host_core.specs.Session.{is_agreed};
 ghost use Rattle.host_core.specs.declared.turn_reason.TurnReason.TheVariants.{Key as KeyPressed};
 
@@ -38,9 +39,15 @@ pub(crate) struct Shown {
 
 /// Whether some field is in doubt.
 fn is_some_in_doubt(shadow: &Shadow, fields: &[Field]) -> bool
+    requires { HaveFields shadow.now fields.now }
     ensures { result ≡ list_any (in_doubt shadow.now) fields.now }
 {
-    fields.iter().any(|field| is_in_doubt(shadow, field))
+    for field in fields {
+        if is_in_doubt(shadow, field) {
+            return true;
+        }
+    }
+    false
 }
 
 /// A message again, after a refusal.

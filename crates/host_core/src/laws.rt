@@ -21,14 +21,15 @@ pub fn one_machine()
     datastream::laws::one_reading();
 }
 
-/// Law: whatever a host does, it paints what fits its belief.
+/// Law: whatever a host does, it paints what fits its belief, or what keeps nothing.
 pub fn what_is_shown_fits()
     ensures { ActsFit }
 {}
 
-/// Law: panels whose cursors are on the screen, and no two of whose items share a cell, are an
-/// application: each screen that they ask for has the model 2's shape, with its last row for
-/// messages, keeps whole fields or none, and is the one of its panel cell by cell. Where panels and
+/// Law: panels that are laid out on the screens of their models, no two of whose items share a cell,
+/// and of which each one of another model has one of model 2 in its place, are an application: each
+/// screen that they ask for has the model 2's shape, with its last row for messages, keeps whole
+/// fields or none, and is the one of its panel cell by cell. Where panels and
 /// values have characters alone that a cell can hold, so have the screens.
 pub fn panels_are_shown()
     ensures application { PanelsAreShown }

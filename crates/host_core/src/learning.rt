@@ -2,27 +2,27 @@
 ghost use Rattle.std.specs.Prelude.{◌≡◌, ◌<◌, ◌++◌, ◌∷◌, [], true, false, length, Option, Some, IfSome, OnOk, OnErr, option_map, if◌then◌else◌, not, ◌==◌};
 ghost use Rattle.std.specs.List.{list_any};
 ghost use Rattle.std.specs.Option.{option_map_or};
-ghost use Rattle.codes3270.specs.Size.{cell_count};
+ghost use Rattle.codes3270.specs.Size.{most_cells};
 ghost use Rattle.datastream.specs.Inbound.{without_nulls};
 ghost use Rattle.panels.specs.Characters.{AreCharacters};
 ghost use Rattle.panels.specs.Panel.{HaveNumbersApart};
 ghost use Rattle.panels.specs.Values.{set_if};
 ghost use Rattle.shadow.specs.Asked.{field_at, kind_of, value_of};
-ghost use Rattle.shadow.specs.Belief.{Belief};
+ghost use Rattle.shadow.specs.Belief.{Belief, HasCell};
 ghost use Rattle.shadow.specs.Storable.{CanBeStored};
 ghost use Rattle.host_core.specs.Acts.{first_missing, is_blank, is_in_doubt, is_missing, is_settled_fact, learned, text_known};
 ghost use Rattle.host_core.specs.Does.{Grow};
-ghost use Rattle.host_core.specs.Learning.{needs_room};
+ghost use Rattle.host_core.specs.Learning.{needs_room, HasField, HaveFields};
 
 use arrayvec::ArrayVec;
-use codes3270::{Addr, CELL_COUNT};
+use codes3270::{Addr, MOST_CELLS};
 use panels::{Field, Values};
 use shadow::laws::what_is_believed_can_be_stored;
 use shadow::{Fact, Shadow};
 use telnet_wire::Memory;
 
-/// The text of a field, which is shorter than the screen.
-type FieldText = ArrayVec<u8, CELL_COUNT>;
+/// The text of a field, which is shorter than the largest screen.
+type FieldText = ArrayVec<u8, MOST_CELLS>;
 
 /// Whether a fact tells a text.
 fn is_settled(fact: Option<Fact>) -> bool
@@ -37,6 +37,7 @@ fn is_settled(fact: Option<Fact>) -> bool
 
 /// Whether what is believed of a field is in doubt.
 pub(crate) fn is_in_doubt(shadow: &Shadow, field: &Field) -> bool
+    requires { HasField shadow.now field.now }
     ensures { result ≡ is_in_doubt shadow.now field.now }
 {
     !is_settled(shadow.fact(field.extent.attr()))
@@ -44,7 +45,7 @@ pub(crate) fn is_in_doubt(shadow: &Shadow, field: &Field) -> bool
 
 /// Appends a character, unless it is a null.
 fn put_unless_null(text: &mut FieldText, byte: u8)
-    requires { length text.old.items < cell_count }
+    requires { length text.old.items < most_cells }
     ensures { text.new.items ≡ (if not (byte == 0) then text.old.items ++ byte ∷ [] else text.old.items) }
 {
     if byte != 0 {
@@ -54,6 +55,7 @@ fn put_unless_null(text: &mut FieldText, byte: u8)
 
 /// The text of the field whose attribute is at an address, without nulls.
 fn text_at(shadow: &Shadow, attr: Addr) -> FieldText
+    requires { HasCell attr shadow.now }
     ensures { (belief : Belief) → field_at attr shadow.now ≡ Some belief → result.items ≡ without_nulls (value_of belief.fact) }
 {
     let mut text = ArrayVec::new();
@@ -67,7 +69,8 @@ fn text_at(shadow: &Shadow, attr: Addr) -> FieldText
 
 /// The text of a field, without nulls, where it is known.
 fn text_known(shadow: &Shadow, field: &Field) -> Option<FieldText>
-    requires { CanBeStored shadow.now }
+    requires stored { CanBeStored shadow.now }
+    requires there { HasField shadow.now field.now }
     ensures text { option_map (λ bytes. bytes.items) result ≡ text_known shadow.now field.now }
     ensures characters { IfSome result (λ bytes. AreCharacters bytes.items) }
 {
@@ -81,7 +84,8 @@ fn text_known(shadow: &Shadow, field: &Field) -> Option<FieldText>
 
 /// Whether the text of a field is known and needs more memory than the field's value has.
 fn needs_room(values: &Values, shadow: &Shadow, field: &Field) -> bool
-    requires { CanBeStored shadow.now }
+    requires stored { CanBeStored shadow.now }
+    requires there { HasField shadow.now field.now }
     ensures { result ≡ needs_room shadow.now values.now field.now }
 {
     let Some(text) = text_known(shadow, field) else {
@@ -95,15 +99,22 @@ fn needs_room(values: &Values, shadow: &Shadow, field: &Field) -> bool
 
 /// Whether there is such a field.
 fn any_needs_room(values: &Values, shadow: &Shadow, fields: &[Field]) -> bool
-    requires { CanBeStored shadow.now }
+    requires stored { CanBeStored shadow.now }
+    requires there { HaveFields shadow.now fields.now }
     ensures { result ≡ list_any (needs_room shadow.now values.now) fields.now }
 {
-    fields.iter().any(|field| needs_room(values, shadow, field))
+    for field in fields {
+        if needs_room(values, shadow, field) {
+            return true;
+        }
+    }
+    false
 }
 
 /// Sets the value of a field whose text is known.
 fn learn(values: &mut Values, shadow: &Shadow, field: &Field) -> Result<(), Memory>
-    requires { CanBeStored shadow.now }
+    requires stored { CanBeStored shadow.now }
+    requires there { HasField shadow.now field.now }
     ensures values { OnOk result (values.new ≡ set_if field.now.number (text_known shadow.now field.now) values.old) }
     ensures memory { OnErr result (needs_room shadow.now values.old field.now ≡ true) }
 {
@@ -116,6 +127,7 @@ fn learn(values: &mut Values, shadow: &Shadow, field: &Field) -> Result<(), Memo
 /// Sets the values of fields whose texts are known, one after another. If memory is refused, some are set and others not.
 fn learn_each(values: &mut Values, shadow: &Shadow, fields: &[Field]) -> Result<(), Memory>
     requires stored { CanBeStored shadow.now }
+    requires there { HaveFields shadow.now fields.now }
     requires numbers { HaveNumbersApart fields.now }
     ensures values { OnOk result (values.new ≡ learned shadow.now fields.now values.old) }
     ensures memory { OnErr result (list_any (needs_room shadow.now values.old) fields.now ≡ true) }
@@ -134,6 +146,7 @@ pub(crate) fn learn_all(
     fields: &[Field],
 ) -> Result<(), Memory>
     requires stored { CanBeStored shadow.now }
+    requires there { HaveFields shadow.now fields.now }
     requires numbers { HaveNumbersApart fields.now }
     ensures values { OnOk result (values.new ≡ learned shadow.now fields.now values.old) }
     ensures memory { OnErr result (Grow values.old (learned shadow.now fields.now values.old)) }

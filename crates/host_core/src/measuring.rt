@@ -1,8 +1,9 @@
 //! What screens would take on the wire, had the host known nothing of what the terminals show.
 ghost use Rattle.std.specs.Prelude.{◌≡◌, ◌<◌, ◌≤◌, false, length, true};
+ghost use Rattle.codes3270.specs.Size.{model_2};
 ghost use Rattle.datastream.specs.Wanted.{IsScreen};
 ghost use Rattle.shadow.specs.Belief.Shadow.{NothingKnown};
-ghost use Rattle.shadow.specs.Fits.{fits};
+ghost use Rattle.shadow.specs.Fits.{is_paintable};
 ghost use Rattle.host_core.specs.Application.{application_of};
 ghost use Rattle.host_core.specs.Measuring.{length_over_nothing, shown_whole, whole_length_if};
 
@@ -11,6 +12,7 @@ use crate::pending::Pending;
 use crate::room::{COMMAND_ROOM, RECORD_ROOM};
 use crate::sending::{begin_record, panel_in, send_record};
 use crate::session::Session;
+use codes3270::Size;
 use datastream::{Want, Wanted};
 use panels::{Message, PanelSet, Values};
 use shadow::Shadow;
@@ -49,7 +51,8 @@ impl ScreenMeasure {
 
     /// How many bytes the command with this number takes that paints a screen of which nothing is known.
     fn length(&mut self, number: u16, wanted: &Wanted) -> usize
-        requires fits { fits NothingKnown wanted.now ≡ true }
+        requires fits { is_paintable NothingKnown wanted.now ≡ true }
+        requires size { wanted.now.size ≡ model_2 }
         requires screen { IsScreen wanted.now }
         ensures { result ≡ length_over_nothing number wanted.now }
     {
@@ -70,17 +73,20 @@ fn put_whole(
     message: Message,
     values: &Values,
 )
-    requires { panel < length panels.now.panels }
+    requires panel { panel < length panels.now.panels }
+    requires size { wanted.old.size ≡ model_2 }
     ensures wanted { wanted.new ≡ (application_of panels.now).screen panel values.now message false }
-    ensures fits { fits NothingKnown wanted.new ≡ true }
+    ensures fits { is_paintable NothingKnown wanted.new ≡ true }
     ensures screen { IsScreen wanted.new }
+    ensures size { wanted.new.size ≡ model_2 }
 {
     what_is_shown_fits();
     panels_are_shown();
     panels.panels_are_sound();
     panel_in(panels, panel).put_wanted(wanted, values, message, false);
-    // For the contract: there is a want for each cell.
+    // For the contract: there is a want for each cell, and two bytes hold each address.
     let _cells = wanted.cells();
+    let _size = wanted.size();
     // For the contract: the cursor is on the screen.
     let _cursor = wanted.cursor();
 }
@@ -91,7 +97,7 @@ impl Session {
         requires { self.now.panel < length panels.now.panels }
         ensures { result ≡ length_over_nothing number (shown_whole (application_of panels.now) self.now) }
     {
-        let mut wanted = Wanted::filled(Want::Keep);
+        let mut wanted = Wanted::filled(Want::Keep, Size::base());
         put_whole(&mut wanted, panels, self.panel, self.message, &self.values);
         measure.length(number, &wanted)
     }

@@ -16,7 +16,7 @@ use crate::room::NOTE_ROOM;
 use crate::sending::{begin_record, send_record};
 use crate::session::Session;
 use crate::turn::Turn;
-use codes3270::{Addr, CELLS, COLUMNS, Wcc};
+use codes3270::{Addr, CELLS, COLUMNS, Size, Wcc};
 use datastream::{CommandCode, CommandWriter};
 use tn3270e_msg::{ALWAYS_RESPONSE, next_seq};
 
@@ -27,7 +27,7 @@ const ROOM: usize = COLUMNS as usize - 1;
 fn note_place() -> Addr
     ensures { result ≡ message_place model_2 + 1 }
 {
-    match Addr::new(CELLS - COLUMNS + 1) {
+    match Addr::new(CELLS - COLUMNS + 1, Size::base()) {
         Some(addr) => addr,
         None => unreachable!(),
     }

@@ -1,5 +1,6 @@
 //! What a host makes of the records of a terminal: data and responses.
 ghost use Rattle.std.specs.Prelude.{◌≡◌, true, drop};
+ghost use Rattle.codes3270.specs.Size.{model_2};
 ghost use Rattle.datastream.specs.Grammar.{IsSpelt};
 ghost use Rattle.shadow.specs.Exactness.{is_erase};
 ghost use Rattle.shadow.specs.Stores.{is_plain};
@@ -13,10 +14,10 @@ use crate::pending::Pending;
 use crate::session::Session;
 use crate::turn::Turn;
 use crate::turn_reason::TurnReason;
-use codes3270::Aid;
+use codes3270::{Aid, Size};
 use datastream::{Command, CommandCode, Form, Inbound, read_command, read_inbound};
 use shadow::Shadow;
-use shadow::laws::what_is_believed_can_be_stored;
+use shadow::laws::{what_is_believed_can_be_stored, what_is_believed_has_a_size};
 use tn3270e_msg::{Cause, DataType, HEADER_LENGTH, Header, POSITIVE, read_header};
 
 /// The screen of the key that was pressed last was read.
@@ -32,12 +33,13 @@ fn once_read(turn_reason: TurnReason) -> TurnReason
 
 /// The write in a record, after its header.
 fn write_in(sent: &[u8]) -> Command<'_>
-    requires { IsPlainWrite (drop header_length sent.now) }
-    ensures command { result ≡ command_in (drop header_length sent.now) }
+    requires { IsPlainWrite model_2 (drop header_length sent.now) }
+    ensures command { result ≡ command_in model_2 (drop header_length sent.now) }
     ensures plain { is_plain result ≡ true }
     ensures spelt { IsSpelt result }
 {
-    read_command(&sent[HEADER_LENGTH..]).unwrap()
+    let size = Size::base();
+    read_command(&sent[HEADER_LENGTH..], size, size).unwrap()
 }
 
 /// Whether a write clears the screen first.
@@ -61,13 +63,22 @@ impl Session {
             return Some(Cause::BadRecord);
         };
         match header.kind {
-            DataType::Data3270 => match read_inbound(body, self.form_awaited()) {
+            DataType::Data3270 => match read_inbound(body, self.form_awaited(), self.size()) {
                 Ok(inbound) => self.hear(&inbound),
                 Err(_) => Some(Cause::BadInbound),
             },
             DataType::Response => self.take_response(&header),
             _ => None,
         }
+    }
+
+    /// The size of the terminal's screen.
+    fn size(&self) -> Size
+        ensures { result ≡ self.now.shape }
+    {
+        // For the contract: the parts that a connection is seen by.
+        let _turn = self.turn;
+        Size::base()
     }
 
     /// The form in which data is read.
@@ -84,6 +95,7 @@ impl Session {
 
     /// Hears data: the answer to a read, or that of a key in the terminal's turn.
     fn hear(&mut self, inbound: &Inbound<'_>) -> Option<Cause>
+        requires { inbound.now.size ≡ self.old.shape }
         ensures came { silent self.new result ≡ data_came inbound.now self.old.turn self.old.pending self.old }
         ensures talk { self.new.talk ≡ self.old.talk }
         ensures panel { self.new.panel ≡ self.old.panel }
@@ -100,6 +112,7 @@ impl Session {
 
     /// Hears the whole screen.
     fn hear_buffer(&mut self, inbound: &Inbound<'_>) -> Option<Cause>
+        requires { inbound.now.size ≡ self.old.shape }
         ensures came { silent self.new result ≡ buffer_came inbound.now inbound.now.form self.old }
         ensures talk { self.new.talk ≡ self.old.talk }
         ensures panel { self.new.panel ≡ self.old.panel }
@@ -116,6 +129,7 @@ impl Session {
 
     /// Hears what a key sends.
     fn hear_key(&mut self, inbound: &Inbound<'_>) -> Option<Cause>
+        requires { inbound.now.size ≡ self.old.shape }
         ensures came { silent self.new result ≡ key_data_came inbound.now inbound.now.form self.old }
         ensures talk { self.new.talk ≡ self.old.talk }
         ensures panel { self.new.panel ≡ self.old.panel }
@@ -131,12 +145,14 @@ impl Session {
 
     /// Hears inbound data, so that the turn is the host's for this reason; what waits for an answer still does.
     fn believe(&mut self, inbound: &Inbound<'_>, turn_reason: TurnReason) -> Option<Cause>
+        requires { inbound.now.size ≡ self.old.shape }
         ensures came { silent self.new result ≡ believed turn_reason self.old.pending self.old (hears inbound.now self.old) }
         ensures talk { self.new.talk ≡ self.old.talk }
         ensures panel { self.new.panel ≡ self.old.panel }
     {
-        // What is sent can be stored, and so what is believed of it.
+        // What is sent can be stored, and so what is believed of it; and that has its size.
         what_is_believed_can_be_stored();
+        what_is_believed_has_a_size();
         // For the contract: the data has a form that terminals send.
         let _is_sent = inbound.form();
         if self.shadow.heard(inbound).is_err() {

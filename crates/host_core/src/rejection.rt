@@ -76,7 +76,7 @@ fn reason_of(message: &OwnedMessage) -> Option<Reason>
     match message {
         OwnedMessage::TypeReject(reason) => Some(*reason),
         OwnedMessage::SendType => None,
-        OwnedMessage::TypeRequest(_) => None,
+        OwnedMessage::TypeRequest(_, _) => None,
         OwnedMessage::TypeIs(_, _) => None,
         OwnedMessage::FunRequest => None,
         OwnedMessage::FunIs => None,

@@ -2,10 +2,11 @@
 ghost use Rattle.std.specs.Prelude.{◌≡◌, ◌<◌, ◌≤◌, ◌+◌, ◌*◌, ◌++◌, ◌∷◌, [], ℕ, true, length, vec_len};
 ghost use Rattle.std.specs.Vec.{vec_capacity};
 ghost use Rattle.codes3270.specs.declared.attention.Aid.{Aid as Identifier};
+ghost use Rattle.codes3270.specs.Size.{model_2};
 ghost use Rattle.datastream.specs.Wanted.{IsScreen};
-ghost use Rattle.shadow.specs.Fits.{fits};
+ghost use Rattle.shadow.specs.Fits.{is_paintable};
 ghost use Rattle.panels.specs.Keys.{IsKey};
-ghost use Rattle.panels.specs.Panel.{target_of};
+ghost use Rattle.panels.specs.Panel.{IsLaidOut, shape_of, target_of};
 ghost use Rattle.telnet_wire.specs.Items.{Record, sent_bytes};
 ghost use Rattle.tn3270e_msg.specs.Header.{always_response, spelling};
 ghost use Rattle.host_core.specs.Acts.{Act as Doing, done, wanted_by};
@@ -13,28 +14,32 @@ ghost use Rattle.host_core.specs.Application.{Application, application_of, panel
 ghost use Rattle.host_core.specs.Choices.{CanBeShown};
 ghost use Rattle.host_core.specs.Keeps.{IsSentOn, act_of};
 ghost use Rattle.host_core.specs.Rooms.{HasRoomFor, command_room, read_buffer_room, record_room};
-ghost use Rattle.host_core.specs.Says.{command_header, read_buffer_command, written};
+ghost use Rattle.host_core.specs.Says.{command_header, read_buffer_bytes};
 
 use crate::acting::Shown;
 use crate::laws::{panels_are_shown, what_is_shown_fits};
 use crate::pending::Pending;
 use crate::session::Session;
 use crate::turn::Turn;
-use codes3270::Wcc;
+use codes3270::{Model, Size, Wcc};
 use datastream::{CommandCode, CommandWriter, Want, Wanted};
 use panels::{Panel, PanelSet, Values};
 use shadow::laws::what_is_wanted_is_painted;
 use telnet_wire::put_record;
 use tn3270e_msg::{ALWAYS_RESPONSE, DataType, ERROR_RESPONSE, Header, header_bytes, next_seq};
 
-/// The panel with a number.
+/// The panel that is shown where the one with a number is asked for.
 pub(crate) fn panel_in(panels: &PanelSet, number: usize) -> &Panel
     requires { number < length panels.now.panels }
     ensures panel { result.now ≡ panel_at panels.now number }
+    // It is laid out on a model 2's screen.
+    ensures shape { shape_of result.now ≡ model_2 }
+    ensures laid_out { IsLaidOut result.now }
     // Its keys lead to panels that are there.
     ensures targets { (aid : Identifier) (target : ℕ) → IsKey aid → target_of result.now aid ≡ Some target → target < length panels.now.panels }
 {
-    match panels.panel(number) {
+    panels.panels_are_sound();
+    match panels.panel(panels.shown(number, Model::M2)) {
         Some(panel) => panel,
         None => unreachable!(),
     }
@@ -69,7 +74,7 @@ pub(crate) fn send_record(bytes: &[u8], out: &mut Vec<u8>)
 /// Appends a Read Buffer.
 fn put_read_buffer(bytes: &mut Vec<u8>)
     requires { vec_len bytes.old + 1 ≤ vec_capacity bytes.old }
-    ensures appended { bytes.new.items ≡ bytes.old.items ++ written read_buffer_command }
+    ensures appended { bytes.new.items ≡ bytes.old.items ++ read_buffer_bytes }
     ensures capacity { vec_capacity bytes.old ≤ vec_capacity bytes.new }
 {
     // A read has no write control character.
@@ -99,7 +104,8 @@ impl Session {
 
     /// Puts the screen that is wanted: one that keeps fields where that fits what is believed, else a whole one.
     fn put_wanted(&self, wanted: &mut Wanted, panels: &PanelSet, shown: &Shown, values: &Values)
-        requires { CanBeShown (length panels.now.panels) shown.now }
+        requires shown { CanBeShown (length panels.now.panels) shown.now }
+        requires size { wanted.old.size ≡ model_2 }
         ensures { wanted.new ≡ wanted_by (application_of panels.now) self.now shown.now.panel shown.now.message shown.now.keep values.now }
     {
         let panel = panel_in(panels, shown.panel);
@@ -114,19 +120,22 @@ impl Session {
         panel.put_wanted(wanted, values, shown.message, false);
     }
 
-    /// The same. It fits what is believed, and is a screen of the profile.
+    /// The same. It fits what is believed or keeps nothing, and is a screen of the profile, of a model 2's size.
     fn put_fitting(&self, wanted: &mut Wanted, panels: &PanelSet, shown: &Shown, values: &Values)
-        requires { CanBeShown (length panels.now.panels) shown.now }
+        requires shown { CanBeShown (length panels.now.panels) shown.now }
+        requires size { wanted.old.size ≡ model_2 }
         ensures wanted { wanted.new ≡ wanted_by (application_of panels.now) self.now shown.now.panel shown.now.message shown.now.keep values.now }
-        ensures fits { fits self.now.shadow wanted.new ≡ true }
+        ensures fits { is_paintable self.now.shadow wanted.new ≡ true }
         ensures screen { IsScreen wanted.new }
+        ensures size { wanted.new.size ≡ model_2 }
     {
         what_is_shown_fits();
         panels_are_shown();
         panels.panels_are_sound();
         self.put_wanted(wanted, panels, shown, values);
-        // For the contract: there is a want for each cell.
+        // For the contract: there is a want for each cell, and two bytes hold each address.
         let _cells = wanted.cells();
+        let _size = wanted.size();
         // For the contract: the cursor is on the screen.
         let _cursor = wanted.cursor();
     }
@@ -146,7 +155,7 @@ impl Session {
         ensures capacity { vec_capacity out.old ≤ vec_capacity out.new }
     {
         what_is_wanted_is_painted();
-        let mut wanted = Wanted::filled(Want::Keep);
+        let mut wanted = Wanted::filled(Want::Keep, Size::base());
         self.put_fitting(&mut wanted, panels, &shown, self.values());
         begin_record(&mut self.sent, ALWAYS_RESPONSE, self.next_seq);
         self.shadow.paint(&mut self.sent, &wanted).unwrap();

@@ -34,9 +34,10 @@ pub(crate) struct Session {
 
 impl Model for Session {
     ghost use Rattle.std.specs.Prelude.{◌≤◌, vec_capacity};
-    ghost use Rattle.codes3270.specs.Size.{model_2};
+    ghost use Rattle.codes3270.specs.Size.{cells_in, model_2};
     ghost use Rattle.host_core.specs.Keeps.{IsKept, pending_in};
     ghost use Rattle.host_core.specs.Rooms.{record_room};
+    ghost use Rattle.shadow.specs.Belief.{IsOfSize};
     ghost use Rattle.shadow.specs.Storable.{CanBeStored};
     ghost use Rattle.host_core.specs.Session.{Conn};
 
@@ -46,7 +47,7 @@ impl Model for Session {
       talk = s.talk;
       shape = model_2;
       turn = s.turn;
-      pending = pending_in s.pending s.sent.items;
+      pending = pending_in model_2 s.pending s.sent.items;
       next_seq = s.next_seq;
       shadow = s.shadow;
       panel = s.panel;
@@ -55,7 +56,7 @@ impl Model for Session {
       turn_reason = s.turn_reason;
     } };
 
-    ghost invariant = { λ s. IsKept s.pending s.sent.items × (record_room ≤ vec_capacity s.sent) × CanBeStored s.shadow };
+    ghost invariant = { λ s. IsKept model_2 s.pending s.sent.items × (record_room ≤ vec_capacity s.sent) × CanBeStored s.shadow × IsOfSize (cells_in model_2) s.shadow };
 }
 
 impl Session {

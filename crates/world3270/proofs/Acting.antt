@@ -1,6 +1,7 @@
 -- What the host sends, at each moment; and a connection that is lost.
 use Rattle.std.proofs.Common.{◌≡◌, ◌<◌, ℕ, Bool, true, false, Option, None, Some, List, [], ◌∷◌, ◌++◌, length, refl, ap, sym, subst, ◌∙◌, if◌then◌else◌}
 use Rattle.codes3270.specs.Size.{Shape, cells_in}
+use Rattle.codes3270.specs.declared.size.Model.TheVariants.{M2}
 use Rattle.codes3270.specs.declared.attention.Aid.{Aid}
 use Rattle.codes3270.specs.declared.attention.Aid.TheVariants.{NoAid, Enter as EnterAid, Clear as ClearAid, Pf as PfAid, Pa as PaAid}
 use Rattle.datastream.specs.Grammar.{CommandParts}
@@ -53,7 +54,7 @@ sent_at : (link : Link) (sending : Sending) (wanted : Option (List ℕ)) (from t
     → down_at from ++ sending.message ∷ [] ≡ down_at to → up_at wanted to ≡ up_at wanted from → IsAt (view_of (sent_view sending link)) wanted to
 sent_at link sending wanted from to same at host term turn pending down up = record {
   host_talk = same.talk ∙ at.host_talk ∙ sym host;
-  term_talk = at.term_talk ∙ ap (λ state. record { wanted = wanted; talk = start_at state }) (sym term);
+  term_talk = at.term_talk ∙ ap (λ state. record { model = M2; wanted = wanted; talk = start_at state }) (sym term);
   turn = turn;
   pending = pending;
   goes_down = subst (UnderWay link.lost (sent link.lost link.down (sending.message ∷ []))) down (more link.lost link.down (down_at from) (sending.message ∷ []) at.goes_down);
@@ -112,7 +113,8 @@ shown_closed app conn (turn_reasons.Key pressed buffered) shadow panel message k
 shown_closed app conn turn_reasons.Refusal shadow panel message keep values e o = absurd o
 
 abbrev command_of : Application → Conn → ℕ → Message → Bool → Values → CommandParts
-command_of app conn panel message keep values = paint (cells_in conn.shape) conn.shadow (wanted_by app conn panel message keep values)
+command_of app conn panel message keep values =
+    let wanted = wanted_by app conn panel message keep values in paint (cells_in wanted.size) conn.shadow wanted
 
 module _ (given : Given) (app : Application) (is : IsApplication app) (link : Link) (k : Kept app (view_of link)) where
   -- before the terminal knows that both agreed

@@ -6,7 +6,7 @@ use Rattle.std.proofs.lemmas.List.{length-set, set-get_or}
 use Rattle.std.proofs.lemmas.List.Elements.{All-head, All-nil, All-tail}
 use Rattle.codes3270.specs.Size.{Shape, model_2}
 use Rattle.shadow.specs.Belief.{Shadow}
-use Rattle.shadow.specs.Fits.{fits}
+use Rattle.shadow.specs.Fits.{is_paintable}
 use Rattle.shadow.specs.Laws.{PaintIsBounded}
 use Rattle.telnet_wire.specs.Items.{sent_bytes}
 use Rattle.host_core.specs.Acts.{Sent, acted, act_on, done as done_act, may_act}
@@ -288,11 +288,11 @@ note_sent : (text : List ℕ) (conn : Conn) (sending : Sent) → noted text conn
 note_sent text conn sending is = only_if (may_note conn.turn conn.pending (is_agreed conn.talk.state)) (noted_as text conn) sending is
 
 -- an act's command fits where it is sent
-act_suits : (shape : Shape) (shadow : Shadow) (message : ToTerminal) → PaintsWhatFits shape shadow message → Suits message
-act_suits shape shadow (ToTerminal.TalksDown saying) paints = absurd paints
-act_suits shape shadow (ToTerminal.Paint number wanted over) paints = subst (λ (s : Shadow). fits s wanted ≡ true) (sym paints.1) paints.0.fits
-act_suits shape shadow (ToTerminal.ReadBuffer number) paints = tt
-act_suits shape shadow (ToTerminal.Note number command) paints = absurd paints
+act_suits : (shadow : Shadow) (message : ToTerminal) → PaintsWhatFits model_2 shadow message → Suits message
+act_suits shadow (ToTerminal.TalksDown saying) paints = absurd paints
+act_suits shadow (ToTerminal.Paint number wanted over) paints = (subst (λ (s : Shadow). is_paintable s wanted ≡ true) (sym paints.1) paints.0.fits, paints.0.showable.size)
+act_suits shadow (ToTerminal.ReadBuffer number) paints = tt
+act_suits shadow (ToTerminal.Note number command) paints = absurd paints
 
 -- the message that is sent is the last under way
 last_of : {X : Type 0} (P : X → Type 0) (xs : List X) (x : X) → All P (xs ++ x ∷ []) → P x
@@ -382,7 +382,7 @@ module _ (known : Known) (skips : SkipsAreThose) (given : Given) (stands_for : P
           let does : acted app link.host ≡ Some sending = ap (λ (c : Conn). acted app c) (sym (same_conn begin events old number reached found.0)) ∙ found.1 in
           let suits : Suits sending.message =
           subst (λ (s : Sent). Suits s.message) (sym (act_sent app link.host sending does))
-          (act_suits app.begins link.host.shadow _ (known.worlds.given.belief.fit app link.host (act_on app link.host link.host.turn_reason) (is_application known.worlds begin is))) in
+          (act_suits link.host.shadow _ (known.worlds.given.belief.fit app link.host (act_on app link.host link.host.turn_reason) (is_application known.worlds begin is))) in
           let went = went_on begin events (Event.Act number) number sending old new answer acts.host acts.act acts.acts acts.others acts.answers acts.leaves reached
           (told_reached begin events (Event.Act number) number sending old is reached tt tt (sym (skips begin events (event.Act number) old is reached tt) ∙ place)
           (ap (λ (o : Option Sent). with_link number (host_sent o link) (after begin events)) does) below found.0 suits) in

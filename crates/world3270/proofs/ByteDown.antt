@@ -4,7 +4,6 @@ use Rattle.std.proofs.lemmas.Bool.{and_parts, ltb-true}
 use Rattle.std.proofs.lemmas.List.{append-nil}
 use Rattle.std.proofs.lemmas.List.Elements.{All-replicate}
 use Rattle.std.specs.Prelude.{All}
-use Rattle.datastream.specs.InboundFields.{IsSendable}
 use Rattle.host_core.specs.Application.{Application, application_of}
 use Rattle.host_core.specs.Messages.{ToTerminal}
 use Rattle.host_core.specs.State.{Connection, connection_at, most_connections}
@@ -24,14 +23,14 @@ use Rattle.tn3270e_msg.specs.declared.cause.Stop.{Stop}
 use Rattle.tn3270e_msg.specs.declared.cause.Stop.TheVariants as stop
 use Rattle.world3270.specs.Known.{Known}
 use Rattle.world3270.specs.ByteSteps.{ComesDown, GoesDown, HappensIf, down_came, has_place, host_told, terminal_gone_if}
-use Rattle.world3270.specs.ByteWorld.{ByteWorld, Transit, Transits, TerminalSlot, came, terminal_there, down_of, is_senders, is_there, new_slot, slot_at, terminal_at, unused_transits, transits_at, with_slot}
+use Rattle.world3270.specs.ByteWorld.{ByteWorld, Transit, Transits, TerminalSlot, came, terminal_there, down_of, is_senders, is_there, no_slot, slot_at, terminal_at, unused_transits, transits_at, with_slot}
 use Rattle.world3270.specs.Deliveries.{rest_at, rest_of_terminal, taken_by, terminal_rest}
 use Rattle.world3270.specs.Happens.{closed_if, came_down, done, happens, place_after, run, said, term_took_it, went_down}
 use Rattle.world3270.specs.Link.{Link, term_left_if, term_stepped}
 use Rattle.world3270.specs.Placed.{comes_down, is_link, is_queued}
 use Rattle.world3270.specs.Refines.{Begin, IsBegin, Reached, GoesOn, after}
 use Rattle.world3270.specs.TrackedTerminals.{TrackedTerminal, TrackedTakes}
-use Rattle.world3270.specs.Sendable.{IsTyped, display_at}
+use Rattle.world3270.specs.Sendable.{CanBeSent, IsTyped, display_at}
 use Rattle.world3270.specs.Standing.{WorldStands, with_out}
 use Rattle.world3270.specs.Stands.{BytesDown, ByteLink, LinkStands, StandsUp, without_nops}
 use Rattle.world3270.specs.StandsLinks.{IsReady, NoneCloses, took_down}
@@ -261,10 +260,10 @@ bytes_went number terminal count tracked old connection_below way_below below =
     record {
       connection_is = is.connection_is;
       transits_are = transits_same number transits next (subst (λ (l : List Transits). number < length l) (sym is.links) way_below);
-      slot_is = ap (λ (s : List TerminalSlot). slice_index_or s terminal new_slot) is.slots ∙ slot_same terminal slot old below;
+      slot_is = ap (λ (s : List TerminalSlot). slice_index_or s terminal no_slot) is.slots ∙ slot_same terminal slot old below;
       other_connections = is.other_connections;
       other_transits = λ other differs. transits_other number other transits next differs ∙ ap (λ (l : List Transits). slice_index_or l other unused_transits) is.links;
-      other_slots = λ other differs. ap (λ (s : List TerminalSlot). slice_index_or s other new_slot) is.slots ∙ slot_other terminal other slot old differs;
+      other_slots = λ other differs. ap (λ (s : List TerminalSlot). slice_index_or s other no_slot) is.slots ∙ slot_other terminal other slot old differs;
       connection_count = is.connection_count;
       way_count = length-set next.links number transits ∙ ap (λ (l : List Transits). length l) is.links;
       slot_count = ap (λ (s : List TerminalSlot). length s) is.slots ∙ length-set old.slots terminal slot;
@@ -332,7 +331,7 @@ module _ (known : Known) (begin : Begin) (events : List MessageEvent) (number co
     here = here;
     may = (world_facts.may number).0;
     none = (world_facts.may number).1;
-    sendable = subst (λ (p : Place). IsSendable (display_at world p).screen) place (world_facts.sendable terminal);
+    sendable = subst (λ (p : Place). let display = display_at world p in CanBeSent display.shape display.screen) place (world_facts.sendable terminal);
   }
 
   abbrev bytes : ByteLink

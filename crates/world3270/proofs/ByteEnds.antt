@@ -7,7 +7,7 @@ use Rattle.host_core.specs.Application.{application_of}
 use Rattle.host_core.specs.State.{most_connections}
 use Rattle.world3270.specs.Known.{Known}
 use Rattle.world3270.specs.ByteSteps.{Connects, ConnectsIf, has_place, is_link, is_terminal, is_lost, is_up, sees_loss, may_connect, free_number, lost_transits, host_gone, saw_loss, terminal_anew, host_anew, host_gone_below}
-use Rattle.world3270.specs.ByteWorld.{ByteWorld, TerminalSlot, alone, new_slot, host_there, slot_at, with_transits}
+use Rattle.world3270.specs.ByteWorld.{ByteWorld, TerminalSlot, alone, model_at, new_slot, host_there, slot_at, with_transits}
 use Rattle.world3270.specs.Happens.{done, left_alone, joined, term_saw, term_anew}
 use Rattle.world3270.specs.Placed.{free_number as free_over_messages, has_place as has_place_over_messages}
 use Rattle.world3270.specs.Places.{EndsAgree, UpIsHeld}
@@ -25,7 +25,7 @@ use Rattle.world3270.proofs.BytePlaced.{same_free}
 use Rattle.world3270.proofs.ByteTerms.{alone_stands, stands_here}
 use Rattle.world3270.proofs.Frames.{way_within}
 use Rattle.world3270.proofs.HostAnew.{host_anew_stands, panels_stay}
-use Rattle.world3270.proofs.Joinings.{begin_stands, connected, connected_stands, found_below, new_is_alone}
+use Rattle.world3270.proofs.Joinings.{begin_stands, connected, connected_stands, begins_alone, found_below}
 use Rattle.world3270.proofs.Known.{Goes, facts_now, facts_once, reached_one, reached_still}
 use Rattle.world3270.proofs.Partings.{host_gone_stands, lost_stands, parted_stands}
 use Rattle.world3270.proofs.Stands.{nothing_stands}
@@ -73,11 +73,11 @@ module _ (leaves : TermLeaves) (terminal : ℕ) (old : ByteWorld) (was : World) 
       → (begin : Begin) → EndsAgree (term_anew (application_of begin.panels) terminal place was)
       → WorldStands (terminal_anew terminal at old) (term_anew (application_of begin.panels) terminal place was)
   anew_stands None (Place.At number) at is begin agrees = let here = at_place (Place.At number) is in absurd (cc)
-  anew_stands None (Place.Alone display) at is begin agrees = alone_stands terminal new_slot (new_display model_2) old was agree stands there at new_is_alone agrees
+  anew_stands None (Place.Alone display) at is begin agrees = alone_stands terminal (new_slot (model_at terminal old)) (new_display model_2) old was agree stands there at (begins_alone terminal old was agree stands) agrees
   anew_stands (Some number) (Place.At other) at is begin agrees =
       let same : other ≡ number = at_number (slot_at terminal old) number other at (at_place (Place.At other) is) in
       subst (λ (n : ℕ). WorldStands (terminal_anew terminal (Some n) old) (term_anew (application_of begin.panels) terminal (Place.At other) was)) same
-      (parted_stands other old was agree stands held leaves terminal new_slot (new_display model_2) there is new_is_alone agrees)
+      (parted_stands other old was agree stands held leaves terminal (new_slot (model_at terminal old)) (new_display model_2) there is (begins_alone terminal old was agree stands) agrees)
   anew_stands (Some number) (Place.Alone display) at is begin agrees = let none = (at_place (Place.Alone display) is).0 in absurd (cc)
 
 saw_panels : (terminal : ℕ) (at : Option ℕ) (old : ByteWorld) → (saw_loss terminal at old).host.panels ≡ old.host.panels

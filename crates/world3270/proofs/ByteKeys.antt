@@ -3,7 +3,7 @@ use Rattle.std.proofs.Common.{◌≡◌, ◌<◌, ◌||◌, ◌++◌, ℕ, Bool,
 use Rattle.std.proofs.lemmas.Bool.{ltb-true}
 use Rattle.std.proofs.lemmas.List.{append-nil}
 use Rattle.codes3270.specs.Size.{Shape, model_2}
-use Rattle.datastream.specs.InboundFields.{IsSendable}
+use Rattle.presentation.specs.Sizes.{SizedScreen}
 use Rattle.datastream.specs.Screen.{Screen}
 use Rattle.host_core.specs.Application.{application_of}
 use Rattle.host_core.specs.State.{Connection, connection_at}
@@ -23,8 +23,8 @@ use Rattle.world3270.specs.Happens.{key_went, done}
 use Rattle.world3270.specs.Link.{Link, term_stepped}
 use Rattle.world3270.specs.Places.{EndsAgree}
 use Rattle.world3270.specs.Refines.{Begin, IsBegin, Reached, IsReal, GoesOn, SkipsAreThose, after, once}
-use Rattle.world3270.specs.TrackedTerminals.{TrackedTerminal, tracked_after_key}
-use Rattle.world3270.specs.Sendable.{ScreensAreSendable, display_at}
+use Rattle.world3270.specs.TrackedTerminals.{TrackedTerminal, of_model_2, tracked_after_key}
+use Rattle.world3270.specs.Sendable.{CanBeSent, ScreensAreSendable, display_at}
 use Rattle.world3270.specs.Standing.{WorldStands, IsAlone, IsAt, with_out}
 use Rattle.world3270.specs.Stands.{ByteLink, LinkStands}
 use Rattle.world3270.specs.Terminal.{Display, after_key, erases_if, key_came, outcome_of}
@@ -39,10 +39,11 @@ use Rattle.world3270.proofs.OneOfMany.{with_other, with_same}
 -- ---- what a key makes of a terminal
 
 -- a key does over bytes what it does over messages, where screen and keyboard are the same
-outcome_is : (key : Key) (station : Station) (display : Display) → display.shape ≡ model_2 → station.keyboard ≡ display.keyboard → station.screen ≡ display.screen
+outcome_is : (key : Key) (station : Station) (display : Display) → display.shape ≡ model_2 → station.keyboard ≡ display.keyboard → station.screen ≡ of_model_2 display.screen
     → key_outcome key station ≡ outcome_of key display
 outcome_is key station display shape keyboard screen =
-    ap (λ (k : Keyboard). pressed model_2.columns key k station.screen) keyboard ∙ ap (λ (s : Screen). pressed model_2.columns key display.keyboard s) screen
+    ap (λ (k : Keyboard). pressed station.screen.size.columns key k station.screen.screen) keyboard
+    ∙ ap (λ (s : SizedScreen). pressed s.size.columns key display.keyboard s.screen) screen
     ∙ ap (λ (s : Shape). pressed s.columns key display.keyboard display.screen) (sym shape)
 
 -- a terminal that isn't bound sends nothing
@@ -62,7 +63,7 @@ stays_alone key tracked display is =
           ∙ ap (λ (d : Option (List ℕ)). tracked.terminal.out ++ sent_bytes (data_sent station.number d)) (nothing_sent outcome.answer outcome.screen)
           ∙ append-nil tracked.terminal.out ∙ is.silent;
       shape = is.shape;
-      screen = ap (λ (o : Outcome). o.screen) same;
+      screen = ap (λ (s : SizedScreen). record s { screen = outcome.screen }) is.screen ∙ ap (λ (o : Outcome). of_model_2 o.screen) same;
       keyboard = ap (λ (o : Outcome). o.keyboard) same;
       last_restored = is.last_restored;
       erased = ap (λ (b : Bool). b || erases_if (answer_to_key key tracked.terminal) key) is.erased
@@ -108,11 +109,11 @@ module _ (known : Known) (key : Key) (terminal : ℕ) (old : ByteWorld) (world :
       let next : Link = term_stepped (key_came key link.term) link.down link in
       let is_end = ((stood.term terminal here).holds).is_end in
       let same = outcome_is key slot.tracked.terminal.station link.term.display is_end.shape_is is_end.keyboard_is is_end.screen_is in
-      let screen : IsSendable (outcome_of key link.term.display).screen =
-      subst (λ (l : Link). IsSendable l.term.display.screen) (with_same number next world.link)
-      (subst (λ (p : Place). IsSendable (display_at (went (Place.At number)) p).screen) is (sendable terminal)) in
+      let screen : CanBeSent link.term.display.shape (outcome_of key link.term.display).screen =
+      subst (λ (l : Link). CanBeSent l.term.display.shape l.term.display.screen) (with_same number next world.link)
+      (subst (λ (p : Place). let display = display_at (went (Place.At number)) p in CanBeSent display.shape display.screen) is (sendable terminal)) in
       let stays = known.links.press key (made_of terminal connection transits slot) link terminal stood here
-      (subst (λ (o : Outcome). IsSendable o.screen) (sym same) screen) in
+      (subst (λ (o : Outcome). CanBeSent link.term.display.shape o.screen) (sym same) screen) in
       let said : List ℕ = (tracked_after_key key (with_out [] slot.tracked)).terminal.out in
       let down : List ℕ = (made_of terminal connection transits slot).down in
       let goes : GoesOnHere connection connection.out transits transits.down slot tracked said down = record { live = refl; flow = flows.down; behind_is = refl; out_is = refl } in

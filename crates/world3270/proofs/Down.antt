@@ -1,13 +1,17 @@
 -- What a terminal makes of the next message, at each moment.
-use Rattle.std.proofs.Common.{◌≡◌, inr, ◌<◌, ℕ, Bool, true, false, Option, None, Some, List, [], ◌∷◌, ◌++◌, length, map, suc, arith, refl, ap, sym, subst, ◌∙◌, Result, Ok, Err, IsOkAnd}
-use Rattle.std.specs.Prelude.{is_some, filter_map}
+use Rattle.std.proofs.Common.{◌≡◌, ◌==◌, if◌then◌else◌, inr, ◌<◌, ℕ, Bool, true, false, Option, None, Some, List, [], ◌∷◌, ◌++◌, length, map, suc, arith, refl, ap, sym, subst, ◌∙◌, Result, Ok, Err, IsOkAnd}
+use Rattle.std.specs.Prelude.{is_some, filter_map, replicate}
 use Rattle.std.specs.List.{list_any}
 use Rattle.std.specs.Str.{bytes_eq}
+use Rattle.std.proofs.lemmas.Bool.{eqb-true}
+use Rattle.std.proofs.lemmas.List.{length-replicate}
 use Rattle.std.proofs.lemmas.List.Elements.{All-nil, All-cons}
 use Rattle.codes3270.specs.Size.{Shape, cells_in}
 use Rattle.codes3270.specs.declared.attention.Aid.{Aid}
 use Rattle.codes3270.specs.declared.attention.Aid.TheVariants.{NoAid, Enter, Clear, Pf, Pa}
 use Rattle.codes3270.specs.declared.attribute.Cell.{Cell}
+use Rattle.codes3270.specs.declared.attribute.Cell.TheVariants.{Char}
+use Rattle.codes3270.specs.declared.size.Model.TheVariants.{M2}
 use Rattle.datastream.specs.Grammar.{CommandParts}
 use Rattle.datastream.specs.InboundFields.{buffer_data}
 use Rattle.datastream.specs.InboundText.{InboundParts}
@@ -24,7 +28,7 @@ use Rattle.shadow.specs.Meets.{Meets, Knows}
 use Rattle.shadow.specs.Notes.{OverwritesProtected}
 use Rattle.shadow.specs.Openness.{IsNotOpen, NothingIsOpen}
 use Rattle.shadow.specs.Paint.{paint}
-use Rattle.shadow.specs.Painted.{painted_from, plainly_painted}
+use Rattle.shadow.specs.Painted.{cells_under, painted_from, plainly_painted}
 use Rattle.shadow.specs.Taken.{taken}
 use Rattle.telnet_wire.specs.declared.wire.Verb.TheVariants.{Will, Do}
 use Rattle.tn3270e_msg.specs.Lu.{lu_of}
@@ -37,7 +41,7 @@ use Rattle.tn3270e_msg.specs.declared.reply.After.TheVariants.{Going}
 use Rattle.tn3270e_msg.specs.declared.reply.OwnedMessage.TheVariants.{SendType, TypeRequest, TypeIs, TypeReject, FunRequest, FunIs}
 use Rattle.tn3270e_msg.specs.declared.term_talk.TermState.{TermState}
 use Rattle.tn3270e_msg.specs.declared.term_talk.TermState.TheVariants.{TypeAsked, FunctionsAsked, Agreed, Closed}
-use Rattle.tn3270e_msg.proofs.Agreement.{responses_alone, model_2, same_bytes}
+use Rattle.tn3270e_msg.proofs.Agreement.{responses_alone, same_bytes}
 use Rattle.host_core.specs.Application.{Application, IsShape, IsApplication}
 use Rattle.host_core.specs.Messages.{ToTerminal, ToHost}
 use Rattle.host_core.specs.NoteLaws.{TakesNotes, IsNoteOf}
@@ -76,7 +80,7 @@ pub record Leads (wanted : Option (List ℕ)) (from to : Moment) (sends : List T
   pub up : up_at wanted from ++ sends ≡ up_at wanted to
 
 leads : (link : Link) (step : TermStep) (rest : List ToTerminal) (wanted : Option (List ℕ)) (from to : Moment) → IsAt (view_of link) wanted from → Leads wanted from to step.sends
-    → step.end.talk ≡ record { wanted = wanted; talk = start_at (term_state_at to) } → UnderWay link.lost rest (down_at to) → IsAt (view_of (term_view step rest link)) wanted to
+    → step.end.talk ≡ record { model = M2; wanted = wanted; talk = start_at (term_state_at to) } → UnderWay link.lost rest (down_at to) → IsAt (view_of (term_view step rest link)) wanted to
 leads link step rest wanted from to at l talk left = record {
   host_talk = at.host_talk ∙ sym l.host_talk;
   term_talk = talk;
@@ -94,11 +98,11 @@ talk_step link state sends = record { end = with_talk link.term (start_at state)
 -- a line of the terminal's table, that leads to a state with a reply
 record TalkTransition (wanted : Option (List ℕ)) (state : TermState) (saying : Saying) (next : TermState) (sends : List ToHost) : Type 0 where
   reply : Reply
-  leads : follow Closed (start_at state) (term_transition wanted state (says saying)) ≡ (start_at next, reply)
+  leads : follow Closed (start_at state) (term_transition M2 wanted state (says saying)) ≡ (start_at next, reply)
   quiet : closing reply ≡ None
   sends_is : map ToHost.TalksUp (sayings reply) ≡ sends
 
-talk_took : (link : Link) (wanted : Option (List ℕ)) (state next : TermState) (saying : Saying) (sends : List ToHost) → link.term.talk ≡ record { wanted = wanted; talk = start_at state }
+talk_took : (link : Link) (wanted : Option (List ℕ)) (state next : TermState) (saying : Saying) (sends : List ToHost) → link.term.talk ≡ record { model = M2; wanted = wanted; talk = start_at state }
     → TalkTransition wanted state saying next sends → took link.term (ToTerminal.TalksDown saying) ≡ talk_step link next sends
 talk_took link wanted state next saying sends e transition =
     ap (λ (t : Term). talked link.term t saying) e
@@ -123,7 +127,7 @@ talks app link rest k from to saying sends message at is transition l positive l
         exact = k.exact;
         wanted = k.wanted;
         moment = to;
-        at = leads link (talk_step link (term_state_at to) sends) rest k.wanted from to at l (ap (λ (t : Term). record { wanted = t.wanted; talk = start_at (term_state_at to) }) at.term_talk) left;
+        at = leads link (talk_step link (term_state_at to) sends) rest k.wanted from to at l (ap (λ (t : Term). record { model = t.model; wanted = t.wanted; talk = start_at (term_state_at to) }) at.term_talk) left;
         fact = fact;
       };
       open_end = refl;
@@ -133,7 +137,7 @@ talks app link rest k from to saying sends message at is transition l positive l
 granted_transition : Given → (wanted : Option (List ℕ)) (lu : List ℕ) → Suits wanted lu → TalkTransition wanted TypeAsked (Saying.Sub (TypeIs Model2 lu)) (FunctionsAsked lu) (ToHost.TalksUp (Saying.Sub FunRequest) ∷ [])
 granted_transition given None lu suits = record {
   reply = reply.Sub FunRequest Going;
-  leads = ap (λ d. follow Closed (start_at TypeAsked) (grant_transition None d (lu_of lu))) model_2 ∙ ap (λ l. follow Closed (start_at TypeAsked) (grant_transition None (Some Model2) l)) (given.belief.names lu suits.is_lu);
+  leads = ap (λ (l : Option (List ℕ)). follow Closed (start_at TypeAsked) (grant_transition None true l)) (given.belief.names lu suits.is_lu);
   quiet = refl;
   sends_is = refl;
 }
@@ -141,8 +145,7 @@ granted_transition given (Some name) lu suits =
     let same : bytes_eq lu name ≡ true = ap (λ n. bytes_eq lu n) (sym suits.is_wanted) ∙ same_bytes lu in
     record {
       reply = reply.Sub FunRequest Going;
-      leads = ap (λ d. follow Closed (start_at TypeAsked) (grant_transition (Some name) d (lu_of lu))) model_2
-          ∙ ap (λ l. follow Closed (start_at TypeAsked) (grant_transition (Some name) (Some Model2) l)) (given.belief.names lu suits.is_lu)
+      leads = ap (λ (l : Option (List ℕ)). follow Closed (start_at TypeAsked) (grant_transition (Some name) true l)) (given.belief.names lu suits.is_lu)
           ∙ (rw same refl);
       quiet = refl;
       sends_is = refl;
@@ -151,21 +154,32 @@ granted_transition given (Some name) lu suits =
 agreed_transition : (wanted : Option (List ℕ)) (lu : List ℕ) → TalkTransition wanted (FunctionsAsked lu) (Saying.Sub FunIs) (Agreed lu) []
 agreed_transition wanted lu = record {
   reply = _;
-  leads = ap (λ w. follow Closed (start_at (FunctionsAsked lu)) (term_transition wanted (FunctionsAsked lu) (Comes.IsFunctions w))) responses_alone;
+  leads = ap (λ w. follow Closed (start_at (FunctionsAsked lu)) (term_transition M2 wanted (FunctionsAsked lu) (Comes.IsFunctions w))) responses_alone;
   quiet = refl;
   sends_is = refl;
 }
 
 -- ---- records
 
--- as many cells as there were
-pub painted-length : (reset : Bool) (whole rest : List Want) (cells : List Cell) → length rest ≡ length cells → length (painted_from reset whole rest cells) ≡ length cells
-painted-length reset whole [] [] same = refl
-painted-length reset whole [] (x ∷ cells) same = absurd (cc)
-painted-length reset whole (want ∷ rest) [] same = absurd (cc)
-painted-length reset whole (WantChar byte ∷ rest) (x ∷ cells) same = ap suc (painted-length reset whole rest cells (omega arith))
-painted-length reset whole (Keep ∷ rest) (x ∷ cells) same = ap suc (painted-length reset whole rest cells (omega arith))
-painted-length reset whole (WantAttr attribute ∷ rest) (x ∷ cells) same = ap suc (painted-length reset whole rest cells (omega arith))
+-- as many cells as are wanted
+length_over : (reset : Bool) (whole rest : List Want) (cells : List Cell) → length cells ≡ length rest → length (painted_from reset whole rest cells) ≡ length rest
+length_over reset whole [] [] same = refl
+length_over reset whole [] (x ∷ cells) same = absurd (cc)
+length_over reset whole (want ∷ rest) [] same = absurd (cc)
+length_over reset whole (WantChar byte ∷ rest) (x ∷ cells) same = ap suc (length_over reset whole rest cells (omega arith))
+length_over reset whole (Keep ∷ rest) (x ∷ cells) same = ap suc (length_over reset whole rest cells (omega arith))
+length_over reset whole (WantAttr attribute ∷ rest) (x ∷ cells) same = ap suc (length_over reset whole rest cells (omega arith))
+
+length_under : (size : ℕ) (cells : List Cell) → length (cells_under size cells) ≡ size
+length_under size cells = by_size (length cells == size) refl
+  where
+    by_size : (b : Bool) → (length cells == size) ≡ b → length (if b then cells else replicate size (Char 0)) ≡ size
+    by_size true e = eqb-true (length cells) size e
+    by_size false e = length-replicate size (Char 0)
+
+pub painted-length : (wanted : WantedScreen) (screen : Screen) → length (plainly_painted wanted screen).cells ≡ length wanted.cells
+painted-length wanted screen =
+    length_over wanted.reset wanted.cells wanted.cells (cells_under (length wanted.cells) screen.cells) (length_under (length wanted.cells) screen.cells)
 
 bound : (link : Link) (wanted : Option (List ℕ)) (lu : List ℕ) (serving : Serving) → IsAt (view_of link) wanted (Moment.Serves lu serving) → is_bound link.term ≡ true
 bound link wanted lu serving at = ap (λ (t : Term). is_some (bound_to t.talk.state)) at.term_talk
@@ -185,12 +199,12 @@ takes_paint given app is link rest k lu number command wants over at f left =
     let screen : Screen = link.term.display.screen in
     let size : ℕ = cells_in link.host.shape in
     let new : Screen = plainly_painted wants screen in
-    let same : length wants.cells ≡ length screen.cells = f.paintable.showable.cells ∙ sym k.whole in
+    let wanted_size : ℕ = cells_in wants.size in
+    let base : wanted_size ≡ size = ap (λ (shape : Shape). cells_in shape) f.paintable.showable.size in
+    let same : length wants.cells ≡ wanted_size = f.paintable.showable.cells ∙ sym base in
     let fits = f.paintable.fits in
-    let is_taken : taken (length screen.cells) (paint (length screen.cells) over wants) over ≡ once_taken link.host.shape command link.host.shadow =
-    ap (λ n. taken n (paint n over wants) over) k.whole ∙ ap (λ (c : CommandParts). taken size c over) (sym f.command_is) ∙ ap (taken size command) f.over_is in
-    let knows : taken size (paint size over wants) over ≡ once_taken link.host.shape command link.host.shadow =
-    ap (λ (c : CommandParts). taken size c over) (sym f.command_is) ∙ ap (taken size command) f.over_is in
+    let is_taken : taken wanted_size (paint wanted_size over wants) over ≡ once_taken link.host.shape command link.host.shadow =
+    ap (λ n. taken n (paint wanted_size over wants) over) base ∙ ap (λ (c : CommandParts). taken size c over) (sym f.command_is) ∙ ap (taken size command) f.over_is in
     let exact : FactsAreExact (once_taken link.host.shape command link.host.shadow) = record {
       known = given.belief.taken_exact size command link.host.shadow k.exact.known;
       protected = subst ProtectedIsExact is_taken (given.belief.painted_exact over wants screen same fits f.meets (subst KnownIsExact (sym f.over_is) k.exact.known));
@@ -199,7 +213,7 @@ takes_paint given app is link rest k lu number command wants over at f left =
     (record {
       kept = record {
         shape = record { begins = k.shape.begins; same = k.shape.same };
-        whole = painted-length wants.reset wants.cells wants.cells screen.cells same ∙ k.whole;
+        whole = painted-length wants screen ∙ f.paintable.showable.cells;
         cursor = f.paintable.showable.cursor;
         unreturned = λ wrong. absurd wrong;
         exact = k.exact;
@@ -212,9 +226,9 @@ takes_paint given app is link rest k lu number command wants over at f left =
           exact = exact;
           meets = subst (λ s. Meets s new) is_taken (given.belief.taken over wants screen same fits f.meets);
           closed = subst NothingIsOpen is_taken (given.belief.paint_opens over wants screen same fits f.paintable.showable.kept f.meets (subst KnownIsExact (sym f.over_is) k.exact.known) f.closed);
-          knows = subst Knows knows (given.belief.known size over wants);
+          knows = subst Knows is_taken (given.belief.known wanted_size over wants);
           held = given.keys.at_first new.cells;
-          messages = given.notes.painted_takes link.host.shape over wants screen f.paintable k.whole;
+          messages = given.notes.painted_takes link.host.shape over wants screen f.paintable;
           noted = record { places = record { size = refl; kinds = λ place. refl }; each = λ place. inr refl };
         };
       };
@@ -227,7 +241,7 @@ takes_paint given app is link rest k lu number command wants over at f left =
 takes_read : (app : Application) (link : Link) (rest : List ToTerminal) (k : Kept app (view_of link)) (lu : List ℕ) (number : ℕ) → IsAt (view_of link) k.wanted (Moment.Serves lu (Serving.Reading number))
     → IsRead (scene_of (view_of link)) → UnderWay link.lost rest [] → Obeyed app link rest (took link.term (ToTerminal.ReadBuffer number))
 takes_read app link rest k lu number at f left =
-    let parts : InboundParts = buffer_data link.term.display.screen in
+    let parts : InboundParts = buffer_data link.term.display.shape link.term.display.screen in
     subst (Obeyed app link rest) (ap (λ b. once_bound b (read_came link.term) link.term) (sym (bound link k.wanted lu _ at)))
     (record {
       kept = record {
@@ -239,7 +253,7 @@ takes_read app link rest k lu number at f left =
         wanted = k.wanted;
         moment = Moment.Serves lu (Serving.Reported number parts);
         at = serves link (read_came link.term) rest k.wanted lu _ (Serving.Reported number parts) at (record { host_talk = refl; turn = refl; pending = refl; up = refl }) refl left;
-        fact = (f, refl);
+        fact = (f, ap (λ (size : Shape). buffer_data size link.term.display.screen) k.shape.same);
       };
       open_end = refl;
       positive = refl;
@@ -310,11 +324,14 @@ sees_noted given shape command screen shadow note whole noted s =
       exact = let both = given.notes.exact command shadow screen noted.over s.meets s.exact.known s.exact.protected in record { known = both.0; protected = both.1 };
       cleared = λ e. subst (λ n. IsCleared shape (taken n command shadow)) (sym whole) (by_notes (s.cleared (sym noted.aid ∙ e)));
       closed = open_noted screen.aid (after_command command screen).aid false shadow (taken (length screen.cells) command shadow) noted.aid (given.notes.opens command shadow screen noted.over s.meets) s.closed;
-      meets = given.belief.written command shadow screen noted.over.spelt noted.over.plain s.meets;
+      meets = subst (λ n. Meets (taken n command shadow) (after_command command screen)) (written_on ∙ sym whole) (given.belief.written command shadow screen noted.over.spelt noted.over.plain (λ code. whole ∙ sym written_on) s.meets);
       lists = given.notes.listed command shadow screen noted.over s.meets s.lists;
       told = λ sent. given.notes.stays_told command shadow screen noted.over s.meets (s.told (subst SentFields noted.aid sent));
     })
   where
+    written_on : cells_in command.size ≡ cells_in shape
+    written_on = ap (λ (c : CommandParts). cells_in c.size) note.is
+
     by_notes : IsCleared shape shadow → IsCleared shape (taken (cells_in shape) command shadow)
     by_notes cleared = record {
       notes = command ∷ cleared.notes;
@@ -365,6 +382,7 @@ module _ (given : Given) (app : Application) (is : IsApplication app) (link : Li
   operates_noted command note f number =
       let shown : Screen = f.shown in
       let whole : length shown.cells ≡ cells_in link.host.shape = sym f.held.same_length ∙ k.whole in
+      let written_on : cells_in command.size ≡ cells_in link.host.shape = ap (λ (c : CommandParts). cells_in c.size) note.is in
       let noted = noted_on_it given shape command shown is_shape note whole (TakesNotes.formatted f.messages) in
       let writes = given.notes.writes_protected shape command shown.cells is_shape note whole f.messages in
       let both = given.notes.exact command link.host.shadow shown noted.over f.meets f.exact.known f.exact.protected in
@@ -375,7 +393,7 @@ module _ (given : Given) (app : Application) (is : IsApplication app) (link : Li
           known = subst (λ n. KnownIsExact (taken n command link.host.shadow)) whole both.0;
           protected = subst (λ n. ProtectedIsExact (taken n command link.host.shadow)) whole both.1;
         };
-        meets = subst (λ n. Meets (taken n command link.host.shadow) (after_command command shown)) whole (given.belief.written command link.host.shadow shown noted.over.spelt noted.over.plain f.meets);
+        meets = subst (λ n. Meets (taken n command link.host.shadow) (after_command command shown)) written_on (given.belief.written command link.host.shadow shown noted.over.spelt noted.over.plain (λ code. whole ∙ sym written_on) f.meets);
         closed = subst (λ n. NothingIsOpen (taken n command link.host.shadow)) whole (given.notes.opens command link.host.shadow shown noted.over f.meets f.closed);
         knows = given.notes.placed (cells_in link.host.shape) command link.host.shadow noted.over.writes noted.over.placed f.knows;
         held = given.notes.held link.term.display.erased command shown screen writes f.held;
@@ -405,8 +423,8 @@ obeys given app is link message rest e k = by_moment k.moment k.at k.fact
         (f.0, f.1)
     by_talk Talking.AskingType at f =
         let first = front link.lost link.down message rest _ [] e at.goes_down in
-        talks app link rest k (Moment.Talks Talking.AskingType) (Moment.Talks Talking.NamingType) (Saying.Sub SendType) (ToHost.TalksUp (Saying.Sub (TypeRequest k.wanted)) ∷ []) message at first.0
-        (record { reply = reply.Sub (TypeRequest k.wanted) Going; leads = refl; quiet = refl; sends_is = refl }) (record { host_talk = refl; turn = refl; pending = refl; up = refl }) refl first.1
+        talks app link rest k (Moment.Talks Talking.AskingType) (Moment.Talks Talking.NamingType) (Saying.Sub SendType) (ToHost.TalksUp (Saying.Sub (TypeRequest M2 k.wanted)) ∷ []) message at first.0
+        (record { reply = reply.Sub (TypeRequest M2 k.wanted) Going; leads = refl; quiet = refl; sends_is = refl }) (record { host_talk = refl; turn = refl; pending = refl; up = refl }) refl first.1
         (f.0, f.1)
     by_talk (Talking.Granting lu) at f =
         let first = front link.lost link.down message rest _ [] e at.goes_down in
@@ -459,7 +477,7 @@ obeys given app is link message rest e k = by_moment k.moment k.at k.fact
         as_message app link rest (ToTerminal.Note number command) message first.0
         (takes_note given app is link rest k lu number command (Serving.KeyNoted number command parts) (Serving.KeyBefore number command parts) at f.2.note f.2.takes
         (record { host_talk = refl; turn = refl; pending = refl; up = refl }) first.1 (
-          record { lock = f.0.lock; form = f.0.form; pressed = f.0.pressed ∙ sym noted.aid; some = λ none. f.0.some (sym noted.aid ∙ none) },
+          record { lock = f.0.lock; form = f.0.form; size = f.0.size; pressed = f.0.pressed ∙ sym noted.aid; some = λ none. f.0.some (sym noted.aid ∙ none) },
           ok_map (Sees link.host.shape screen) (λ shadow. Sees link.host.shape (after_command command screen) (once_taken link.host.shape command shadow)) (heard (cells_in link.host.shape) link.host.shadow parts)
               (λ shadow s. sees_noted given link.host.shape command screen shadow f.2.note k.whole noted s) f.1,
         ))

@@ -20,9 +20,9 @@ use Rattle.world3270.specs.World.{Event, IsEvent, AreEvents}
 -- ---- the application
 
 showable : (panel : ℕ) (values : Values) (message : Message) (keep : Bool) → IsShowable example.begins (screen_of panel values message keep)
-showable zero values message true = record { cells = refl; cursor = lit< tt; messages = (refl, refl); kept = refl }
-showable zero values message false = record { cells = refl; cursor = lit< tt; messages = (refl, refl); kept = refl }
-showable (suc panel) values message keep = record { cells = refl; cursor = lit< tt; messages = (refl, refl); kept = refl }
+showable zero values message true = record { size = refl; cells = refl; cursor = lit< tt; messages = (refl, refl); kept = refl }
+showable zero values message false = record { size = refl; cells = refl; cursor = lit< tt; messages = (refl, refl); kept = refl }
+showable (suc panel) values message keep = record { size = refl; cells = refl; cursor = lit< tt; messages = (refl, refl); kept = refl }
 
 whole : (panel : ℕ) (values : Values) (message : Message) → KeepsNothing (screen_of panel values message false)
 whole zero values message = refl

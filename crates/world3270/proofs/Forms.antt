@@ -1,13 +1,14 @@
--- The data that comes up next has the form that the host awaits.
+-- The data that comes up next has the form and the size that the host awaits.
 use Rattle.std.proofs.Common.{◌≡◌, ℕ, Bool, Option, List, [], ◌∷◌, ap, sym, subst, ◌∙◌}
 use Rattle.std.specs.Prelude.{⊤}
+use Rattle.codes3270.specs.Size.{Shape}
 use Rattle.datastream.specs.InboundText.{InboundParts}
 use Rattle.datastream.specs.declared.inbound_part.Form.{Form}
 use Rattle.host_core.specs.Application.{Application}
 use Rattle.host_core.specs.Messages.{ToHost}
 use Rattle.world3270.specs.Always.{Always}
 use Rattle.host_core.specs.Takes.{form_awaited}
-use Rattle.world3270.specs.Forms.{FormsAreAwaited}
+use Rattle.world3270.specs.Forms.{FormsAreAwaited, IsAwaitedBy}
 use Rattle.world3270.specs.Given.{Given}
 use Rattle.world3270.specs.Happens.{run}
 use Rattle.world3270.specs.Moments.{Talking, Serving, Moment, UnderWay, talk_up, served_up, up_at, pending_in, pending_at}
@@ -17,54 +18,54 @@ use Rattle.world3270.specs.World.{World, new_world}
 use Rattle.world3270.proofs.Queues.{front, nothing}
 use Rattle.world3270.proofs.Worlds.{run_good, new_good}
 
--- where data comes first, it has this form
-abbrev FirstHas : Form → List ToHost → Type 0
-FirstHas form [] = ⊤
-FirstHas form (ToHost.TalksUp saying ∷ messages) = ⊤
-FirstHas form (ToHost.Response number verdict ∷ messages) = ⊤
-FirstHas form (ToHost.Data parts ∷ messages) = parts.form ≡ form
+-- where data comes first, it has this form and size
+abbrev FirstHas : Form → Shape → List ToHost → Type 0
+FirstHas form size [] = ⊤
+FirstHas form size (ToHost.TalksUp saying ∷ messages) = ⊤
+FirstHas form size (ToHost.Response number verdict ∷ messages) = ⊤
+FirstHas form size (ToHost.Data parts ∷ messages) = (parts.form ≡ form) × (parts.size ≡ size)
 
-comes : (form : Form) (lost : Bool) (queue messages : List ToHost) (parts : InboundParts) (rest : List ToHost) → UnderWay lost queue messages → queue ≡ ToHost.Data parts ∷ rest → FirstHas form messages
-    → parts.form ≡ form
-comes form lost queue [] parts rest under e first = absurd (nothing lost queue (ToHost.Data parts) rest e under)
-comes form lost queue (message ∷ messages) parts rest under e first =
-    subst (λ m. FirstHas form (m ∷ messages)) (sym (front lost queue (ToHost.Data parts) rest message messages e under).0) first
+comes : (form : Form) (size : Shape) (lost : Bool) (queue messages : List ToHost) (parts : InboundParts) (rest : List ToHost) → UnderWay lost queue messages → queue ≡ ToHost.Data parts ∷ rest → FirstHas form size messages
+    → (parts.form ≡ form) × (parts.size ≡ size)
+comes form size lost queue [] parts rest under e first = absurd (nothing lost queue (ToHost.Data parts) rest e under)
+comes form size lost queue (message ∷ messages) parts rest under e first =
+    subst (λ m. FirstHas form size (m ∷ messages)) (sym (front lost queue (ToHost.Data parts) rest message messages e under).0) first
 
-talk_has : (form : Form) (wanted : Option (List ℕ)) (talking : Talking) → FirstHas form (talk_up wanted talking)
-talk_has form wanted Talking.Offering = tt
-talk_has form wanted Talking.Accepting = tt
-talk_has form wanted Talking.AskingType = tt
-talk_has form wanted Talking.NamingType = tt
-talk_has form wanted (Talking.Granting lu) = tt
-talk_has form wanted (Talking.AskingFunctions lu) = tt
-talk_has form wanted (Talking.Agreeing lu) = tt
-talk_has form wanted (Talking.Rejecting reason) = tt
-talk_has form wanted (Talking.Rejected reason) = tt
+talk_has : (form : Form) (size : Shape) (wanted : Option (List ℕ)) (talking : Talking) → FirstHas form size (talk_up wanted talking)
+talk_has form size wanted Talking.Offering = tt
+talk_has form size wanted Talking.Accepting = tt
+talk_has form size wanted Talking.AskingType = tt
+talk_has form size wanted Talking.NamingType = tt
+talk_has form size wanted (Talking.Granting lu) = tt
+talk_has form size wanted (Talking.AskingFunctions lu) = tt
+talk_has form size wanted (Talking.Agreeing lu) = tt
+talk_has form size wanted (Talking.Rejecting reason) = tt
+talk_has form size wanted (Talking.Rejected reason) = tt
 
-served_has : (scene : Scene) (serving : Serving) → ServingFact scene serving → FirstHas (form_awaited (pending_in serving)) (served_up serving)
+served_has : (scene : Scene) (serving : Serving) → ServingFact scene serving → FirstHas (form_awaited (pending_in serving)) scene.shape (served_up serving)
 served_has scene Serving.Deciding fact = tt
 served_has scene (Serving.Reading number) fact = tt
-served_has scene (Serving.Reported number parts) fact = ap (λ (p : InboundParts). p.form) fact.1
+served_has scene (Serving.Reported number parts) fact = (ap (λ (p : InboundParts). p.form) fact.1, ap (λ (p : InboundParts). p.size) fact.1)
 served_has scene (Serving.NotedLate number command) fact = tt
 served_has scene (Serving.AnsweredLate number command) fact = tt
 served_has scene (Serving.Painting number command wanted over) fact = tt
 served_has scene (Serving.Answering kind number command) fact = tt
 served_has scene Serving.Operating fact = tt
 served_has scene (Serving.Noting number command) fact = tt
-served_has scene (Serving.KeyAlone parts) fact = fact.0.form
+served_has scene (Serving.KeyAlone parts) fact = (fact.0.form, fact.0.size)
 served_has scene (Serving.KeyBehind kind number command parts) fact = tt
-served_has scene (Serving.KeyNoted number command parts) fact = fact.0.form
-served_has scene (Serving.KeyBefore number command parts) fact = fact.0.form
+served_has scene (Serving.KeyNoted number command parts) fact = (fact.0.form, fact.0.size)
+served_has scene (Serving.KeyBefore number command parts) fact = (fact.0.form, fact.0.size)
 
-first_has : (scene : Scene) (wanted : Option (List ℕ)) (moment : Moment) → Fact wanted scene moment → FirstHas (form_awaited (pending_at moment)) (up_at wanted moment)
-first_has scene wanted (Moment.Talks talking) fact = talk_has _ wanted talking
+first_has : (scene : Scene) (wanted : Option (List ℕ)) (moment : Moment) → Fact wanted scene moment → FirstHas (form_awaited (pending_at moment)) scene.shape (up_at wanted moment)
+first_has scene wanted (Moment.Talks talking) fact = talk_has _ _ wanted talking
 first_has scene wanted (Moment.Begins lu number command paints over) fact = tt
 first_has scene wanted (Moment.Serves lu serving) fact = served_has scene serving fact
 
-awaited : (app : Application) (v : View) (parts : InboundParts) (rest : List ToHost) → Kept app v → v.up ≡ ToHost.Data parts ∷ rest → parts.form ≡ form_awaited v.host.pending
+awaited : (app : Application) (v : View) (parts : InboundParts) (rest : List ToHost) → Kept app v → v.up ≡ ToHost.Data parts ∷ rest → IsAwaitedBy v.host parts
 awaited app v parts rest k e =
-    comes (form_awaited (pending_at k.moment)) v.lost v.up (up_at k.wanted k.moment) parts rest k.at.goes_up e (first_has (scene_of v) k.wanted k.moment k.fact)
-    ∙ sym (ap form_awaited k.at.pending)
+    let both = comes (form_awaited (pending_at k.moment)) v.host.shape v.lost v.up (up_at k.wanted k.moment) parts rest k.at.goes_up e (first_has (scene_of v) k.wanted k.moment k.fact) in
+    record { form = both.0 ∙ sym (ap form_awaited k.at.pending); size = both.1 }
 
 pub forms_awaited : Given → Always FormsAreAwaited
 forms_awaited given app pool terminals events is lists few are =

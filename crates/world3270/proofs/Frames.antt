@@ -9,7 +9,7 @@ use Rattle.std.proofs.lemmas.List.Quantifiers.{position-Some}
 use Rattle.telnet_wire.specs.Reading.{Rest}
 use Rattle.host_core.specs.Session.{Conn}
 use Rattle.host_core.specs.State.{Host, Connection, unused, most_connections, connection_at, service_at, with_connection}
-use Rattle.world3270.specs.ByteWorld.{ByteWorld, Transits, TerminalSlot, under_way, is_live, is_there, unused_transits, new_slot, transits_at, slot_at, with_transits, with_slot, is_attached_to, terminal_at, host_there, host_out, out_of}
+use Rattle.world3270.specs.ByteWorld.{ByteWorld, Transits, TerminalSlot, under_way, is_live, is_there, unused_transits, no_slot, transits_at, slot_at, with_transits, with_slot, is_attached_to, terminal_at, host_there, host_out, out_of}
 use Rattle.world3270.specs.Link.{Link}
 use Rattle.world3270.specs.Places.{EndsAgree}
 use Rattle.world3270.specs.TrackedTerminals.{TrackedTerminal}
@@ -28,11 +28,11 @@ transits_other number other transits world differs = get_or-set_other world.link
 
 pub slot_same : (terminal : ℕ) (slot : TerminalSlot) (world : ByteWorld) → terminal < length world.slots
     → slot_at terminal (with_slot terminal slot world) ≡ slot
-slot_same terminal slot world below = get_or-set_same world.slots terminal slot new_slot below
+slot_same terminal slot world below = get_or-set_same world.slots terminal slot no_slot below
 
 pub slot_other : (terminal other : ℕ) (slot : TerminalSlot) (world : ByteWorld) → other ≢ terminal
     → slot_at other (with_slot terminal slot world) ≡ slot_at other world
-slot_other terminal other slot world differs = get_or-set_other world.slots terminal other slot new_slot differs
+slot_other terminal other slot world differs = get_or-set_other world.slots terminal other slot no_slot differs
 
 pub connection_same : (number : ℕ) (connection : Connection) (host : Host) → number < length host.connections → connection_at number (with_connection number connection host) ≡ connection
 connection_same number connection host below = get_or-set_same host.connections number connection unused below
@@ -60,11 +60,11 @@ attached_slot number (Some at) e = ap (λ (n : ℕ). Some n) (eqb-true at number
 
 pub found_sits : (number terminal : ℕ) (world : ByteWorld) → terminal_at number world.slots ≡ Some terminal → (slot_at terminal world).at ≡ Some number
 found_sits number terminal world found =
-    attached_slot number (slot_at terminal world).at (position-Some (λ slot. is_attached_to number slot.at) world.slots terminal new_slot found).1
+    attached_slot number (slot_at terminal world).at (position-Some (λ slot. is_attached_to number slot.at) world.slots terminal no_slot found).1
 
 -- and it is one of those that there are
 pub found_within : (number terminal : ℕ) (world : ByteWorld) → terminal_at number world.slots ≡ Some terminal → terminal < length world.slots
-found_within number terminal world found = (position-Some (λ slot. is_attached_to number slot.at) world.slots terminal new_slot found).0
+found_within number terminal world found = (position-Some (λ slot. is_attached_to number slot.at) world.slots terminal no_slot found).0
 
 -- where no place is found no element passes
 none_passes : {X : Type 0} (test : X → Bool) (xs : List X) (start : ℕ) (beyond : X) → position_from test start xs ≡ None → test beyond ≡ false
@@ -82,7 +82,7 @@ none_passes test (x ∷ xs) start beyond none fails place = by_test (test x) ref
 none_sits : (number terminal : ℕ) (world : ByteWorld) → terminal_at number world.slots ≡ None → (slot_at terminal world).at ≡ Some number → ⊥
 none_sits number terminal world none at =
     let test : TerminalSlot → Bool = λ slot. is_attached_to number slot.at in
-    let fails = none_passes test world.slots 0 new_slot (sym (position_from-zero test world.slots) ∙ none) refl terminal in
+    let fails = none_passes test world.slots 0 no_slot (sym (position_from-zero test world.slots) ∙ none) refl terminal in
     let passes : is_attached_to number (slot_at terminal world).at ≡ true = ap (is_attached_to number) at ∙ same_number number in
     absurd (cc)
 
@@ -111,8 +111,8 @@ who_is_there bytes world number agree places = by_found (terminal_at number byte
 pub sits_same : (here : Option ℕ) (old new : ByteWorld) → new.slots ≡ old.slots → (out_of here new ≡ out_of here old) × (tracked_of here new ≡ tracked_of here old)
 sits_same None old new same = (refl, refl)
 sits_same (Some terminal) old new same = (
-  ap (λ (s : List TerminalSlot). (slice_index_or s terminal new_slot).tracked.terminal.out) same,
-  ap (λ (s : List TerminalSlot). with_out [] (slice_index_or s terminal new_slot).tracked) same,
+  ap (λ (s : List TerminalSlot). (slice_index_or s terminal no_slot).tracked.terminal.out) same,
+  ap (λ (s : List TerminalSlot). with_out [] (slice_index_or s terminal no_slot).tracked) same,
 )
 
 -- a terminal is at this connection, or alone
@@ -129,7 +129,7 @@ pub beyond_is_alone : (number : ℕ) (old : ByteWorld) (was : World) → WorldSt
 beyond_is_alone number old was stands =
     let beyond : ℕ = length old.slots in
     alone_there (slot_at beyond old) (was.place beyond) number
-    (ap (λ (s : TerminalSlot). s.at) (get_or_past old.slots beyond new_slot (le_refl beyond))) (stands.places beyond)
+    (ap (λ (s : TerminalSlot). s.at) (get_or_past old.slots beyond no_slot (le_refl beyond))) (stands.places beyond)
 
 -- ---- what stands on a connection
 

@@ -7,7 +7,7 @@ use Rattle.lu_pool.specs.Pool.{entry, is_held_by}
 use Rattle.lu_pool.specs.declared.entry.Entry.{Entry}
 use Rattle.host_core.specs.State.{Host, Connection, unused, connection_at, most_connections}
 use Rattle.world3270.specs.ByteSteps.{host_gone, host_gone_below, host_anew}
-use Rattle.world3270.specs.ByteWorld.{ByteWorld, Transit, Transits, TerminalSlot, cut, sender_gone, is_live, is_there, new_slot, transits_at, terminal_at, host_there, host_out, terminal_out, out_of}
+use Rattle.world3270.specs.ByteWorld.{ByteWorld, Transit, Transits, TerminalSlot, cut, sender_gone, is_live, is_there, no_slot, transits_at, terminal_at, host_there, host_out, terminal_out, out_of}
 use Rattle.world3270.specs.Happens.{host_left_from, host_anew as host_anew_over_messages}
 use Rattle.world3270.specs.Link.{Link, host_left}
 use Rattle.world3270.specs.Places.{EndsAgree, UpIsHeld}
@@ -260,7 +260,7 @@ module _ (leaves : HostLeaves) (old : ByteWorld) (was : World) (agree : EndsAgre
     settled = λ number. subst (λ (l : Connection). IsSettled l) (sym (connection number)) (λ free. refl);
     flows = λ number. subst (λ (h : Option ℕ). AreTransits h number new) (sym (there number)) (parts number).0;
     links = λ number. subst (λ (h : Option ℕ). LinkStands (link_with h number new) (host_left_from (was.link number))) (sym (there number)) (parts number).1;
-    places = λ terminal. subst (λ (s : List TerminalSlot). IsAt (slice_index_or s terminal new_slot) (was.place terminal)) (sym left_all.slots) (stands.places terminal);
+    places = λ terminal. subst (λ (s : List TerminalSlot). IsAt (slice_index_or s terminal no_slot) (was.place terminal)) (sym left_all.slots) (stands.places terminal);
   }
 
   pub panels_stay : new.host.panels ≡ old.host.panels

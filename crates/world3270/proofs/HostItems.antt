@@ -1,6 +1,7 @@
 -- What a host makes of an item is what it makes of the message that the item stands for.
 use Rattle.std.proofs.Common.{◌≡◌, ◌<◌, ◌≤◌, ◌/◌, ◌%◌, ◌^◌, ℕ, Bool, true, false, List, [], ◌∷◌, ◌++◌, Ok, refl, ap, sym, subst, ◌∙◌, arith}
 use Rattle.std.specs.Prelude.{⊤}
+use Rattle.codes3270.specs.Size.{Shape}
 use Rattle.datastream.specs.InboundText.{InboundParts, IsInbound, IsNoInbound}
 use Rattle.datastream.specs.declared.inbound_part.Form.{Form}
 use Rattle.datastream.specs.declared.inbound_part.InboundFault.{InboundFault}
@@ -20,6 +21,7 @@ use Rattle.host_core.specs.Items.{IsOther, TakesRecord, TakesRecordIf, Talks, Ta
 use Rattle.host_core.specs.Messages.{ToHost, Verdict}
 use Rattle.host_core.specs.Session.{Conn, is_agreed}
 use Rattle.host_core.specs.Takes.{Answers, HostStep, form_awaited, data_came, response_came, once_agreed, talked, took}
+use Rattle.world3270.specs.Forms.{IsAwaitedBy}
 use Rattle.world3270.specs.Stands.{OutcomeIs, StandsUp}
 use Rattle.world3270.specs.StandsEnds.{IsSaid}
 
@@ -29,10 +31,10 @@ IsSaidUp (ToHost.TalksUp saying) = IsSaid saying
 IsSaidUp (ToHost.Data parts) = ⊤
 IsSaidUp (ToHost.Response number verdict) = ⊤
 
--- data has the form that the host awaits
+-- data has the form and the size that the host awaits
 abbrev pub IsAwaited : Conn → ToHost → Type 0
 IsAwaited conn (ToHost.TalksUp saying) = ⊤
-IsAwaited conn (ToHost.Data parts) = parts.form ≡ form_awaited conn.pending
+IsAwaited conn (ToHost.Data parts) = IsAwaitedBy conn parts
 IsAwaited conn (ToHost.Response number verdict) = ⊤
 
 -- ---- the talk
@@ -80,24 +82,25 @@ verdict_is Verdict.Negative DeviceEnd is = absurd (is refl)
 verdict_is Verdict.Negative (Refused sense) is = refl
 
 -- inbound data has no fault
-no_fault : (form : Form) (parts : InboundParts) (fault : InboundFault) (body : List ℕ) → parts.form ≡ form → IsInbound parts body → IsNoInbound form fault body → ⊥
-no_fault form parts fault body of_form is bad = let same = first_inbound_fault form (Ok parts) body (of_form, is) fault bad in absurd (cc)
+no_fault : (size : Shape) (form : Form) (parts : InboundParts) (fault : InboundFault) (body : List ℕ) → parts.form ≡ form → parts.size ≡ size → IsInbound parts body
+    → IsNoInbound size form fault body → ⊥
+no_fault size form parts fault body of_form of_size is bad = let same = first_inbound_fault form size (Ok parts) body (of_form, of_size, is) fault bad in absurd (cc)
 
 -- ---- records
 
 module _ (one_header : OneHeader) (fault_or_header : FaultIsNoHeader) (one_inbound : OneInbound) where
   data_taken : (conn : Conn) (bytes body : List ℕ) (header : Header) (parts : InboundParts) (step : HostStep) → header.kind ≡ Data3270 → Begins bytes header body
-      → parts.form ≡ form_awaited conn.pending → IsInbound parts body → TakesRecord conn bytes step → step ≡ data_came parts conn.turn conn.pending conn
+      → IsAwaitedBy conn parts → IsInbound parts body → TakesRecord conn bytes step → step ≡ data_came parts conn.turn conn.pending conn
   data_taken conn bytes body header parts step kind begins awaited is (TakesRecord.no_header fault has e) = absurd (fault_or_header bytes fault header body has begins)
   data_taken conn bytes body header parts step kind begins awaited is (TakesRecord.dropped other rest begins' drops e) =
       let same = (one_header bytes other header rest body begins' begins).0 in
       absurd (subst IsOther (ap (λ (h : Header). h.kind) same ∙ kind) drops)
   data_taken conn bytes body header parts step kind begins awaited is (TakesRecord.no_data other rest fault begins' kind' bad e) =
       let same = (one_header bytes other header rest body begins' begins).1 in
-      absurd (no_fault (form_awaited conn.pending) parts fault body awaited is (subst (λ (b : List ℕ). IsNoInbound (form_awaited conn.pending) fault b) same bad))
-  data_taken conn bytes body header parts step kind begins awaited is (TakesRecord.hears other rest parts' begins' kind' form is' e) =
+      absurd (no_fault conn.shape (form_awaited conn.pending) parts fault body awaited.form awaited.size is (subst (λ (b : List ℕ). IsNoInbound conn.shape (form_awaited conn.pending) fault b) same bad))
+  data_taken conn bytes body header parts step kind begins awaited is (TakesRecord.hears other rest parts' begins' kind' form size is' e) =
       let same = (one_header bytes other header rest body begins' begins).1 in
-      let parts_are : parts' ≡ parts = one_inbound body parts' parts (form ∙ sym awaited) (subst (λ (b : List ℕ). IsInbound parts' b) same is') is in
+      let parts_are : parts' ≡ parts = one_inbound body parts' parts (form ∙ sym awaited.form) (size ∙ sym awaited.size) (subst (λ (b : List ℕ). IsInbound parts' b) same is') is in
       e ∙ ap (λ (p : InboundParts). data_came p conn.turn conn.pending conn) parts_are
   data_taken conn bytes body header parts step kind begins awaited is (TakesRecord.answered other rest begins' kind' e) =
       let same = ap (λ (h : Header). h.kind) (one_header bytes other header rest body begins' begins).0 in
@@ -114,7 +117,7 @@ module _ (one_header : OneHeader) (fault_or_header : FaultIsNoHeader) (one_inbou
       let same = ap (λ (h : Header). h.kind) (one_header bytes other header rest body begins' begins).0 in
       let both : Data3270 ≡ Response = sym kind' ∙ same ∙ kind in
       absurd (cc)
-  response_taken conn bytes body header verdict step kind begins says_it (TakesRecord.hears other rest parts begins' kind' form is e) =
+  response_taken conn bytes body header verdict step kind begins says_it (TakesRecord.hears other rest parts begins' kind' form size is e) =
       let same = ap (λ (h : Header). h.kind) (one_header bytes other header rest body begins' begins).0 in
       let both : Data3270 ≡ Response = sym kind' ∙ same ∙ kind in
       absurd (cc)

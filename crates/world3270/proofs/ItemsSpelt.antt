@@ -2,14 +2,14 @@
 use Rattle.std.proofs.Common.{◌≡◌, ◌≤◌, ◌+◌, ◌*◌, ℕ, true, Some, List, [], ◌++◌, length, refl, ap, sym, subst, arith, inr, IfSome}
 use Rattle.std.specs.Prelude.{⊤, All}
 use Rattle.codes3270.proofs.RoundTrips.{wcc_read_back}
-use Rattle.codes3270.specs.Size.{model_2, cell_count}
+use Rattle.codes3270.specs.Size.{Shape, cells_in, model_2, most_cells}
 use Rattle.datastream.proofs.Commands.{command_proper}
 use Rattle.datastream.proofs.Written.{orders_written}
 use Rattle.datastream.specs.Grammar.{CommandParts, IsCommand, write, other, IsProper}
 use Rattle.datastream.specs.Note.{quiet}
-use Rattle.shadow.specs.Fits.{fits}
+use Rattle.shadow.specs.Fits.{is_paintable}
 use Rattle.shadow.specs.Laws.{PaintIsBounded}
-use Rattle.shadow.specs.Paint.{paint, paint_bytes}
+use Rattle.shadow.specs.Paint.{paint}
 use Rattle.telnet_wire.specs.Items.{CanCome}
 use Rattle.tn3270e_msg.specs.Header.{Begins, spelling, record_limit, error_response, always_response}
 use Rattle.tn3270e_msg.specs.declared.header.Header.{Header}
@@ -18,16 +18,16 @@ use Rattle.host_core.specs.Answering.{number_in}
 use Rattle.host_core.specs.Messages.{ToTerminal}
 use Rattle.host_core.specs.NoteLaws.{IsNoteOf}
 use Rattle.host_core.specs.Notes.{note_orders, note_command}
-use Rattle.host_core.specs.Says.{written, read_buffer_command, command_header, command_record, item_sent}
+use Rattle.host_core.specs.Says.{written, read_buffer_bytes, command_header, command_record, item_sent}
 use Rattle.world3270.specs.Numbers.{IsNumber}
 use Rattle.world3270.specs.Sendable.{PaintsAScreen, IsSpelt}
 use Rattle.world3270.specs.Stands.{StandsDown}
 use Rattle.world3270.specs.StandsEnds.{PaintStands}
 
--- what fits where it is sent: a paint what is believed, and a note a model 2
+-- what fits where it is sent: a paint what is believed, and it and a note a model 2
 abbrev pub Suits : ToTerminal → Type 0
 Suits (ToTerminal.TalksDown saying) = ⊥
-Suits (ToTerminal.Paint number wanted believed) = fits believed wanted ≡ true
+Suits (ToTerminal.Paint number wanted believed) = (is_paintable believed wanted ≡ true) × (wanted.size ≡ model_2)
 Suits (ToTerminal.ReadBuffer number) = ⊤
 Suits (ToTerminal.Note number command) = IsNoteOf model_2 command
 
@@ -50,15 +50,15 @@ begins flag number body flags fits = record { is_header = record { kind = tt; fl
 record_length : (header : Header) (body : List ℕ) → length (spelling header ++ body) ≡ 5 + length body
 record_length header body = omega arith
 
--- a paint of so many cells is within the limit
-paint_fits : (whole bytes cells : ℕ) → whole ≡ 5 + bytes → bytes ≤ 9 + 3 * cells → cells ≡ cell_count → whole ≤ record_limit
+-- a paint of a screen of any model is within the limit
+paint_fits : (whole bytes cells : ℕ) → whole ≡ 5 + bytes → bytes ≤ 9 + 3 * cells → cells ≤ most_cells → whole ≤ record_limit
 paint_fits whole bytes cells is few size = omega arith
 
-note_spelt : (command : CommandParts) (text : List ℕ) → command ≡ note_command model_2 text → All IsProper command.orders → IsCommand command (written command)
+note_spelt : (command : CommandParts) (text : List ℕ) → command ≡ note_command model_2 text → All (IsProper (cells_in command.size)) command.orders → IsCommand model_2 model_2 command (written command)
 note_spelt command text is proper =
-    subst (λ (c : CommandParts). IsCommand c (written c)) (sym is)
-    (write _ _ _ refl (inr refl) (ap (λ w. Some w) (sym (wcc_read_back quiet)))
-    (orders_written (note_orders model_2 text) (subst (λ (c : CommandParts). All IsProper c.orders) is proper)) refl)
+    subst (λ (c : CommandParts). IsCommand model_2 model_2 c (written c)) (sym is)
+    (write _ _ _ refl (inr refl) refl (ap (λ w. Some w) (sym (wcc_read_back quiet)))
+    (orders_written (cells_in model_2) (omega arith) (note_orders model_2 text) (subst (λ (c : CommandParts). All (IsProper (cells_in c.size)) c.orders) is proper)) refl)
 
 note_comes : (number : ℕ) (command : CommandParts) (text : List ℕ) → command ≡ note_command model_2 text
     → length (command_record always_response number command) ≤ record_limit
@@ -69,20 +69,21 @@ note_comes number command text is =
 pub spells : PaintStands → PaintIsBounded → (message : ToTerminal) → Suits message → IsSound message → Spells message
 spells stands bounded (ToTerminal.TalksDown saying) suits sound = absurd suits
 spells stands bounded (ToTerminal.Paint number wanted believed) suits sound =
-    let body : List ℕ = written (paint (length wanted.cells) believed wanted) in
+    let body : List ℕ = written (paint (cells_in wanted.size) believed wanted) in
     record {
-      stands = stands number wanted believed (spelling (command_header always_response number) ++ body) body (begins always_response number body (omega arith) sound.number)
-          (subst (λ (n : ℕ). IsCommand (paint n believed wanted) (paint_bytes n believed wanted)) (sym sound.screen.size) sound.spelt) suits;
+      stands = stands number wanted believed (spelling (command_header always_response number) ++ body) body sound.screen.size
+          (begins always_response number body (omega arith) sound.number)
+          (subst (λ (size : Shape). IsCommand size size (paint (cells_in wanted.size) believed wanted) body) suits.1 sound.spelt) suits.0;
       comes = paint_fits (length (spelling (command_header always_response number) ++ body)) (length body) (length wanted.cells)
-          (record_length (command_header always_response number) body) (bounded (length wanted.cells) believed wanted (omega arith)) sound.screen.size;
+          (record_length (command_header always_response number) body) (bounded (cells_in wanted.size) believed wanted (omega (arith, sound.screen.size))) (omega (arith, sound.screen.size, sound.screen.few));
     }
 spells stands bounded (ToTerminal.ReadBuffer number) suits sound = record {
   stands = record {
-    bytes = command_record error_response number read_buffer_command;
-    body = written read_buffer_command;
+    bytes = spelling (command_header error_response number) ++ read_buffer_bytes;
+    body = read_buffer_bytes;
     is_record = refl;
-    begins = begins error_response number (written read_buffer_command) (omega arith) sound.number;
-    spelt = other _ [] refl (inr refl) refl refl refl;
+    begins = begins error_response number read_buffer_bytes (omega arith) sound.number;
+    spelt = other _ [] refl (inr refl) refl refl refl refl;
   };
   comes = omega arith;
 }

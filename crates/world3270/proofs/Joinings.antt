@@ -5,13 +5,15 @@ use Rattle.std.proofs.lemmas.Bool.{cases_lt}
 use Rattle.std.proofs.lemmas.Iterator.Adapters.{position_from-zero}
 use Rattle.std.proofs.lemmas.List.{get_or_past, get_or-replicate, length-replicate, length-set}
 use Rattle.codes3270.specs.Size.{model_2}
+use Rattle.codes3270.specs.declared.size.Model.{Model}
+use Rattle.codes3270.specs.declared.size.Model.TheVariants.{M2}
 use Rattle.telnet_wire.specs.Reading.{nothing}
 use Rattle.lu_pool.specs.declared.entry.Entry.{Entry}
 use Rattle.panels.specs.Panel.{Panels}
 use Rattle.host_core.specs.Application.{application_of}
 use Rattle.host_core.specs.State.{Connection, unused, opened, connection_at, with_connection, most_connections}
 use Rattle.world3270.specs.ByteSteps.{is_held, free_from}
-use Rattle.world3270.specs.ByteWorld.{ByteWorld, Transits, TerminalSlot, under_way, is_live, is_there, unused_transits, begun_transits, new_slot, attached_slot, is_attached_to, new_byte_world, transits_at, slot_at, with_transits, with_slot, with_host, terminal_at, host_there, host_out, out_of}
+use Rattle.world3270.specs.ByteWorld.{ByteWorld, Transits, TerminalSlot, under_way, is_live, is_there, unused_transits, begun_transits, model_at, new_slot, attached_slot, is_attached_to, new_byte_world, transits_at, slot_at, with_transits, with_slot, with_host, terminal_at, host_there, host_out, out_of}
 use Rattle.world3270.specs.Link.{Link, begun, unused as unused_link}
 use Rattle.world3270.specs.Places.{EndsAgree}
 use Rattle.world3270.specs.Standing.{WorldStands, IsFlow, IsAt, IsNotClosed, IsSettled, AreTransits, conn_of, rest_of, with_out, link_with}
@@ -19,6 +21,8 @@ use Rattle.world3270.specs.Stands.{StandsUp, BytesUp, LinkStands, all_items}
 use Rattle.world3270.specs.StandsLinks.{NothingStands, BeginStands, begun_bytes}
 use Rattle.world3270.specs.Terminal.{new_display}
 use Rattle.world3270.specs.World.{Place, World, new_world, with_at}
+use Rattle.world3270.specs.TrackedTerminals.{newly_tracked}
+use Rattle.world3270.proofs.Models.{model_is}
 use Rattle.world3270.proofs.Frames.{transits_same, transits_other, slot_same, slot_other, connection_same, connection_other, IsHere, alone_there, changed_stands}
 use Rattle.world3270.proofs.OneOfMany.{with_other, with_same}
 use Rattle.world3270.proofs.Partings.{like_stands}
@@ -39,12 +43,12 @@ found_below (suc count) number found world is = by_test (is_held number world) i
 
 module _ (number terminal : ℕ) (wanted : Option (List ℕ)) (old : ByteWorld) where
   abbrev pub connected : ByteWorld
-  connected = with_transits number begun_transits (with_slot terminal (attached_slot wanted number) (with_host (with_connection number opened old.host) old))
+  connected = with_transits number begun_transits (with_slot terminal (attached_slot (model_at terminal old) wanted number) (with_host (with_connection number opened old.host) old))
 
   -- the connection that begins
-  begun_link : BeginStands → transits_at number connected ≡ begun_transits → connection_at number connected.host ≡ opened → slot_at terminal connected ≡ attached_slot wanted number
+  begun_link : BeginStands → transits_at number connected ≡ begun_transits → connection_at number connected.host ≡ opened → slot_at terminal connected ≡ attached_slot (model_at terminal old) wanted number → model_at terminal old ≡ M2
       → LinkStands (link_with (Some terminal) number connected) (begun model_2 terminal wanted)
-  begun_link begins transits connection slot =
+  begun_link begins transits connection slot model =
       like_stands (begun_bytes terminal wanted) (link_with (Some terminal) number connected) (begun model_2 terminal wanted)
       (record {
         lost = ap (λ (w : Transits). not (is_live w.down)) transits;
@@ -53,7 +57,7 @@ module _ (number terminal : ℕ) (wanted : Option (List ℕ)) (old : ByteWorld) 
         down = ap (λ (w : Transits). under_way w.down (host_out number connected)) transits ∙ ap (λ (l : Connection). l.out) connection;
         up = ap (λ (w : Transits). under_way w.up (out_of (Some terminal) connected)) transits ∙ ap (λ (s : TerminalSlot). s.tracked.terminal.out) slot;
         host = λ e. (ap (λ (l : Connection). conn_of l.service) connection, ap (λ (l : Connection). rest_of l.service) connection);
-        tracked = λ who e. ap (λ (s : TerminalSlot). with_out [] s.tracked) slot;
+        tracked = λ who e. ap (λ (s : TerminalSlot). with_out [] s.tracked) slot ∙ ap (λ (m : Model). newly_tracked m wanted) model;
       })
       (begins terminal wanted)
 
@@ -71,23 +75,23 @@ module _ (number terminal : ℕ) (wanted : Option (List ℕ)) (old : ByteWorld) 
   connected_stands was begins agree stands below there_is alone agrees =
       let now : World = record was { link = with_at number (begun model_2 terminal wanted) was.link; place = with_at terminal (Place.At number) was.place } in
       let hosted : ByteWorld = with_host (with_connection number opened old.host) old in
-      let newly_tracked : ByteWorld = with_slot terminal (attached_slot wanted number) hosted in
+      let attached : ByteWorld = with_slot terminal (attached_slot (model_at terminal old) wanted number) hosted in
       let within : number < length old.host.connections = subst (λ (n : ℕ). number < n) (stands.transits ∙ sym stands.connections) below in
-      let transits : transits_at number connected ≡ begun_transits = transits_same number begun_transits newly_tracked below in
+      let transits : transits_at number connected ≡ begun_transits = transits_same number begun_transits attached below in
       let connection : connection_at number connected.host ≡ opened = connection_same number opened old.host within in
-      let slot : slot_at terminal connected ≡ attached_slot wanted number = slot_same terminal (attached_slot wanted number) hosted there_is in
+      let slot : slot_at terminal connected ≡ attached_slot (model_at terminal old) wanted number = slot_same terminal (attached_slot (model_at terminal old) wanted number) hosted there_is in
       let is : now.link number ≡ begun model_2 terminal wanted = with_same number (begun model_2 terminal wanted) was.link in
       let goes : now.place terminal ≡ Place.At number = with_same terminal (Place.At number) was.place in
       changed_stands number terminal old connected was now
       (record {
         connections = λ other differs. connection_other number other opened old.host differs;
-        transits = λ other differs. transits_other number other begun_transits newly_tracked differs;
-        slots = λ other differs. slot_other terminal other (attached_slot wanted number) hosted differs;
+        transits = λ other differs. transits_other number other begun_transits attached differs;
+        slots = λ other differs. slot_other terminal other (attached_slot (model_at terminal old) wanted number) hosted differs;
         links = λ other differs. with_other number other (begun model_2 terminal wanted) was.link differs;
         places = λ other differs. with_other terminal other (Place.At number) was.place differs;
         connection_count = length-set old.host.connections number opened;
         way_count = length-set old.links number begun_transits;
-        slot_count = length-set old.slots terminal (attached_slot wanted number);
+        slot_count = length-set old.slots terminal (attached_slot (model_at terminal old) wanted number);
         terminals = refl;
         pool = stands.pool;
         before = alone_there (slot_at terminal old) (was.place terminal) number alone (stands.places terminal);
@@ -95,15 +99,20 @@ module _ (number terminal : ℕ) (wanted : Option (List ℕ)) (old : ByteWorld) 
         none_closed = subst (λ (l : Connection). IsNotClosed l.service) (sym connection) tt;
         settled = subst (λ (l : Connection). IsSettled l) (sym connection) (λ free. absurd (cc));
         flow = subst (λ (l : Link). AreTransits l.term_here number connected) (sym is) (begun_flow transits);
-        link = subst (λ (l : Link). LinkStands (link_with l.term_here number connected) l) (sym is) (begun_link begins transits connection slot);
+        link = subst (λ (l : Link). LinkStands (link_with l.term_here number connected) l) (sym is) (begun_link begins transits connection slot (model_is terminal old was agree stands));
         place = subst (λ (p : Place). IsAt (slot_at terminal connected) p) (sym goes) (ap (λ (s : TerminalSlot). s.at) slot);
       })
       agree stands agrees
 
 -- ---- a terminal that begins anew
 
-pub new_is_alone : IsAt new_slot (Place.Alone (new_display model_2))
+new_is_alone : IsAt (new_slot M2) (Place.Alone (new_display model_2))
 new_is_alone = (refl, record { detached = refl; silent = refl; shape = refl; screen = refl; keyboard = refl; last_restored = refl; erased = refl })
+
+-- whichever terminal it is, since each is a model 2
+pub begins_alone : (terminal : ℕ) (old : ByteWorld) (was : World) → EndsAgree was → WorldStands old was → IsAt (new_slot (model_at terminal old)) (Place.Alone (new_display model_2))
+begins_alone terminal old was agree stands =
+    subst (λ (m : Model). IsAt (new_slot m) (Place.Alone (new_display model_2))) (sym (model_is terminal old was agree stands)) new_is_alone
 
 -- ---- one of equal ones
 
@@ -116,7 +125,7 @@ get_or_equal {X} count number x = by_order (cases_lt number count)
 
 -- ---- at the begin
 
-none_from : (number count start : ℕ) → position_from (λ slot. is_attached_to number slot.at) start (replicate count new_slot) ≡ None
+none_from : (number count start : ℕ) → position_from (λ slot. is_attached_to number slot.at) start (replicate count (new_slot M2)) ≡ None
 none_from number zero start = refl
 none_from number (suc count) start = none_from number count (start + 1)
 
@@ -125,7 +134,7 @@ module _ (empty : NothingStands all_items StandsUp) (panels : Panels) (pool : Li
   begins = new_byte_world panels pool terminals
 
   nobody : (number : ℕ) → terminal_at number begins.slots ≡ None
-  nobody number = position_from-zero (λ slot. is_attached_to number slot.at) (replicate terminals new_slot) ∙ none_from number terminals 0
+  nobody number = position_from-zero (λ slot. is_attached_to number slot.at) (replicate terminals (new_slot M2)) ∙ none_from number terminals 0
 
   connection_begun : (number : ℕ) → connection_at number begins.host ≡ unused
   connection_begun number = get_or_equal most_connections number unused
@@ -156,11 +165,11 @@ module _ (empty : NothingStands all_items StandsUp) (panels : Panels) (pool : Li
   begin_stands = record {
     connections = length-replicate most_connections unused;
     transits = length-replicate most_connections unused_transits;
-    terminals = length-replicate terminals new_slot;
+    terminals = length-replicate terminals (new_slot M2);
     pool = refl;
     none_closed = λ number. subst (λ (l : Connection). IsNotClosed l.service) (sym (connection_begun number)) tt;
     settled = λ number. subst (λ (l : Connection). IsSettled l) (sym (connection_begun number)) (λ free. refl);
     flows = λ number. subst (λ (h : Option ℕ). AreTransits h number begins) (sym (nobody number)) (flow_begun number);
     links = λ number. subst (λ (h : Option ℕ). LinkStands (link_with h number begins) (unused_link model_2)) (sym (nobody number)) (link_begun number);
-    places = λ terminal. subst (λ (s : TerminalSlot). IsAt s (Place.Alone (new_display model_2))) (sym (get_or_equal terminals terminal new_slot)) new_is_alone;
+    places = λ terminal. subst (λ (s : TerminalSlot). IsAt s (Place.Alone (new_display model_2))) (sym (get_or_equal terminals terminal (new_slot M2))) new_is_alone;
   }

@@ -47,7 +47,7 @@ use Rattle.world3270.specs.Terminal.{Display, is_bound, bound_to, data_of, erase
 use Rattle.world3270.specs.View.{View, view_of}
 use Rattle.world3270.proofs.Down.{ok_map}
 use Rattle.world3270.proofs.Queues.{more, nothing_sent}
-use Rattle.world3270.proofs.Sent.{key_form, key_aid, sent_long, nulls_known}
+use Rattle.world3270.proofs.Sent.{key_form, key_aid, key_size, sent_long, nulls_known}
 use Rattle.world3270.proofs.Unreturned.{kept_of}
 
 -- ---- in Wait
@@ -57,36 +57,36 @@ record Waits (key : Key) (screen : Screen) (outcome : Outcome) : Type 0 where
   same : outcome.screen ≡ screen
   lock : outcome.keyboard.lock ≡ Wait
   keeps : erases_if outcome.answer key ≡ false
-  silent : (bound : Bool) (now : Screen) → data_of bound outcome.answer now ≡ []
+  silent : (bound : Bool) (shape : Shape) (now : Screen) → data_of bound outcome.answer shape now ≡ []
 
-quiet_refused : (bound : Bool) (why : Refusal) (now : Screen) → data_of bound (Refused why) now ≡ []
-quiet_refused true why now = refl
-quiet_refused false why now = refl
+quiet_refused : (bound : Bool) (why : Refusal) (shape : Shape) (now : Screen) → data_of bound (Refused why) shape now ≡ []
+quiet_refused true why shape now = refl
+quiet_refused false why shape now = refl
 
-pub quiet_done : (bound : Bool) (now : Screen) → data_of bound Done now ≡ []
-quiet_done true now = refl
-quiet_done false now = refl
+pub quiet_done : (bound : Bool) (shape : Shape) (now : Screen) → data_of bound Done shape now ≡ []
+quiet_done true shape now = refl
+quiet_done false shape now = refl
 
 waits_by : (columns : ℕ) (key : Key) (keyboard : Keyboard) (screen : Screen) → keyboard.lock ≡ Wait → Waits key screen (at_lock Wait columns key keyboard screen)
-waits_by columns (Char letter) keyboard screen e = record { same = refl; lock = e; keeps = refl; silent = λ b now. quiet_refused b Locked now }
-waits_by columns Tab keyboard screen e = record { same = refl; lock = e; keeps = refl; silent = λ b now. quiet_refused b Locked now }
-waits_by columns BackTab keyboard screen e = record { same = refl; lock = e; keeps = refl; silent = λ b now. quiet_refused b Locked now }
-waits_by columns NewLine keyboard screen e = record { same = refl; lock = e; keeps = refl; silent = λ b now. quiet_refused b Locked now }
-waits_by columns Home keyboard screen e = record { same = refl; lock = e; keeps = refl; silent = λ b now. quiet_refused b Locked now }
-waits_by columns CursorUp keyboard screen e = record { same = refl; lock = e; keeps = refl; silent = λ b now. quiet_refused b Locked now }
-waits_by columns CursorDown keyboard screen e = record { same = refl; lock = e; keeps = refl; silent = λ b now. quiet_refused b Locked now }
-waits_by columns CursorLeft keyboard screen e = record { same = refl; lock = e; keeps = refl; silent = λ b now. quiet_refused b Locked now }
-waits_by columns CursorRight keyboard screen e = record { same = refl; lock = e; keeps = refl; silent = λ b now. quiet_refused b Locked now }
-waits_by columns Backspace keyboard screen e = record { same = refl; lock = e; keeps = refl; silent = λ b now. quiet_refused b Locked now }
-waits_by columns Insert keyboard screen e = record { same = refl; lock = e; keeps = refl; silent = λ b now. quiet_refused b Locked now }
-waits_by columns Delete keyboard screen e = record { same = refl; lock = e; keeps = refl; silent = λ b now. quiet_refused b Locked now }
-waits_by columns EraseEof keyboard screen e = record { same = refl; lock = e; keeps = refl; silent = λ b now. quiet_refused b Locked now }
-waits_by columns EraseInput keyboard screen e = record { same = refl; lock = e; keeps = refl; silent = λ b now. quiet_refused b Locked now }
+waits_by columns (Char letter) keyboard screen e = record { same = refl; lock = e; keeps = refl; silent = λ b shape now. quiet_refused b Locked shape now }
+waits_by columns Tab keyboard screen e = record { same = refl; lock = e; keeps = refl; silent = λ b shape now. quiet_refused b Locked shape now }
+waits_by columns BackTab keyboard screen e = record { same = refl; lock = e; keeps = refl; silent = λ b shape now. quiet_refused b Locked shape now }
+waits_by columns NewLine keyboard screen e = record { same = refl; lock = e; keeps = refl; silent = λ b shape now. quiet_refused b Locked shape now }
+waits_by columns Home keyboard screen e = record { same = refl; lock = e; keeps = refl; silent = λ b shape now. quiet_refused b Locked shape now }
+waits_by columns CursorUp keyboard screen e = record { same = refl; lock = e; keeps = refl; silent = λ b shape now. quiet_refused b Locked shape now }
+waits_by columns CursorDown keyboard screen e = record { same = refl; lock = e; keeps = refl; silent = λ b shape now. quiet_refused b Locked shape now }
+waits_by columns CursorLeft keyboard screen e = record { same = refl; lock = e; keeps = refl; silent = λ b shape now. quiet_refused b Locked shape now }
+waits_by columns CursorRight keyboard screen e = record { same = refl; lock = e; keeps = refl; silent = λ b shape now. quiet_refused b Locked shape now }
+waits_by columns Backspace keyboard screen e = record { same = refl; lock = e; keeps = refl; silent = λ b shape now. quiet_refused b Locked shape now }
+waits_by columns Insert keyboard screen e = record { same = refl; lock = e; keeps = refl; silent = λ b shape now. quiet_refused b Locked shape now }
+waits_by columns Delete keyboard screen e = record { same = refl; lock = e; keeps = refl; silent = λ b shape now. quiet_refused b Locked shape now }
+waits_by columns EraseEof keyboard screen e = record { same = refl; lock = e; keeps = refl; silent = λ b shape now. quiet_refused b Locked shape now }
+waits_by columns EraseInput keyboard screen e = record { same = refl; lock = e; keeps = refl; silent = λ b shape now. quiet_refused b Locked shape now }
 waits_by columns Reset keyboard screen e = record { same = refl; lock = rw e refl; keeps = refl; silent = λ b now. quiet_done b now }
-waits_by columns Enter keyboard screen e = record { same = refl; lock = e; keeps = refl; silent = λ b now. quiet_refused b Locked now }
-waits_by columns (Pf number) keyboard screen e = record { same = refl; lock = e; keeps = refl; silent = λ b now. quiet_refused b Locked now }
-waits_by columns (Pa number) keyboard screen e = record { same = refl; lock = e; keeps = refl; silent = λ b now. quiet_refused b Locked now }
-waits_by columns Clear keyboard screen e = record { same = refl; lock = e; keeps = refl; silent = λ b now. quiet_refused b Locked now }
+waits_by columns Enter keyboard screen e = record { same = refl; lock = e; keeps = refl; silent = λ b shape now. quiet_refused b Locked shape now }
+waits_by columns (Pf number) keyboard screen e = record { same = refl; lock = e; keeps = refl; silent = λ b shape now. quiet_refused b Locked shape now }
+waits_by columns (Pa number) keyboard screen e = record { same = refl; lock = e; keeps = refl; silent = λ b shape now. quiet_refused b Locked shape now }
+waits_by columns Clear keyboard screen e = record { same = refl; lock = e; keeps = refl; silent = λ b shape now. quiet_refused b Locked shape now }
 
 waits : (columns : ℕ) (key : Key) (keyboard : Keyboard) (screen : Screen) → keyboard.lock ≡ Wait → Waits key screen (pressed columns key keyboard screen)
 waits columns key keyboard screen e = subst (λ l. Waits key screen (at_lock l columns key keyboard screen)) (sym e) (waits_by columns key keyboard screen e)
@@ -183,7 +183,7 @@ key_waits key link e =
     let outcome : Outcome = outcome_of key link.term.display in
     let v : View = view_of link in
     ap (λ up. seen_as v up outcome.screen outcome.keyboard.lock (v.erased || erases_if outcome.answer key))
-    (ap (λ says. sent link.lost link.up says) (w.silent (is_bound link.term) outcome.screen) ∙ nothing_sent link.lost link.up)
+    (ap (λ says. sent link.lost link.up says) (w.silent (is_bound link.term) v.shape outcome.screen) ∙ nothing_sent link.lost link.up)
     ∙ ap (λ s. seen_as v v.up s outcome.keyboard.lock (v.erased || erases_if outcome.answer key)) w.same
     ∙ ap (λ l. seen_as v v.up v.screen l (v.erased || erases_if outcome.answer key)) (w.lock ∙ sym e)
     ∙ ap (λ b. seen_as v v.up v.screen v.lock b) (ap (λ b. v.erased || b) w.keeps ∙ or_false v.erased)
@@ -227,20 +227,20 @@ opens_by EnterAid s size clear long = long refl
 opens_by (PfAid key) s size clear long = long refl
 
 -- the host will hear it, and then see the screen
-will_see : Given → (erased : Bool) (shape : Shape) (shadow : Shadow) (left screen : Screen) (aid : Aid) → screen.aid ≡ aid → length screen.cells ≡ cells_in shape → FactsAreExact shadow → Knows shadow → NothingIsOpen shadow → Meets shadow left
-    → KeepsSent erased aid left.cells screen.cells → IsOkAnd (heard (cells_in shape) shadow (modified_data Modified screen)) (Sees shape screen)
-will_see given erased shape shadow left screen aid is whole exact knows closed meets keeps =
+will_see : Given → (erased : Bool) (shape size : Shape) (shadow : Shadow) (left screen : Screen) (aid : Aid) → screen.aid ≡ aid → length screen.cells ≡ cells_in shape → FactsAreExact shadow → Knows shadow → NothingIsOpen shadow → Meets shadow left
+    → KeepsSent erased aid left.cells screen.cells → IsOkAnd (heard (cells_in shape) shadow (modified_data Modified size screen)) (Sees shape screen)
+will_see given erased shape size shadow left screen aid is whole exact knows closed meets keeps =
     subst (λ n. IsOkAnd (heard n shadow parts) (Sees shape screen)) whole
     (ok_map (λ s. Believed (is_short_aid screen.aid) screen s × FactsAreExact s × (screen.aid ≡ ClearAid → IsCleared shape s) × IsOpenBy screen.aid false s) (Sees shape screen) result
     (λ s all. record { exact = all.1; closed = all.3; cleared = all.2; meets = all.0.0; lists = all.0.1; told = λ sent. all.0.2 (sent_long screen.aid sent) })
     (by_result result
-    (given.belief.hears erased shadow left screen knows meets (sent_from erased left.cells screen.cells screen.aid (subst (λ a. KeepsSent erased a left.cells screen.cells) (sym is) keeps)))
+    (given.belief.hears size erased shadow left screen knows meets (sent_from erased left.cells screen.cells screen.aid (subst (λ a. KeepsSent erased a left.cells screen.cells) (sym is) keeps)))
     (given.belief.heard_exact (length screen.cells) shadow parts exact.known) (given.belief.heard_protected (length screen.cells) shadow parts exact.protected)
-    (λ clear. given.belief.cleared (length screen.cells) shadow parts (key_form screen) (key_aid screen ∙ clear))
+    (λ clear. given.belief.cleared (length screen.cells) shadow parts (key_form size screen) (key_aid size screen ∙ clear))
     (λ long. given.belief.long_opens (length screen.cells) shadow parts (is_long long) closed)))
   where
     parts : InboundParts
-    parts = modified_data Modified screen
+    parts = modified_data Modified size screen
 
     result : Result Shadow HeardFault
     result = heard (length screen.cells) shadow parts
@@ -253,7 +253,7 @@ will_see given erased shape shadow left screen aid is whole exact knows closed m
     by_result (Err fault) believed known protected clear long = absurd believed
 
     is_long : is_short_aid screen.aid ≡ false → IsLong parts.form parts.aid
-    is_long long = subst (λ f. IsLong f parts.aid) (sym (key_form screen)) (ap is_short_aid (key_aid screen) ∙ long)
+    is_long long = subst (λ f. IsLong f parts.aid) (sym (key_form size screen)) (ap is_short_aid (key_aid size screen) ∙ long)
 
 -- ---- by what the key is answered
 
@@ -313,9 +313,9 @@ module _ (given : Given) (app : Application) (link : Link) (key : Key) (k : Kept
 
   -- a key that sends
   sends : Typing → (screen : Screen) (lock : Lock) (erased : Bool) (aid : Aid) → length screen.cells ≡ cells_in v.host.shape → screen.cursor < cells_in v.host.shape → lock ≡ Wait → screen.aid ≡ aid → (aid ≡ NoAid → ⊥)
-      → KeepsSent erased aid f.shown.cells screen.cells → Kept app (seen_as v (sent v.lost v.up (ToHost.Data (modified_data Modified screen) ∷ [])) screen lock erased)
+      → KeepsSent erased aid f.shown.cells screen.cells → Kept app (seen_as v (sent v.lost v.up (ToHost.Data (modified_data Modified v.shape screen) ∷ [])) screen lock erased)
   sends typing screen lock erased aid whole cursor waits is some keeps =
-      let parts : InboundParts = modified_data Modified screen in
+      let parts : InboundParts = modified_data Modified v.shape screen in
       record {
         shape = record { begins = k.shape.begins; same = k.shape.same };
         whole = whole;
@@ -326,15 +326,15 @@ module _ (given : Given) (app : Application) (link : Link) (key : Key) (k : Kept
         moment = Moment.Serves lu (typing.to parts);
         at = typing.at_to parts screen lock erased;
         fact = typing.press parts screen lock erased
-            (record { lock = waits; form = key_form screen; pressed = key_aid screen; some = λ none. some (sym is ∙ none) })
-            (will_see given erased v.host.shape shadow f.shown screen aid is whole f.exact f.knows f.closed f.meets keeps)
+            (record { lock = waits; form = key_form v.shape screen; size = key_size v.shape screen ∙ k.shape.same; pressed = key_aid v.shape screen; some = λ none. some (sym is ∙ none) })
+            (will_see given erased v.host.shape v.shape shadow f.shown screen aid is whole f.exact f.knows f.closed f.meets keeps)
             (takes_notes given v.host.shape erased f.shown.cells screen.cells aid keeps f.messages);
       }
 
   -- the connection with what was said, by the answer
   abbrev said : Outcome → Pressed → View
   said outcome answer =
-      seen_as v (sent v.lost v.up (data_of (is_bound link.term) answer outcome.screen)) outcome.screen outcome.keyboard.lock (v.erased || erases_if answer key)
+      seen_as v (sent v.lost v.up (data_of (is_bound link.term) answer v.shape outcome.screen)) outcome.screen outcome.keyboard.lock (v.erased || erases_if answer key)
 
   bound : is_bound link.term ≡ true
   bound = ap (λ (t : Term). is_some (bound_to t.talk.state)) at.term_talk
@@ -342,13 +342,13 @@ module _ (given : Given) (app : Application) (link : Link) (key : Key) (k : Kept
   by_answer : Typing → (outcome : Outcome) (answer : Pressed) → length outcome.screen.cells ≡ cells_in v.host.shape → outcome.screen.cursor < cells_in v.host.shape → ActsBy answer outcome
       → Keeps v.erased key answer f.shown.cells outcome.screen.cells → Kept app (said outcome answer)
   by_answer typing outcome Done whole cursor a keeps =
-      subst (λ says. Kept app (seen_as v (sent v.lost v.up says) outcome.screen outcome.keyboard.lock (v.erased || erases key))) (sym (quiet_done (is_bound link.term) outcome.screen))
+      subst (λ says. Kept app (seen_as v (sent v.lost v.up says) outcome.screen outcome.keyboard.lock (v.erased || erases key))) (sym (quiet_done (is_bound link.term) v.shape outcome.screen))
       (stays typing outcome.screen outcome.keyboard.lock (v.erased || erases key) whole cursor a keeps)
   by_answer typing outcome (Refused why) whole cursor a keeps =
-      subst (λ says. Kept app (seen_as v (sent v.lost v.up says) outcome.screen outcome.keyboard.lock (v.erased || false))) (sym (quiet_refused (is_bound link.term) why outcome.screen))
+      subst (λ says. Kept app (seen_as v (sent v.lost v.up says) outcome.screen outcome.keyboard.lock (v.erased || false))) (sym (quiet_refused (is_bound link.term) why v.shape outcome.screen))
       (stays typing outcome.screen outcome.keyboard.lock (v.erased || false) whole cursor a (subst (λ b. Held b f.shown.cells outcome.screen.cells) (sym (or_false v.erased)) keeps))
   by_answer typing outcome (Send aid) whole cursor a keeps =
-      subst (λ b. Kept app (seen_as v (sent v.lost v.up (data_of b (Send aid) outcome.screen)) outcome.screen outcome.keyboard.lock (v.erased || false))) (sym bound)
+      subst (λ b. Kept app (seen_as v (sent v.lost v.up (data_of b (Send aid) v.shape outcome.screen)) outcome.screen outcome.keyboard.lock (v.erased || false))) (sym bound)
       (sends typing outcome.screen outcome.keyboard.lock (v.erased || false) aid whole cursor a.0 a.1 a.2 (subst (λ b. KeepsSent b aid f.shown.cells outcome.screen.cells) (sym (or_false v.erased)) keeps))
 
   types : Typing → Kept app (view_of (key_view key link))

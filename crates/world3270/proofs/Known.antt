@@ -36,10 +36,10 @@ pub record Facts (world : World) : Type 0 where
   pub spelt : PaintsAreSpelt world
 
 pub is_application : KnownWorlds → (begin : Begin) → IsBegin begin → IsApplication (application_of begin.panels)
-is_application known begin is = known.application begin.panels is.panels.cursors is.panels.apart
+is_application known begin is = known.application begin.panels is.panels.otherwise is.panels.laid_out is.panels.apart
 
 asks_for_screens : KnownWorlds → (begin : Begin) → IsBegin begin → AsksForScreens (application_of begin.panels)
-asks_for_screens known begin is = known.screens begin.panels is.panels.cursors is.panels.characters
+asks_for_screens known begin is = known.screens begin.panels is.panels.laid_out is.panels.characters
 
 pub facts : KnownWorlds → (begin : Begin) → IsBegin begin → (events : List Event) → AreEvents events → All IsTyped events → Facts (after begin events)
 facts known begin is events are typed =

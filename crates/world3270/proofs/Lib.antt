@@ -31,6 +31,7 @@ pub mod History
 pub mod Ends
 pub mod Losses
 pub mod Forms
+pub mod Models
 pub mod HostSteps
 pub mod Everywhere
 pub mod Numbers

@@ -4,6 +4,7 @@ use Rattle.std.specs.Prelude.{⊤}
 use Rattle.std.specs.List.{All}
 use Rattle.std.proofs.lemmas.Bool.{ltb-true}
 use Rattle.std.proofs.lemmas.List.Elements.{All-nil, All-cons, All-head, All-tail, All-append, All-map}
+use Rattle.codes3270.specs.Size.{Shape}
 use Rattle.datastream.specs.Screen.{Screen}
 use Rattle.keyboard.specs.declared.key.Pressed.{Pressed}
 use Rattle.keyboard.specs.declared.key.Pressed.TheVariants.{Done, Refused, Send}
@@ -90,13 +91,13 @@ term_fits end (ToTerminal.Paint number wanted over) fits = once_bound_fits (is_b
 term_fits end (ToTerminal.ReadBuffer number) fits = once_bound_fits (is_bound end) end _ _ tt
 term_fits end (ToTerminal.Note number command) fits = once_bound_fits (is_bound end) end _ (ToHost.Response number Verdict.Positive) fits
 
-data_fits_up : (bound : Bool) (answer : Pressed) (screen : Screen) → All FitsUp (data_of bound answer screen)
-data_fits_up true (Send aid) screen = All-cons FitsUp _ [] tt (All-nil FitsUp)
-data_fits_up false (Send aid) screen = All-nil FitsUp
-data_fits_up true Done screen = All-nil FitsUp
-data_fits_up false Done screen = All-nil FitsUp
-data_fits_up true (Refused why) screen = All-nil FitsUp
-data_fits_up false (Refused why) screen = All-nil FitsUp
+data_fits_up : (bound : Bool) (answer : Pressed) (shape : Shape) (screen : Screen) → All FitsUp (data_of bound answer shape screen)
+data_fits_up true (Send aid) shape screen = All-cons FitsUp _ [] tt (All-nil FitsUp)
+data_fits_up false (Send aid) shape screen = All-nil FitsUp
+data_fits_up true Done shape screen = All-nil FitsUp
+data_fits_up false Done shape screen = All-nil FitsUp
+data_fits_up true (Refused why) shape screen = All-nil FitsUp
+data_fits_up false (Refused why) shape screen = All-nil FitsUp
 
 -- ---- connections
 
@@ -150,7 +151,8 @@ steps app = record {
         next = n.next;
         pending = n.pending;
         down = n.down;
-        up = sent_all FitsUp link.lost link.up (data_of (is_bound link.term) outcome.answer outcome.screen) n.up (data_fits_up (is_bound link.term) outcome.answer outcome.screen);
+        up = sent_all FitsUp link.lost link.up (data_of (is_bound link.term) outcome.answer link.term.display.shape outcome.screen) n.up
+            (data_fits_up (is_bound link.term) outcome.answer link.term.display.shape outcome.screen);
       };
   loses = λ link n. record { next = n.next; pending = n.pending; down = n.down; up = n.up };
   host_leaves = λ link n. record { next = n.next; pending = n.pending; down = n.down; up = n.up };

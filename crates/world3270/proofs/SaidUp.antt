@@ -4,6 +4,7 @@ use Rattle.std.specs.List.{AllByRecursion}
 use Rattle.keyboard.specs.declared.key.Key.{Key}
 use Rattle.keyboard.specs.declared.key.Pressed.{Pressed}
 use Rattle.keyboard.specs.declared.key.Pressed.TheVariants.{Done, Refused, Send}
+use Rattle.codes3270.specs.Size.{Shape}
 use Rattle.datastream.specs.Screen.{Screen}
 use Rattle.lu_pool.specs.Asking.{answer_to}
 use Rattle.lu_pool.specs.declared.entry.Entry.{Entry}
@@ -67,7 +68,7 @@ record StepSaid (step : TermStep) : Type 0 where
 took_said : (end : TermEnd) (message : ToTerminal) → IsLuIfSome end.talk.wanted → StepSaid (term_took end message)
 took_said end (ToTerminal.TalksDown saying) is = record {
   wanted = is;
-  sends = replies_said _ (answer_fits end.talk.talk end.talk.wanted (names_wanted end.talk.talk.state end.talk.wanted is) (says saying));
+  sends = replies_said _ (answer_fits end.talk.talk end.talk.model end.talk.wanted (names_wanted end.talk.talk.state end.talk.wanted is) (says saying));
 }
 took_said end (ToTerminal.Paint number wanted over) is =
     record { wanted = once_bound_wanted (is_bound end) end _ _ is is; sends = once_bound_said (is_bound end) end _ _ tt }
@@ -76,13 +77,13 @@ took_said end (ToTerminal.ReadBuffer number) is =
 took_said end (ToTerminal.Note number command) is =
     record { wanted = once_bound_wanted (is_bound end) end _ _ is is; sends = once_bound_said (is_bound end) end _ _ tt }
 
-data_said : (bound : Bool) (answer : Pressed) (screen : Screen) → AllByRecursion IsSaidUp (data_of bound answer screen)
-data_said true (Send aid) screen = (tt, tt)
-data_said false (Send aid) screen = tt
-data_said true Done screen = tt
-data_said false Done screen = tt
-data_said true (Refused why) screen = tt
-data_said false (Refused why) screen = tt
+data_said : (bound : Bool) (answer : Pressed) (shape : Shape) (screen : Screen) → AllByRecursion IsSaidUp (data_of bound answer shape screen)
+data_said true (Send aid) shape screen = (tt, tt)
+data_said false (Send aid) shape screen = tt
+data_said true Done shape screen = tt
+data_said false Done shape screen = tt
+data_said true (Refused why) shape screen = tt
+data_said false (Refused why) shape screen = tt
 
 -- ---- a connection
 
@@ -169,7 +170,7 @@ key_named world terminal key (Place.At number) h =
     let outcome = outcome_of key link.term.display in
     changed number (term_stepped (key_came key link.term) link.down link) world.link
     (stepped_named (key_came key link.term) link.down link
-    (record { wanted = (h number).wanted; sends = data_said (is_bound link.term) outcome.answer outcome.screen }) (h number)) h
+    (record { wanted = (h number).wanted; sends = data_said (is_bound link.term) outcome.answer link.term.display.shape outcome.screen }) (h number)) h
 key_named world terminal key (Place.Alone display) h = h
 
 parted_named : (world : World) (number : ℕ) → AreNamed world.link → AreNamed (with_at number (term_left (world.link number)) world.link)

@@ -1,6 +1,7 @@
 -- What is seen of a world over bytes is what is seen of the world that it stands for, wherever the headline looks.
 use Rattle.std.proofs.Common.{◌≡◌, ℕ, Bool, true, false, Option, None, Some, List, refl, ap, sym, subst, ◌∙◌}
 use Rattle.datastream.specs.Screen.{Screen}
+use Rattle.presentation.specs.Sizes.{SizedScreen}
 use Rattle.lu_pool.specs.Holders.{holder}
 use Rattle.lu_pool.specs.declared.entry.Entry.{Entry}
 use Rattle.tn3270e_msg.specs.TermTable.{Term}
@@ -61,8 +62,8 @@ module _ (bytes : ByteWorld) (world : World) (stands : WorldStands bytes world) 
       ap (λ (l : Attachment). bound_of (phase_of l)) term.holds.attached ∙ same_bound term.holds.talk.talk.state
       ∙ ap (λ (t : Term). bound_to t.talk.state) end.talk_is in
       let same : tracked_seen terminal tracked ≡ end_seen terminal link.term =
-      ap (λ (b : Option (List ℕ)). seen_as terminal b tracked.terminal.station.screen tracked.history.last_restored tracked.history.erased) bound
-      ∙ ap (λ (s : Screen). seen_as terminal (bound_to link.term.talk.talk.state) s tracked.history.last_restored tracked.history.erased) end.screen_is
+      ap (λ (b : Option (List ℕ)). seen_as terminal b tracked.terminal.station.screen.screen tracked.history.last_restored tracked.history.erased) bound
+      ∙ ap (λ (s : SizedScreen). seen_as terminal (bound_to link.term.talk.talk.state) s.screen tracked.history.last_restored tracked.history.erased) end.screen_is
       ∙ ap (λ (s : Screen). seen_as terminal (bound_to link.term.talk.talk.state) link.term.display.screen s tracked.history.erased) end.last_restored_is
       ∙ ap (λ (e : Bool). seen_as terminal (bound_to link.term.talk.talk.state) link.term.display.screen link.term.display.last_restored e) end.erased_is in
       ap (λ (t : TerminalSeen). Some t) same ∙ ap (λ (h : Option ℕ). terminal_seen h link.term) is.term_here

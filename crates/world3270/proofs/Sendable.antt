@@ -1,5 +1,5 @@
 -- Screens keep their shape and can be sent, what is painted is a screen, and values are characters, after every event.
-use Rattle.std.proofs.Common.{◌≡◌, ◌<◌, ◌≤◌, ◌==◌, ◌&&◌, ◌++◌, ◌-◌, ◌+◌, not, ℕ, zero, suc, arith, Bool, true, false, Option, None, Some, List, [], ◌∷◌, length, replicate, refl, ap, sym, subst, ◌∙◌, IfSome, IsTrue, if◌then◌else◌}
+use Rattle.std.proofs.Common.{◌≡◌, ◌<◌, ◌≤◌, ◌==◌, ◌&&◌, ◌++◌, ◌-◌, ◌+◌, not, ℕ, zero, suc, arith, Bool, true, false, Option, None, Some, List, [], ◌∷◌, length, replicate, refl, ap, sym, subst, ◌∙◌, inr, IfSome, IsTrue, if◌then◌else◌}
 use Rattle.std.specs.Prelude.{⊤, option_and_then}
 use Rattle.std.specs.List.{All, list_all}
 use Rattle.std.specs.Ordering.{nat_cmp}
@@ -7,7 +7,7 @@ use Rattle.std.proofs.lemmas.Bool.{and_from}
 use Rattle.std.proofs.lemmas.List.{length-replicate}
 use Rattle.std.proofs.lemmas.List.Elements.{All-nil, All-cons, All-head, All-tail, All-map, All-replicate}
 use Rattle.std.proofs.lemmas.Map.Views.{All-values-insert_entry}
-use Rattle.codes3270.specs.Size.{Shape, cells_in, cell_count}
+use Rattle.codes3270.specs.Size.{Shape, cells_in, most_cells}
 use Rattle.codes3270.specs.Storable.{is_storable}
 use Rattle.codes3270.specs.declared.attention.Aid.{Aid}
 use Rattle.codes3270.specs.declared.attention.Aid.TheVariants.{NoAid, Enter, Clear, Pf, Pa}
@@ -15,7 +15,7 @@ use Rattle.codes3270.specs.declared.attribute.Cell.{Cell}
 use Rattle.codes3270.specs.declared.attribute.Cell.TheVariants.{Char as CharCell, Attr as AttrCell}
 use Rattle.datastream.specs.Fields.{Field, fields, fields_from}
 use Rattle.datastream.proofs.Texts.{All-ring}
-use Rattle.datastream.specs.Grammar.{IsSpelt as IsSpeltCommand}
+use Rattle.datastream.specs.Grammar.{IsSpelt as IsSpeltCommand, IsProper as IsProperOrder}
 use Rattle.datastream.specs.Inbound.{without_nulls, read_modified, read_buffer}
 use Rattle.datastream.specs.InboundFields.{IsStorableCell, IsSendable, SentIsRead}
 use Rattle.datastream.specs.Screen.{Screen, blank_screen, is_char, ring}
@@ -30,7 +30,6 @@ use Rattle.panels.specs.Characters.{is_character, AreCharacters}
 use Rattle.panels.specs.Screen.{Values}
 use Rattle.panels.specs.Values.{set_if}
 use Rattle.panels.specs.declared.message.Message.{Message}
-use Rattle.panels.specs.declared.message.Message.TheVariants.{Fresh}
 use Rattle.panels.specs.declared.next.Next.{Next}
 use Rattle.panels.specs.declared.next.Next.TheVariants.{Go, Again}
 use Rattle.panels.specs.declared.panel.Field.{Field as PanelField}
@@ -40,7 +39,7 @@ use Rattle.shadow.specs.Belief.{Fact, Belief, Shadow}
 use Rattle.shadow.specs.Fits.{fits}
 use Rattle.shadow.specs.Laws.{PaintIsSpelt}
 use Rattle.shadow.specs.Meets.{Holds, FieldMeets, Meets, told}
-use Rattle.shadow.specs.Painted.{keeps_ahead, attr_or_kept, painted_from, plainly_painted}
+use Rattle.shadow.specs.Painted.{keeps_ahead, attr_or_kept, cells_under, painted_from, plainly_painted}
 use Rattle.shadow.specs.Pairs.{Pairwise}
 use Rattle.tn3270e_msg.specs.declared.cause.Cause.{Cause}
 use Rattle.host_core.specs.Acts.{Act, Sent, text_known, learned, first_missing, is_to_be_read, unless_missing, gone_to, led, after_key as after_the_key, act_on, wanted_by, done, may_act, acted}
@@ -61,6 +60,8 @@ use Rattle.world3270.specs.Sendable.{display_at, HasShape, ScreensKeepTheirShape
 use Rattle.world3270.specs.Stages.{Kept}
 use Rattle.world3270.specs.Terminal.{Display, new_display, TermEnd, TermStep, is_bound, data_of, paint_came, note_came, read_came, once_bound, took as term_took, outcome_of, after_key}
 use Rattle.world3270.specs.View.{View, view_of}
+use Rattle.lu_pool.specs.Pool.{IsPool}
+use Rattle.lu_pool.specs.declared.entry.Entry.{Entry}
 use Rattle.world3270.specs.World.{Place, World, Event, IsEvent, AreEvents, new_world}
 use Rattle.world3270.proofs.Down.{painted-length}
 use Rattle.world3270.proofs.Everywhere.{Steps, InPlace, Everywhere, everywhere}
@@ -232,19 +233,19 @@ wanted_is app conn panel message true values asks texts = by_fit (fits conn.shad
     by_fit false = asks panel values message false texts
 
 -- a paint of a screen of the profile, or a note that some bytes spell
-abbrev IsWritten : ToTerminal → Type 0
-IsWritten (ToTerminal.TalksDown saying) = ⊤
-IsWritten (ToTerminal.Paint number wanted over) = IsScreen wanted
-IsWritten (ToTerminal.ReadBuffer number) = ⊤
-IsWritten (ToTerminal.Note number command) = IsProperNote command × IsSpeltCommand command
+abbrev IsWritten : Shape → ToTerminal → Type 0
+IsWritten shape (ToTerminal.TalksDown saying) = ⊤
+IsWritten shape (ToTerminal.Paint number wanted over) = IsScreen wanted
+IsWritten shape (ToTerminal.ReadBuffer number) = ⊤
+IsWritten shape (ToTerminal.Note number command) = IsProperNote command × IsSpeltCommand command × (command.size ≡ shape)
 
-record SendsTexts (sending : Sent) : Type 0 where
-  message : IsWritten sending.message
+record SendsTexts (shape : Shape) (sending : Sent) : Type 0 where
+  message : IsWritten shape sending.message
   values : AreTexts sending.conn.values
 
-done_texts : (app : Application) (conn : Conn) (act : Act) → AsksForScreens app → AreTexts conn.values → ActsOnTexts act → SendsTexts (done app conn act)
-done_texts app conn Act.Read asks texts is = record { message = tt; values = texts }
-done_texts app conn (Act.Show panel message keep values) asks texts is = record { message = wanted_is app conn panel message keep values asks is; values = is }
+done_texts : (shape : Shape) (app : Application) (conn : Conn) (act : Act) → AsksForScreens app → AreTexts conn.values → ActsOnTexts act → SendsTexts shape (done app conn act)
+done_texts shape app conn Act.Read asks texts is = record { message = tt; values = texts }
+done_texts shape app conn (Act.Show panel message keep values) asks texts is = record { message = wanted_is app conn panel message keep values asks is; values = is }
 
 -- a blank screen takes any note
 blank_chars : (cells : ℕ) → list_all is_char (replicate cells (CharCell 0)) ≡ true
@@ -257,9 +258,9 @@ note_spelt given shape text is note =
     let over = given.notes.overwrites shape (note_command shape text) blank is (record { text = text; is_text = note; is = refl }) (blank_length shape) (TakesNotes.unformatted (blank_chars (cells_in shape))) in
     over.spelt
 
-note_texts : Given → (text : List ℕ) (conn : Conn) → IsShape conn.shape → IsNoteText text → AreTexts conn.values → SendsTexts (noted_as text conn)
-note_texts given text conn is note texts = record {
-  message = (given.notes.are_notes conn.shape (note_command conn.shape text) is (record { text = text; is_text = note; is = refl }), note_spelt given conn.shape text is note);
+note_texts : Given → (shape : Shape) (text : List ℕ) (conn : Conn) → conn.shape ≡ shape → IsShape conn.shape → IsNoteText text → AreTexts conn.values → SendsTexts shape (noted_as text conn)
+note_texts given shape text conn same is note texts = record {
+  message = (given.notes.are_notes conn.shape (note_command conn.shape text) is (record { text = text; is_text = note; is = refl }), note_spelt given conn.shape text is note, same);
   values = texts;
 }
 
@@ -284,12 +285,19 @@ painted_stored reset whole (WantAttr attribute ∷ rest) (there ∷ cells) wante
     by_test true true = storable_unmodified there (All-head IsStorableCell there cells each)
     by_test true false = All-head IsStorableCell there cells each
 
+under_stored : (size : ℕ) (cells : List Cell) → CellsAreStored cells → CellsAreStored (cells_under size cells)
+under_stored size cells each = by_size (length cells == size)
+  where
+    by_size : (b : Bool) → CellsAreStored (if b then cells else replicate size (CharCell 0))
+    by_size true = each
+    by_size false = All-replicate IsStorableCell size (CharCell 0) refl
+
 painted_sendable : (wanted : WantedScreen) (screen : Screen) → IsScreen wanted → IsSendable screen → IsSendable (plainly_painted wanted screen)
 painted_sendable wanted screen w is = record {
-  size = painted-length wanted.reset wanted.cells wanted.cells screen.cells (w.size ∙ sym is.size) ∙ is.size;
-  cursor = w.cursor_in_range;
+  few = subst (λ (n : ℕ). n ≤ most_cells) (sym (painted-length wanted screen ∙ w.size)) w.few;
+  cursor = subst (λ (n : ℕ). wanted.cursor < n) (sym (painted-length wanted screen ∙ w.size)) w.cursor_in_range;
   aid = tt;
-  storable = painted_stored wanted.reset wanted.cells wanted.cells screen.cells w.proper is.storable;
+  storable = painted_stored wanted.reset wanted.cells wanted.cells (cells_under (length wanted.cells) screen.cells) w.proper (under_stored (length wanted.cells) screen.cells is.storable);
 }
 
 record StepSends (step : TermStep) : Type 0 where
@@ -300,70 +308,76 @@ once_bound_sends : (bound : Bool) (end : TermEnd) (step : TermStep) → IsSendab
 once_bound_sends true end step is sends = sends
 once_bound_sends false end step is sends = record { screen = is; spelt = All-nil CanBeSpelt }
 
-term_sends : SentIsRead → Given → (end : TermEnd) (message : ToTerminal) → IsWritten message → IsSendable end.display.screen → StepSends (term_took end message)
-term_sends read given end (ToTerminal.TalksDown saying) written is = record { screen = is; spelt = All-map CanBeSpelt ToHost.TalksUp _ (λ k d below. tt) }
-term_sends read given end (ToTerminal.Paint number wanted over) written is =
+term_sends : SentIsRead → Given → (end : TermEnd) (message : ToTerminal) → IsWritten end.display.shape message → length end.display.screen.cells ≡ cells_in end.display.shape → IsSendable end.display.screen → StepSends (term_took end message)
+term_sends read given end (ToTerminal.TalksDown saying) written whole is = record { screen = is; spelt = All-map CanBeSpelt ToHost.TalksUp _ (λ k d below. tt) }
+term_sends read given end (ToTerminal.Paint number wanted over) written whole is =
     once_bound_sends (is_bound end) end (paint_came number wanted end) is
     (record { screen = painted_sendable wanted end.display.screen written is; spelt = All-cons CanBeSpelt (ToHost.Response number Verdict.Positive) [] tt (All-nil CanBeSpelt) })
-term_sends read given end (ToTerminal.ReadBuffer number) written is =
+term_sends read given end (ToTerminal.ReadBuffer number) written whole is =
     once_bound_sends (is_bound end) end (read_came end) is
-    (record { screen = is; spelt = All-cons CanBeSpelt _ [] (read_buffer end.display.screen, read.buffer end.display.screen is) (All-nil CanBeSpelt) })
-term_sends read given end (ToTerminal.Note number command) written is =
+    (record { screen = is; spelt = All-cons CanBeSpelt _ [] (read_buffer end.display.screen, read.buffer end.display.shape end.display.screen whole is) (All-nil CanBeSpelt) })
+term_sends read given end (ToTerminal.Note number command) written whole is =
     once_bound_sends (is_bound end) end (note_came number command end) is
     (record {
-      screen = given.notes.note_sendable command end.display.screen written.0.note written.0.proper is;
+      screen = given.notes.note_sendable command end.display.screen written.0.note
+          (subst (λ (n : ℕ). All (IsProperOrder n) command.orders) (ap cells_in written.2 ∙ sym whole) written.0.proper) is;
       spelt = All-cons CanBeSpelt (ToHost.Response number Verdict.Positive) [] tt (All-nil CanBeSpelt);
     })
 
-key_sends : SentIsRead → (bound : Bool) (answer : Pressed) (screen : Screen) → IsSendable screen → All CanBeSpelt (data_of bound answer screen)
-key_sends read true (Send aid) screen is = All-cons CanBeSpelt _ [] (read_modified false screen, read.modified screen is) (All-nil CanBeSpelt)
-key_sends read false (Send aid) screen is = All-nil CanBeSpelt
-key_sends read true Done screen is = All-nil CanBeSpelt
-key_sends read false Done screen is = All-nil CanBeSpelt
-key_sends read true (Refused why) screen is = All-nil CanBeSpelt
-key_sends read false (Refused why) screen is = All-nil CanBeSpelt
+key_sends : SentIsRead → (bound : Bool) (answer : Pressed) (shape : Shape) (screen : Screen) → length screen.cells ≡ cells_in shape → IsSendable screen → All CanBeSpelt (data_of bound answer shape screen)
+key_sends read true (Send aid) shape screen whole is = All-cons CanBeSpelt _ [] (read_modified false screen, read.modified shape screen whole is) (All-nil CanBeSpelt)
+key_sends read false (Send aid) shape screen whole is = All-nil CanBeSpelt
+key_sends read true Done shape screen whole is = All-nil CanBeSpelt
+key_sends read false Done shape screen whole is = All-nil CanBeSpelt
+key_sends read true (Refused why) shape screen whole is = All-nil CanBeSpelt
+key_sends read false (Refused why) shape screen whole is = All-nil CanBeSpelt
 
 -- ---- connections
 
-pub record CanSend (link : Link) : Type 0 where
+pub record CanSend (shape : Shape) (link : Link) : Type 0 where
   pub screen : IsSendable link.term.display.screen
   pub spelt : All CanBeSpelt link.up
-  pub writes : All IsWritten link.down
+  pub writes : All (IsWritten shape) link.down
   pub values : AreTexts link.host.values
 
-left_if : (cause : Option Cause) (link : Link) → CanSend link → CanSend (host_left_if cause link)
-left_if None link c = c
-left_if (Some cause) link c = record { screen = c.screen; spelt = c.spelt; writes = c.writes; values = c.values }
+left_if : (shape : Shape) (cause : Option Cause) (link : Link) → CanSend shape link → CanSend shape (host_left_if cause link)
+left_if shape None link c = c
+left_if shape (Some cause) link c = record { screen = c.screen; spelt = c.spelt; writes = c.writes; values = c.values }
 
-sends : (link : Link) (sending : Option Sent) → CanSend link → IfSome sending SendsTexts → CanSend (host_sent sending link)
-sends link None c is = c
-sends link (Some sending) c is = record {
+sends : (shape : Shape) (link : Link) (sending : Option Sent) → CanSend shape link → IfSome sending (SendsTexts shape) → CanSend shape (host_sent sending link)
+sends shape link None c is = c
+sends shape link (Some sending) c is = record {
   screen = c.screen;
   spelt = c.spelt;
-  writes = sent_all IsWritten link.lost link.down (sending.message ∷ []) c.writes (All-cons IsWritten sending.message [] is.message (All-nil IsWritten));
+  writes = sent_all (IsWritten shape) link.lost link.down (sending.message ∷ []) c.writes (All-cons (IsWritten shape) sending.message [] is.message (All-nil (IsWritten shape)));
   values = is.values;
 }
 
 -- where the host may act, the screen meets what it believes, and so what it learns is characters
-acts_by : (app : Application) → AsksForScreens app → (link : Link) (turn : Turn) (pending : Pending) (agreed : Bool) → Kept app (view_of link) → CanSend link
-    → link.host.turn ≡ turn → link.host.pending ≡ pending → IfSome (if may_act turn pending agreed then Some (done app link.host (act_on app link.host link.host.turn_reason)) else None) SendsTexts
+acts_by : (app : Application) → AsksForScreens app → (link : Link) (turn : Turn) (pending : Pending) (agreed : Bool) → Kept app (view_of link) → CanSend app.begins link
+    → link.host.turn ≡ turn → link.host.pending ≡ pending → IfSome (if may_act turn pending agreed then Some (done app link.host (act_on app link.host link.host.turn_reason)) else None) (SendsTexts app.begins)
 acts_by app asks link whose.Host Pending.Nothing true k c turns pends =
     let known = knows_at app (view_of link) k turns pends in
     let texts = learned_texts link.host.shadow link.term.display.screen (app.fields link.host.panel) link.host.values known.meets c.screen.storable c.values in
-    done_texts app link.host (act_on app link.host link.host.turn_reason) asks c.values (act_texts app link.host link.host.turn_reason c.values texts)
+    done_texts app.begins app link.host (act_on app link.host link.host.turn_reason) asks c.values (act_texts app link.host link.host.turn_reason c.values texts)
 acts_by app asks link whose.Host Pending.Nothing false k c turns pends = tt
 acts_by app asks link whose.Host (Pending.Writing number command) agreed k c turns pends = tt
 acts_by app asks link whose.Host (Pending.Reading number) agreed k c turns pends = tt
 acts_by app asks link whose.Host (Pending.Noting number command) agreed k c turns pends = tt
 acts_by app asks link whose.Terminal pending agreed k c turns pends = tt
 
-notes_if : Given → (text : List ℕ) (link : Link) (b : Bool) → IsShape link.host.shape → IsNoteText text → CanSend link → IfSome (if b then Some (noted_as text link.host) else None) SendsTexts
-notes_if given text link true is note c = note_texts given text link.host is note c.values
-notes_if given text link false is note c = tt
+notes_if : Given → (shape : Shape) (text : List ℕ) (link : Link) (b : Bool) → link.host.shape ≡ shape → IsShape link.host.shape → IsNoteText text → CanSend shape link
+    → IfSome (if b then Some (noted_as text link.host) else None) (SendsTexts shape)
+notes_if given shape text link true same is note c = note_texts given shape text link.host same is note c.values
+notes_if given shape text link false same is note c = tt
 
-blank_sendable : (shape : Shape) → cells_in shape ≡ cell_count → IsSendable (new_display shape).screen
-blank_sendable shape same =
-    record { size = blank_length shape ∙ same; cursor = omega arith; aid = tt; storable = All-replicate IsStorableCell (cells_in shape) (CharCell 0) refl }
+blank_sendable : (shape : Shape) → IsShape shape → IsSendable (new_display shape).screen
+blank_sendable shape is = record {
+  few = subst (λ (n : ℕ). n ≤ most_cells) (sym (blank_length shape)) is.addresses;
+  cursor = subst (λ (n : ℕ). 0 < n) (sym (blank_length shape)) (first_cell shape is);
+  aid = tt;
+  storable = All-replicate IsStorableCell (cells_in shape) (CharCell 0) refl;
+}
 
 -- a key is one that a terminal has, and a note has a text
 abbrev IsTypedEvent : Event → Type 0
@@ -374,104 +388,113 @@ all_typed [] are typed = All-nil IsTypedEvent
 all_typed (event ∷ events) are typed =
     All-cons IsTypedEvent event events (are.0, All-head IsTyped event events typed) (all_typed events are.1 (All-tail IsTyped event events typed))
 
+-- the terminal's screen has as many cells as its shape
+whole_at : (app : Application) (link : Link) → Kept app (view_of link) → length link.term.display.screen.cells ≡ cells_in link.term.display.shape
+whole_at app link k = k.whole ∙ sym (ap cells_in k.shape.same)
+
 host_shape : (app : Application) (link : Link) → IsApplication app → Kept app (view_of link) → IsShape link.host.shape
 host_shape app link is k = subst IsShape (sym k.shape.begins) is.shape
 
-steps : SentIsRead → Given → (app : Application) → IsApplication app → AsksForScreens app → cells_in app.begins ≡ cell_count → Steps app IsTypedEvent CanSend (λ display. IsSendable display.screen)
-steps read given app is asks same = record {
-  never = record { screen = blank_sendable app.begins same; spelt = All-nil CanBeSpelt; writes = All-nil IsWritten; values = All-nil AreCharacters };
-  begins = λ terminal wanted. record { screen = blank_sendable app.begins same; spelt = All-nil CanBeSpelt; writes = All-cons IsWritten _ [] tt (All-nil IsWritten); values = All-nil AreCharacters };
+steps : SentIsRead → Given → (app : Application) → IsApplication app → AsksForScreens app → Steps app IsTypedEvent (CanSend app.begins) (λ display. IsSendable display.screen)
+steps read given app is asks = record {
+  never = record { screen = blank_sendable app.begins is.shape; spelt = All-nil CanBeSpelt; writes = All-nil (IsWritten app.begins); values = All-nil AreCharacters };
+  begins = λ terminal wanted. record { screen = blank_sendable app.begins is.shape; spelt = All-nil CanBeSpelt; writes = All-cons (IsWritten app.begins) _ [] tt (All-nil (IsWritten app.begins)); values = All-nil AreCharacters };
   up = λ pool link message rest e k c.
       let step : HostStep = host_took pool link.host message in
       let just = just_talks pool link.host message in
-      left_if step.closes _ (record {
+      left_if app.begins step.closes _ (record {
         screen = c.screen;
         spelt = All-tail CanBeSpelt message rest (subst (All CanBeSpelt) e c.spelt);
-        writes = sent_all IsWritten link.lost link.down step.sends c.writes (subst (All IsWritten) (sym just.says) (All-map IsWritten ToTerminal.TalksDown just.talk (λ k d below. tt)));
+        writes = sent_all (IsWritten app.begins) link.lost link.down step.sends c.writes (subst (All (IsWritten app.begins)) (sym just.says) (All-map (IsWritten app.begins) ToTerminal.TalksDown just.talk (λ k d below. tt)));
         values = subst AreTexts (sym just.values) c.values;
       });
-  acts = λ link k c. sends link (acted app link.host) c (acts_by app asks link link.host.turn link.host.pending (is_agreed link.host.talk.state) k c refl refl);
+  acts = λ link k c. sends app.begins link (acted app link.host) c (acts_by app asks link link.host.turn link.host.pending (is_agreed link.host.talk.state) k c refl refl);
   notes = λ number text link such k c.
-      sends link (noted text link.host) c (notes_if given text link (may_note link.host.turn link.host.pending (is_agreed link.host.talk.state)) (host_shape app link is k) such.0 c);
+      sends app.begins link (noted text link.host) c (notes_if given app.begins text link (may_note link.host.turn link.host.pending (is_agreed link.host.talk.state)) k.shape.begins (host_shape app link is k) such.0 c);
   down = λ link message rest e k c.
-      let down : All IsWritten (message ∷ rest) = subst (All IsWritten) e c.writes in
-      let says = term_sends read given link.term message (All-head IsWritten message rest down) c.screen in
+      let down : All (IsWritten app.begins) (message ∷ rest) = subst (All (IsWritten app.begins)) e c.writes in
+      let says = term_sends read given link.term message (subst (λ (shape : Shape). IsWritten shape message) (sym (k.shape.same ∙ k.shape.begins)) (All-head (IsWritten app.begins) message rest down)) (whole_at app link k) c.screen in
       record {
         screen = says.screen;
         spelt = sent_all CanBeSpelt link.lost link.up (term_took link.term message).sends c.spelt says.spelt;
-        writes = All-tail IsWritten message rest down;
+        writes = All-tail (IsWritten app.begins) message rest down;
         values = c.values;
       };
   key = λ terminal key link such k c.
       let display : Display = link.term.display in
       let outcome = outcome_of key display in
       let still = given.keys.sendable display.shape.columns key display.keyboard display.screen such.1 c.screen in
+      let whole = whole_at app link k in
+      let on = given.keys.on_screen display.shape.columns key display.keyboard display.screen c.screen.cursor in
       record {
         screen = still;
-        spelt = sent_all CanBeSpelt link.lost link.up (data_of (is_bound link.term) outcome.answer outcome.screen) c.spelt (key_sends read (is_bound link.term) outcome.answer outcome.screen still);
+        spelt = sent_all CanBeSpelt link.lost link.up (data_of (is_bound link.term) outcome.answer display.shape outcome.screen) c.spelt
+            (key_sends read (is_bound link.term) outcome.answer display.shape outcome.screen (on.0 ∙ whole) still);
         writes = c.writes;
         values = c.values;
       };
   loses = λ link c. record { screen = c.screen; spelt = c.spelt; writes = c.writes; values = c.values };
   host_leaves = λ link c. record { screen = c.screen; spelt = c.spelt; writes = c.writes; values = c.values };
   term_leaves = λ link c. record { screen = c.screen; spelt = c.spelt; writes = c.writes; values = c.values };
-  fresh = blank_sendable app.begins same;
+  fresh = blank_sendable app.begins is.shape;
   alone = λ link k c. c.screen;
   key_alone = λ terminal key display such still. given.keys.sendable display.shape.columns key display.keyboard display.screen such.1 still;
 }
 
 -- ---- the theorems
 
--- an application that asks for such screens has the profile's size
-size_is : (app : Application) → IsApplication app → AsksForScreens app → cells_in app.begins ≡ cell_count
-size_is app is asks = sym (is.showable 0 [] Fresh false).cells ∙ (asks 0 [] Fresh false (All-nil AreCharacters)).size
-
-in_place : (world : World) (place : Place) → ((number : ℕ) → CanSend (world.link number)) → InPlace (λ display. IsSendable display.screen) place → IsSendable (display_at world place).screen
-in_place world (Place.At number) can is = (can number).screen
-in_place world (Place.Alone display) can is = is
+in_place : (shape : Shape) (world : World) (place : Place) → ((number : ℕ) → CanSend shape (world.link number)) → InPlace (λ display. IsSendable display.screen) place → IsSendable (display_at world place).screen
+in_place shape world (Place.At number) can is = (can number).screen
+in_place shape world (Place.Alone display) can is = is
 
 -- of each connection and each display
-all_can : SentIsRead → Given → AlwaysTyped (λ world. Everywhere CanSend (λ display. IsSendable display.screen) world.link world.place)
+all_can : SentIsRead → Given → (app : Application) (pool : List Entry) (terminals : ℕ) (events : List Event)
+    → IsApplication app → AsksForScreens app → IsPool pool → terminals ≤ 16 → AreEvents events → All IsTyped events
+    → let world = run app events (new_world app pool terminals) in Everywhere (CanSend app.begins) (λ display. IsSendable display.screen) world.link world.place
 all_can read given app pool terminals events is asks lists few are typed =
-    everywhere given app is IsTypedEvent CanSend (λ display. IsSendable display.screen) (steps read given app is asks (size_is app is asks)) pool terminals events lists are (all_typed events are typed)
+    everywhere given app is IsTypedEvent (CanSend app.begins) (λ display. IsSendable display.screen) (steps read given app is asks) pool terminals events lists are (all_typed events are typed)
 
 pub screens_are_sendable : SentIsRead → Given → AlwaysTyped ScreensAreSendable
 screens_are_sendable read given app pool terminals events is asks lists few are typed terminal =
     let world : World = run app events (new_world app pool terminals) in
     let all = all_can read given app pool terminals events is asks lists few are typed in
-    in_place world (world.place terminal) all.links (all.places terminal)
+    let keeps = screens_keep_their_shape given app pool terminals events is lists few are terminal in
+    record {
+      sendable = in_place app.begins world (world.place terminal) all.links (all.places terminal);
+      whole = keeps.whole ∙ sym (ap (λ (shape : Shape). cells_in shape) keeps.shape_is);
+    }
 
 pub data_can_be_spelt : SentIsRead → Given → AlwaysTyped DataCanBeSpelt
 data_can_be_spelt read given app pool terminals events is asks lists few are typed number =
     ((all_can read given app pool terminals events is asks lists few are typed).links number).spelt
 
 -- what holds of each message that is written holds of all of them
-each_written : (P : ToTerminal → Type 0) → ((message : ToTerminal) → IsWritten message → P message) → (messages : List ToTerminal) → All IsWritten messages → All P messages
-each_written P has [] each = All-nil P
-each_written P has (message ∷ messages) each =
-    All-cons P message messages (has message (All-head IsWritten message messages each)) (each_written P has messages (All-tail IsWritten message messages each))
+each_written : (shape : Shape) (P : ToTerminal → Type 0) → ((message : ToTerminal) → IsWritten shape message → P message) → (messages : List ToTerminal) → All (IsWritten shape) messages → All P messages
+each_written shape P has [] each = All-nil P
+each_written shape P has (message ∷ messages) each =
+    All-cons P message messages (has message (All-head (IsWritten shape) message messages each)) (each_written shape P has messages (All-tail (IsWritten shape) message messages each))
 
-paints_a_screen : (message : ToTerminal) → IsWritten message → PaintsAScreen message
-paints_a_screen (ToTerminal.TalksDown saying) written = tt
-paints_a_screen (ToTerminal.Paint number wanted over) written = written
-paints_a_screen (ToTerminal.ReadBuffer number) written = tt
-paints_a_screen (ToTerminal.Note number command) written = tt
+paints_a_screen : (shape : Shape) (message : ToTerminal) → IsWritten shape message → PaintsAScreen message
+paints_a_screen shape (ToTerminal.TalksDown saying) written = tt
+paints_a_screen shape (ToTerminal.Paint number wanted over) written = written
+paints_a_screen shape (ToTerminal.ReadBuffer number) written = tt
+paints_a_screen shape (ToTerminal.Note number command) written = tt
 
 pub paints_are_screens : SentIsRead → Given → AlwaysTyped PaintsAreScreens
 paints_are_screens read given app pool terminals events is asks lists few are typed number =
     let all = all_can read given app pool terminals events is asks lists few are typed in
-    each_written PaintsAScreen paints_a_screen ((run app events (new_world app pool terminals)).link number).down (all.links number).writes
+    each_written app.begins PaintsAScreen (paints_a_screen app.begins) ((run app events (new_world app pool terminals)).link number).down (all.links number).writes
 
-message_spelt : PaintIsSpelt → (message : ToTerminal) → IsWritten message → IsSpelt message
-message_spelt law (ToTerminal.TalksDown saying) written = tt
-message_spelt law (ToTerminal.Paint number wanted over) written = law over wanted written
-message_spelt law (ToTerminal.ReadBuffer number) written = tt
-message_spelt law (ToTerminal.Note number command) written = written.1
+message_spelt : PaintIsSpelt → (shape : Shape) (message : ToTerminal) → IsWritten shape message → IsSpelt message
+message_spelt law shape (ToTerminal.TalksDown saying) written = tt
+message_spelt law shape (ToTerminal.Paint number wanted over) written = law wanted.size wanted.size over wanted written (inr refl) (λ writes. refl)
+message_spelt law shape (ToTerminal.ReadBuffer number) written = tt
+message_spelt law shape (ToTerminal.Note number command) written = written.1
 
 pub paints_are_spelt : SentIsRead → Given → AlwaysTyped PaintsAreSpelt
 paints_are_spelt read given app pool terminals events is asks lists few are typed number =
     let all = all_can read given app pool terminals events is asks lists few are typed in
-    each_written IsSpelt (message_spelt given.belief.spelt) ((run app events (new_world app pool terminals)).link number).down (all.links number).writes
+    each_written app.begins IsSpelt (message_spelt given.belief.spelt app.begins) ((run app events (new_world app pool terminals)).link number).down (all.links number).writes
 
 pub values_are_texts : SentIsRead → Given → AlwaysTyped ValuesAreTexts
 values_are_texts read given app pool terminals events is asks lists few are typed number =

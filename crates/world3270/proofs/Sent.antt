@@ -20,18 +20,25 @@ either : (P : InboundParts → Type 0) (b : Bool) (first second : InboundParts) 
 either P true first second p q = p
 either P false first second p q = q
 
-pub key_form : (screen : Screen) → (modified_data Modified screen).form ≡ Modified
-key_form screen =
+pub key_form : (size : Shape) (screen : Screen) → (modified_data Modified size screen).form ≡ Modified
+key_form size screen =
     either (λ (parts : InboundParts). parts.form ≡ Modified) (is_short_aid screen.aid)
-    (record { form = Modified; aid = screen.aid; cursor = None; parts = [] })
-    (record { form = Modified; aid = screen.aid; cursor = Some screen.cursor; parts = parts_of_fields (lead_of screen.cells) (returned_of screen.cells) })
+    (record { form = Modified; size = size; aid = screen.aid; cursor = None; parts = [] })
+    (record { form = Modified; size = size; aid = screen.aid; cursor = Some screen.cursor; parts = parts_of_fields (lead_of screen.cells) (returned_of screen.cells) })
     refl refl
 
-pub key_aid : (screen : Screen) → (modified_data Modified screen).aid ≡ screen.aid
-key_aid screen =
+pub key_aid : (size : Shape) (screen : Screen) → (modified_data Modified size screen).aid ≡ screen.aid
+key_aid size screen =
     either (λ (parts : InboundParts). parts.aid ≡ screen.aid) (is_short_aid screen.aid)
-    (record { form = Modified; aid = screen.aid; cursor = None; parts = [] })
-    (record { form = Modified; aid = screen.aid; cursor = Some screen.cursor; parts = parts_of_fields (lead_of screen.cells) (returned_of screen.cells) })
+    (record { form = Modified; size = size; aid = screen.aid; cursor = None; parts = [] })
+    (record { form = Modified; size = size; aid = screen.aid; cursor = Some screen.cursor; parts = parts_of_fields (lead_of screen.cells) (returned_of screen.cells) })
+    refl refl
+
+pub key_size : (size : Shape) (screen : Screen) → (modified_data Modified size screen).size ≡ size
+key_size size screen =
+    either (λ (parts : InboundParts). parts.size ≡ size) (is_short_aid screen.aid)
+    (record { form = Modified; size = size; aid = screen.aid; cursor = None; parts = [] })
+    (record { form = Modified; size = size; aid = screen.aid; cursor = Some screen.cursor; parts = parts_of_fields (lead_of screen.cells) (returned_of screen.cells) })
     refl refl
 
 -- Enter and PF keys send more than their identifier

@@ -43,7 +43,7 @@ request_taken wanted world =
 unfoldable pub agreement_taken : FunctionsOffer → World → World
 agreement_taken wanted world =
     let end = (world.link 0).term in
-    term_took_it 0 0 (replied end (follow TermClosed end.talk.talk (term_transition end.talk.wanted end.talk.talk.state (IsFunctions wanted))))
+    term_took_it 0 0 (replied end (follow TermClosed end.talk.talk (term_transition end.talk.model end.talk.wanted end.talk.talk.state (IsFunctions wanted))))
     (drop 1 (world.link 0).down) world
 
 -- a request for functions has come to the host, and nothing behind it

@@ -1,7 +1,9 @@
 -- A terminal at its place takes bytes, and its history follows.
 use Rattle.std.proofs.Common.{◌≡◌, inl, inr, ◌<◌, ◌≤◌, ◌+◌, ◌++◌, take, ℕ, zero, suc, Bool, false, List, [], ◌∷◌, Option, None, Some, length, get_or, refl, ap, sym, subst, ◌∙◌, arith}
 use Rattle.std.proofs.lemmas.List.{take_more}
-use Rattle.codes3270.specs.Size.{cell_count, cells_in, model_2}
+use Rattle.codes3270.specs.Size.{cells_in, model_2}
+use Rattle.codes3270.specs.declared.size.Model.{Model}
+use Rattle.presentation.specs.Sizes.{SizedScreen, blank_of}
 use Rattle.datastream.specs.Screen.{Screen, blank_screen}
 use Rattle.term_core.specs.Bytes.{TakesByte, TakesBytes}
 use Rattle.keyboard.specs.declared.key.Key.{Key}
@@ -19,16 +21,13 @@ use Rattle.world3270.specs.ByteWorld.{TerminalSlot}
 use Rattle.world3270.specs.InFlight.{IsSoundSlot}
 use Rattle.world3270.specs.TrackedTerminals.{TrackedTerminal, TrackedTakes, TrackedTakesByte, marked}
 
-sizes : cell_count ≡ cells_in model_2
-sizes = refl
-
 abbrev begins_as : Terminal → Screen → Option ℕ → TerminalSlot
 begins_as terminal screen at = record { tracked = record { terminal = terminal; history = record { last_restored = screen; erased = false } }; at = at }
 
-pub begun : (terminal begins : Terminal) (screen : Screen) (at : Option ℕ) → terminal ≡ begins → screen ≡ blank_screen cell_count
-    → begins_as terminal screen at ≡ begins_as begins (blank_screen (cells_in model_2)) at
-begun terminal begins screen at same blank =
-    ap (λ (t : Terminal). begins_as t screen at) same ∙ ap (λ (s : Screen). begins_as begins s at) (blank ∙ ap blank_screen sizes)
+pub begun : (terminal begins : Terminal) (screen : SizedScreen) (model : Model) (at : Option ℕ) → terminal ≡ begins → screen ≡ blank_of model
+    → begins_as terminal screen.screen at ≡ begins_as begins (blank_screen (cells_in model_2)) at
+begun terminal begins screen model at same blank =
+    ap (λ (t : Terminal). begins_as t screen.screen at) same ∙ ap (λ (s : SizedScreen). begins_as begins s.screen at) blank
 
 -- ---- a byte
 

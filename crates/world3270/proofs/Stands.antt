@@ -1,11 +1,14 @@
 -- Bytes that stand for messages: each end makes of them what it makes of the messages.
-use Rattle.std.proofs.Common.{◌≡◌, ◌&&◌, ◌||◌, not, cond, if◌then◌else◌, ℕ, Bool, true, false, Option, None, List, [], ◌∷◌, ◌++◌, length, map, refl, ap, sym, subst, ◌∙◌, arith}
+use Rattle.std.proofs.Common.{◌≡◌, ◌≤◌, ◌&&◌, ◌||◌, not, cond, if◌then◌else◌, ℕ, Bool, true, false, Option, None, List, [], ◌∷◌, ◌++◌, length, map, refl, ap, sym, subst, ◌∙◌, arith}
 use Rattle.std.proofs.lemmas.Grind.{flat_map-append}
 use Rattle.std.proofs.lemmas.Bool.{and_parts, eqb-true}
 use Rattle.std.proofs.lemmas.List.Elements.{filter-append}
 use Rattle.std.specs.List.{flat_map, AllByRecursion}
-use Rattle.codes3270.specs.Size.{Shape, model_2}
-use Rattle.datastream.specs.Grammar.{CommandParts, IsCommand, IsNoCommand, is_write}
+use Rattle.codes3270.specs.Size.{Shape, alternate_of, cells_in, model_2, most_cells}
+use Rattle.codes3270.specs.declared.size.Model.{Model}
+use Rattle.codes3270.specs.declared.size.Model.TheVariants.{M2}
+use Rattle.presentation.specs.Sizes.{SizedScreen, applied as screen_applied}
+use Rattle.datastream.specs.Grammar.{CommandParts, IsCommand, is_write}
 use Rattle.datastream.specs.Inbound.{read_buffer, read_modified}
 use Rattle.codes3270.specs.declared.write_control.Wcc.{Wcc}
 use Rattle.datastream.specs.FieldLaws.{FieldsAscend, FieldsAreListed, FieldsTakeAll}
@@ -25,7 +28,7 @@ use Rattle.keyboard.specs.declared.key.Pressed.TheVariants.{Done, Refused, Send}
 use Rattle.presentation.specs.Applied.{asked_by, asked_by_code}
 use Rattle.shadow.specs.Belief.{Shadow}
 use Rattle.shadow.specs.Laws.{WantedIsPainted}
-use Rattle.shadow.specs.Paint.{paint}
+use Rattle.shadow.specs.Paint.{paint, writes_over, is_base_size, erase_code}
 use Rattle.shadow.specs.Pairs.{Pairwise}
 use Rattle.telnet_wire.specs.Items.{WireItem, Record, Opt as OptItem, item_tokens, CanCome, sent_bytes}
 use Rattle.telnet_wire.specs.Laws.{NothingIsRest, ReadingNothing, DeliveriesCompose, DeliveryGoesOn, ItemIsRead, ItemsAreRead}
@@ -49,16 +52,18 @@ use Rattle.tn3270e_msg.proofs.Hearings.{sent_is_heard}
 use Rattle.term_core.specs.Bytes.{before_byte}
 use Rattle.term_core.specs.Items.{TakesItem, TakesItemIn, TalksOn}
 use Rattle.term_core.specs.Presses.{key_outcome, data_pressed, says_of_key}
-use Rattle.term_core.specs.Records.{TakesRecord, is_restoring_write, data_read, data_sent, done_response, freed_if, answer_of, obeyed}
+use Rattle.term_core.specs.Records.{TakesRecord, SpellsCommand, SpellsNoCommand, is_restoring_write, data_read, data_sent, done_response, freed_if, answer_of, obeyed}
 use Rattle.term_core.specs.State.{Station, phase_of, talk_phase, is_bound as core_is_bound}
 use Rattle.term_core.specs.declared.outcome.Outcome.TheVariants.{DeviceEnd}
 use Rattle.host_core.specs.KeepAlive.{no_operation}
 use Rattle.host_core.specs.Messages.{ToTerminal, ToHost, Verdict}
 use Rattle.term_core.proofs.Lengths.{read_buffer_fits, read_modified_fits}
 use Rattle.world3270.proofs.StandsFits.{talk_comes}
+use Rattle.world3270.proofs.StandsScreens.{size_is}
+use Rattle.world3270.specs.Sendable.{CanBeSent}
 use Rattle.host_core.specs.Says.{command_header, read_buffer_command}
 use Rattle.world3270.specs.Stands.{IsPaint, IsRead, IsNoted, StandsDown, StandsUp, IsEnd, all_items, is_nop, without_nops}
-use Rattle.world3270.specs.TrackedTerminals.{History, ByteEnd, ByteStep, restored_by}
+use Rattle.world3270.specs.TrackedTerminals.{History, ByteEnd, ByteStep, of_model_2, restored_by}
 use Rattle.world3270.specs.StandsEnds.{PaintStands, IsSaid, NamesWanted, IsOpen, IsBelieved, ItemComes, TermTakes, is_painted, NopHasNoEffect, WritesAreMarked, TermPresses}
 use Rattle.world3270.specs.StandsLinks.{NothingStands, StandsCompose, StandsGoOn, BeginStands}
 use Rattle.world3270.specs.Terminal.{Display, TermEnd, TermStep, bound_to, is_bound, quiet, replied, paint_came, note_came, read_came, once_bound, took, erases_if, outcome_of, data_of}
@@ -66,22 +71,33 @@ use Rattle.std.specs.Prelude.{is_some}
 
 -- ---- what is painted
 
+-- a paint is a write that restores, with whichever of the three codes
 paint_writes : (size : ℕ) (believed : Shadow) (wanted : WantedScreen) → is_restoring_write (paint size believed wanted) ≡ true
-paint_writes size Shadow.NothingKnown wanted = refl
-paint_writes size (Shadow.Unformatted known) wanted = refl
-paint_writes size (Shadow.Formatted beliefs) wanted = refl
+paint_writes size believed wanted = by_over (writes_over size believed)
+  where
+    restores : CommandCode → Bool
+    restores code = is_restoring_write (record (paint size believed wanted) { code = code })
+
+    by_base : (b : Bool) → restores (if b then EraseWrite else EraseWriteAlternate) ≡ true
+    by_base true = refl
+    by_base false = refl
+
+    by_over : (b : Bool) → restores (if b then Write else erase_code wanted.size) ≡ true
+    by_over true = refl
+    by_over false = by_base (is_base_size wanted.size)
 
 pub paint_stands : WantedIsPainted → PaintStands
-paint_stands painted number wanted believed bytes body begins spelt fit = record {
+paint_stands painted number wanted believed bytes body whole begins spelt fit = record {
   bytes = bytes;
   body = body;
-  command = paint (length wanted.cells) believed wanted;
+  command = paint (cells_in wanted.size) believed wanted;
   is_record = refl;
   begins = begins;
   spelt = spelt;
   paints = record {
-    writes = paint_writes (length wanted.cells) believed wanted;
-    paints = λ screen same meets. ap (λ n. after_command (paint n believed wanted) screen) same ∙ painted believed wanted screen same fit meets;
+    size = refl;
+    writes = paint_writes (cells_in wanted.size) believed wanted;
+    paints = λ screen meets. painted believed wanted screen whole fit meets;
   };
 }
 
@@ -90,7 +106,7 @@ paint_stands painted number wanted believed bytes body begins spelt fit = record
 record IsSide (talk : Term) (station : Station) (end : TermEnd) : Type 0 where
   shape_is : end.display.shape ≡ model_2
   talk_is : talk ≡ end.talk
-  screen_is : station.screen ≡ end.display.screen
+  screen_is : station.screen ≡ of_model_2 end.display.screen
   keyboard_is : station.keyboard ≡ end.display.keyboard
 
 record SameItem (after : Term) (new : Station) (says : List WireItem) (closes : Option Cause) (marks : Bool) (step : TermStep) : Type 0 where
@@ -118,19 +134,20 @@ sayings_stand reply.Agreed = tt
 sayings_stand (reply.Refused reason) = tt
 sayings_stand (reply.Close cause) = tt
 
-term_same : (one other : Term) → one.wanted ≡ other.wanted → one.talk ≡ other.talk → one ≡ other
-term_same one other wanted talk =
-    ap (λ (w : Option (List ℕ)). record { wanted = w; talk = one.talk }) wanted
-    ∙ ap (λ (t : Talk TermState). record { wanted = other.wanted; talk = t }) talk
+term_same : (one other : Term) → one.model ≡ other.model → one.wanted ≡ other.wanted → one.talk ≡ other.talk → one ≡ other
+term_same one other model wanted talk =
+    ap (λ (m : Model). record { model = m; wanted = one.wanted; talk = one.talk }) model
+    ∙ ap (λ (w : Option (List ℕ)). record { model = other.model; wanted = w; talk = one.talk }) wanted
+    ∙ ap (λ (t : Talk TermState). record { model = other.model; wanted = other.wanted; talk = t }) talk
 
 replied_same : (end : TermEnd) (talk next : Term) (old new : Station) (answer : Reply) (p : Talk TermState × Reply) (sent : List WireItem) (closes : Option Cause)
-    → IsSide talk old end → old.took_write ≡ false → next.wanted ≡ talk.wanted → (next.talk, answer) ≡ p → sent ≡ items_sent answer → closes ≡ closing answer → new ≡ old
+    → IsSide talk old end → old.took_write ≡ false → next.model ≡ talk.model → next.wanted ≡ talk.wanted → (next.talk, answer) ≡ p → sent ≡ items_sent answer → closes ≡ closing answer → new ≡ old
     → AllByRecursion (CanCome record_limit) (items_sent p.1)
     → SameItem next new sent closes false (replied end p)
-replied_same end talk next old new answer p sent closes is unmarked wanted gives said ends same fit = record {
+replied_same end talk next old new answer p sent closes is unmarked model wanted gives said ends same fit = record {
   is_end = record {
     shape_is = is.shape_is;
-    talk_is = term_same next (record end.talk { talk = p.0 }) (wanted ∙ ap (λ (t : Term). t.wanted) is.talk_is) (ap (λ (q : Talk TermState × Reply). q.0) gives);
+    talk_is = term_same next (record end.talk { talk = p.0 }) (model ∙ ap (λ (t : Term). t.model) is.talk_is) (wanted ∙ ap (λ (t : Term). t.wanted) is.talk_is) (ap (λ (q : Talk TermState × Reply). q.0) gives);
     screen_is = ap (λ (s : Station). s.screen) same ∙ is.screen_is;
     keyboard_is = ap (λ (s : Station). s.keyboard) same ∙ is.keyboard_is;
   };
@@ -160,30 +177,30 @@ takes_talk : (saying : Saying) (talk next : Term) (old new : Station) (end : Ter
 takes_talk saying talk next old new end sent closes h wish is unmarked taken =
     let talks = saying_talks talk.talk.state saying talk next old new sent closes taken in
     let heard = said_is_heard saying h talks.0.takes.comes talks.0.takes.hears in
-    let gives : (next.talk, talks.0.reply) ≡ follow at.Closed end.talk.talk (term_transition end.talk.wanted end.talk.talk.state (says saying)) =
+    let gives : (next.talk, talks.0.reply) ≡ follow at.Closed end.talk.talk (term_transition end.talk.model end.talk.wanted end.talk.talk.state (says saying)) =
     talks.0.takes.gives
-    ∙ ap (λ comes. follow at.Closed talk.talk (term_transition talk.wanted talk.talk.state comes)) heard
-    ∙ ap (λ (t : Term). follow at.Closed t.talk (term_transition t.wanted t.talk.state (says saying))) is.talk_is in
-    replied_same end talk next old new talks.0.reply _ sent closes is unmarked talks.0.takes.wanted gives talks.0.sends talks.0.ends talks.1
-    (talk_comes end.talk.talk end.talk.wanted wish (says saying))
+    ∙ ap (λ comes. follow at.Closed talk.talk (term_transition talk.model talk.wanted talk.talk.state comes)) heard
+    ∙ ap (λ (t : Term). follow at.Closed t.talk (term_transition t.model t.wanted t.talk.state (says saying))) is.talk_is in
+    replied_same end talk next old new talks.0.reply _ sent closes is unmarked talks.0.takes.model talks.0.takes.wanted gives talks.0.sends talks.0.ends talks.1
+    (talk_comes end.talk.talk end.talk.model end.talk.wanted wish (says saying))
 
 -- ---- records
 
 -- what says nothing to the talk leaves it as it is
 dropped : (talk next : Term) (old new : Station) (item : WireItem) (end : TermEnd) (sent : List WireItem) (closes : Option Cause)
     → IsSide talk old end → old.took_write ≡ false → ((comes : Comes) → Hears item comes → comes ≡ NoTalk)
-    → term_transition talk.wanted talk.talk.state NoTalk ≡ Stays reply.Nothing → TalksOn talk old item sent closes next new
+    → term_transition talk.model talk.wanted talk.talk.state NoTalk ≡ Stays reply.Nothing → TalksOn talk old item sent closes next new
     → SameItem next new sent closes false (quiet end)
 dropped talk next old new item end sent closes is unmarked no_talk stays talks =
     let gives : (next.talk, talks.0.reply) ≡ (talk.talk, reply.Nothing) =
     talks.0.takes.gives
-    ∙ ap (λ comes. follow at.Closed talk.talk (term_transition talk.wanted talk.talk.state comes)) (no_talk talks.0.takes.comes talks.0.takes.hears)
+    ∙ ap (λ comes. follow at.Closed talk.talk (term_transition talk.model talk.wanted talk.talk.state comes)) (no_talk talks.0.takes.comes talks.0.takes.hears)
     ∙ ap (λ (transition : Transition TermState). follow at.Closed talk.talk transition) stays in
     let answer : talks.0.reply ≡ reply.Nothing = ap (λ (q : Talk TermState × Reply). q.1) gives in
     record {
       is_end = record {
         shape_is = is.shape_is;
-        talk_is = term_same next talk talks.0.takes.wanted (ap (λ (q : Talk TermState × Reply). q.0) gives) ∙ is.talk_is;
+        talk_is = term_same next talk talks.0.takes.model talks.0.takes.wanted (ap (λ (q : Talk TermState × Reply). q.0) gives) ∙ is.talk_is;
         screen_is = ap (λ (s : Station). s.screen) talks.1 ∙ is.screen_is;
         keyboard_is = ap (λ (s : Station). s.keyboard) talks.1 ∙ is.keyboard_is;
       };
@@ -201,15 +218,15 @@ record_came : (state : TermState) (talk next : Term) (old new : Station) (bytes 
     → TakesItemIn state talk old (Record bytes) sent closes next new
     → SameItem next new sent closes (is_some (bound_to state) && marks) (once_bound (is_some (bound_to state)) step end)
 record_came at.Waiting talk next old new bytes end sent closes step marks e o is unmarked bound taken =
-    dropped talk next old new (Record bytes) end sent closes is unmarked (λ comes heard. heard) (ap (λ (s : TermState). term_transition talk.wanted s NoTalk) e) taken
+    dropped talk next old new (Record bytes) end sent closes is unmarked (λ comes heard. heard) (ap (λ (s : TermState). term_transition talk.model talk.wanted s NoTalk) e) taken
 record_came at.Willing talk next old new bytes end sent closes step marks e o is unmarked bound taken =
-    dropped talk next old new (Record bytes) end sent closes is unmarked (λ comes heard. heard) (ap (λ (s : TermState). term_transition talk.wanted s NoTalk) e) taken
+    dropped talk next old new (Record bytes) end sent closes is unmarked (λ comes heard. heard) (ap (λ (s : TermState). term_transition talk.model talk.wanted s NoTalk) e) taken
 record_came at.TypeAsked talk next old new bytes end sent closes step marks e o is unmarked bound taken =
-    dropped talk next old new (Record bytes) end sent closes is unmarked (λ comes heard. heard) (ap (λ (s : TermState). term_transition talk.wanted s NoTalk) e) taken
+    dropped talk next old new (Record bytes) end sent closes is unmarked (λ comes heard. heard) (ap (λ (s : TermState). term_transition talk.model talk.wanted s NoTalk) e) taken
 record_came (at.FunctionsAsked lu) talk next old new bytes end sent closes step marks e o is unmarked bound taken =
-    dropped talk next old new (Record bytes) end sent closes is unmarked (λ comes heard. heard) (ap (λ (s : TermState). term_transition talk.wanted s NoTalk) e) taken
+    dropped talk next old new (Record bytes) end sent closes is unmarked (λ comes heard. heard) (ap (λ (s : TermState). term_transition talk.model talk.wanted s NoTalk) e) taken
 record_came (at.Refused reason) talk next old new bytes end sent closes step marks e o is unmarked bound taken =
-    dropped talk next old new (Record bytes) end sent closes is unmarked (λ comes heard. heard) (ap (λ (s : TermState). term_transition talk.wanted s NoTalk) e) taken
+    dropped talk next old new (Record bytes) end sent closes is unmarked (λ comes heard. heard) (ap (λ (s : TermState). term_transition talk.model talk.wanted s NoTalk) e) taken
 record_came (at.Agreed lu) talk next old new bytes end sent closes step marks e o is unmarked bound taken = bound taken.0 taken.1
 record_came (at.Closed cause) talk next old new bytes end sent closes step marks e o is unmarked bound taken = absurd o
 
@@ -264,8 +281,8 @@ leaves (ToTerminal.Paint number wanted believed) end = leaves_painted (is_bound 
 leaves (ToTerminal.ReadBuffer number) end = leaves_read (is_bound end) end
 leaves (ToTerminal.Note number command) end = leaves_noted (is_bound end) number command end
 
-same_restored : (marks : Bool) (station : Station) (old : History) (before after : Display) → old.last_restored ≡ before.last_restored → old.erased ≡ before.erased → station.screen ≡ after.screen
-    → Leaves marks before after → ((restored_by marks station.screen old).last_restored ≡ after.last_restored) × ((restored_by marks station.screen old).erased ≡ after.erased)
+same_restored : (marks : Bool) (station : Station) (old : History) (before after : Display) → old.last_restored ≡ before.last_restored → old.erased ≡ before.erased → station.screen.screen ≡ after.screen
+    → Leaves marks before after → ((restored_by marks station.screen.screen old).last_restored ≡ after.last_restored) × ((restored_by marks station.screen.screen old).erased ≡ after.erased)
 same_restored true station old before after left erased screen now = (screen ∙ sym now.last_restored, sym now.erased)
 same_restored false station old before after left erased screen now = (left ∙ sym now.last_restored, erased ∙ sym now.erased)
 
@@ -279,7 +296,7 @@ and_false false = refl
 
 module _ (one_header : OneHeader) (fault_or_header : FaultIsNoHeader) where
   obeys : (old new : Station) (bytes body : List ℕ) (sent : List WireItem) (closes : Option Cause) (header : Header) (command : CommandParts)
-      → header.kind ≡ Data3270 → Begins bytes header body → IsCommand command body → TakesRecord old bytes sent closes new
+      → header.kind ≡ Data3270 → Begins bytes header body → SpellsCommand old command body → TakesRecord old bytes sent closes new
       → Obeys old new sent closes header command
   obeys old new bytes body sent closes header command kind begins spelt (TakesRecord.no_header fault has a b c) =
       absurd (fault_or_header bytes fault header body has begins)
@@ -287,15 +304,26 @@ module _ (one_header : OneHeader) (fault_or_header : FaultIsNoHeader) where
       absurd (k (ap (λ (h : Header). h.kind) (one_header bytes other header rest body begins' begins).0 ∙ kind))
   obeys old new bytes body sent closes header command kind begins spelt (TakesRecord.refused other rest fault begins' k bad a b c) =
       let both = one_header bytes other header rest body begins' begins in
-      absurd (command_or_fault command fault body spelt (subst (λ (b : List ℕ). IsNoCommand fault b) both.1 bad))
+      absurd (command_or_fault old.screen.size (alternate_of old.screen.model) command fault body spelt (subst (λ (b : List ℕ). SpellsNoCommand old fault b) both.1 bad))
   obeys old new bytes body sent closes header command kind begins spelt (TakesRecord.obeys other rest command' begins' k good a b c) =
       let both = one_header bytes other header rest body begins' begins in
-      let commands = one_command command' command body (subst (λ (x : List ℕ). IsCommand command' x) both.1 good) spelt in
+      let commands = one_command old.screen.size (alternate_of old.screen.model) command' command body (subst (λ (x : List ℕ). SpellsCommand old command' x) both.1 good) spelt in
       record {
         said = a ∙ ap (λ (h : Header). answer_of h command' old) both.0 ∙ ap (λ (x : CommandParts). answer_of header x old) commands;
         closed = b;
         becomes = c ∙ ap (λ (x : CommandParts). obeyed x old) commands;
       }
+
+  -- what is spelt for a model 2 is spelt for its terminal
+  spelt_for : (old : Station) (screen : Screen) (command : CommandParts) (body : List ℕ) → old.screen ≡ of_model_2 screen → IsCommand model_2 model_2 command body → SpellsCommand old command body
+  spelt_for old screen command body is spelt = subst (λ (s : SizedScreen). IsCommand s.size (alternate_of s.model) command body) (sym is) spelt
+
+  -- the screen after a command is a model 2's
+  applied_so : (old : Station) (screen : Screen) (command : CommandParts) (body : List ℕ) → old.screen ≡ of_model_2 screen → IsCommand model_2 model_2 command body
+      → screen_applied command old.screen ≡ of_model_2 (after_command command screen)
+  applied_so old screen command body is spelt =
+      ap (λ (s : SizedScreen). screen_applied command s) is
+      ∙ ap (λ (size : Shape). record { model = M2; size = size; screen = after_command command screen }) (size_is command body spelt)
 
   -- ---- a paint
 
@@ -309,17 +337,19 @@ module _ (one_header : OneHeader) (fault_or_header : FaultIsNoHeader) where
   no_data EraseAllUnprotected screen h = absurd (cc)
 
   painted_same : (number : ℕ) (wanted : WantedScreen) (believed : Shadow) (talk next : Term) (old new : Station) (end : TermEnd) (sent : List WireItem) (closes : Option Cause)
-      (item : WireItem) (p : IsPaint item number wanted believed) → IsBelieved wanted believed end → IsSide talk old end
+      (item : WireItem) (p : IsPaint item number wanted believed) → IsBelieved believed end → IsSide talk old end
       → TakesRecord old p.bytes sent closes new → next ≡ talk → SameItem next new sent closes true (paint_came number wanted end)
   painted_same number wanted believed talk next old new end sent closes item p b is taken same =
-      let done = obeys old new p.bytes p.body sent closes (command_header always_response number) p.command refl p.begins p.spelt taken in
+      let spelt = spelt_for old end.display.screen p.command p.body is.screen_is p.spelt in
+      let done = obeys old new p.bytes p.body sent closes (command_header always_response number) p.command refl p.begins spelt taken in
       let parts = and_parts (is_write p.command.code) (asked_by p.command).restore p.paints.writes in
-      let silent = no_data p.command.code (after_command p.command old.screen) parts.0 in
+      let silent = no_data p.command.code (after_command p.command old.screen.screen) parts.0 in
       record {
         is_end = record {
           shape_is = is.shape_is;
           talk_is = same ∙ is.talk_is;
-          screen_is = ap (λ (s : Station). s.screen) done.becomes ∙ ap (after_command p.command) is.screen_is ∙ p.paints.paints end.display.screen b.size b.meets;
+          screen_is = ap (λ (s : Station). s.screen) done.becomes ∙ applied_so old end.display.screen p.command p.body is.screen_is p.spelt
+              ∙ ap of_model_2 (p.paints.paints end.display.screen b.meets);
           keyboard_is = ap (λ (s : Station). s.keyboard) done.becomes ∙ ap (λ (r : Bool). freed_if r old.keyboard) parts.1 ∙ ap freed is.keyboard_is;
         };
         said = subst (λ (items : List WireItem). Pairwise StandsUp items (ToHost.Response number Verdict.Positive ∷ []))
@@ -335,23 +365,25 @@ module _ (one_header : OneHeader) (fault_or_header : FaultIsNoHeader) where
   -- ---- a read
 
   read_same : SentIsRead → (number : ℕ) (talk next : Term) (old new : Station) (end : TermEnd) (sent : List WireItem) (closes : Option Cause)
-      (item : WireItem) (p : IsRead item number) → IsSendable end.display.screen → IsSide talk old end
+      (item : WireItem) (p : IsRead item number) → CanBeSent end.display.shape end.display.screen → IsSide talk old end
       → TakesRecord old p.bytes sent closes new → next ≡ talk → SameItem next new sent closes false (read_came end)
   read_same reads number talk next old new end sent closes item p r is taken same =
-      let done = obeys old new p.bytes p.body sent closes (command_header error_response number) read_buffer_command refl p.begins p.spelt taken in
-      let inbound : IsInbound (buffer_data end.display.screen) (read_buffer old.screen) =
-      subst (λ (s : Screen). IsInbound (buffer_data end.display.screen) (read_buffer s)) (sym is.screen_is) (reads.buffer end.display.screen r) in
+      let screen_is : old.screen.screen ≡ end.display.screen = ap (λ (s : SizedScreen). s.screen) is.screen_is in
+      let spelt = spelt_for old end.display.screen (read_buffer_command model_2) p.body is.screen_is p.spelt in
+      let done = obeys old new p.bytes p.body sent closes (command_header error_response number) (read_buffer_command model_2) refl p.begins spelt taken in
+      let inbound : IsInbound (buffer_data end.display.shape end.display.screen) (read_buffer old.screen.screen) =
+      subst (λ (s : Screen). IsInbound (buffer_data end.display.shape end.display.screen) (read_buffer s)) (sym screen_is) (reads.buffer end.display.shape end.display.screen r.whole r.sendable) in
       record {
         is_end = record {
           shape_is = is.shape_is;
           talk_is = same ∙ is.talk_is;
-          screen_is = ap (λ (s : Station). s.screen) done.becomes ∙ is.screen_is;
+          screen_is = ap (λ (s : Station). s.screen) done.becomes ∙ applied_so old end.display.screen (read_buffer_command model_2) p.body is.screen_is p.spelt;
           keyboard_is = ap (λ (s : Station). s.keyboard) done.becomes ∙ is.keyboard_is;
         };
-        said = subst (λ (items : List WireItem). Pairwise StandsUp items (ToHost.Data (buffer_data end.display.screen) ∷ []))
-            (sym done.said) ((old.number, read_buffer old.screen, refl, inbound), tt);
+        said = subst (λ (items : List WireItem). Pairwise StandsUp items (ToHost.Data (buffer_data end.display.shape end.display.screen) ∷ []))
+            (sym done.said) ((old.number, read_buffer old.screen.screen, refl, inbound), tt);
         fit = subst (λ (items : List WireItem). AllByRecursion (CanCome record_limit) items)
-            (sym done.said) (omega (arith, read_buffer_fits old.screen (ap (λ (s : Screen). length s.cells) is.screen_is ∙ r.size)), tt);
+            (sym done.said) (omega (arith, read_buffer_fits old.screen.screen (subst (λ (s : Screen). length s.cells ≤ most_cells) (sym screen_is) r.sendable.few)), tt);
         closed = done.closed;
         wrote = ap (λ (s : Station). s.took_write) done.becomes;
       }
@@ -362,14 +394,15 @@ module _ (one_header : OneHeader) (fault_or_header : FaultIsNoHeader) where
       (item : WireItem) (p : IsNoted item number command) → IsNote command → IsSide talk old end
       → TakesRecord old p.bytes sent closes new → next ≡ talk → SameItem next new sent closes false (note_came number command end)
   noted_same number command talk next old new end sent closes item p note is taken same =
-      let done = obeys old new p.bytes p.body sent closes (command_header always_response number) command refl p.begins p.spelt taken in
+      let spelt = spelt_for old end.display.screen command p.body is.screen_is p.spelt in
+      let done = obeys old new p.bytes p.body sent closes (command_header always_response number) command refl p.begins spelt taken in
       let restores : (asked_by command).restore ≡ false = note_restores command note in
-      let silent : data_read command.code (after_command command old.screen) ≡ None = ap (λ (c : CommandCode). data_read c (after_command command old.screen)) note.code in
+      let silent : data_read command.code (after_command command old.screen.screen) ≡ None = ap (λ (c : CommandCode). data_read c (after_command command old.screen.screen)) note.code in
       record {
         is_end = record {
           shape_is = is.shape_is;
           talk_is = same ∙ is.talk_is;
-          screen_is = ap (λ (s : Station). s.screen) done.becomes ∙ ap (after_command command) is.screen_is;
+          screen_is = ap (λ (s : Station). s.screen) done.becomes ∙ applied_so old end.display.screen command p.body is.screen_is p.spelt;
           keyboard_is = ap (λ (s : Station). s.keyboard) done.becomes ∙ ap (λ (r : Bool). freed_if r old.keyboard) restores ∙ is.keyboard_is;
         };
         said = subst (λ (items : List WireItem). Pairwise StandsUp items (ToHost.Response number Verdict.Positive ∷ []))
@@ -415,10 +448,10 @@ module _ (one_header : OneHeader) (fault_or_header : FaultIsNoHeader) where
   pub term_takes : SentIsRead → TermTakes
   term_takes reads message item old end step comes =
       let same = same_item reads message item old end step comes in
-      let history : step.end.history ≡ restored_by (is_painted end message) step.end.station.screen old.history =
-      comes.takes.history ∙ ap (λ (w : Bool). restored_by w step.end.station.screen old.history) same.wrote in
+      let history : step.end.history ≡ restored_by (is_painted end message) step.end.station.screen.screen old.history =
+      comes.takes.history ∙ ap (λ (w : Bool). restored_by w step.end.station.screen.screen old.history) same.wrote in
       let left = same_restored (is_painted end message) step.end.station old.history end.display (took end message).end.display comes.is_end.last_restored_is comes.is_end.erased_is
-      same.is_end.screen_is (leaves message end) in
+      (ap (λ (s : SizedScreen). s.screen) same.is_end.screen_is) (leaves message end) in
       record {
         is_end = record {
           shape_is = same.is_end.shape_is;
@@ -447,14 +480,14 @@ nop_talks (at.Refused reason) talk next old new sent closes taken = taken
 nop_talks (at.Closed cause) talk next old new sent closes taken = taken
 
 -- and says nothing to it
-no_talk_stays : (wanted : Option (List ℕ)) (state : TermState) → IsOpen state → term_transition wanted state NoTalk ≡ Stays reply.Nothing
-no_talk_stays wanted at.Waiting is_open = refl
-no_talk_stays wanted at.Willing is_open = refl
-no_talk_stays wanted at.TypeAsked is_open = refl
-no_talk_stays wanted (at.FunctionsAsked lu) is_open = refl
-no_talk_stays wanted (at.Agreed lu) is_open = refl
-no_talk_stays wanted (at.Refused reason) is_open = refl
-no_talk_stays wanted (at.Closed cause) is_open = absurd is_open
+no_talk_stays : (model : Model) (wanted : Option (List ℕ)) (state : TermState) → IsOpen state → term_transition model wanted state NoTalk ≡ Stays reply.Nothing
+no_talk_stays model wanted at.Waiting is_open = refl
+no_talk_stays model wanted at.Willing is_open = refl
+no_talk_stays model wanted at.TypeAsked is_open = refl
+no_talk_stays model wanted (at.FunctionsAsked lu) is_open = refl
+no_talk_stays model wanted (at.Agreed lu) is_open = refl
+no_talk_stays model wanted (at.Refused reason) is_open = refl
+no_talk_stays model wanted (at.Closed cause) is_open = absurd is_open
 
 pub nop_has_no_effect : NopHasNoEffect
 nop_has_no_effect old end step is_open is taken =
@@ -462,8 +495,8 @@ nop_has_no_effect old end step is_open is taken =
     let talks = nop_talks old.talk.talk.state old.talk step.end.talk (before_byte old.station) step.end.station step.says step.closes taken.takes in
     let same =
     dropped old.talk step.end.talk (before_byte old.station) step.end.station no_operation end step.says step.closes (side_of old end is) refl (λ comes heard. heard)
-    (no_talk_stays old.talk.wanted old.talk.talk.state (subst IsOpen (sym state) is_open)) talks in
-    let history : step.end.history ≡ old.history = taken.history ∙ ap (λ (w : Bool). restored_by w step.end.station.screen old.history) same.wrote in
+    (no_talk_stays old.talk.model old.talk.wanted old.talk.talk.state (subst IsOpen (sym state) is_open)) talks in
+    let history : step.end.history ≡ old.history = taken.history ∙ ap (λ (w : Bool). restored_by w step.end.station.screen.screen old.history) same.wrote in
     record {
       same = record {
         is_end = record {
@@ -498,18 +531,18 @@ same_bound (at.Agreed lu) = refl
 same_bound (at.Refused reason) = refl
 same_bound (at.Closed cause) = refl
 
-key_says : SentIsRead → (bound : Bool) (answer : Pressed) (screen : Screen) (number : ℕ) → IsSendable screen
-    → Pairwise StandsUp (data_sent number (data_pressed bound answer screen)) (data_of bound answer screen)
-key_says reads true (Send aid) screen number is = ((number, read_modified false screen, refl, reads.modified screen is), tt)
-key_says reads false (Send aid) screen number is = tt
-key_says reads true Done screen number is = tt
-key_says reads false Done screen number is = tt
-key_says reads true (Refused why) screen number is = tt
-key_says reads false (Refused why) screen number is = tt
+key_says : SentIsRead → (bound : Bool) (answer : Pressed) (shape : Shape) (screen : Screen) (number : ℕ) → CanBeSent shape screen
+    → Pairwise StandsUp (data_sent number (data_pressed bound answer screen)) (data_of bound answer shape screen)
+key_says reads true (Send aid) shape screen number is = ((number, read_modified false screen, refl, reads.modified shape screen is.whole is.sendable), tt)
+key_says reads false (Send aid) shape screen number is = tt
+key_says reads true Done shape screen number is = tt
+key_says reads false Done shape screen number is = tt
+key_says reads true (Refused why) shape screen number is = tt
+key_says reads false (Refused why) shape screen number is = tt
 
 key_comes : FieldsAscend → FieldsAreListed → FieldsTakeAll → (bound : Bool) (answer : Pressed) (screen : Screen) (number : ℕ) → IsSendable screen
     → AllByRecursion (CanCome record_limit) (data_sent number (data_pressed bound answer screen))
-key_comes ascend listed whole true (Send aid) screen number is = (omega (arith, read_modified_fits ascend listed whole screen is.size false), tt)
+key_comes ascend listed whole true (Send aid) screen number is = (omega (arith, read_modified_fits ascend listed whole screen is.few false), tt)
 key_comes ascend listed whole false (Send aid) screen number is = tt
 key_comes ascend listed whole true Done screen number is = tt
 key_comes ascend listed whole false Done screen number is = tt
@@ -524,7 +557,8 @@ term_presses ascend listed whole reads key old rest end holds sendable =
     let bound : knows ≡ is_bound end =
     ap (λ l. core_is_bound (phase_of l)) holds.attached ∙ same_bound holds.talk.talk.state ∙ ap (λ (t : Term). is_some (bound_to t.talk.state)) is.talk_is in
     let outcome : key_outcome key station ≡ outcome_of key end.display =
-    ap (λ (k : Keyboard). pressed model_2.columns key k station.screen) is.keyboard_is ∙ ap (pressed model_2.columns key end.display.keyboard) is.screen_is
+    ap (λ (k : Keyboard). pressed station.screen.size.columns key k station.screen.screen) is.keyboard_is
+    ∙ ap (λ (s : SizedScreen). pressed s.size.columns key end.display.keyboard s.screen) is.screen_is
     ∙ ap (λ (s : Shape). pressed s.columns key end.display.keyboard end.display.screen) (sym is.shape_is) in
     record {
       holds = record {
@@ -533,7 +567,7 @@ term_presses ascend listed whole reads key old rest end holds sendable =
         is_end = record {
           shape_is = is.shape_is;
           talk_is = is.talk_is;
-          screen_is = ap (λ (o : Outcome). o.screen) outcome;
+          screen_is = ap (λ (s : SizedScreen). record s { screen = (key_outcome key station).screen }) is.screen_is ∙ ap (λ (o : Outcome). of_model_2 o.screen) outcome;
           keyboard_is = ap (λ (o : Outcome). o.keyboard) outcome;
           last_restored_is = is.last_restored_is;
           erased_is = ap (λ (b : Bool). b || erases_if (key_outcome key station).answer key) is.erased_is
@@ -542,10 +576,10 @@ term_presses ascend listed whole reads key old rest end holds sendable =
       };
       items = says_of_key key knows station;
       sent = refl;
-      said = subst (λ (b : Bool). Pairwise StandsUp (says_of_key key knows station) (data_of b (outcome_of key end.display).answer (outcome_of key end.display).screen)) bound
-          (subst (λ (o : Outcome). Pairwise StandsUp (says_of_key key knows station) (data_of knows o.answer o.screen)) outcome
-          (key_says reads knows (key_outcome key station).answer (key_outcome key station).screen station.number sendable));
-      fit = key_comes ascend listed whole knows (key_outcome key station).answer (key_outcome key station).screen station.number sendable;
+      said = subst (λ (b : Bool). Pairwise StandsUp (says_of_key key knows station) (data_of b (outcome_of key end.display).answer end.display.shape (outcome_of key end.display).screen)) bound
+          (subst (λ (o : Outcome). Pairwise StandsUp (says_of_key key knows station) (data_of knows o.answer end.display.shape o.screen)) outcome
+          (key_says reads knows (key_outcome key station).answer end.display.shape (key_outcome key station).screen station.number sendable));
+      fit = key_comes ascend listed whole knows (key_outcome key station).answer (key_outcome key station).screen station.number sendable.sendable;
       closed = refl;
     }
 
@@ -650,7 +684,7 @@ begin_stands written is_rest empty terminal wanted = record {
   term = λ which here. record {
     rest = nothing;
     holds = record {
-      talk = term_start wanted;
+      talk = term_start M2 wanted;
       attached = refl;
       is_end = record { shape_is = refl; talk_is = refl; screen_is = refl; keyboard_is = refl; last_restored_is = refl; erased_is = refl };
     };

@@ -70,7 +70,7 @@ module _ (given : Given) (app : Application) (is : IsApplication app) (link : Li
   serving_may lu (Serving.Reading number) at f = record_may lu (Serving.Reading number) (ToTerminal.ReadBuffer number) at refl (λ is_open. is_open)
   serving_may lu (Serving.Painting number command wanted over) at f =
       record_may lu (Serving.Painting number command wanted over) (ToTerminal.Paint number wanted over) at refl
-      (λ is_open. record { is_open = is_open; size = f.paintable.showable.cells ∙ sym k.whole; meets = f.meets })
+      (λ is_open. record { is_open = is_open; meets = f.meets })
   serving_may lu (Serving.NotedLate number command) at f = note_may lu (Serving.NotedLate number command) number command at refl f.1.note
   serving_may lu (Serving.Noting number command) at f = note_may lu (Serving.Noting number command) number command at refl f.1
   serving_may lu (Serving.KeyNoted number command parts) at f = note_may lu (Serving.KeyNoted number command parts) number command at refl f.2.note

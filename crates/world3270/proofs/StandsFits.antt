@@ -6,7 +6,8 @@ use Rattle.std.specs.Str.{bytes_eq}
 use Rattle.std.proofs.lemmas.Bool.{false≢true, and_parts}
 use Rattle.std.proofs.lemmas.Bool.Decides.{nat_tests}
 use Rattle.telnet_wire.specs.Items.{CanCome}
-use Rattle.tn3270e_msg.specs.Device.{device_of, device_text}
+use Rattle.codes3270.specs.declared.size.Model.{Model}
+use Rattle.tn3270e_msg.specs.Device.{device_for, device_text, has_text}
 use Rattle.tn3270e_msg.specs.Lu.{is_lu, is_lu_letter, lu_of}
 use Rattle.tn3270e_msg.specs.Talk.{Comes, Will, Wont, Do, Dont, OtherWill, OtherDo, SendsType, RequestsType, IsType, RejectsType, RequestsFunctions, IsFunctions, BreaksForm, NoTalk, Talk, follow, IsOwnedMessage, payload_sent, items_sent}
 use Rattle.tn3270e_msg.specs.TermTable.{term_transition, grant_transition}
@@ -42,135 +43,109 @@ granted_if : (same : Bool) (lu : List ℕ) → TransitionFits (if same then tran
 granted_if true lu = tt
 granted_if false lu = tt
 
-grant_fits : (wanted : Option (List ℕ)) (type : Option Device) (lu : Option (List ℕ)) → TransitionFits (grant_transition wanted type lu)
-grant_fits None None lu = tt
-grant_fits (Some name) None lu = tt
-grant_fits None (Some device.Model2) None = tt
-grant_fits None (Some device.Model2) (Some lu) = tt
-grant_fits None (Some device.Model2E) None = tt
-grant_fits None (Some device.Model2E) (Some lu) = tt
-grant_fits None (Some device.Model3) None = tt
-grant_fits None (Some device.Model3) (Some lu) = tt
-grant_fits None (Some device.Model3E) None = tt
-grant_fits None (Some device.Model3E) (Some lu) = tt
-grant_fits None (Some device.Model4) None = tt
-grant_fits None (Some device.Model4) (Some lu) = tt
-grant_fits None (Some device.Model4E) None = tt
-grant_fits None (Some device.Model4E) (Some lu) = tt
-grant_fits None (Some device.Model5) None = tt
-grant_fits None (Some device.Model5) (Some lu) = tt
-grant_fits None (Some device.Model5E) None = tt
-grant_fits None (Some device.Model5E) (Some lu) = tt
-grant_fits (Some name) (Some device.Model2) None = tt
-grant_fits (Some name) (Some device.Model2) (Some lu) = granted_if (bytes_eq lu name) lu
-grant_fits (Some name) (Some device.Model2E) None = tt
-grant_fits (Some name) (Some device.Model2E) (Some lu) = tt
-grant_fits (Some name) (Some device.Model3) None = tt
-grant_fits (Some name) (Some device.Model3) (Some lu) = tt
-grant_fits (Some name) (Some device.Model3E) None = tt
-grant_fits (Some name) (Some device.Model3E) (Some lu) = tt
-grant_fits (Some name) (Some device.Model4) None = tt
-grant_fits (Some name) (Some device.Model4) (Some lu) = tt
-grant_fits (Some name) (Some device.Model4E) None = tt
-grant_fits (Some name) (Some device.Model4E) (Some lu) = tt
-grant_fits (Some name) (Some device.Model5) None = tt
-grant_fits (Some name) (Some device.Model5) (Some lu) = tt
-grant_fits (Some name) (Some device.Model5E) None = tt
-grant_fits (Some name) (Some device.Model5E) (Some lu) = tt
+grant_fits : (wanted : Option (List ℕ)) (same : Bool) (lu : Option (List ℕ)) → TransitionFits (grant_transition wanted same lu)
+grant_fits None true None = tt
+grant_fits None true (Some lu) = tt
+grant_fits None false None = tt
+grant_fits None false (Some lu) = tt
+grant_fits (Some name) true None = tt
+grant_fits (Some name) true (Some lu) = granted_if (bytes_eq lu name) lu
+grant_fits (Some name) false None = tt
+grant_fits (Some name) false (Some lu) = tt
 
-transition_fits : (wanted : Option (List ℕ)) (state : TermState) → NamesWanted state wanted → (comes : Comes) → TransitionFits (term_transition wanted state comes)
-transition_fits wanted (at.Closed cause) h comes = tt
-transition_fits wanted (at.Refused reason) h comes = tt
-transition_fits wanted at.Waiting h Will = tt
-transition_fits wanted at.Waiting h Wont = tt
-transition_fits wanted at.Waiting h Do = tt
-transition_fits wanted at.Waiting h Dont = tt
-transition_fits wanted at.Waiting h (OtherWill code) = tt
-transition_fits wanted at.Waiting h (OtherDo code) = tt
-transition_fits wanted at.Waiting h SendsType = tt
-transition_fits wanted at.Waiting h (RequestsType type name) = tt
-transition_fits wanted at.Waiting h (IsType type name) = tt
-transition_fits wanted at.Waiting h (RejectsType reason) = tt
-transition_fits wanted at.Waiting h (RequestsFunctions ResponsesAlone) = tt
-transition_fits wanted at.Waiting h (RequestsFunctions ResponsesAndMore) = tt
-transition_fits wanted at.Waiting h (RequestsFunctions NoResponses) = tt
-transition_fits wanted at.Waiting h (IsFunctions ResponsesAlone) = tt
-transition_fits wanted at.Waiting h (IsFunctions ResponsesAndMore) = tt
-transition_fits wanted at.Waiting h (IsFunctions NoResponses) = tt
-transition_fits wanted at.Waiting h BreaksForm = tt
-transition_fits wanted at.Waiting h NoTalk = tt
-transition_fits wanted at.Willing h Will = tt
-transition_fits wanted at.Willing h Wont = tt
-transition_fits wanted at.Willing h Do = tt
-transition_fits wanted at.Willing h Dont = tt
-transition_fits wanted at.Willing h (OtherWill code) = tt
-transition_fits wanted at.Willing h (OtherDo code) = tt
-transition_fits wanted at.Willing h SendsType = h
-transition_fits wanted at.Willing h (RequestsType type name) = tt
-transition_fits wanted at.Willing h (IsType type name) = tt
-transition_fits wanted at.Willing h (RejectsType reason) = tt
-transition_fits wanted at.Willing h (RequestsFunctions ResponsesAlone) = tt
-transition_fits wanted at.Willing h (RequestsFunctions ResponsesAndMore) = tt
-transition_fits wanted at.Willing h (RequestsFunctions NoResponses) = tt
-transition_fits wanted at.Willing h (IsFunctions ResponsesAlone) = tt
-transition_fits wanted at.Willing h (IsFunctions ResponsesAndMore) = tt
-transition_fits wanted at.Willing h (IsFunctions NoResponses) = tt
-transition_fits wanted at.Willing h BreaksForm = tt
-transition_fits wanted at.Willing h NoTalk = tt
-transition_fits wanted at.TypeAsked h Will = tt
-transition_fits wanted at.TypeAsked h Wont = tt
-transition_fits wanted at.TypeAsked h Do = tt
-transition_fits wanted at.TypeAsked h Dont = tt
-transition_fits wanted at.TypeAsked h (OtherWill code) = tt
-transition_fits wanted at.TypeAsked h (OtherDo code) = tt
-transition_fits wanted at.TypeAsked h SendsType = tt
-transition_fits wanted at.TypeAsked h (RequestsType type name) = tt
-transition_fits wanted at.TypeAsked h (IsType type name) = grant_fits wanted (device_of type) (lu_of name)
-transition_fits wanted at.TypeAsked h (RejectsType reason) = tt
-transition_fits wanted at.TypeAsked h (RequestsFunctions ResponsesAlone) = tt
-transition_fits wanted at.TypeAsked h (RequestsFunctions ResponsesAndMore) = tt
-transition_fits wanted at.TypeAsked h (RequestsFunctions NoResponses) = tt
-transition_fits wanted at.TypeAsked h (IsFunctions ResponsesAlone) = tt
-transition_fits wanted at.TypeAsked h (IsFunctions ResponsesAndMore) = tt
-transition_fits wanted at.TypeAsked h (IsFunctions NoResponses) = tt
-transition_fits wanted at.TypeAsked h BreaksForm = tt
-transition_fits wanted at.TypeAsked h NoTalk = tt
-transition_fits wanted (at.FunctionsAsked lu) h Will = tt
-transition_fits wanted (at.FunctionsAsked lu) h Wont = tt
-transition_fits wanted (at.FunctionsAsked lu) h Do = tt
-transition_fits wanted (at.FunctionsAsked lu) h Dont = tt
-transition_fits wanted (at.FunctionsAsked lu) h (OtherWill code) = tt
-transition_fits wanted (at.FunctionsAsked lu) h (OtherDo code) = tt
-transition_fits wanted (at.FunctionsAsked lu) h SendsType = tt
-transition_fits wanted (at.FunctionsAsked lu) h (RequestsType type name) = tt
-transition_fits wanted (at.FunctionsAsked lu) h (IsType type name) = tt
-transition_fits wanted (at.FunctionsAsked lu) h (RejectsType reason) = tt
-transition_fits wanted (at.FunctionsAsked lu) h (RequestsFunctions ResponsesAlone) = tt
-transition_fits wanted (at.FunctionsAsked lu) h (RequestsFunctions ResponsesAndMore) = tt
-transition_fits wanted (at.FunctionsAsked lu) h (RequestsFunctions NoResponses) = tt
-transition_fits wanted (at.FunctionsAsked lu) h (IsFunctions ResponsesAlone) = tt
-transition_fits wanted (at.FunctionsAsked lu) h (IsFunctions ResponsesAndMore) = tt
-transition_fits wanted (at.FunctionsAsked lu) h (IsFunctions NoResponses) = tt
-transition_fits wanted (at.FunctionsAsked lu) h BreaksForm = tt
-transition_fits wanted (at.FunctionsAsked lu) h NoTalk = tt
-transition_fits wanted (at.Agreed lu) h Will = tt
-transition_fits wanted (at.Agreed lu) h Wont = tt
-transition_fits wanted (at.Agreed lu) h Do = tt
-transition_fits wanted (at.Agreed lu) h Dont = tt
-transition_fits wanted (at.Agreed lu) h (OtherWill code) = tt
-transition_fits wanted (at.Agreed lu) h (OtherDo code) = tt
-transition_fits wanted (at.Agreed lu) h SendsType = tt
-transition_fits wanted (at.Agreed lu) h (RequestsType type name) = tt
-transition_fits wanted (at.Agreed lu) h (IsType type name) = tt
-transition_fits wanted (at.Agreed lu) h (RejectsType reason) = tt
-transition_fits wanted (at.Agreed lu) h (RequestsFunctions ResponsesAlone) = tt
-transition_fits wanted (at.Agreed lu) h (RequestsFunctions ResponsesAndMore) = tt
-transition_fits wanted (at.Agreed lu) h (RequestsFunctions NoResponses) = tt
-transition_fits wanted (at.Agreed lu) h (IsFunctions ResponsesAlone) = tt
-transition_fits wanted (at.Agreed lu) h (IsFunctions ResponsesAndMore) = tt
-transition_fits wanted (at.Agreed lu) h (IsFunctions NoResponses) = tt
-transition_fits wanted (at.Agreed lu) h BreaksForm = tt
-transition_fits wanted (at.Agreed lu) h NoTalk = tt
+transition_fits : (model : Model) (wanted : Option (List ℕ)) (state : TermState) → NamesWanted state wanted → (comes : Comes) → TransitionFits (term_transition model wanted state comes)
+transition_fits model wanted (at.Closed cause) h comes = tt
+transition_fits model wanted (at.Refused reason) h comes = tt
+transition_fits model wanted at.Waiting h Will = tt
+transition_fits model wanted at.Waiting h Wont = tt
+transition_fits model wanted at.Waiting h Do = tt
+transition_fits model wanted at.Waiting h Dont = tt
+transition_fits model wanted at.Waiting h (OtherWill code) = tt
+transition_fits model wanted at.Waiting h (OtherDo code) = tt
+transition_fits model wanted at.Waiting h SendsType = tt
+transition_fits model wanted at.Waiting h (RequestsType type name) = tt
+transition_fits model wanted at.Waiting h (IsType type name) = tt
+transition_fits model wanted at.Waiting h (RejectsType reason) = tt
+transition_fits model wanted at.Waiting h (RequestsFunctions ResponsesAlone) = tt
+transition_fits model wanted at.Waiting h (RequestsFunctions ResponsesAndMore) = tt
+transition_fits model wanted at.Waiting h (RequestsFunctions NoResponses) = tt
+transition_fits model wanted at.Waiting h (IsFunctions ResponsesAlone) = tt
+transition_fits model wanted at.Waiting h (IsFunctions ResponsesAndMore) = tt
+transition_fits model wanted at.Waiting h (IsFunctions NoResponses) = tt
+transition_fits model wanted at.Waiting h BreaksForm = tt
+transition_fits model wanted at.Waiting h NoTalk = tt
+transition_fits model wanted at.Willing h Will = tt
+transition_fits model wanted at.Willing h Wont = tt
+transition_fits model wanted at.Willing h Do = tt
+transition_fits model wanted at.Willing h Dont = tt
+transition_fits model wanted at.Willing h (OtherWill code) = tt
+transition_fits model wanted at.Willing h (OtherDo code) = tt
+transition_fits model wanted at.Willing h SendsType = h
+transition_fits model wanted at.Willing h (RequestsType type name) = tt
+transition_fits model wanted at.Willing h (IsType type name) = tt
+transition_fits model wanted at.Willing h (RejectsType reason) = tt
+transition_fits model wanted at.Willing h (RequestsFunctions ResponsesAlone) = tt
+transition_fits model wanted at.Willing h (RequestsFunctions ResponsesAndMore) = tt
+transition_fits model wanted at.Willing h (RequestsFunctions NoResponses) = tt
+transition_fits model wanted at.Willing h (IsFunctions ResponsesAlone) = tt
+transition_fits model wanted at.Willing h (IsFunctions ResponsesAndMore) = tt
+transition_fits model wanted at.Willing h (IsFunctions NoResponses) = tt
+transition_fits model wanted at.Willing h BreaksForm = tt
+transition_fits model wanted at.Willing h NoTalk = tt
+transition_fits model wanted at.TypeAsked h Will = tt
+transition_fits model wanted at.TypeAsked h Wont = tt
+transition_fits model wanted at.TypeAsked h Do = tt
+transition_fits model wanted at.TypeAsked h Dont = tt
+transition_fits model wanted at.TypeAsked h (OtherWill code) = tt
+transition_fits model wanted at.TypeAsked h (OtherDo code) = tt
+transition_fits model wanted at.TypeAsked h SendsType = tt
+transition_fits model wanted at.TypeAsked h (RequestsType type name) = tt
+transition_fits model wanted at.TypeAsked h (IsType type name) = grant_fits wanted (has_text (device_for model) type) (lu_of name)
+transition_fits model wanted at.TypeAsked h (RejectsType reason) = tt
+transition_fits model wanted at.TypeAsked h (RequestsFunctions ResponsesAlone) = tt
+transition_fits model wanted at.TypeAsked h (RequestsFunctions ResponsesAndMore) = tt
+transition_fits model wanted at.TypeAsked h (RequestsFunctions NoResponses) = tt
+transition_fits model wanted at.TypeAsked h (IsFunctions ResponsesAlone) = tt
+transition_fits model wanted at.TypeAsked h (IsFunctions ResponsesAndMore) = tt
+transition_fits model wanted at.TypeAsked h (IsFunctions NoResponses) = tt
+transition_fits model wanted at.TypeAsked h BreaksForm = tt
+transition_fits model wanted at.TypeAsked h NoTalk = tt
+transition_fits model wanted (at.FunctionsAsked lu) h Will = tt
+transition_fits model wanted (at.FunctionsAsked lu) h Wont = tt
+transition_fits model wanted (at.FunctionsAsked lu) h Do = tt
+transition_fits model wanted (at.FunctionsAsked lu) h Dont = tt
+transition_fits model wanted (at.FunctionsAsked lu) h (OtherWill code) = tt
+transition_fits model wanted (at.FunctionsAsked lu) h (OtherDo code) = tt
+transition_fits model wanted (at.FunctionsAsked lu) h SendsType = tt
+transition_fits model wanted (at.FunctionsAsked lu) h (RequestsType type name) = tt
+transition_fits model wanted (at.FunctionsAsked lu) h (IsType type name) = tt
+transition_fits model wanted (at.FunctionsAsked lu) h (RejectsType reason) = tt
+transition_fits model wanted (at.FunctionsAsked lu) h (RequestsFunctions ResponsesAlone) = tt
+transition_fits model wanted (at.FunctionsAsked lu) h (RequestsFunctions ResponsesAndMore) = tt
+transition_fits model wanted (at.FunctionsAsked lu) h (RequestsFunctions NoResponses) = tt
+transition_fits model wanted (at.FunctionsAsked lu) h (IsFunctions ResponsesAlone) = tt
+transition_fits model wanted (at.FunctionsAsked lu) h (IsFunctions ResponsesAndMore) = tt
+transition_fits model wanted (at.FunctionsAsked lu) h (IsFunctions NoResponses) = tt
+transition_fits model wanted (at.FunctionsAsked lu) h BreaksForm = tt
+transition_fits model wanted (at.FunctionsAsked lu) h NoTalk = tt
+transition_fits model wanted (at.Agreed lu) h Will = tt
+transition_fits model wanted (at.Agreed lu) h Wont = tt
+transition_fits model wanted (at.Agreed lu) h Do = tt
+transition_fits model wanted (at.Agreed lu) h Dont = tt
+transition_fits model wanted (at.Agreed lu) h (OtherWill code) = tt
+transition_fits model wanted (at.Agreed lu) h (OtherDo code) = tt
+transition_fits model wanted (at.Agreed lu) h SendsType = tt
+transition_fits model wanted (at.Agreed lu) h (RequestsType type name) = tt
+transition_fits model wanted (at.Agreed lu) h (IsType type name) = tt
+transition_fits model wanted (at.Agreed lu) h (RejectsType reason) = tt
+transition_fits model wanted (at.Agreed lu) h (RequestsFunctions ResponsesAlone) = tt
+transition_fits model wanted (at.Agreed lu) h (RequestsFunctions ResponsesAndMore) = tt
+transition_fits model wanted (at.Agreed lu) h (RequestsFunctions NoResponses) = tt
+transition_fits model wanted (at.Agreed lu) h (IsFunctions ResponsesAlone) = tt
+transition_fits model wanted (at.Agreed lu) h (IsFunctions ResponsesAndMore) = tt
+transition_fits model wanted (at.Agreed lu) h (IsFunctions NoResponses) = tt
+transition_fits model wanted (at.Agreed lu) h BreaksForm = tt
+transition_fits model wanted (at.Agreed lu) h NoTalk = tt
 
 abbrev AnswerFits : Talk TermState × Reply → Type 0
 AnswerFits answer = Fits answer.1
@@ -209,8 +184,8 @@ type_fits device.Model5E = omega arith
 
 pub payload_fits : (sending : OwnedMessage) → IsOwnedMessage sending → length (payload_sent sending) ≤ 256
 payload_fits sent.SendType h = omega arith
-payload_fits (sent.TypeRequest None) h = omega arith
-payload_fits (sent.TypeRequest (Some lu)) h = simp length-append (omega (arith, name_fits lu h))
+payload_fits (sent.TypeRequest model None) h = simp length-append (omega (arith, type_fits (device_for model)))
+payload_fits (sent.TypeRequest model (Some lu)) h = simp length-append (omega (arith, type_fits (device_for model), name_fits lu h))
 payload_fits (sent.TypeIs type lu) h = simp length-append (omega (arith, type_fits type, name_fits lu h))
 payload_fits (sent.TypeReject reason) h = omega arith
 payload_fits sent.FunRequest h = omega arith
@@ -226,11 +201,11 @@ reply_comes (reply.Refused reason) h = tt
 reply_comes (reply.Close cause) h = tt
 
 -- what a talk answers
-pub answer_fits : (talk : Talk TermState) (wanted : Option (List ℕ)) → NamesWanted talk.state wanted → (comes : Comes)
-    → Fits (follow at.Closed talk (term_transition wanted talk.state comes)).1
-answer_fits talk wanted h comes = follow_fits talk (term_transition wanted talk.state comes) (transition_fits wanted talk.state h comes)
+pub answer_fits : (talk : Talk TermState) (model : Model) (wanted : Option (List ℕ)) → NamesWanted talk.state wanted → (comes : Comes)
+    → Fits (follow at.Closed talk (term_transition model wanted talk.state comes)).1
+answer_fits talk model wanted h comes = follow_fits talk (term_transition model wanted talk.state comes) (transition_fits model wanted talk.state h comes)
 
 -- what a talk says can come
-pub talk_comes : (talk : Talk TermState) (wanted : Option (List ℕ)) → NamesWanted talk.state wanted → (comes : Comes)
-    → AllByRecursion (CanCome record_limit) (items_sent (follow at.Closed talk (term_transition wanted talk.state comes)).1)
-talk_comes talk wanted h comes = reply_comes _ (answer_fits talk wanted h comes)
+pub talk_comes : (talk : Talk TermState) (model : Model) (wanted : Option (List ℕ)) → NamesWanted talk.state wanted → (comes : Comes)
+    → AllByRecursion (CanCome record_limit) (items_sent (follow at.Closed talk (term_transition model wanted talk.state comes)).1)
+talk_comes talk model wanted h comes = reply_comes _ (answer_fits talk model wanted h comes)

@@ -3,7 +3,7 @@ use Rattle.std.proofs.Common.{◌≡◌, ◌||◌, not, cond, ℕ, Bool, true, f
 use Rattle.std.proofs.lemmas.Grind.{flat_map-append}
 use Rattle.std.proofs.lemmas.List.{append-nil}
 use Rattle.std.specs.List.{AllByRecursion, list_any}
-use Rattle.datastream.specs.InboundFields.{IsSendable}
+use Rattle.world3270.specs.Sendable.{CanBeSent}
 use Rattle.shadow.specs.Pairs.{Pairwise}
 use Rattle.telnet_wire.specs.Items.{WireItem, CanCome, item_tokens, sent_bytes}
 use Rattle.telnet_wire.specs.Laws.{WrongIsFinal}
@@ -135,7 +135,7 @@ bound_refuses_none false step end none = refl
 
 none_refused : (end : TermEnd) (message : ToTerminal) → list_any is_refusal (took end message).sends ≡ false
 none_refused end (ToTerminal.TalksDown saying) =
-    talk_refuses_none (sayings (follow Closed end.talk.talk (term_transition end.talk.wanted end.talk.talk.state (says saying))).1)
+    talk_refuses_none (sayings (follow Closed end.talk.talk (term_transition end.talk.model end.talk.wanted end.talk.talk.state (says saying))).1)
 none_refused end (ToTerminal.Paint number wanted believed) = bound_refuses_none (is_bound end) (paint_came number wanted end) end refl
 none_refused end (ToTerminal.ReadBuffer number) = bound_refuses_none (is_bound end) (read_came end) end refl
 none_refused end (ToTerminal.Note number command) = bound_refuses_none (is_bound end) (note_came number command end) end refl
@@ -247,13 +247,13 @@ open_now end (message ∷ messages) may = may.0
 abbrev Comes : List ℕ → List ℕ → TrackedTerminal → Type 0
 Comes front behind new = (old : TrackedTerminal) (rest : Rest) (link : Link)
     → Holds rest old link.term → BytesDown rest (front ++ behind) link.down → MayComeAll link.term link.down → NoneCloses link.term link.down
-    → IsSendable link.term.display.screen → TrackedTakes old front new → CameSome link old new behind
+    → CanBeSent link.term.display.shape link.term.display.screen → TrackedTakes old front new → CameSome link old new behind
 
 module _ (takes : TermTakes) (keeps : TakesKeepSendable) (nop : NopHasNoEffect) (goes_on : StandsGoOn without_nops StandsDown) (final : WrongIsFinal) where
   -- NOP: the messages under way stay
   nop_comes : (item : WireItem) (others : List ToTerminal) (link : Link) (talk after : Term) (old mid new : TrackedTerminal) (to : Rest) (front behind : List ℕ) (says : List WireItem) (closes : Option Cause)
       → Comes front behind new → is_nop item ≡ true → link.down ≡ others → BytesDown to (front ++ behind) others
-      → MayComeAll link.term link.down → NoneCloses link.term link.down → IsSendable link.term.display.screen → IsEnd (end_at talk old) link.term
+      → MayComeAll link.term link.down → NoneCloses link.term link.down → CanBeSent link.term.display.shape link.term.display.screen → IsEnd (end_at talk old) link.term
       → EndTakes (end_at talk old) item (record { end = end_at after mid; says = says; closes = closes })
       → mid.terminal.link ≡ link_after to after closes → mid.terminal.out ≡ old.terminal.out ++ sent_bytes says → TrackedTakes mid front new → CameSome link old new behind
   nop_comes item others link talk after old mid new to front behind says closes comes is_it whole down may none can is taken at out more =
@@ -273,7 +273,7 @@ module _ (takes : TermTakes) (keeps : TakesKeepSendable) (nop : NopHasNoEffect) 
   -- an item that stands for the first message, or NOP
   item_comes : (nops : Bool) (item : WireItem) (taken others : List ToTerminal) (link : Link) (talk after : Term) (old mid new : TrackedTerminal) (to : Rest) (front behind : List ℕ) (says : List WireItem) (closes : Option Cause)
       → Comes front behind new → is_nop item ≡ nops → link.down ≡ taken ++ others → Pairwise StandsDown (cond (not nops) (item ∷ []) []) taken → BytesDown to (front ++ behind) others
-      → MayComeAll link.term link.down → NoneCloses link.term link.down → IsSendable link.term.display.screen → IsEnd (end_at talk old) link.term
+      → MayComeAll link.term link.down → NoneCloses link.term link.down → CanBeSent link.term.display.shape link.term.display.screen → IsEnd (end_at talk old) link.term
       → EndTakes (end_at talk old) item (record { end = end_at after mid; says = says; closes = closes })
       → mid.terminal.link ≡ link_after to after closes → mid.terminal.out ≡ old.terminal.out ++ sent_bytes says → TrackedTakes mid front new → CameSome link old new behind
   item_comes true item [] others link talk after old mid new to front behind says closes comes is_it whole each down may none can is taken at out more =
@@ -288,7 +288,7 @@ module _ (takes : TermTakes) (keeps : TakesKeepSendable) (nop : NopHasNoEffect) 
       let next : Link = stayed (took link.term message) others link in
       came_more message others link old mid new behind says whole opened.0 same.said same.fit out
       (comes mid to next (record { talk = after; attached = at ∙ ap (link_after to after) (same.closed ∙ opened.0); is_end = same.is_end })
-      down all.2 opened.1 (keeps message item link.term each.0 all.1 can) more)
+      down all.2 opened.1 (keeps message item link.term each.0 all.1 is.shape_is can) more)
   item_comes false item (message ∷ other ∷ more) others link talk after old mid new to front behind says closes comes is_it whole each down may none can is taken at out rest = absurd each.1
 
   -- what the terminal takes with a byte, as the end takes it
@@ -303,7 +303,7 @@ module _ (takes : TermTakes) (keeps : TakesKeepSendable) (nop : NopHasNoEffect) 
 
   byte_comes : (byte : ℕ) (front behind : List ℕ) (old mid new : TrackedTerminal) (rest : Rest) (link : Link)
       → Comes front behind new → Holds rest old link.term → BytesDown rest (byte ∷ (front ++ behind)) link.down → MayComeAll link.term link.down → NoneCloses link.term link.down
-      → IsSendable link.term.display.screen → mid.history ≡ marked mid.terminal.station old.history → TakesByte old.terminal byte mid.terminal → TrackedTakes mid front new
+      → CanBeSent link.term.display.shape link.term.display.screen → mid.history ≡ marked mid.terminal.station old.history → TakesByte old.terminal byte mid.terminal → TrackedTakes mid front new
       → CameSome link old new behind
   byte_comes byte front behind old mid new rest link comes holds down may none can history (TakesByte.goes_on rest' to talk' at' delivers is_mid) more =
       let is = holds.is_end in
@@ -355,7 +355,7 @@ module _ (takes : TermTakes) (keeps : TakesKeepSendable) (nop : NopHasNoEffect) 
 
   item_marks : WritesAreMarked → (nops : Bool) (item : WireItem) (taken others : List ToTerminal) (link : Link) (talk after : Term) (old mid : TrackedTerminal) (to : Rest) (behind : List ℕ) (says : List WireItem) (closes : Option Cause)
       (is_it : is_nop item ≡ nops) (whole : link.down ≡ taken ++ others) (each : Pairwise StandsDown (cond (not nops) (item ∷ []) []) taken) (down : BytesDown to behind others)
-      (may : MayComeAll link.term link.down) (none : NoneCloses link.term link.down) (can : IsSendable link.term.display.screen) (is : IsEnd (end_at talk old) link.term)
+      (may : MayComeAll link.term link.down) (none : NoneCloses link.term link.down) (can : CanBeSent link.term.display.shape link.term.display.screen) (is : IsEnd (end_at talk old) link.term)
       (takes_it : EndTakes (end_at talk old) item (record { end = end_at after mid; says = says; closes = closes }))
       (at : mid.terminal.link ≡ link_after to after closes) (out : mid.terminal.out ≡ old.terminal.out ++ sent_bytes says)
       → mid.terminal.station.took_write
@@ -374,7 +374,7 @@ module _ (takes : TermTakes) (keeps : TakesKeepSendable) (nop : NopHasNoEffect) 
 
   byte_marks : WritesAreMarked → (byte : ℕ) (behind : List ℕ) (old new : TrackedTerminal) (rest : Rest) (link : Link)
       (holds : Holds rest old link.term) (down : BytesDown rest (byte ∷ behind) link.down) (may : MayComeAll link.term link.down) (none : NoneCloses link.term link.down)
-      (can : IsSendable link.term.display.screen) (history : new.history ≡ marked new.terminal.station old.history) (taken : TakesByte old.terminal byte new.terminal)
+      (can : CanBeSent link.term.display.shape link.term.display.screen) (history : new.history ≡ marked new.terminal.station old.history) (taken : TakesByte old.terminal byte new.terminal)
       → new.terminal.station.took_write ≡ any_painted link.term (byte_comes byte [] behind old new new rest link (bytes_come [] behind new) holds down may none can history taken refl).taken
   unfolding byte_comes bytes_come
   byte_marks marks byte behind old new rest link holds down may none can history (TakesByte.goes_on rest' to talk' at' delivers is_mid) =

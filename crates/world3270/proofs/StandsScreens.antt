@@ -1,17 +1,17 @@
 -- A screen that can be sent stays one, whatever a command does to it.
-use Rattle.std.proofs.Common.{◌≡◌, ◌<◌, ◌+◌, ◌%◌, ℕ, Bool, true, false, Option, None, Some, List, [], ◌∷◌, length, arith, refl, ap, sym, subst, ◌∙◌, if◌then◌else◌, drop, map, position}
+use Rattle.std.proofs.Common.{◌≡◌, ◌<◌, ◌≤◌, ◌+◌, ◌%◌, ℕ, Bool, true, false, Option, None, Some, List, [], ◌∷◌, length, arith, refl, ap, sym, subst, ◌∙◌, if◌then◌else◌, drop, map, position, replicate}
 use Rattle.std.specs.List.{All, prefix_len}
 use Rattle.std.proofs.lemmas.List.Elements.{All-head, All-tail, All-replicate}
-use Rattle.std.proofs.lemmas.List.{length-replicate}
+use Rattle.std.proofs.lemmas.List.{length-map, length-replicate, length-set}
 use Rattle.std.proofs.Math.Nat.{mod-lt}
-use Rattle.codes3270.specs.Size.{cell_count}
+use Rattle.codes3270.specs.Size.{Shape, cells_in, model_2, most_cells}
 use Rattle.codes3270.specs.declared.attribute.Cell.{Cell}
 use Rattle.codes3270.specs.declared.attribute.Cell.TheVariants.{Char, Attr}
 use Rattle.codes3270.specs.declared.attention.Aid.TheVariants.{NoAid}
 use Rattle.codes3270.specs.declared.write_control.Wcc.{Wcc}
-use Rattle.datastream.specs.Grammar.{IsProper, is_write}
+use Rattle.datastream.specs.Grammar.{CommandParts, IsCommand, IsProper, is_write, size_after}
 use Rattle.datastream.specs.InboundFields.{IsStorableCell, IsSendable}
-use Rattle.datastream.specs.Meaning.{WriteProgress, stored, executed, all_executed, cleared, prepared, written, filled, unmodified, after_open_attribute, after_code}
+use Rattle.datastream.specs.Meaning.{WriteProgress, stored, executed, all_executed, cleared, prepared, written, filled, unmodified, after_open_attribute, after_code, after_command}
 use Rattle.datastream.specs.Screen.{Screen, is_char, is_open_attribute}
 use Rattle.datastream.specs.Span.{distance}
 use Rattle.datastream.specs.Wanted.{WantedScreen}
@@ -20,6 +20,7 @@ use Rattle.datastream.specs.declared.command_code.CommandCode.TheVariants.{Write
 use Rattle.datastream.specs.declared.order.Order.{Order}
 use Rattle.datastream.specs.declared.order.Order.TheVariants.{Sf, Sba, Ic, Pt, Ra, Eua, Char as Data}
 use Rattle.datastream.proofs.Commands.{command_proper}
+use Rattle.datastream.proofs.Places.{length-across}
 use Rattle.presentation.proofs.Storable.{storable_unmodified, with_filled, with_opened, with_mapped, with_stored, with_cursor}
 use Rattle.presentation.specs.Applied.{asked_by}
 use Rattle.std.proofs.lemmas.Bool.{and_parts}
@@ -27,113 +28,181 @@ use Rattle.host_core.specs.Messages.{ToTerminal}
 use Rattle.shadow.specs.Belief.{Shadow}
 use Rattle.shadow.specs.Painted.{plainly_painted}
 use Rattle.telnet_wire.specs.Items.{WireItem}
+use Rattle.world3270.specs.Sendable.{CanBeSent}
 use Rattle.world3270.specs.Stands.{IsPaint}
 use Rattle.world3270.specs.StandsEnds.{IsBelieved, TakesKeepSendable}
 use Rattle.world3270.specs.Terminal.{TermEnd, TermStep, is_bound, paint_came, note_came, read_came, once_bound}
 
 -- ---- orders
 
-record IsInProgress (write : WriteProgress) : Type 0 where
-  screen : IsSendable write.screen
-  address : write.address < cell_count
+-- a screen of so many cells that can be sent
+record Keeps (size : ℕ) (screen : Screen) : Type 0 where
+  sendable : IsSendable screen
+  cells : length screen.cells ≡ size
 
-next_below : (size at : ℕ) → size ≡ cell_count → at % size < cell_count
-next_below size at same = subst (λ (n : ℕ). at % n < cell_count) (sym same) (mod-lt at {m = cell_count} (omega arith))
+record IsInProgress (size : ℕ) (write : WriteProgress) : Type 0 where
+  screen : Keeps size write.screen
+  address : write.address < size
 
-tab_below : (size at : ℕ) (found : Option ℕ) → size ≡ cell_count → after_open_attribute found at size < cell_count
-tab_below size at None same = omega arith
-tab_below size at (Some away) same = next_below size (at + away + 1) same
+some_cells : (size : ℕ) (screen : Screen) → Keeps size screen → 0 < size
+some_cells size screen is = let cursor = is.sendable.cursor in let cells = is.cells in omega (arith, cursor, cells)
 
-one_stored : (write : WriteProgress) (cell : Cell) → IsStorableCell cell → IsInProgress write → IsInProgress (stored write cell)
-one_stored write cell p is = record {
-  screen = with_stored write.screen write.address cell p is.screen;
-  address = next_below (length write.screen.cells) (write.address + 1) is.screen.size;
+next_below : (size cells at : ℕ) → cells ≡ size → 0 < size → at % cells < size
+next_below size cells at same some = subst (λ (n : ℕ). at % n < size) (sym same) (mod-lt at {m = size} some)
+
+tab_below : (size cells at : ℕ) (found : Option ℕ) → cells ≡ size → 0 < size → after_open_attribute found at cells < size
+tab_below size cells at None same some = some
+tab_below size cells at (Some away) same some = next_below size cells (at + away + 1) same some
+
+one_stored : (size : ℕ) (write : WriteProgress) (cell : Cell) → IsStorableCell cell → IsInProgress size write → IsInProgress size (stored write cell)
+one_stored size write cell p is = record {
+  screen = record {
+    sendable = with_stored write.screen write.address cell p is.screen.sendable;
+    cells = length-set write.screen.cells write.address cell ∙ is.screen.cells;
+  };
+  address = next_below size (length write.screen.cells) (write.address + 1) is.screen.cells (some_cells size write.screen is.screen);
 }
 
-filled_if : (nulls : Bool) (screen : Screen) (from count : ℕ) → IsSendable screen
-    → IsSendable (record screen { cells = if nulls then filled from count (Char 0) screen.cells else screen.cells })
-filled_if true screen from count is = with_filled screen from count (Char 0) refl is
-filled_if false screen from count is = is
+filled_so : (size : ℕ) (screen : Screen) (from count : ℕ) (cell : Cell) → IsStorableCell cell → Keeps size screen → Keeps size (record screen { cells = filled from count cell screen.cells })
+filled_so size screen from count cell p is =
+    record { sendable = with_filled screen from count cell p is.sendable; cells = length-across from count _ screen.cells ∙ is.cells }
 
-order_keeps : (order : Order) (write : WriteProgress) → IsProper order → IsInProgress write → IsInProgress (executed order write)
-order_keeps (Data byte) write p is = let kept = one_stored write (Char byte) p is in record { screen = kept.screen; address = kept.address }
-order_keeps (Sf attribute) write p is = one_stored write (Attr attribute) tt is
-order_keeps (Sba address) write p is = record { screen = is.screen; address = p }
-order_keeps Ic write p is = record { screen = with_cursor write.screen write.address is.address is.screen; address = is.address }
-order_keeps Pt write p is = record {
-  screen = filled_if write.after_data write.screen write.address (prefix_len is_char (drop write.address write.screen.cells)) is.screen;
-  address = tab_below (length write.screen.cells) write.address (position is_open_attribute (drop write.address write.screen.cells)) is.screen.size;
+filled_if : (nulls : Bool) (size : ℕ) (screen : Screen) (from count : ℕ) → Keeps size screen
+    → Keeps size (record screen { cells = if nulls then filled from count (Char 0) screen.cells else screen.cells })
+filled_if true size screen from count is = filled_so size screen from count (Char 0) refl is
+filled_if false size screen from count is = is
+
+order_keeps : (size : ℕ) (order : Order) (write : WriteProgress) → IsProper size order → IsInProgress size write → IsInProgress size (executed order write)
+order_keeps size (Data byte) write p is = let kept = one_stored size write (Char byte) p is in record { screen = kept.screen; address = kept.address }
+order_keeps size (Sf attribute) write p is = one_stored size write (Attr attribute) tt is
+order_keeps size (Sba address) write p is = record { screen = is.screen; address = p }
+order_keeps size Ic write p is = record {
+  screen = record {
+    sendable = with_cursor write.screen write.address (subst (λ (n : ℕ). write.address < n) (sym is.screen.cells) is.address) is.screen.sendable;
+    cells = is.screen.cells;
+  };
+  address = is.address;
 }
-order_keeps (Ra stop byte) write p is = record {
-  screen = with_filled write.screen write.address (distance (length write.screen.cells) write.address stop) (Char byte) p.1 is.screen;
+order_keeps size Pt write p is = record {
+  screen = filled_if write.after_data size write.screen write.address (prefix_len is_char (drop write.address write.screen.cells)) is.screen;
+  address = tab_below size (length write.screen.cells) write.address (position is_open_attribute (drop write.address write.screen.cells)) is.screen.cells
+      (some_cells size write.screen is.screen);
+}
+order_keeps size (Ra stop byte) write p is = record {
+  screen = filled_so size write.screen write.address (distance (length write.screen.cells) write.address stop) (Char byte) p.1 is.screen;
   address = p.0;
 }
-order_keeps (Eua stop) write p is = record {
-  screen = with_opened write.screen write.address (distance (length write.screen.cells) write.address stop) is.screen;
+order_keeps size (Eua stop) write p is = record {
+  screen = record {
+    sendable = with_opened write.screen write.address (distance (length write.screen.cells) write.address stop) is.screen.sendable;
+    cells = length-across write.address (distance (length write.screen.cells) write.address stop) _ write.screen.cells ∙ is.screen.cells;
+  };
   address = p;
 }
 
-orders_keep : (orders : List Order) (write : WriteProgress) → All IsProper orders → IsInProgress write → IsInProgress (all_executed orders write)
-orders_keep [] write all is = is
-orders_keep (order ∷ orders) write all is =
-    orders_keep orders (executed order write) (All-tail IsProper order orders all)
-    (order_keeps order write (All-head IsProper order orders all) is)
+orders_keep : (size : ℕ) (orders : List Order) (write : WriteProgress) → All (IsProper size) orders → IsInProgress size write → IsInProgress size (all_executed orders write)
+orders_keep size [] write all is = is
+orders_keep size (order ∷ orders) write all is =
+    orders_keep size orders (executed order write) (All-tail (IsProper size) order orders all)
+    (order_keeps size order write (All-head (IsProper size) order orders all) is)
 
 -- ---- writes
 
-prepared_if : (reset : Bool) (screen : Screen) → IsSendable screen → IsSendable (record screen { cells = if reset then map unmodified screen.cells else screen.cells })
-prepared_if true screen is = with_mapped screen unmodified storable_unmodified is
-prepared_if false screen is = is
+prepared_if : (reset : Bool) (size : ℕ) (screen : Screen) → Keeps size screen → Keeps size (record screen { cells = if reset then map unmodified screen.cells else screen.cells })
+prepared_if true size screen is = record { sendable = with_mapped screen unmodified storable_unmodified is.sendable; cells = length-map screen.cells unmodified ∙ is.cells }
+prepared_if false size screen is = is
 
-restored_if : (restore : Bool) (screen : Screen) → IsSendable screen → IsSendable (record screen { aid = if restore then NoAid else screen.aid })
-restored_if true screen is = record { size = is.size; cursor = is.cursor; aid = tt; storable = is.storable }
-restored_if false screen is = is
+restored_if : (restore : Bool) (size : ℕ) (screen : Screen) → Keeps size screen → Keeps size (record screen { aid = if restore then NoAid else screen.aid })
+restored_if true size screen is =
+    record { sendable = record { few = is.sendable.few; cursor = is.sendable.cursor; aid = tt; storable = is.sendable.storable }; cells = is.cells }
+restored_if false size screen is = is
 
-write_keeps : (wcc : Option Wcc) (orders : List Order) (screen : Screen) → All IsProper orders → IsSendable screen → IsSendable (written wcc orders screen)
-write_keeps None orders screen all is = is
-write_keeps (Some wcc) orders screen all is =
-    restored_if wcc.restore _
-    (orders_keep orders (record { screen = prepared wcc screen; address = screen.cursor; after_data = false }) all
-    (record { screen = prepared_if wcc.reset screen is; address = is.cursor })).screen
+write_keeps : (size : ℕ) (wcc : Option Wcc) (orders : List Order) (screen : Screen) → All (IsProper size) orders → Keeps size screen → Keeps size (written wcc orders screen)
+write_keeps size None orders screen all is = is
+write_keeps size (Some wcc) orders screen all is =
+    restored_if wcc.restore size _
+    (orders_keep size orders (record { screen = prepared wcc screen; address = screen.cursor; after_data = false }) all
+    (record { screen = prepared_if wcc.reset size screen is; address = subst (λ (n : ℕ). screen.cursor < n) is.cells is.sendable.cursor })).screen
 
-clear_keeps : (screen : Screen) → IsSendable screen → IsSendable (cleared screen)
-clear_keeps screen is = record {
-  size = length-replicate (length screen.cells) (Char 0) ∙ is.size;
-  cursor = omega arith;
-  aid = is.aid;
-  storable = All-replicate IsStorableCell (length screen.cells) (Char 0) refl;
-}
+clear_keeps : (size : ℕ) (screen : Screen) → Keeps size screen → Keeps size (cleared size screen)
+clear_keeps size screen is =
+    let long : length (replicate size (Char 0)) ≡ size = length-replicate size (Char 0) in
+    record {
+      sendable = record {
+        few = subst (λ (n : ℕ). n ≤ most_cells) (is.cells ∙ sym long) is.sendable.few;
+        cursor = subst (λ (n : ℕ). 0 < n) (sym long) (some_cells size screen is);
+        aid = is.sendable.aid;
+        storable = All-replicate IsStorableCell size (Char 0) refl;
+      };
+      cells = long;
+    }
 
 -- a write leaves a screen that can be sent
-code_keeps : (code : CommandCode) (wcc : Option Wcc) (orders : List Order) (screen : Screen) → is_write code ≡ true → All IsProper orders → IsSendable screen
-    → IsSendable (after_code code wcc orders screen)
-code_keeps Write wcc orders screen writes all is = write_keeps wcc orders screen all is
-code_keeps EraseWrite wcc orders screen writes all is = write_keeps wcc orders (cleared screen) all (clear_keeps screen is)
-code_keeps EraseWriteAlternate wcc orders screen writes all is = write_keeps wcc orders (cleared screen) all (clear_keeps screen is)
-code_keeps ReadBuffer wcc orders screen writes all is = is
-code_keeps ReadModified wcc orders screen writes all is = is
-code_keeps ReadModifiedAll wcc orders screen writes all is = is
-code_keeps EraseAllUnprotected wcc orders screen writes all is = absurd (cc)
+code_keeps : (size : ℕ) (code : CommandCode) (wcc : Option Wcc) (orders : List Order) (screen : Screen) → is_write code ≡ true → All (IsProper size) orders → Keeps size screen
+    → Keeps size (after_code code size wcc orders screen)
+code_keeps size Write wcc orders screen writes all is = write_keeps size wcc orders screen all is
+code_keeps size EraseWrite wcc orders screen writes all is = write_keeps size wcc orders (cleared size screen) all (clear_keeps size screen is)
+code_keeps size EraseWriteAlternate wcc orders screen writes all is = write_keeps size wcc orders (cleared size screen) all (clear_keeps size screen is)
+code_keeps size ReadBuffer wcc orders screen writes all is = is
+code_keeps size ReadModified wcc orders screen writes all is = is
+code_keeps size ReadModifiedAll wcc orders screen writes all is = is
+code_keeps size EraseAllUnprotected wcc orders screen writes all is = absurd (cc)
+
+-- ---- a command to a model 2
+
+same_after : (code : CommandCode) → size_after code model_2 model_2 ≡ model_2
+same_after Write = refl
+same_after EraseWrite = refl
+same_after EraseWriteAlternate = refl
+same_after ReadBuffer = refl
+same_after ReadModified = refl
+same_after ReadModifiedAll = refl
+same_after EraseAllUnprotected = refl
+
+-- whatever its code, it leaves the size
+pub size_is : (command : CommandParts) (body : List ℕ) → IsCommand model_2 model_2 command body → command.size ≡ model_2
+size_is command body (IsCommand.write byte wcc text is_one stands sized read are is) = sized ∙ same_after command.code
+size_is command body (IsCommand.other byte ignored is_none stands sized none few is) = sized ∙ same_after command.code
+
+command_keeps : (command : CommandParts) (body : List ℕ) (screen : Screen) → IsCommand model_2 model_2 command body → is_write command.code ≡ true → CanBeSent model_2 screen
+    → CanBeSent model_2 (after_command command screen)
+command_keeps command body screen spelt writes is =
+    let base : cells_in command.size ≡ cells_in model_2 = ap (λ (size : Shape). cells_in size) (size_is command body spelt) in
+    let kept =
+    code_keeps (cells_in command.size) command.code command.wcc command.orders screen writes (command_proper command (model_2, model_2, body, spelt))
+    (record { sendable = is.sendable; cells = is.whole ∙ sym base }) in
+    record { sendable = kept.sendable; whole = kept.cells ∙ base }
 
 -- ---- a paint
 
-pub paint_keeps : (number : ℕ) (wanted : WantedScreen) (believed : Shadow) (item : WireItem) (end : TermEnd) (p : IsPaint item number wanted believed)
-    → IsBelieved wanted believed end → IsSendable end.display.screen → IsSendable (plainly_painted wanted end.display.screen)
+paint_keeps : (number : ℕ) (wanted : WantedScreen) (believed : Shadow) (item : WireItem) (end : TermEnd) (p : IsPaint item number wanted believed)
+    → IsBelieved believed end → CanBeSent model_2 end.display.screen → CanBeSent model_2 (plainly_painted wanted end.display.screen)
 paint_keeps number wanted believed item end p b is =
     let writes = (and_parts (is_write p.command.code) (asked_by p.command).restore p.paints.writes).0 in
-    subst (λ (s : Screen). IsSendable s) (p.paints.paints end.display.screen b.size b.meets)
-    (code_keeps p.command.code p.command.wcc p.command.orders end.display.screen writes (command_proper p.command (p.body, p.spelt)) is)
+    subst (λ (s : Screen). CanBeSent model_2 s) (p.paints.paints end.display.screen b.meets)
+    (command_keeps p.command p.body end.display.screen p.spelt writes is)
 
-bound_keeps : (bound : Bool) (step : TermStep) (end : TermEnd) → IsSendable step.end.display.screen → IsSendable end.display.screen
-    → IsSendable (once_bound bound step end).end.display.screen
+-- what the terminal shows can be sent
+abbrev CanSend : TermEnd → Type 0
+CanSend end = CanBeSent end.display.shape end.display.screen
+
+bound_keeps : (bound : Bool) (step : TermStep) (end : TermEnd) → CanSend step.end → CanSend end → CanSend (once_bound bound step end).end
 bound_keeps true step end is old = is
 bound_keeps false step end is old = old
 
+of_shape : (shape : Shape) (screen : Screen) → shape ≡ model_2 → CanBeSent model_2 screen → CanBeSent shape screen
+of_shape shape screen same is = subst (λ (s : Shape). CanBeSent s screen) (sym same) is
+
+of_base : (shape : Shape) (screen : Screen) → shape ≡ model_2 → CanBeSent shape screen → CanBeSent model_2 screen
+of_base shape screen same is = subst (λ (s : Shape). CanBeSent s screen) same is
+
 pub takes_keep_sendable : TakesKeepSendable
-takes_keep_sendable (ToTerminal.TalksDown saying) item end stands may is = is
-takes_keep_sendable (ToTerminal.Paint number wanted believed) item end stands may is =
-    bound_keeps (is_bound end) (paint_came number wanted end) end (paint_keeps number wanted believed item end stands may is) is
-takes_keep_sendable (ToTerminal.ReadBuffer number) item end stands may is = bound_keeps (is_bound end) (read_came end) end is is
-takes_keep_sendable (ToTerminal.Note number command) item end stands may is =
+takes_keep_sendable (ToTerminal.TalksDown saying) item end stands may base is = is
+takes_keep_sendable (ToTerminal.Paint number wanted believed) item end stands may base is =
+    bound_keeps (is_bound end) (paint_came number wanted end) end
+    (of_shape end.display.shape _ base (paint_keeps number wanted believed item end stands may (of_base end.display.shape end.display.screen base is))) is
+takes_keep_sendable (ToTerminal.ReadBuffer number) item end stands may base is = bound_keeps (is_bound end) (read_came end) end is is
+takes_keep_sendable (ToTerminal.Note number command) item end stands may base is =
     bound_keeps (is_bound end) (note_came number command end) end
-    (code_keeps command.code command.wcc command.orders end.display.screen (ap is_write may.1.code) (command_proper command (stands.body, stands.spelt)) is) is
+    (of_shape end.display.shape _ base
+    (command_keeps command stands.body end.display.screen stands.spelt (ap is_write may.1.code) (of_base end.display.shape end.display.screen base is))) is

@@ -7,6 +7,7 @@ use Rattle.std.proofs.lemmas.List.{get_or-map, get_or_past, length-map}
 use Rattle.std.proofs.lemmas.Bool.Decides.{Decides-eqb}
 use Rattle.std.proofs.lemmas.List.Elements.{All-nil, All-cons, All-head, All-tail}
 use Rattle.std.proofs.lemmas.Map.Made.{Contains-tail}
+use Rattle.codes3270.specs.Size.{model_2}
 use Rattle.codes3270.specs.declared.attribute.Attr.{Attr as Attribute}
 use Rattle.codes3270.specs.declared.attribute.Cell.{Cell}
 use Rattle.codes3270.specs.declared.attribute.Cell.TheVariants.{Char, Attr}
@@ -24,7 +25,7 @@ use Rattle.world3270.specs.Unreturned.{IsInUnmodified, IsKept, NotedSince, SameP
 
 -- a note of one character
 abbrev single : ℕ → CommandParts
-single place = record { code = Write; wcc = Some quiet; orders = Sba place ∷ Data 0 ∷ [] }
+single place = record { code = Write; size = model_2; wcc = Some quiet; orders = Sba place ∷ Data 0 ∷ [] }
 
 single_is : (place : ℕ) → IsNote (single place)
 single_is place = record { first = place; others = Data 0 ∷ []; code = refl; wcc = refl; orders = refl; each = All-cons IsNoteOrder (Data 0) [] tt (All-nil IsNoteOrder) }

@@ -1,6 +1,7 @@
 -- What a host makes of the next message, at each moment.
 use Rattle.std.proofs.Common.{◌≡◌, ◌<◌, ℕ, Bool, true, false, Option, None, Some, Result, Ok, Err, List, [], ◌∷◌, ◌++◌, length, refl, ap, sym, subst, ◌∙◌, IsOkAnd, IfOk}
 use Rattle.codes3270.specs.Size.{Shape, cells_in}
+use Rattle.codes3270.specs.declared.size.Model.TheVariants.{M2}
 use Rattle.codes3270.specs.declared.attention.Aid.{Aid}
 use Rattle.codes3270.specs.declared.attention.Aid.TheVariants.{NoAid, Enter, Clear, Pf, Pa}
 use Rattle.datastream.specs.Grammar.{CommandParts}
@@ -28,7 +29,7 @@ use Rattle.tn3270e_msg.specs.declared.reply.Reason.{Reason}
 use Rattle.tn3270e_msg.specs.declared.reply.Reply.{Reply}
 use Rattle.tn3270e_msg.specs.declared.reply.Reply.TheVariants as reply
 use Rattle.tn3270e_msg.specs.declared.reply.OwnedMessage.TheVariants.{SendType, TypeRequest, TypeIs, TypeReject, FunRequest, FunIs}
-use Rattle.tn3270e_msg.proofs.Agreement.{responses_alone, model_2}
+use Rattle.tn3270e_msg.proofs.Agreement.{responses_alone, own_device}
 use Rattle.host_core.specs.Application.{Application}
 use Rattle.host_core.specs.Messages.{ToTerminal, ToHost, Verdict}
 use Rattle.host_core.specs.declared.turn.Turn.TheVariants as whose
@@ -76,7 +77,7 @@ leads : (link : Link) (step : HostStep) (rest : List ToHost) (wanted : Option (L
     → step.conn.talk ≡ host_talk_at to → step.conn.turn ≡ turn_at to → step.conn.pending ≡ pending_at to → UnderWay link.lost rest (up_at wanted to) → IsAt (view_of (host_view step rest link)) wanted to
 leads link step rest wanted from to at l talk turn pending left = record {
   host_talk = talk;
-  term_talk = at.term_talk ∙ ap (λ state. record { wanted = wanted; talk = start_at state }) (sym l.term);
+  term_talk = at.term_talk ∙ ap (λ state. record { model = M2; wanted = wanted; talk = start_at state }) (sym l.term);
   turn = turn;
   pending = pending;
   goes_down = subst (UnderWay link.lost (sent link.lost link.down step.sends)) l.down (more link.lost link.down (down_at from) step.sends at.goes_down);
@@ -118,15 +119,15 @@ claim_at conn talk e = ap (λ (t : Talk HostState). granted t.state) (sym e)
 
 -- a terminal that asks for its type of device, and for an LU, if it wants one
 abbrev asking_type : Option (List ℕ) → Saying
-asking_type wanted = Saying.Sub (TypeRequest wanted)
+asking_type wanted = Saying.Sub (TypeRequest M2 wanted)
 
 abbrev at_asking : Talk HostState
 at_asking = start_at (Asking Model2)
 
 asks_pool : Given → (wanted : Option (List ℕ)) → IsLuIfSome wanted → follow HostClosed (start_at Asked) (host_transition Asked (says (asking_type wanted))) ≡ (at_asking, reply.AskPool wanted)
-asks_pool given None is = ap (λ d. follow HostClosed (start_at Asked) (request_transition d None)) model_2
+asks_pool given None is = ap (λ d. follow HostClosed (start_at Asked) (request_transition d None)) (own_device M2)
 asks_pool given (Some name) is =
-    ap (λ d. follow HostClosed (start_at Asked) (request_transition d (Some (Connect name)))) model_2
+    ap (λ d. follow HostClosed (start_at Asked) (request_transition d (Some (Connect name)))) (own_device M2)
     ∙ ap (λ l. follow HostClosed (start_at Asked) (named_transition Model2 l)) (given.belief.names name is)
 
 pool_asked : Given → (pool : Answers) (conn : Conn) (wanted : Option (List ℕ)) → IsLuIfSome wanted
@@ -231,10 +232,10 @@ key_took pool conn parts aid agrees turns time form is some =
     ∙ data_took parts conn conn.pending turns time
     ∙ key_data_took parts conn aid form is some
 
-buffer_took : (pool : Answers) (conn : Conn) (screen : Screen) (number : ℕ) → is_agreed conn.talk.state ≡ true → conn.pending ≡ Pending.Reading number
-    → took pool conn (ToHost.Data (buffer_data screen)) ≡ believed (once_read conn.turn_reason) Pending.Nothing conn (hears (buffer_data screen) conn)
-buffer_took pool conn screen number agrees pends =
-    let parts : InboundParts = buffer_data screen in
+buffer_took : (pool : Answers) (conn : Conn) (size : Shape) (screen : Screen) (number : ℕ) → is_agreed conn.talk.state ≡ true → conn.pending ≡ Pending.Reading number
+    → took pool conn (ToHost.Data (buffer_data size screen)) ≡ believed (once_read conn.turn_reason) Pending.Nothing conn (hears (buffer_data size screen) conn)
+buffer_took pool conn size screen number agrees pends =
+    let parts : InboundParts = buffer_data size screen in
     ap (λ b. once_agreed b (data_came parts conn.turn conn.pending conn) conn) agrees
     ∙ ap (λ p. data_came parts conn.turn p conn) pends
 
@@ -303,14 +304,14 @@ module _ (given : Given) (app : Application) (pool : List Entry) (link : Link) (
 
   -- the whole screen, as it was asked for
   hears_buffer : (lu : List ℕ) (number : ℕ) (parts : InboundParts) (message : ToHost) → IsAt (view_of link) k.wanted (Moment.Serves lu (Serving.Reported number parts)) → IsRead (scene_of (view_of link))
-      → parts ≡ buffer_data screen → message ≡ ToHost.Data parts → UnderWay link.lost rest [] → Answered app pool link rest (took (answer_to pool) link.host message)
+      → parts ≡ buffer_data link.host.shape screen → message ≡ ToHost.Data parts → UnderWay link.lost rest [] → Answered app pool link rest (took (answer_to pool) link.host message)
   hears_buffer lu number parts message at f is e left =
-      let read : InboundParts = buffer_data screen in
+      let read : InboundParts = buffer_data link.host.shape screen in
       as_step app pool link rest k (ToHost.Data read) message (believed (once_read link.host.turn_reason) Pending.Nothing link.host (hears read link.host)) (e ∙ ap (λ p. ToHost.Data p) is)
-      (buffer_took (answer_to pool) link.host screen number (agreed_at app pool link rest k lu (Serving.Reported number parts) at) at.pending)
+      (buffer_took (answer_to pool) link.host link.host.shape screen number (agreed_at app pool link rest k lu (Serving.Reported number parts) at) at.pending)
       (believes lu (Serving.Reported number parts) Serving.Deciding read (once_read link.host.turn_reason) Pending.Nothing (λ s. Sees link.host.shape screen s × NothingIsOpen s) (hears read link.host) at
       (given.belief.heard_exact size link.host.shadow read k.exact.known) (given.belief.heard_protected size link.host.shadow read k.exact.protected)
-      (by_result (heard size link.host.shadow read) (subst (λ n. IsOkAnd (heard n link.host.shadow read) (Believed false screen)) k.whole (given.belief.reads link.host.shadow screen f.decides.sees.meets))
+      (by_result (heard size link.host.shadow read) (subst (λ n. IsOkAnd (heard n link.host.shadow read) (Believed false screen)) k.whole (given.belief.reads link.host.shape link.host.shadow screen f.decides.sees.meets))
       (given.belief.heard_exact size link.host.shadow read k.exact.known) (given.belief.heard_protected size link.host.shadow read k.exact.protected) (given.belief.read_leaves size link.host.shadow read refl))
       refl refl refl left (λ shadow sees. record { lock = f.decides.lock; turn_reason = read_occasion link.host.turn_reason screen.aid f.decides.turn_reason; closed = open_read link.host.turn_reason shadow link.host.shadow sees.1 f.decides.closed; sees = sees.0 }))
     where
@@ -367,7 +368,7 @@ answers given app pool sound link message rest e k = by_moment k.moment k.at k.f
         let first = front link.lost link.up message rest _ _ e at.goes_up in
         hears_response given app pool link rest k lu (Serving.KeyBehind kind number command parts) (Serving.KeyAlone parts) kind number command message at first.0 refl
         f.3 refl refl refl first.1
-        (record { lock = f.0.lock; form = f.0.form; pressed = f.0.pressed; some = f.0.some }, f.1, f.2)
+        (record { lock = f.0.lock; form = f.0.form; size = f.0.size; pressed = f.0.pressed; some = f.0.some }, f.1, f.2)
     by_serving lu (Serving.KeyAlone parts) at f =
         let first = front link.lost link.up message rest _ [] e at.goes_up in
         hears_key given app pool link rest k lu (Serving.KeyAlone parts) Serving.Deciding parts message (Sees link.host.shape screen) at f.0 f.1 first.0 refl (IsKeyTime.nothing_waits refl) refl refl refl first.1

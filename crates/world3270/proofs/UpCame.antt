@@ -9,7 +9,7 @@ use Rattle.host_core.specs.Feeds.{counter_at, with_counter}
 use Rattle.host_core.specs.Session.{Conn}
 use Rattle.host_core.specs.State.{Host, Service, Connection, most_connections, connection_at, service_at, unused}
 use Rattle.world3270.specs.ByteSteps.{is_lost, sent_of, terminal_told, up_came}
-use Rattle.world3270.specs.ByteWorld.{ByteWorld, Transit, Transits, TerminalSlot, under_way, came, is_live, is_senders, is_there, unused_transits, new_slot, transits_at, slot_at, with_transits, with_host, terminal_at, host_there, host_out, out_of, down_of, up_of}
+use Rattle.world3270.specs.ByteWorld.{ByteWorld, Transit, Transits, TerminalSlot, under_way, came, is_live, is_senders, is_there, unused_transits, no_slot, transits_at, slot_at, with_transits, with_host, terminal_at, host_there, host_out, out_of, down_of, up_of}
 use Rattle.world3270.specs.Link.{Link, sent}
 use Rattle.world3270.specs.Places.{EndsAgree}
 use Rattle.world3270.specs.TrackedTerminals.{TrackedTerminal}
@@ -23,7 +23,7 @@ use Rattle.world3270.proofs.UnderWay.{came_flows, came_live, came_senders, came_
 
 -- the terminals once so many bytes of one, if one is there, are sent
 abbrev terminals_told : Bool → ℕ → Option ℕ → List TerminalSlot → List TerminalSlot
-terminals_told true count (Some terminal) slots = slice_set slots terminal (sent_of count (slice_index_or slots terminal new_slot))
+terminals_told true count (Some terminal) slots = slice_set slots terminal (sent_of count (slice_index_or slots terminal no_slot))
 terminals_told true count None slots = slots
 terminals_told false count here slots = slots
 
@@ -137,7 +137,7 @@ came_next count (Transit.Cut kept) = let same : kept - 1 - count ≡ kept - suc 
 came_next count (Transit.SenderGone bytes) = ap Transit.SenderGone (drop_next count bytes)
 
 terminals_none : (senders : Bool) (here : Option ℕ) (slots : List TerminalSlot) → terminals_told senders 0 here slots ≡ slots
-terminals_none true (Some terminal) slots = set-get_or slots terminal new_slot
+terminals_none true (Some terminal) slots = set-get_or slots terminal no_slot
 terminals_none true None slots = refl
 terminals_none false here slots = refl
 

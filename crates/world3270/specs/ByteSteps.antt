@@ -19,7 +19,7 @@ use Rattle.host_core.specs.State.{opened}
 use Rattle.term_core.specs.Feeds.{StopsFor}
 use Rattle.term_core.specs.Presses.{LacksKeyRoom, answer_to_key}
 use Rattle.term_core.specs.Room.{out_room}
-use Rattle.world3270.specs.ByteWorld.{ByteWorld, Transits, TerminalSlot, alone, begun_transits, came, cut, sender_gone, is_live, is_senders, new_slot, attached_slot, transits_at, slot_at, with_transits, with_slot, with_host, host_there, terminal_there, terminal_at, host_out, terminal_out, down_of, up_of}
+use Rattle.world3270.specs.ByteWorld.{ByteWorld, Transits, TerminalSlot, alone, begun_transits, came, cut, sender_gone, is_live, is_senders, model_at, new_slot, attached_slot, transits_at, slot_at, with_transits, with_slot, with_host, host_there, terminal_there, terminal_at, host_out, terminal_out, down_of, up_of}
 use Rattle.world3270.specs.Placed.{is_queued}
 use Rattle.world3270.specs.TrackedTerminals.{TrackedTerminal, TrackedTakes, tracked_after_key}
 use Rattle.world3270.specs.declared.event.Event.{Event}
@@ -207,7 +207,7 @@ nop_sent number world = with_host (with_connection number (kept_alive (connectio
 pub data Connects (terminal : ℕ) (wanted : Option (List ℕ)) (number : ℕ) (old : ByteWorld) (answer : Stepped) (new : ByteWorld) : Type 0 where
   refused : answer ≡ stepped.Memory → new ≡ old → Connects terminal wanted number old answer new
   done : answer ≡ stepped.Done
-      → new ≡ with_transits number begun_transits (with_slot terminal (attached_slot wanted number) (with_host (with_connection number opened old.host) old))
+      → new ≡ with_transits number begun_transits (with_slot terminal (attached_slot (model_at terminal old) wanted number) (with_host (with_connection number opened old.host) old))
       → Connects terminal wanted number old answer new
 
 abbrev pub ConnectsIf : ℕ → Option (List ℕ) → Option ℕ → ByteWorld → Stepped → ByteWorld → Type 0
@@ -219,8 +219,8 @@ saw_loss terminal None world = world
 saw_loss terminal (Some number) world = terminal_gone (alone (slot_at terminal world)) terminal number world
 
 abbrev pub terminal_anew : ℕ → Option ℕ → ByteWorld → ByteWorld
-terminal_anew terminal None world = with_slot terminal new_slot world
-terminal_anew terminal (Some number) world = terminal_gone new_slot terminal number world
+terminal_anew terminal None world = with_slot terminal (new_slot (model_at terminal world)) world
+terminal_anew terminal (Some number) world = terminal_gone (new_slot (model_at terminal world)) terminal number world
 
 abbrev pub host_gone_if_there : ℕ → ByteWorld → ByteWorld
 host_gone_if_there number world = if host_there number world then host_gone number world else world

@@ -6,8 +6,10 @@ use Rattle.lu_pool.specs.declared.entry.Entry.{Entry}
 use Rattle.panels.specs.Panel.{Panels}
 use Rattle.host_core.specs.State.{Host, Service, connection_at, service_at, new_host, most_connections}
 use Rattle.codes3270.specs.Size.{cells_in, model_2}
+use Rattle.codes3270.specs.declared.size.Model.{Model}
+use Rattle.codes3270.specs.declared.size.Model.TheVariants.{M2}
 use Rattle.datastream.specs.Screen.{blank_screen}
-use Rattle.term_core.specs.State.{new_terminal, lost}
+use Rattle.term_core.specs.State.{model_of, new_terminal, lost}
 use Rattle.world3270.specs.TrackedTerminals.{TrackedTerminal, newly_tracked}
 
 -- What is under way in one direction. Live: all bytes that the sender has to send. Cut: the first
@@ -79,16 +81,20 @@ unused_transits = record { down = Transit.SenderGone []; up = Transit.SenderGone
 abbrev pub begun_transits : Transits
 begun_transits = record { down = Transit.Live; up = Transit.Live }
 
-abbrev pub new_tracked : TrackedTerminal
-new_tracked = record { terminal = new_terminal; history = record { last_restored = blank_screen (cells_in model_2); erased = false } }
+abbrev pub new_tracked : Model → TrackedTerminal
+new_tracked model = record { terminal = new_terminal model; history = record { last_restored = blank_screen (cells_in model_2); erased = false } }
 
--- a terminal that begins is alone
-abbrev pub new_slot : TerminalSlot
-new_slot = record { tracked = new_tracked; at = None }
+-- a terminal of this model that begins is alone
+abbrev pub new_slot : Model → TerminalSlot
+new_slot model = record { tracked = new_tracked model; at = None }
+
+-- in place of a terminal that isn't there
+abbrev pub no_slot : TerminalSlot
+no_slot = new_slot M2
 
 -- it begins a connection, on which it wants this LU, if one
-abbrev pub attached_slot : Option (List ℕ) → ℕ → TerminalSlot
-attached_slot wanted number = record { tracked = newly_tracked wanted; at = Some number }
+abbrev pub attached_slot : Model → Option (List ℕ) → ℕ → TerminalSlot
+attached_slot model wanted number = record { tracked = newly_tracked model wanted; at = Some number }
 
 -- it leaves its connection, and its history stays
 abbrev pub alone : TerminalSlot → TerminalSlot
@@ -98,7 +104,11 @@ abbrev pub transits_at : ℕ → ByteWorld → Transits
 transits_at number world = slice_index_or world.links number unused_transits
 
 abbrev pub slot_at : ℕ → ByteWorld → TerminalSlot
-slot_at terminal world = slice_index_or world.slots terminal new_slot
+slot_at terminal world = slice_index_or world.slots terminal no_slot
+
+-- the model of a terminal, which it keeps
+abbrev pub model_at : ℕ → ByteWorld → Model
+model_at terminal world = model_of (slot_at terminal world).tracked.terminal
 
 abbrev pub with_transits : ℕ → Transits → ByteWorld → ByteWorld
 with_transits number transits world = record world { links = slice_set world.links number transits }
@@ -156,7 +166,7 @@ abbrev pub new_byte_world : Panels → List Entry → ℕ → ByteWorld
 new_byte_world panels pool terminals = record {
   host = new_host panels pool;
   links = replicate most_connections unused_transits;
-  slots = replicate terminals new_slot;
+  slots = replicate terminals (new_slot M2);
 }
 
 -- a world has 1 to 16 terminals

@@ -3,6 +3,7 @@
 use Rattle.std.specs.Prelude.{codes, ℕ, suc, zero, ◌+◌, ◌==◌, Bool, true, false, List, [], ◌∷◌, ◌++◌, map, replicate, None, if◌then◌else◌}
 use Rattle.std.specs.List.{range_with_len}
 use Rattle.std.proofs.Common.{lit≤}
+use Rattle.codes3270.specs.Size.{Shape}
 use Rattle.codes3270.specs.declared.attention.Aid.{Aid}
 use Rattle.codes3270.specs.declared.attention.Aid.TheVariants.{Enter, Clear, Pf}
 use Rattle.codes3270.specs.declared.attribute.Attr.{Attr as Attribute}
@@ -26,7 +27,7 @@ abbrev pub name_field : Field
 name_field = record {
   number = 0;
   name = codes "name";
-  extent = record { first = 6; length = 3; after_attribute = lit≤ tt; has_cells = lit≤ tt; above_message = lit≤ tt };
+  extent = record { first = 6; length = 3; after_attribute = lit≤ tt; has_cells = lit≤ tt; on_screen = lit≤ tt };
   numeric = false;
   hidden = false;
   required = true;
@@ -39,7 +40,7 @@ abbrev pub letter_field : Field
 letter_field = record {
   number = 1;
   name = codes "letter";
-  extent = record { first = 11; length = 1; after_attribute = lit≤ tt; has_cells = lit≤ tt; above_message = lit≤ tt };
+  extent = record { first = 11; length = 1; after_attribute = lit≤ tt; has_cells = lit≤ tt; on_screen = lit≤ tt };
   numeric = false;
   hidden = false;
   required = false;
@@ -52,6 +53,10 @@ fields_of zero = name_field ∷ letter_field ∷ []
 fields_of (suc panel) = []
 
 -- ---- the screens that are asked for
+
+-- two rows of 16 cells
+abbrev pub small : Shape
+small = record { rows = 2; columns = 16 }
 
 -- the first `count` cells of an item, beginning with its attribute
 abbrev pub item : ℕ → Attribute → List ℕ → List Want
@@ -70,6 +75,7 @@ message_row fields message = item 16 (autoskip_attr true) (message_text fields m
 -- the sign-on: a literal, the two fields, the message
 abbrev pub sign_on : Values → Message → Bool → WantedScreen
 sign_on values message keep = record {
+  size = small;
   cells =
       item 5 (autoskip_attr false) (coded (codes "NAME"))
       ++ field_and_stopper values message keep name_field
@@ -83,6 +89,7 @@ sign_on values message keep = record {
 -- the second panel: the name, the message
 abbrev pub greeting : Values → Message → WantedScreen
 greeting values message = record {
+  size = small;
   cells = item 16 (autoskip_attr false) (shown values (Show name_field.number)) ++ message_row (fields_of 1) message;
   cursor = 0;
   reset = is_fresh message;
@@ -102,7 +109,7 @@ led_to (suc panel) Clear = Go 0
 led_to _ _ = Again
 
 abbrev pub example : Application
-example = record { begins = record { rows = 2; columns = 16 }; start = 0; fields = fields_of; next = led_to; screen = screen_of }
+example = record { begins = small; start = 0; fields = fields_of; next = led_to; screen = screen_of }
 
 abbrev pub l1 : List ℕ
 l1 = codes "L1"

@@ -6,7 +6,7 @@ use Rattle.term_core.specs.Room.{out_room}
 use Rattle.term_core.specs.State.{Device, Link, Detached, Closed}
 use Rattle.tn3270e_msg.specs.declared.cause.Stop.{Stop}
 use Rattle.tn3270e_msg.specs.declared.cause.Stop.TheVariants as stop
-use Rattle.world3270.specs.ByteWorld.{Transit, TerminalSlot, new_slot}
+use Rattle.world3270.specs.ByteWorld.{Transit, TerminalSlot, no_slot}
 use Rattle.world3270.specs.TrackedTerminals.{TrackedTerminal, TrackedTakesByte}
 use Rattle.world3270.specs.declared.link.InFlight.{InFlight}
 use Rattle.world3270.specs.declared.link.InFlight.TheVariants as in_flight
@@ -37,4 +37,4 @@ TookByte (stop.Closed cause) old byte new = TrackedTakesByte old byte new × (ne
 -- what one of the terminals has to send
 abbrev pub out_among : Option ℕ → List TerminalSlot → List ℕ
 out_among None slots = []
-out_among (Some terminal) slots = (slice_index_or slots terminal new_slot).tracked.terminal.out
+out_among (Some terminal) slots = (slice_index_or slots terminal no_slot).tracked.terminal.out

@@ -7,6 +7,7 @@ use Rattle.datastream.specs.Wanted.{WantedScreen}
 use Rattle.shadow.specs.Belief.{Shadow}
 use Rattle.telnet_wire.specs.declared.wire.Verb.TheVariants.{Will, Do}
 use Rattle.tn3270e_msg.specs.Talk.{Talk, start_at, Saying}
+use Rattle.codes3270.specs.declared.size.Model.TheVariants.{M2}
 use Rattle.tn3270e_msg.specs.declared.device.Device.TheVariants.{Model2}
 use Rattle.tn3270e_msg.specs.declared.host_talk.HostState.{HostState}
 use Rattle.tn3270e_msg.specs.declared.host_talk.HostState.TheVariants.{Offered, Asked, Named, Agreed as HostAgreed}
@@ -162,7 +163,7 @@ talk_down _ = []
 -- `wanted`: the LU that the terminal wants, if one
 abbrev pub talk_up : Option (List ℕ) → Talking → List ToHost
 talk_up wanted Talking.Accepting = says_up (Saying.Opt Will 40)
-talk_up wanted Talking.NamingType = says_up (Saying.Sub (TypeRequest wanted))
+talk_up wanted Talking.NamingType = says_up (Saying.Sub (TypeRequest M2 wanted))
 talk_up wanted (Talking.AskingFunctions lu) = says_up (Saying.Sub FunRequest)
 talk_up wanted _ = []
 
@@ -203,7 +204,7 @@ pub record UnderWay {X : Type 0} (lost : Bool) (queue messages : List X) : Type 
 -- a connection is at a moment
 pub record IsAt (v : View) (wanted : Option (List ℕ)) (moment : Moment) : Type 0 where
   pub host_talk : v.host.talk ≡ host_talk_at moment
-  pub term_talk : v.talk ≡ record { wanted = wanted; talk = start_at (term_state_at moment) }
+  pub term_talk : v.talk ≡ record { model = M2; wanted = wanted; talk = start_at (term_state_at moment) }
   pub turn : v.host.turn ≡ turn_at moment
   pub pending : v.host.pending ≡ pending_at moment
   pub goes_down : UnderWay v.lost v.down (down_at moment)

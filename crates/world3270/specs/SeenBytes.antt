@@ -28,7 +28,7 @@ abbrev pub tracked_seen : ℕ → TrackedTerminal → TerminalSeen
 tracked_seen number tracked = record {
   number = number;
   bound = bound_of (phase_of tracked.terminal.link);
-  screen = tracked.terminal.station.screen;
+  screen = tracked.terminal.station.screen.screen;
   last_restored = tracked.history.last_restored;
   erased = tracked.history.erased;
 }

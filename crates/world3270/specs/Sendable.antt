@@ -1,10 +1,11 @@
 -- What is sent can be spelt: the screen before each operator is always one that can be sent, and each paint is a command of the
 -- data stream (our profile).
 use Rattle.std.specs.Prelude.{◌≡◌, ◌≤◌, ◌<◌, ⊤, ℕ, List, length, All}
-use Rattle.codes3270.specs.Size.{Shape, cells_in, cell_count}
+use Rattle.codes3270.specs.Size.{Shape, cells_in}
 use Rattle.datastream.specs.Grammar.{IsCommand, IsSpelt as IsSpeltCommand}
 use Rattle.datastream.specs.InboundFields.{IsSendable}
 use Rattle.datastream.specs.InboundText.{IsInbound}
+use Rattle.datastream.specs.Screen.{Screen}
 use Rattle.datastream.specs.Wanted.{IsScreen}
 use Rattle.keyboard.specs.Sendable.{IsKey}
 use Rattle.lu_pool.specs.Pool.{IsPool}
@@ -43,9 +44,14 @@ abbrev pub AlwaysTyped : (World → Type 0) → Type 0
 AlwaysTyped Holds = (app : Application) (pool : List Entry) (terminals : ℕ) (events : List Event)
     → IsApplication app → AsksForScreens app → IsPool pool → terminals ≤ 16 → AreEvents events → All IsTyped events → Holds (run app events (new_world app pool terminals))
 
+-- a screen that can be sent, with as many cells as its shape has
+pub record CanBeSent (shape : Shape) (screen : Screen) : Type 0 where
+  pub sendable : IsSendable screen
+  pub whole : length screen.cells ≡ cells_in shape
+
 -- Each terminal's screen can be sent.
 abbrev pub ScreensAreSendable : World → Type 0
-ScreensAreSendable world = (terminal : ℕ) → IsSendable (display_at world (world.place terminal)).screen
+ScreensAreSendable world = (terminal : ℕ) → let display = display_at world (world.place terminal) in CanBeSent display.shape display.screen
 
 -- some bytes are the data
 abbrev pub CanBeSpelt : ToHost → Type 0
@@ -71,7 +77,7 @@ PaintsAreScreens world = (number : ℕ) → All PaintsAScreen (world.link number
 -- a paint's bytes spell its orders
 abbrev pub IsSpelt : ToTerminal → Type 0
 IsSpelt (ToTerminal.TalksDown saying) = ⊤
-IsSpelt (ToTerminal.Paint number wanted over) = IsCommand (paint cell_count over wanted) (paint_bytes cell_count over wanted)
+IsSpelt (ToTerminal.Paint number wanted over) = IsCommand wanted.size wanted.size (paint (cells_in wanted.size) over wanted) (paint_bytes (cells_in wanted.size) over wanted)
 IsSpelt (ToTerminal.ReadBuffer number) = ⊤
 IsSpelt (ToTerminal.Note number command) = IsSpeltCommand command
 

@@ -87,7 +87,7 @@ pub record IsNew (s : Scene) : Type 0 where
 pub record IsPainted (s : Scene) (command : CommandParts) (wanted : WantedScreen) (over : Shadow) : Type 0 where
   pub lock : s.lock ≡ Wait
   pub over_is : over ≡ s.shadow
-  pub command_is : command ≡ paint (cells_in s.shape) over wanted
+  pub command_is : command ≡ paint (cells_in wanted.size) over wanted
   pub meets : Meets over s.screen
   pub closed : NothingIsOpen over
   pub paintable : IsPaintable s.shape over wanted
@@ -118,6 +118,7 @@ pub record Sees (shape : Shape) (screen : Screen) (shadow : Shadow) : Type 0 whe
 pub record IsPressed (s : Scene) (parts : InboundParts) : Type 0 where
   pub lock : s.lock ≡ Wait
   pub form : parts.form ≡ Modified
+  pub size : parts.size ≡ s.shape
   pub pressed : parts.aid ≡ s.screen.aid
   pub some : s.screen.aid ≡ NoAid → ⊥
 
@@ -158,7 +159,7 @@ TalkFact wanted _ = ⊤
 abbrev pub ServingFact : Scene → Serving → Type 0
 ServingFact s Serving.Deciding = Decides s s.shadow
 ServingFact s (Serving.Reading number) = IsRead s
-ServingFact s (Serving.Reported number parts) = IsRead s × (parts ≡ buffer_data s.screen)
+ServingFact s (Serving.Reported number parts) = IsRead s × (parts ≡ buffer_data s.shape s.screen)
 ServingFact s (Serving.NotedLate number command) = Decides s s.shadow × MayBeNoted s command
 ServingFact s (Serving.AnsweredLate number command) = Decides s (once_taken s.shape command s.shadow)
 ServingFact s (Serving.Painting number command wanted over) = IsPainted s command wanted over

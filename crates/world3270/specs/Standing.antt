@@ -2,13 +2,14 @@
 -- each terminal has its place.
 use Rattle.std.specs.Prelude.{◌≡◌, ◌≤◌, ⊤, ℕ, Bool, false, List, [], length, Option, Some, None, is_some}
 use Rattle.codes3270.specs.Size.{model_2}
+use Rattle.codes3270.specs.declared.size.Model.TheVariants.{M2}
 use Rattle.telnet_wire.specs.Reading.{Rest, nothing}
 use Rattle.host_core.specs.Session.{Conn, new_conn}
 use Rattle.host_core.specs.State.{Service, Connection, connection_at, service_at, most_connections}
 use Rattle.term_core.specs.State.{Detached}
 use Rattle.world3270.specs.ByteSteps.{is_lost}
 use Rattle.world3270.specs.ByteWorld.{ByteWorld, Transit, TerminalSlot, under_way, is_live, is_there, new_tracked, transits_at, slot_at, host_there, terminal_at, host_out, out_of, down_of}
-use Rattle.world3270.specs.TrackedTerminals.{TrackedTerminal}
+use Rattle.world3270.specs.TrackedTerminals.{TrackedTerminal, of_model_2}
 use Rattle.world3270.specs.Stands.{ByteLink, LinkStands}
 use Rattle.world3270.specs.Terminal.{Display}
 use Rattle.world3270.specs.World.{Place, World}
@@ -32,7 +33,7 @@ abbrev pub with_out : List ℕ → TrackedTerminal → TrackedTerminal
 with_out out tracked = record tracked { terminal = record tracked.terminal { out = out } }
 
 abbrev pub tracked_of : Option ℕ → ByteWorld → TrackedTerminal
-tracked_of None world = new_tracked
+tracked_of None world = new_tracked M2
 tracked_of (Some terminal) world = with_out [] (slot_at terminal world).tracked
 
 -- a connection at whose other end is this terminal, if one
@@ -73,7 +74,7 @@ pub record IsAlone (tracked : TrackedTerminal) (display : Display) : Type 0 wher
   pub detached : tracked.terminal.link ≡ Detached
   pub silent : tracked.terminal.out ≡ []
   pub shape : display.shape ≡ model_2
-  pub screen : tracked.terminal.station.screen ≡ display.screen
+  pub screen : tracked.terminal.station.screen ≡ of_model_2 display.screen
   pub keyboard : tracked.terminal.station.keyboard ≡ display.keyboard
   pub last_restored : tracked.history.last_restored ≡ display.last_restored
   pub erased : tracked.history.erased ≡ display.erased

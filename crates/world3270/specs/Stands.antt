@@ -26,15 +26,16 @@ use Rattle.host_core.specs.Says.{command_header, read_buffer_command}
 use Rattle.tn3270e_msg.specs.Talk.{item_of}
 use Rattle.host_core.specs.Session.{Conn}
 use Rattle.world3270.specs.Link.{Link}
-use Rattle.world3270.specs.TrackedTerminals.{TrackedTerminal, ByteEnd, end_at}
+use Rattle.world3270.specs.TrackedTerminals.{TrackedTerminal, ByteEnd, end_at, of_model_2}
 use Rattle.world3270.specs.Terminal.{TermEnd}
 
 -- ---- one item down
 
--- The command is a write that restores, and leaves the wanted screen of every screen of its size that meets what is believed.
+-- The command is a write that restores, and leaves the wanted screen of every screen that meets what is believed.
 pub record Paints (command : CommandParts) (wanted : WantedScreen) (believed : Shadow) : Type 0 where
   pub writes : is_restoring_write command ≡ true
-  pub paints : (screen : Screen) → length wanted.cells ≡ length screen.cells → Meets believed screen
+  pub size : command.size ≡ wanted.size
+  pub paints : (screen : Screen) → Meets believed screen
       → after_command command screen ≡ plainly_painted wanted screen
 
 -- a record that asks for a response in any case, with any command that paints
@@ -44,7 +45,7 @@ pub record IsPaint (item : WireItem) (number : ℕ) (wanted : WantedScreen) (bel
   pub command : CommandParts
   pub is_record : item ≡ Record bytes
   pub begins : Begins bytes (command_header always_response number) body
-  pub spelt : IsCommand command body
+  pub spelt : IsCommand model_2 model_2 command body
   pub paints : Paints command wanted believed
 
 -- a record that asks for a response where its Read Buffer is refused
@@ -53,7 +54,7 @@ pub record IsRead (item : WireItem) (number : ℕ) : Type 0 where
   pub body : List ℕ
   pub is_record : item ≡ Record bytes
   pub begins : Begins bytes (command_header error_response number) body
-  pub spelt : IsCommand read_buffer_command body
+  pub spelt : IsCommand model_2 model_2 (read_buffer_command model_2) body
 
 -- a record that asks for a response in any case, with this very write
 pub record IsNoted (item : WireItem) (number : ℕ) (command : CommandParts) : Type 0 where
@@ -61,7 +62,7 @@ pub record IsNoted (item : WireItem) (number : ℕ) (command : CommandParts) : T
   pub body : List ℕ
   pub is_record : item ≡ Record bytes
   pub begins : Begins bytes (command_header always_response number) body
-  pub spelt : IsCommand command body
+  pub spelt : IsCommand model_2 model_2 command body
 
 abbrev pub StandsDown : WireItem → ToTerminal → Type 0
 StandsDown item (ToTerminal.TalksDown saying) = item ≡ item_of saying
@@ -134,7 +135,7 @@ pub record ByteLink : Type 0 where
 pub record IsEnd (bytes : ByteEnd) (end : TermEnd) : Type 0 where
   pub shape_is : end.display.shape ≡ model_2
   pub talk_is : bytes.talk ≡ end.talk
-  pub screen_is : bytes.station.screen ≡ end.display.screen
+  pub screen_is : bytes.station.screen ≡ of_model_2 end.display.screen
   pub keyboard_is : bytes.station.keyboard ≡ end.display.keyboard
   pub last_restored_is : bytes.history.last_restored ≡ end.display.last_restored
   pub erased_is : bytes.history.erased ≡ end.display.erased

@@ -2,13 +2,13 @@
 -- item, and of each key, what it makes of it over messages (our profile).
 use Rattle.std.specs.Prelude.{◌≡◌, ⊤, ℕ, Bool, true, false, List, ◌++◌, length, Option, None}
 use Rattle.std.specs.List.{AllByRecursion}
+use Rattle.codes3270.specs.Size.{cells_in, model_2}
 use Rattle.datastream.specs.Grammar.{IsCommand}
-use Rattle.datastream.specs.InboundFields.{IsSendable}
 use Rattle.datastream.specs.Note.{IsNote}
 use Rattle.datastream.specs.Wanted.{WantedScreen}
 use Rattle.keyboard.specs.declared.key.Key.{Key}
 use Rattle.shadow.specs.Belief.{Shadow}
-use Rattle.shadow.specs.Fits.{fits}
+use Rattle.shadow.specs.Fits.{is_paintable}
 use Rattle.shadow.specs.Meets.{Meets}
 use Rattle.shadow.specs.Paint.{paint}
 use Rattle.shadow.specs.Pairs.{Pairwise}
@@ -22,6 +22,7 @@ use Rattle.term_core.specs.Presses.{key_outcome}
 use Rattle.host_core.specs.KeepAlive.{no_operation}
 use Rattle.host_core.specs.Messages.{ToTerminal}
 use Rattle.host_core.specs.Says.{command_header}
+use Rattle.world3270.specs.Sendable.{CanBeSent}
 use Rattle.world3270.specs.TrackedTerminals.{TrackedTerminal, ByteEnd, ByteStep, EndTakes, tracked_after_key}
 use Rattle.world3270.specs.Stands.{StandsDown, StandsUp, IsEnd, Holds}
 use Rattle.world3270.specs.Terminal.{TermEnd, TermStep, is_bound, quiet, took, key_came}
@@ -31,7 +32,7 @@ use Rattle.world3270.specs.Terminal.{TermEnd, TermStep, is_bound, quiet, took, k
 -- A record with a paint of the wanted screen represents that paint, if it fits the belief.
 abbrev pub PaintStands : Type 0
 PaintStands = (number : ℕ) (wanted : WantedScreen) (believed : Shadow) (bytes body : List ℕ)
-    → Begins bytes (command_header always_response number) body → IsCommand (paint (length wanted.cells) believed wanted) body → fits believed wanted ≡ true
+    → length wanted.cells ≡ cells_in wanted.size → Begins bytes (command_header always_response number) body → IsCommand model_2 model_2 (paint (cells_in wanted.size) believed wanted) body → is_paintable believed wanted ≡ true
     → StandsDown (Record bytes) (ToTerminal.Paint number wanted believed)
 
 -- ---- when a message may come
@@ -51,16 +52,15 @@ abbrev pub NamesWanted : TermState → Option (List ℕ) → Type 0
 NamesWanted Willing wanted = IsLuIfSome wanted
 NamesWanted _ wanted = ⊤
 
--- the screen is one of the wanted size that meets what was believed
-pub record IsBelieved (wanted : WantedScreen) (believed : Shadow) (end : TermEnd) : Type 0 where
+-- the screen meets what was believed
+pub record IsBelieved (believed : Shadow) (end : TermEnd) : Type 0 where
   pub is_open : IsOpen end.talk.talk.state
-  pub size : length wanted.cells ≡ length end.display.screen.cells
   pub meets : Meets believed end.display.screen
 
 -- LUs are named, a paint finds a screen that it paints, and a record a talk that goes on
 abbrev pub MayCome : TermEnd → ToTerminal → Type 0
 MayCome end (ToTerminal.TalksDown saying) = IsSaid saying × NamesWanted end.talk.talk.state end.talk.wanted
-MayCome end (ToTerminal.Paint number wanted believed) = IsBelieved wanted believed end
+MayCome end (ToTerminal.Paint number wanted believed) = IsBelieved believed end
 MayCome end (ToTerminal.ReadBuffer number) = IsOpen end.talk.talk.state
 MayCome end (ToTerminal.Note number command) = IsOpen end.talk.talk.state × IsNote command
 
@@ -70,7 +70,7 @@ MayCome end (ToTerminal.Note number command) = IsOpen end.talk.talk.state × IsN
 pub record ItemComes (message : ToTerminal) (item : WireItem) (old : ByteEnd) (end : TermEnd) (step : ByteStep) : Type 0 where
   pub stands : StandsDown item message
   pub may : MayCome end message
-  pub sendable : IsSendable end.display.screen
+  pub sendable : CanBeSent end.display.shape end.display.screen
   pub is_end : IsEnd old end
   pub takes : EndTakes old item step
 
@@ -111,7 +111,8 @@ WritesAreMarked = (message : ToTerminal) (item : WireItem) (old : ByteEnd) (end 
 -- The terminal's screen can then be sent, too.
 abbrev pub TakesKeepSendable : Type 0
 TakesKeepSendable = (message : ToTerminal) (item : WireItem) (end : TermEnd)
-    → StandsDown item message → MayCome end message → IsSendable end.display.screen → IsSendable (took end message).end.display.screen
+    → StandsDown item message → MayCome end message → end.display.shape ≡ model_2
+    → CanBeSent end.display.shape end.display.screen → let after = (took end message).end.display in CanBeSent after.shape after.screen
 
 -- ---- what it makes of a key
 
@@ -127,5 +128,5 @@ pub record SameKey (old new : TrackedTerminal) (rest : Rest) (step : TermStep) :
 -- A terminal makes of a key what it makes of it over messages, where the screen that it leaves can be sent.
 abbrev pub TermPresses : Type 0
 TermPresses = (key : Key) (old : TrackedTerminal) (rest : Rest) (end : TermEnd)
-    → Holds rest old end → IsSendable (key_outcome key old.terminal.station).screen
+    → Holds rest old end → CanBeSent end.display.shape (key_outcome key old.terminal.station).screen
     → SameKey old (tracked_after_key key old) rest (key_came key end)

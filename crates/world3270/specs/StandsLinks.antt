@@ -3,7 +3,8 @@
 use Rattle.std.specs.Prelude.{◌≡◌, ◌||◌, ⊤, ℕ, Bool, true, false, List, [], ◌∷◌, ◌++◌, Option, Some, None}
 use Rattle.std.specs.List.{AllByRecursion, list_any}
 use Rattle.codes3270.specs.Size.{model_2}
-use Rattle.datastream.specs.InboundFields.{IsSendable}
+use Rattle.codes3270.specs.declared.size.Model.TheVariants.{M2}
+use Rattle.world3270.specs.Sendable.{CanBeSent}
 use Rattle.keyboard.specs.declared.key.Key.{Key}
 use Rattle.shadow.specs.Pairs.{Pairwise}
 use Rattle.telnet_wire.specs.Items.{WireItem, CanCome, sent_bytes}
@@ -60,7 +61,7 @@ begun_bytes terminal wanted = record {
   host = new_conn model_2;
   host_rest = nothing;
   term_here = Some terminal;
-  tracked = newly_tracked wanted;
+  tracked = newly_tracked M2 wanted;
 }
 
 abbrev pub BeginStands : Type 0
@@ -77,7 +78,7 @@ handed_on tracked bytes =
 -- sent.
 abbrev pub PressStands : Type 0
 PressStands = (key : Key) (bytes : ByteLink) (link : Link) (terminal : ℕ)
-    → LinkStands bytes link → link.term_here ≡ Some terminal → IsSendable (key_outcome key bytes.tracked.terminal.station).screen
+    → LinkStands bytes link → link.term_here ≡ Some terminal → CanBeSent link.term.display.shape (key_outcome key bytes.tracked.terminal.station).screen
     → LinkStands (handed_on (tracked_after_key key bytes.tracked) bytes) (term_stepped (key_came key link.term) link.down link)
 
 -- each message may come when it does, and the talk goes on before each and after the last
@@ -119,7 +120,7 @@ pub record IsReady (bytes : ByteLink) (link : Link) : Type 0 where
   pub here : link.term_here ≡ Some terminal
   pub may : MayComeAll link.term link.down
   pub none : NoneCloses link.term link.down
-  pub sendable : IsSendable link.term.display.screen
+  pub sendable : CanBeSent link.term.display.shape link.term.display.screen
 
 -- A connection represents one over messages after any bytes that the terminal takes off its queue.
 abbrev pub DownStands : Type 0

@@ -1,6 +1,7 @@
 -- A terminal, over messages: what it makes of what a host sends, and of keys (RFC 1647, sections 7, 8.1 and 10.4; locks are our profile).
 use Rattle.std.specs.Prelude.{◌||◌, ℕ, Bool, true, false, List, [], ◌∷◌, map, Option, Some, None, is_some}
 use Rattle.codes3270.specs.Size.{Shape, cells_in}
+use Rattle.codes3270.specs.declared.size.Model.TheVariants.{M2}
 use Rattle.datastream.specs.Grammar.{CommandParts}
 use Rattle.datastream.specs.InboundFields.{modified_data, buffer_data}
 use Rattle.datastream.specs.Meaning.{after_command}
@@ -36,13 +37,13 @@ abbrev pub new_display : Shape → Display
 new_display shape =
     record { shape = shape; screen = blank_screen (cells_in shape); keyboard = fresh; last_restored = blank_screen (cells_in shape); erased = false }
 
--- the end of a connection that a terminal holds
+-- the end of a connection that a terminal holds, so far of model 2
 pub record TermEnd : Type 0 where
   pub talk : Term
   pub display : Display
 
 abbrev pub new_end : Shape → Option (List ℕ) → TermEnd
-new_end shape wanted = record { talk = term_start wanted; display = new_display shape }
+new_end shape wanted = record { talk = term_start M2 wanted; display = new_display shape }
 
 -- the LU that it is bound to
 abbrev pub bound_to : TermState → Option (List ℕ)
@@ -75,7 +76,7 @@ abbrev pub replied : TermEnd → Talk TermState × Reply → TermStep
 replied end talked = record { end = with_talk end talked.0; sends = map ToHost.TalksUp (sayings talked.1); closes = closing talked.1 }
 
 abbrev pub talked : TermEnd → Term → Saying → TermStep
-talked end talk saying = replied end (follow Closed talk.talk (term_transition talk.wanted talk.talk.state (says saying)))
+talked end talk saying = replied end (follow Closed talk.talk (term_transition talk.model talk.wanted talk.talk.state (says saying)))
 
 -- the wanted screen is painted, and the keyboard freed
 abbrev pub painted : WantedScreen → Display → Display
@@ -103,7 +104,7 @@ note_came number command end =
 
 -- the whole screen is the answer
 abbrev pub read_came : TermEnd → TermStep
-read_came end = record { end = end; sends = ToHost.Data (buffer_data end.display.screen) ∷ []; closes = None }
+read_came end = record { end = end; sends = ToHost.Data (buffer_data end.display.shape end.display.screen) ∷ []; closes = None }
 
 -- before it is bound a terminal drops records
 abbrev pub once_bound : Bool → TermStep → TermEnd → TermStep
@@ -132,17 +133,17 @@ after_key key display =
     record display { screen = outcome.screen; keyboard = outcome.keyboard; erased = display.erased || erases_if outcome.answer key }
 
 -- a terminal that is bound sends its modified fields
-abbrev pub data_of : Bool → Pressed → Screen → List ToHost
-data_of true (Send aid) screen = ToHost.Data (modified_data Modified screen) ∷ []
-data_of false (Send aid) screen = []
-data_of bound Done screen = []
-data_of bound (Refused why) screen = []
+abbrev pub data_of : Bool → Pressed → Shape → Screen → List ToHost
+data_of true (Send aid) shape screen = ToHost.Data (modified_data Modified shape screen) ∷ []
+data_of false (Send aid) shape screen = []
+data_of bound Done shape screen = []
+data_of bound (Refused why) shape screen = []
 
 abbrev pub key_came : Key → TermEnd → TermStep
 key_came key end =
     let outcome = outcome_of key end.display in
     record {
       end = record end { display = after_key key end.display };
-      sends = data_of (is_bound end) outcome.answer outcome.screen;
+      sends = data_of (is_bound end) outcome.answer end.display.shape outcome.screen;
       closes = None;
     }

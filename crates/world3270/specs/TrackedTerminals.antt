@@ -2,7 +2,10 @@
 -- makes of them is term_core's; no step of it reads the history.
 use Rattle.std.specs.Prelude.{◌≡◌, ◌||◌, ℕ, Bool, true, false, List, [], ◌∷◌, Option}
 use Rattle.codes3270.specs.Size.{cells_in, model_2}
+use Rattle.codes3270.specs.declared.size.Model.{Model}
+use Rattle.codes3270.specs.declared.size.Model.TheVariants.{M2}
 use Rattle.datastream.specs.Screen.{Screen, blank_screen}
+use Rattle.presentation.specs.Sizes.{SizedScreen}
 use Rattle.keyboard.specs.declared.key.Key.{Key}
 use Rattle.telnet_wire.specs.Items.{WireItem}
 use Rattle.tn3270e_msg.specs.TermTable.{Term}
@@ -13,6 +16,10 @@ use Rattle.term_core.specs.Presses.{after_key, answer_to_key}
 use Rattle.term_core.specs.State.{Station, Terminal, connected}
 use Rattle.world3270.specs.Terminal.{erases_if}
 
+-- the screen of a model 2
+abbrev pub of_model_2 : Screen → SizedScreen
+of_model_2 screen = record { model = M2; size = model_2; screen = screen }
+
 -- the screen just after the terminal last took a write with restore on its latest connection, and whether Erase Input was done since
 pub record History : Type 0 where
   pub last_restored : Screen
@@ -22,9 +29,9 @@ pub record TrackedTerminal : Type 0 where
   pub terminal : Terminal
   pub history : History
 
--- at the begin of a connection, on which it wants this LU, if one
-abbrev pub newly_tracked : Option (List ℕ) → TrackedTerminal
-newly_tracked wanted = record { terminal = connected wanted; history = record { last_restored = blank_screen (cells_in model_2); erased = false } }
+-- a terminal of this model at the begin of a connection, on which it wants this LU, if one
+abbrev pub newly_tracked : Model → Option (List ℕ) → TrackedTerminal
+newly_tracked model wanted = record { terminal = connected model wanted; history = record { last_restored = blank_screen (cells_in model_2); erased = false } }
 
 -- ---- bytes
 
@@ -36,7 +43,7 @@ restored_by false screen old = old
 -- the history after a byte: if the byte completed a write with restore that was applied, the screen
 -- after that write is the last restored one
 abbrev pub marked : Station → History → History
-marked station old = restored_by station.took_write station.screen old
+marked station old = restored_by station.took_write station.screen.screen old
 
 pub record TrackedTakesByte (old : TrackedTerminal) (byte : ℕ) (new : TrackedTerminal) : Type 0 where
   pub takes : TakesByte old.terminal byte new.terminal

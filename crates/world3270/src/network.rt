@@ -1,10 +1,11 @@
 //! The parts of a world: a host, the connections that it serves, and terminals; and how bytes move
 //! between them.
 ghost use Rattle.std.specs.Prelude.{◌≡◌, ◌<◌, ◌≤◌, None, Some, true, false, is_some, length, IfOk, IfSome, replicate, take};
+ghost use Rattle.codes3270.specs.declared.size.Model.TheVariants.{M2};
 ghost use Rattle.host_core.specs.Feeds.{Feeds, counter_at, with_counter};
 ghost use Rattle.host_core.specs.State.{most_connections};
 ghost use Rattle.world3270.specs.ByteSteps.{Connects, TrackedFeeds, Steps, answer_acted, answer_fed, answer_pressed, down_came, free_number, has_place, host_gone, host_gone_below, host_gone_if, host_gone_if_there, host_told, is_held, is_link, is_up, lost_transits, terminal_gone, terminal_gone_if, terminal_told, up_came};
-ghost use Rattle.world3270.specs.ByteWorld.{alone, down_of, host_out, host_there, is_senders, transits_at, new_byte_world, new_slot, slot_at, terminal_at, terminal_out, terminal_there, unused_transits, up_of, with_host, with_slot, with_transits};
+ghost use Rattle.world3270.specs.ByteWorld.{alone, down_of, host_out, host_there, is_senders, model_at, transits_at, new_byte_world, new_slot, slot_at, terminal_at, terminal_out, terminal_there, unused_transits, up_of, with_host, with_slot, with_transits};
 ghost use Rattle.world3270.specs.InFlight.{out_among};
 ghost use Rattle.world3270.specs.Placed.{is_queued};
 ghost use Rattle.world3270.specs.declared.event.Event.TheVariants as event;
@@ -13,12 +14,13 @@ use crate::event::{Event, Stepped};
 use crate::link::{Link, first};
 use crate::note_text::NoteText;
 use crate::terminal_slot::TerminalSlot;
+use codes3270::Model;
 use host_core::{Acted, Host, MOST_CONNECTIONS, Phase};
 use keyboard::{Key, Pressed};
 use lu_pool::Pool;
 use panels::PanelSet;
 use std::alloc::Global;
-use std::marker::Model;
+use std::marker;
 use telnet_wire::Memory;
 use term_core::Terminal;
 use tn3270e_msg::{Fed, Lu, Stop};
@@ -32,7 +34,7 @@ pub(crate) struct Network {
     slots: Vec<TerminalSlot>,
 }
 
-impl Model for Network {
+impl marker::Model for Network {
     ghost use Rattle.std.specs.Prelude.{◌≡◌, length};
     ghost use Rattle.host_core.specs.State.{most_connections};
     ghost use Rattle.world3270.specs.ByteWorld.{ByteWorld};
@@ -57,11 +59,11 @@ fn unused_links(alloc: Global) -> Result<Vec<Link>, Memory>
 
 /// This number of new terminals.
 fn new_slots(alloc: Global, terminals: usize) -> Result<Vec<TerminalSlot>, Memory>
-    ensures { IfOk result (λ slots. slots.items ≡ replicate terminals new_slot) }
+    ensures { IfOk result (λ slots. slots.items ≡ replicate terminals (new_slot M2)) }
 {
     let mut slots = Vec::with_capacity(alloc, terminals)?;
     for _ in 0..terminals {
-        slots.push(TerminalSlot::new(alloc)?)?;
+        slots.push(TerminalSlot::new(alloc, Model::M2)?)?;
     }
     Ok(slots)
 }
@@ -241,7 +243,7 @@ impl Network {
     fn terminal_leaves_anew(&mut self, terminal: usize, conn: usize)
         requires terminal { terminal < length self.old.slots }
         requires number { conn < most_connections }
-        ensures { self.new ≡ terminal_gone new_slot terminal conn self.old }
+        ensures { self.new ≡ terminal_gone (new_slot (model_at terminal self.old)) terminal conn self.old }
     {
         let down = self.host.out(conn).len();
         let unsent = self.slots[terminal].leave_anew();

@@ -5,16 +5,18 @@ ghost use Rattle.keyboard.specs.Leaves.{erases};
 ghost use Rattle.term_core.specs.Feeds.{IsAttached};
 ghost use Rattle.term_core.specs.Presses.{LacksKeyRoom, answer_to_key};
 ghost use Rattle.term_core.specs.Room.{out_room};
+ghost use Rattle.term_core.specs.State.{model_of};
 ghost use Rattle.world3270.specs.ByteSteps.{TrackedFeeds};
 ghost use Rattle.world3270.specs.ByteWorld.{alone, new_slot, attached_slot, is_attached_to};
 ghost use Rattle.world3270.specs.InFlight.{StopsAtOnce, TookByte};
 ghost use Rattle.world3270.specs.TrackedTerminals.{tracked_after_key, marked};
 
+use codes3270::Model;
 use host_core::{Host, Phase};
 use keyboard::{Key, Pressed};
 use presentation::Screen;
 use std::alloc::Global;
-use std::marker::Model;
+use std::marker;
 use telnet_wire::Memory;
 use term_core::{TermPhase, Terminal};
 use tn3270e_msg::{Fed, Lu, Stop};
@@ -30,27 +32,27 @@ pub(crate) struct TerminalSlot {
     erased: bool,
 }
 
-impl Model for TerminalSlot {
+impl marker::Model for TerminalSlot {
     ghost use Rattle.world3270.specs.ByteWorld.{TerminalSlot as Slot};
     ghost use Rattle.world3270.specs.InFlight.{IsSoundSlot};
 
     ghost Value = { Slot };
 
-    ghost view = { λ s. record { tracked = record { terminal = s.terminal.terminal; history = record { last_restored = s.last_restored; erased = s.erased } }; at = s.at } };
+    ghost view = { λ s. record { tracked = record { terminal = s.terminal.terminal; history = record { last_restored = s.last_restored.screen; erased = s.erased } }; at = s.at } };
 
     ghost invariant = { λ s. IsSoundSlot s.at s.terminal };
 }
 
 impl TerminalSlot {
-    /// A new terminal, without a connection.
-    pub(crate) fn new(alloc: Global) -> Result<TerminalSlot, Memory>
-        ensures { IfOk result (λ slot. slot ≡ new_slot) }
+    /// A new terminal of this model, without a connection.
+    pub(crate) fn new(alloc: Global, model: Model) -> Result<TerminalSlot, Memory>
+        ensures { IfOk result (λ slot. slot ≡ new_slot model) }
     {
-        let terminal = Terminal::new(alloc)?;
+        let terminal = Terminal::new(alloc, model)?;
         Ok(TerminalSlot {
             terminal,
             at: None,
-            last_restored: Screen::blank(),
+            last_restored: Screen::blank(model),
             erased: false,
         })
     }
@@ -121,16 +123,17 @@ impl TerminalSlot {
         requires alone { self.old.at ≡ None }
         requires number { number < most_connections }
         requires free { phase_of (service_at number host.old) ≡ Phase.Free }
-        ensures attached_slot { OnOk result (self.new ≡ attached_slot wanted number) }
+        ensures attached_slot { OnOk result (self.new ≡ attached_slot (model_of self.old.tracked.terminal) wanted number) }
         ensures opened { OnOk result (host.new ≡ with_connection number opened host.old) }
         ensures unchanged { OnErr result (self.new ≡ self.old) }
         ensures unopened { OnErr result (host.new ≡ host.old) }
     {
+        let model = self.model();
         self.terminal.make_room()?;
         host.open(number)?;
         self.terminal.connected(wanted);
         self.at = Some(number);
-        self.last_restored = Screen::blank();
+        self.last_restored = Screen::blank(model);
         self.erased = false;
         Ok(())
     }
@@ -144,20 +147,28 @@ impl TerminalSlot {
         self.terminal.lost()
     }
 
+    /// Its model.
+    fn model(&self) -> Model
+        ensures { result ≡ model_of self.now.tracked.terminal }
+    {
+        self.terminal.screen().model()
+    }
+
     /// Restarts, without a connection.
     pub(crate) fn restart(&mut self)
-        ensures { self.new ≡ new_slot }
+        ensures { self.new ≡ new_slot (model_of self.old.tracked.terminal) }
     {
+        let model = self.model();
         self.terminal.restart();
         self.at = None;
-        self.last_restored = Screen::blank();
+        self.last_restored = Screen::blank(model);
         self.erased = false;
     }
 
     /// Leaves its connection, hands back what wasn't sent, and restarts.
     pub(crate) fn leave_anew(&mut self) -> Vec<u8>
         ensures unsent { result.items ≡ self.old.tracked.terminal.out }
-        ensures anew { self.new ≡ new_slot }
+        ensures anew { self.new ≡ new_slot (model_of self.old.tracked.terminal) }
     {
         let unsent = self.leave();
         self.restart();

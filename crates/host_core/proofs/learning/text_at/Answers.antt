@@ -1,5 +1,5 @@
 use Rattle.std.proofs.Common.{◌<◌, ◌==◌, not, sym, ◌∙◌, arith}
-use Rattle.codes3270.specs.Size.{cell_count}
+use Rattle.codes3270.specs.Size.{most_cells}
 use Rattle.shadow.specs.Asked.{value_of}
 use Rattle.host_core.proofs.Knowing.{value_there, read_all, read_few, read_more}
 use Rattle.host_core.proofs.learning.text_at.Goals as goal
@@ -12,7 +12,7 @@ returns c belief there =
 
 pub loop-byte-preserved : goal.loop-byte-preserved
 loop-byte-preserved c =
-    let inside : c.loop-byte.index < cell_count = c.in-Some.ensures.few in
+    let inside : c.loop-byte.index < most_cells = c.in-Some.ensures.few in
     record {
       within = omega (arith, inside);
       few = read_few (not (c.in-Some.byte == 0)) c.loop-byte.text.items c.put_unless_null.new.text.items c.in-Some.byte c.loop-byte.index c.loop-byte.invariant.few c.put_unless_null.ensures;

@@ -12,5 +12,5 @@ returns-clause-wanted c =
 
 pub returns-clause-fits : goal.returns-clause-fits
 returns-clause-fits c =
-    let app = c.panels_are_shown.ensures.application c.args.panels.now c.panels_are_sound.ensures.cursors c.panels_are_sound.ensures.apart in
+    let app = c.panels_are_shown.ensures.application c.args.panels.now c.panels_are_sound.ensures.otherwise c.panels_are_sound.ensures.laid_out c.panels_are_sound.ensures.apart in
     rw (returns-clause-wanted c) (c.what_is_shown_fits.ensures (application_of c.args.panels.now) (new_conn model_2) (Act.Show c.args.panel c.args.message false c.args.values.now) app).0.fits

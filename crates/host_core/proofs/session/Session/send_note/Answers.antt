@@ -19,6 +19,7 @@ invariant_of-self c = (
       (c.put_note.ensures.appended ∙ ap (λ (bytes : List ℕ). bytes ++ written (note_command model_2 c.args.text.now)) c.begin_record.ensures.begun),
   omega arith,
   c.self.invariant.2,
+  c.self.invariant.3,
 )
 
 pub returns-clause-sent : goal.returns-clause-sent

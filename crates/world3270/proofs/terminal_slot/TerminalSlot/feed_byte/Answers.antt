@@ -9,7 +9,7 @@ use Rattle.world3270.proofs.terminal_slot.TerminalSlot.feed_byte.Goals as goal
 
 pub returns-in-Going-clause-took : goal.returns-in-Going-clause-took
 returns-in-Going-clause-took c =
-    let now : TrackedTerminal = record { terminal = c.self.inside.terminal.terminal; history = record { last_restored = c.self.inside.last_restored; erased = c.self.inside.erased } } in
+    let now : TrackedTerminal = record { terminal = c.self.inside.terminal.terminal; history = record { last_restored = c.self.inside.last_restored.screen; erased = c.self.inside.erased } } in
     let same : now ≡ c.args.self.now.tracked = ap (λ (s : TerminalSlot). s.tracked) c.self.view_is in
     subst (λ (s : TrackedTerminal). TookByte stop.Going s c.args.byte c.mark.new.self.tracked) same
     (byte_went_on c.feed.new.self.room now c.feed.new.self.terminal c.args.byte c.feed.result c.mark.new.self.tracked
@@ -18,7 +18,7 @@ returns-in-Going-clause-took c =
 
 pub returns-in-Closed-clause-took : goal.returns-in-Closed-clause-took
 returns-in-Closed-clause-took c =
-    let now : TrackedTerminal = record { terminal = c.self.inside.terminal.terminal; history = record { last_restored = c.self.inside.last_restored; erased = c.self.inside.erased } } in
+    let now : TrackedTerminal = record { terminal = c.self.inside.terminal.terminal; history = record { last_restored = c.self.inside.last_restored.screen; erased = c.self.inside.erased } } in
     let same : now ≡ c.args.self.now.tracked = ap (λ (s : TerminalSlot). s.tracked) c.self.view_is in
     subst (λ (s : TrackedTerminal). TookByte (stop.Closed c.in-Closed.cause) s c.args.byte c.mark-in-Closed.new.self.tracked) same
     (byte_closed c.feed.new.self.room now c.feed.new.self.terminal c.args.byte c.in-Closed.cause c.feed.result c.mark-in-Closed.new.self.tracked
