@@ -103,7 +103,7 @@ pub data HasPartFault (size : ℕ) (form : Form) (fault : InboundFault) (text : 
 
 -- ---- inbound data
 
--- what inbound data says, and the size of the screen that it is about
+-- what inbound data says, and the size of its screen
 pub record InboundParts : Type 0 where
   pub form : Form
   pub size : Shape

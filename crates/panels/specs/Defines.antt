@@ -74,7 +74,7 @@ IsTargetBy panels None target = target ≡ None
 IsTargetBy panels (Some name) None = ⊥
 IsTargetBy panels (Some name) (Some p) = IsPanelNamed panels name p
 
--- which panel is shown in its place: the one of model 2 with a name, where there has to be one
+-- which panel is shown in its place: the one of model 2 with a name, where there must be one
 abbrev pub IsOtherwiseBy : List DraftPanel → Option (List ℕ) → Option ℕ → Type 0
 IsOtherwiseBy panels None otherwise = otherwise ≡ None
 IsOtherwiseBy panels (Some name) None = ⊥

@@ -18,7 +18,7 @@ ArePut count put old new = (cell : ℕ) (default : Want) → cell < count → sl
 abbrev pub IsPut : (ℕ → Option Want) → WantedScreen → WantedScreen → Type 0
 IsPut put old new = (new.size ≡ old.size) × ArePut (cells_in old.size) put old.cells new.cells
 
--- an item and the cell behind it are on a screen
+-- an item and the cell after it are on a screen
 abbrev pub FitsOn : Shape → Extent → Type 0
 FitsOn shape extent = extent.first + extent.length < cells_in shape
 
