@@ -227,6 +227,7 @@ impl HasCells for Wanted {
 
     ghost cells = { λ wanted. wanted.cells };
 
+    #[inline(always)]
     fn cell_at(&self, at: usize) -> Want {
         // For the contract: there is a want for each cell.
         let _count = self.count();

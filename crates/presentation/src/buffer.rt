@@ -130,6 +130,7 @@ impl HasCells for Buffer {
 
     ghost cells = { λ buffer. buffer.screen.cells };
 
+    #[inline(always)]
     fn cell_at(&self, at: usize) -> PackedCell {
         // For the contract: there is room for the screen.
         let _count = self.cell_count();

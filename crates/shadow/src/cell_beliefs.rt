@@ -309,6 +309,7 @@ impl HasCells for CellBeliefs {
 
     ghost cells = { λ places. places };
 
+    #[inline(always)]
     fn cell_at(&self, at: usize) -> CellBelief {
         self.get(at)
     }

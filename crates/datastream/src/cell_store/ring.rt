@@ -81,6 +81,7 @@ impl<'a, C: HasCells> Iterator for Ring<'a, C> {
 
     ghost remaining = { item_count (λ ring. ring) };
 
+    #[inline(always)]
     fn next(&mut self) -> Option<C::Cell> {
         let at = self.next;
         if at < self.cells {
