@@ -31,6 +31,10 @@ model_with cells = if cells == 1920 then M2 else if cells == 2560 then M3 else i
 abbrev pub most_cells : ℕ
 most_cells = 3564
 
+-- and of a row, those of model 5, too
+abbrev pub most_columns : ℕ
+most_columns = 132
+
 -- ---- the numbers of model 2, written as numerals for the prover; by `size_laws` they are the model's
 
 abbrev pub rows : ℕ

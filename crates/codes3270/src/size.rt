@@ -1,11 +1,14 @@
 //! The models of the 3278, and the sizes of their screens (GA23-0059-07 on screen sizes).
 ghost use Rattle.std.specs.Prelude.{◌≡◌, ◌<◌, ◌≤◌, ◌*◌};
-ghost use Rattle.codes3270.specs.Size.{alternate_of, cells_in, model_2, most_cells, rows};
+ghost use Rattle.codes3270.specs.Size.{alternate_of, cells_in, model_2, most_cells, most_columns, rows};
 
 use std::marker;
 
 /// The most cells of a screen of any model, as a length.
 pub const MOST_CELLS: usize = 3564;
+
+/// The most cells of a row, those of model 5's rows.
+pub const MOST_COLUMNS: usize = 132;
 
 /// The number of rows of a model 2's screen.
 pub const ROWS: u16 = 24;
@@ -80,7 +83,9 @@ impl Size {
 
     /// The number of cells of a row.
     pub const fn cols(self) -> u16
-        ensures { result ≡ self.columns }
+        ensures value { result ≡ self.columns }
+        ensures few { result ≤ most_columns }
+        ensures several { 1 < result }
     {
         match self.model {
             Model::M2 | Model::M3 | Model::M4 => 80,

@@ -73,13 +73,15 @@ read_behind shape number code wcc orders sent is spelt begun =
 
 pub plain_behind : (shape : Shape) (number : ℕ) (code : CommandCode) (wcc : Wcc) (orders : List Order) (sent : List ℕ) → IsSentCode code
     → IsCommand shape shape (sent_command shape code wcc orders) (write_bytes code wcc orders)
-    → is_plain (sent_command shape code wcc orders) ≡ true
+    → is_plain (sent_command shape code wcc orders) ≡ true → size_after code shape shape ≡ shape
     → sent ≡ write_record number code wcc orders → IsPlainWrite shape (drop 5 sent)
-plain_behind shape number code wcc orders sent is spelt plain begun =
+plain_behind shape number code wcc orders sent is spelt plain sized begun =
     let same : command_in shape (drop 5 sent) ≡ sent_command shape code wcc orders = read_behind shape number code wcc orders sent is spelt begun in
     let bytes : drop 5 sent ≡ write_bytes code wcc orders =
-    ap (λ (all : List ℕ). drop 5 all) begun ∙ behind_header (command_header always_response number) (write_bytes code wcc orders) in (
-      subst (λ (command : CommandParts). IsCommand shape shape command (drop 5 sent)) (sym same)
-          (subst (λ (all : List ℕ). IsCommand shape shape (sent_command shape code wcc orders) all) (sym bytes) spelt),
-      ap is_plain same ∙ plain,
-    )
+    ap (λ (all : List ℕ). drop 5 all) begun ∙ behind_header (command_header always_response number) (write_bytes code wcc orders) in
+    record {
+      spelt = subst (λ (command : CommandParts). IsCommand shape shape command (drop 5 sent)) (sym same)
+          (subst (λ (all : List ℕ). IsCommand shape shape (sent_command shape code wcc orders) all) (sym bytes) spelt);
+      plain = ap is_plain same ∙ plain;
+      size = ap (λ (command : CommandParts). command.size) same ∙ sized;
+    }

@@ -3,6 +3,7 @@ use Rattle.std.proofs.Common.{◌≡◌, ◌+◌, ℕ, Bool, true, false, not, �
 use Rattle.std.specs.List.{list_any}
 use Rattle.std.proofs.lemmas.Bool.{and_parts}
 use Rattle.codes3270.specs.Size.{cells_in}
+use Rattle.codes3270.specs.declared.size.Model.{Model}
 use Rattle.datastream.specs.Wanted.{WantedScreen}
 use Rattle.datastream.specs.declared.wanted.Want.{Want}
 use Rattle.datastream.specs.declared.wanted.Want.TheVariants.{Char, Attr, Keep}
@@ -11,10 +12,10 @@ use Rattle.shadow.specs.Painted.{keeps_ahead}
 use Rattle.shadow.specs.Fits.{is_keep, is_attribute, fields_fit, fits_from, fits, is_of_size, is_paintable}
 use Rattle.panels.specs.declared.message.Message.{Message}
 use Rattle.panels.specs.Screen.{Values}
-use Rattle.host_core.specs.Application.{Application, IsApplication, KeepsNothing}
-use Rattle.host_core.specs.Session.{Conn}
+use Rattle.host_core.specs.Application.{Application, IsApplication, IsSizeOf, KeepsNothing}
+use Rattle.host_core.specs.Session.{Conn, model_in}
 use Rattle.host_core.specs.Acts.{Act, wanted_by}
-use Rattle.host_core.specs.Laws.{IsPaintable, ActsFit}
+use Rattle.host_core.specs.Laws.{IsPaintable, ActsFit, SizesAreTheModels}
 
 none_kept-append : (xs ys : List Want) → list_any is_keep xs ≡ false → list_any is_keep ys ≡ false → list_any is_keep (xs ++ ys) ≡ false
 none_kept-append [] ys h k = k
@@ -59,23 +60,42 @@ paintable_fields shadow wanted h = by_keep (list_any is_keep wanted.cells) refl
         (and_parts (not (list_any is_keep wanted.cells) || list_any is_attribute wanted.cells) (fits_from (fields_of shadow) wanted.cells 0 wanted.cells)
         (and_parts (is_of_size (cells_in wanted.size) shadow) (fields_fit (fields_of shadow) wanted.cells) fit).1).1
 
-whole_paints : (app : Application) (shadow : Shadow) (panel : ℕ) (values : Values) (message : Message) → IsApplication app → IsPaintable app.begins shadow (app.screen panel values message false)
+pub whole_paints : (app : Application) (shadow : Shadow) (panel : ℕ) (values : Values) (message : Message) → IsApplication app
+    → let screen = app.screen panel values message false in IsPaintable screen.size shadow screen
 whole_paints app shadow panel values message is = record {
   fits = whole_fits shadow (app.screen panel values message false) (is.whole panel values message);
   showable = is.showable panel values message false;
 }
 
-paints : (app : Application) (conn : Conn) (panel : ℕ) (message : Message) (keep : Bool) (values : Values) → IsApplication app → IsPaintable app.begins conn.shadow (wanted_by app conn panel message keep values)
+pub paints : (app : Application) (conn : Conn) (panel : ℕ) (message : Message) (keep : Bool) (values : Values) → IsApplication app
+    → let wanted = wanted_by app conn panel message keep values in IsPaintable wanted.size conn.shadow wanted
 paints app conn panel message false values is = whole_paints app conn.shadow panel values message is
 paints app conn panel message true values is = by_fit (fits conn.shadow kept) refl
   where
     kept : WantedScreen
     kept = app.screen panel values message true
 
-    by_fit : (b : Bool) → fits conn.shadow kept ≡ b → IsPaintable app.begins conn.shadow (if b then kept else app.screen panel values message false)
+    by_fit : (b : Bool) → fits conn.shadow kept ≡ b → let wanted = (if b then kept else app.screen panel values message false) in IsPaintable wanted.size conn.shadow wanted
     by_fit true e = record { fits = fitting_fits conn.shadow kept e; showable = is.showable panel values message true }
     by_fit false e = whole_paints app conn.shadow panel values message is
 
 pub acts_fit : ActsFit
 acts_fit app conn Act.Read is = tt
-acts_fit app conn (Act.Show panel message keep values) is = (paints app conn panel message keep values is, refl)
+acts_fit app conn (Act.Show panel message keep values) is = (paints app conn (app.shown (model_in conn) panel) message keep values is, refl)
+
+-- what is wanted has one of the sizes of the session's model
+wanted_size : (app : Application) (conn : Conn) (model : Model) (panel : ℕ) (message : Message) (keep : Bool) (values : Values) → IsApplication app
+    → IsSizeOf app model (wanted_by app conn (app.shown model panel) message keep values).size
+wanted_size app conn model panel message false values is = is.sizes model panel values message false
+wanted_size app conn model panel message true values is = by_fit (fits conn.shadow kept)
+  where
+    kept : WantedScreen
+    kept = app.screen (app.shown model panel) values message true
+
+    by_fit : (b : Bool) → IsSizeOf app model (if b then kept else app.screen (app.shown model panel) values message false).size
+    by_fit true = is.sizes model panel values message true
+    by_fit false = is.sizes model panel values message false
+
+pub sizes_are : SizesAreTheModels
+sizes_are app conn Act.Read is sized = sized
+sizes_are app conn (Act.Show panel message keep values) is sized = wanted_size app conn (model_in conn) panel message keep values is

@@ -39,7 +39,7 @@ at_each P number connections connection below here others other = by_test (other
 -- ---- hosts
 
 pub changed_sound : (number : ℕ) (pool : List Entry) (connection : Connection) (host : Host) → number < most_connections → IsSound host
-    → HoldsJust number pool (lu_of connection.service) → OthersHold number host.pool pool → IsShown (length host.panels.panels) connection.service
+    → HoldsJust number pool (lu_of connection.service) → OthersHold number host.pool pool → IsShown host.panels connection.service
     → IsSound (changed number pool connection host)
 changed_sound number pool connection host below sound here others shown =
     let inside : number < length host.connections = subst (λ (n : ℕ). number < n) (sym sound.connections) below in
@@ -47,7 +47,7 @@ changed_sound number pool connection host below sound here others shown =
       connections = length-set host.connections number connection ∙ sound.connections;
       held = at_each (λ n l. HoldsJust n pool (lu_of l.service)) number host.connections connection inside here
           (λ other ne. λ lu. (λ h. (sound.held other lu).0 ((others other lu ne).0 h), λ e. (others other lu ne).1 ((sound.held other lu).1 e)));
-      shown = at_each (λ n l. IsShown (length host.panels.panels) l.service) number host.connections connection inside shown (λ other ne. sound.shown other);
+      shown = at_each (λ n l. IsShown host.panels l.service) number host.connections connection inside shown (λ other ne. sound.shown other);
     }
 
 pub others_stay : (number : ℕ) (pool : List Entry) → OthersHold number pool pool
@@ -80,8 +80,8 @@ pub is_free : (number : ℕ) (host now : Host) (connection : Connection) → hos
 is_free number host now connection same at free =
     ap (λ (l : Connection). l.service) at ∙ free_phase (service_at number host) (subst (λ (h : Host). phase_of (service_at number h) ≡ phase.Free) (sym same) free)
 
-pub shown_here : (number : ℕ) (old : Connection) (host : Host) → IsSound host → old ≡ connection_at number host → IsShown (length host.panels.panels) old.service
-shown_here number old host sound is = subst (λ (l : Connection). IsShown (length host.panels.panels) l.service) (sym is) (sound.shown number)
+pub shown_here : (number : ℕ) (old : Connection) (host : Host) → IsSound host → old ≡ connection_at number host → IsShown host.panels old.service
+shown_here number old host sound is = subst (λ (l : Connection). IsShown host.panels l.service) (sym is) (sound.shown number)
 
 other_default : (connections : List Connection) (number : ℕ) (one other : Connection) → number < length connections → get_or connections number one ≡ get_or connections number other
 other_default [] number one other below = absurd (omega arith)
@@ -146,7 +146,7 @@ unused_sound panels pool connections are nobody =
     record {
       connections = ap length are ∙ all_unused most_connections;
       held = λ number. subst (λ (l : Connection). HoldsJust number pool (lu_of l.service)) (sym (there number)) (held_by_none number pool (nobody number));
-      shown = λ number. subst (λ (l : Connection). IsShown (length panels.panels) l.service) (sym (there number)) tt;
+      shown = λ number. subst (λ (l : Connection). IsShown panels l.service) (sym (there number)) tt;
     }
 
 -- ---- a line

@@ -21,3 +21,4 @@ pub mod TalkSteps
 pub mod ByteSteps
 pub mod Outcomes
 pub mod Learned
+pub mod Sizes

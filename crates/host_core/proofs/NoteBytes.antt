@@ -6,7 +6,7 @@ use Rattle.std.specs.declared.alloc.Global.{Global}
 use Rattle.std.proofs.lemmas.List.{take-replicate}
 use Rattle.std.proofs.lemmas.List.Elements.{All-take}
 use Rattle.codes3270.proofs.RoundTrips.{wcc_read_back}
-use Rattle.codes3270.specs.Size.{Shape, cells_in, model_2}
+use Rattle.codes3270.specs.Size.{Shape, cells_in, model_2, most_columns}
 use Rattle.datastream.proofs.Written.{orders_written, orders_bytes-chars}
 use Rattle.datastream.specs.Grammar.{CommandParts, IsCommand, write}
 use Rattle.datastream.specs.Note.{quiet}
@@ -83,28 +83,24 @@ note_spelt : (shape : Shape) (text : List ℕ) → IsShape shape → IsNoteText 
 note_spelt shape text shaped is =
     write _ _ _ refl (inr refl) refl (ap Some (sym (wcc_read_back quiet))) (orders_written (cells_in shape) shaped.addresses (note_orders shape text) (orders_proper shape text shaped is)) refl
 
-shaped_2 : IsShape model_2
-shaped_2 = record { columns = omega arith; row = omega arith; addresses = omega arith }
+note_again : (shape : Shape) (number : ℕ) (text sent : List ℕ) → IsShape shape → IsNoteText text → sent ≡ write_record number Write quiet (note_orders shape text)
+    → command_in shape (drop 5 sent) ≡ note_command shape text
+note_again shape number text sent shaped is begun = read_behind shape number Write quiet (note_orders shape text) sent refl (note_spelt shape text shaped is) begun
 
-note_again : (number : ℕ) (text sent : List ℕ) → IsNoteText text → sent ≡ write_record number Write quiet (note_orders model_2 text)
-    → command_in model_2 (drop 5 sent) ≡ note_command model_2 text
-note_again number text sent is begun = read_behind model_2 number Write quiet (note_orders model_2 text) sent refl (note_spelt model_2 text shaped_2 is) begun
+pub note_is_kept : (shape : Shape) (number : ℕ) (text sent : List ℕ) → IsShape shape → IsNoteText text → sent ≡ write_record number Write quiet (note_orders shape text)
+    → IsPlainWrite shape (drop 5 sent)
+note_is_kept shape number text sent shaped is begun =
+    plain_behind shape number Write quiet (note_orders shape text) sent refl (note_spelt shape text shaped is) (note_plain shape text) refl begun
 
-pub note_is_kept : (number : ℕ) (text sent : List ℕ) → IsNoteText text → sent ≡ write_record number Write quiet (note_orders model_2 text)
-    → IsPlainWrite model_2 (drop 5 sent)
-note_is_kept number text sent is begun =
-    plain_behind model_2 number Write quiet (note_orders model_2 text) sent refl (note_spelt model_2 text shaped_2 is) (note_plain model_2 text) begun
-
-pub note_sent : (conn new : Conn) (text sent : List ℕ) (before after : Vec ℕ Global) → conn.shape ≡ model_2 → IsNoteText text
-    → sent ≡ write_record conn.next_seq Write quiet (note_orders model_2 text)
-    → new ≡ record conn { pending = pending_in model_2 (unanswered.Noting conn.next_seq) sent; next_seq = next_number conn.next_seq }
+pub note_sent : (conn new : Conn) (text sent : List ℕ) (before after : Vec ℕ Global) → IsShape conn.shape → IsNoteText text
+    → sent ≡ write_record conn.next_seq Write quiet (note_orders conn.shape text)
+    → new ≡ record conn { pending = pending_in conn.shape (unanswered.Noting conn.next_seq) sent; next_seq = next_number conn.next_seq }
     → after.items ≡ before.items ++ sent_bytes (Record sent ∷ [])
     → IsSentOn (noted_as text conn) before after new
-note_sent conn new text sent before after shape is begun changed put = record {
+note_sent conn new text sent before after shaped is begun changed put = record {
   conn = changed ∙ ap (λ (command : CommandParts). record conn { pending = Pending.Noting conn.next_seq command; next_seq = next_number conn.next_seq })
-      (note_again conn.next_seq text sent is begun ∙ ap (λ (s : Shape). note_command s text) (sym shape));
-  bytes = put ∙ ap (λ (bytes : List ℕ). before.items ++ sent_bytes (Record bytes ∷ []))
-      (begun ∙ ap (λ (s : Shape). write_record conn.next_seq Write quiet (note_orders s text)) (sym shape));
+      (note_again conn.shape conn.next_seq text sent shaped is begun);
+  bytes = put ∙ ap (λ (bytes : List ℕ). before.items ++ sent_bytes (Record bytes ∷ [])) begun;
 }
 
 -- ---- its length
@@ -116,8 +112,9 @@ note_length shape text =
     ap (λ (some : List ℕ). length some) (orders_bytes-chars (in_cells (shape.columns - 1) text)) in
     omega arith
 
-pub note_record_fits : (number : ℕ) (text sent : List ℕ) → sent ≡ write_record number Write quiet (note_orders model_2 text) → 2 * length sent + 2 ≤ note_room
-note_record_fits number text sent begun =
-    let whole : length sent ≡ length (write_record number Write quiet (note_orders model_2 text)) = ap (λ (some : List ℕ). length some) begun in
-    let few = note_length model_2 text in
+pub note_record_fits : (shape : Shape) (number : ℕ) (text sent : List ℕ) → shape.columns ≤ most_columns → sent ≡ write_record number Write quiet (note_orders shape text)
+    → 2 * length sent + 2 ≤ note_room
+note_record_fits shape number text sent narrow begun =
+    let whole : length sent ≡ length (write_record number Write quiet (note_orders shape text)) = ap (λ (some : List ℕ). length some) begun in
+    let few = note_length shape text in
     omega arith

@@ -9,7 +9,7 @@ use Rattle.datastream.specs.declared.command_code.CommandCode.TheVariants.{Write
 use Rattle.datastream.specs.Wanted.{WantedScreen}
 use Rattle.panels.specs.Screen.{Values}
 use Rattle.panels.specs.declared.message.Message.{Message}
-use Rattle.shadow.specs.Belief.{Shadow}
+use Rattle.shadow.specs.Belief.{Shadow, IsOfSize, cells_of_fields}
 use Rattle.shadow.specs.Paint.{paint, paint_bytes, paint_code, writes_over, is_base_size, erase_code}
 use Rattle.shadow.specs.Stores.{is_plain}
 use Rattle.telnet_wire.specs.Items.{Record, sent_bytes}
@@ -17,10 +17,10 @@ use Rattle.tn3270e_msg.specs.Header.{spelling, always_response, next_number}
 use Rattle.host_core.proofs.Commands.{IsSentCode, sent_command, read_behind, plain_behind}
 use Rattle.host_core.specs.Acts.{Act, done, wanted_by}
 use Rattle.host_core.specs.Application.{Application}
-use Rattle.host_core.specs.Keeps.{command_in, pending_in, IsPlainWrite, IsSentOn}
+use Rattle.host_core.specs.Keeps.{BelievesTheSize, command_in, pending_in, IsPlainWrite, IsSentOn}
 use Rattle.host_core.specs.Messages.{ToTerminal}
 use Rattle.host_core.specs.Says.{command_header, item_sent}
-use Rattle.host_core.specs.Session.{Conn, Pending}
+use Rattle.host_core.specs.Session.{Conn, Pending, model_in}
 use Rattle.host_core.specs.declared.pending.Pending.TheVariants as unanswered
 use Rattle.host_core.specs.declared.turn.Turn.TheVariants as whose
 
@@ -88,25 +88,58 @@ pub paint_is_kept : (n number : ℕ) (shadow : Shadow) (wanted : WantedScreen) (
 unfolding control
 paint_is_kept n number shadow wanted sent spelt plain begun =
     plain_behind wanted.size number (paint_code n shadow wanted) (control wanted) (paint n shadow wanted).orders sent (is_sent n shadow wanted) (spelt_so n shadow wanted spelt)
-    (ap is_plain (same_paint n shadow wanted) ∙ plain) begun
+    (ap is_plain (same_paint n shadow wanted) ∙ plain) (sets n shadow wanted) begun
+
+-- a paint is a Write only where what is believed has the wanted size
+over_size : (n : ℕ) (shadow : Shadow) (wanted : WantedScreen) → paint_code n shadow wanted ≡ Write → IsOfSize n shadow
+over_size n Shadow.NothingKnown wanted writes = tt
+over_size n (Shadow.Unformatted known) wanted writes = absurd (erases (is_base_size wanted.size) writes)
+  where
+    erases : (b : Bool) → (if b then EraseWrite else EraseWriteAlternate) ≡ Write → ⊥
+    erases true e = cc
+    erases false e = cc
+over_size n (Shadow.Formatted beliefs) wanted writes = by_size (cells_of_fields beliefs == n) refl writes
+  where
+    by_base : (b : Bool) → (if b then EraseWrite else EraseWriteAlternate) ≡ Write → ⊥
+    by_base true e = cc
+    by_base false e = cc
+
+    by_size : (b : Bool) → (cells_of_fields beliefs == n) ≡ b → (if b then Write else erase_code wanted.size) ≡ Write → cells_of_fields beliefs ≡ n
+    by_size true e is = eqb-true (cells_of_fields beliefs) n e
+    by_size false e is = absurd (by_base (is_base_size wanted.size) is)
+
+pub paint_believes : (number : ℕ) (shadow : Shadow) (wanted : WantedScreen) (sent : List ℕ) → IsPaintSpelt (cells_in wanted.size) shadow wanted
+    → sent ≡ paint_record (cells_in wanted.size) number shadow wanted → BelievesTheSize wanted.size (unanswered.Writing number) sent shadow
+paint_believes number shadow wanted sent spelt begun writes =
+    over_size (cells_in wanted.size) shadow wanted
+    (sym (ap (λ (command : CommandParts). command.code) (paint_again (cells_in wanted.size) number shadow wanted sent spelt begun)) ∙ writes)
 
 -- the connection once a panel is shown
-shown_conn : Conn → ℕ → Message → Values → Pending → Conn
-shown_conn conn panel message values pending =
-    record conn { turn = whose.Terminal; pending = pending; next_seq = next_number conn.next_seq; panel = panel; message = message; values = values }
+shown_conn : Conn → Shape → ℕ → Message → Values → Pending → Conn
+shown_conn conn size panel message values pending =
+    record conn { shape = size; turn = whose.Terminal; pending = pending; next_seq = next_number conn.next_seq; panel = panel; message = message; values = values }
 
-pub shows : (app : Application) (conn new : Conn) (panel : ℕ) (message : Message) (keep : Bool) (values : Values) (wanted : WantedScreen) (sent : List ℕ) (before after : Vec ℕ Global)
-    → wanted.size ≡ conn.shape → wanted ≡ wanted_by app conn panel message keep values
+pub shows : (app : Application) (conn new : Conn) (asked : ℕ) (message : Message) (keep : Bool) (values : Values) (wanted : WantedScreen) (sent : List ℕ) (before after : Vec ℕ Global)
+    → wanted ≡ wanted_by app conn (app.shown (model_in conn) asked) message keep values
     → IsPaintSpelt (cells_in wanted.size) conn.shadow wanted → sent ≡ paint_record (cells_in wanted.size) conn.next_seq conn.shadow wanted
-    → new ≡ record conn { turn = whose.Terminal; pending = pending_in conn.shape (unanswered.Writing conn.next_seq) sent; next_seq = next_number conn.next_seq; panel = panel; message = message; values = values }
+    → new ≡ record conn {
+      shape = wanted.size;
+      turn = whose.Terminal;
+      pending = pending_in wanted.size (unanswered.Writing conn.next_seq) sent;
+      next_seq = next_number conn.next_seq;
+      panel = app.shown (model_in conn) asked;
+      message = message;
+      values = values;
+    }
     → after.items ≡ before.items ++ sent_bytes (Record sent ∷ [])
-    → IsSentOn (done app conn (Act.Show panel message keep values)) before after new
+    → IsSentOn (done app conn (Act.Show asked message keep values)) before after new
 unfolding shown_conn
-shows app conn new panel message keep values wanted sent before after sized chosen spelt begun is put = record {
-  conn = is ∙ ap (λ (command : CommandParts). shown_conn conn panel message values (Pending.Writing conn.next_seq command))
-      (ap (λ (size : Shape). command_in size (drop 5 sent)) (sym sized)
-      ∙ paint_again (cells_in wanted.size) conn.next_seq conn.shadow wanted sent spelt begun
-      ∙ ap (λ (w : WantedScreen). paint (cells_in w.size) conn.shadow w) chosen);
-  bytes = put ∙ ap (λ (bytes : List ℕ). before.items ++ sent_bytes (Record bytes ∷ [])) begun
-      ∙ ap (λ (w : WantedScreen). before.items ++ sent_bytes (item_sent (ToTerminal.Paint conn.next_seq w conn.shadow) ∷ [])) chosen;
-}
+shows app conn new asked message keep values wanted sent before after chosen spelt begun is put =
+    let panel : ℕ = app.shown (model_in conn) asked in
+    record {
+      conn = is ∙ ap (λ (command : CommandParts). shown_conn conn wanted.size panel message values (Pending.Writing conn.next_seq command))
+          (paint_again (cells_in wanted.size) conn.next_seq conn.shadow wanted sent spelt begun)
+          ∙ ap (λ (w : WantedScreen). shown_conn conn w.size panel message values (Pending.Writing conn.next_seq (paint (cells_in w.size) conn.shadow w))) chosen;
+      bytes = put ∙ ap (λ (bytes : List ℕ). before.items ++ sent_bytes (Record bytes ∷ [])) begun
+          ∙ ap (λ (w : WantedScreen). before.items ++ sent_bytes (item_sent (ToTerminal.Paint conn.next_seq w conn.shadow) ∷ [])) chosen;
+    }

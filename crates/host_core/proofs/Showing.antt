@@ -1,5 +1,5 @@
 -- Panels are an application: each screen has the size, with its cursor on it, and keeps nothing where it isn't told to.
-use Rattle.std.proofs.Common.{length, drop, ap, sym, subst, ◌∙◌, ◌≡◌, ◌==◌, nat_lt, ◌<◌, ◌≤◌, ◌-◌, ◌+◌, ℕ, zero, suc, Bool, true, false, Option, None, Some, List, [], ◌∷◌, map, refl, arith, if◌then◌else◌}
+use Rattle.std.proofs.Common.{length, drop, ap, sym, subst, ◌∙◌, ◌≡◌, ◌==◌, nat_lt, ◌<◌, ◌≤◌, ◌-◌, ◌+◌, ℕ, zero, suc, Bool, true, false, Option, None, Some, List, [], ◌∷◌, map, refl, arith, if◌then◌else◌, ◌⊎◌, inl, inr}
 use Rattle.std.specs.Prelude.{slice_get, slice_index_or, option_map, unwrap_or}
 use Rattle.std.specs.List.{list_all, list_any, range_with_len}
 use Rattle.std.specs.Option.{option_or, option_map_or}
@@ -23,7 +23,7 @@ use Rattle.panels.specs.Panel.{PanelParts, Panels, AreLaidOut, HaveOtherwise, Is
 use Rattle.panels.proofs.Putting.{cursor_within}
 use Rattle.panels.specs.Screen.{Values, distance_in, item_cell, autoskip_attr, shown, text_cell, field_attr, field_content, field_cell, stopper_cell, message_text, message_cell, first_some, wanted_cell, field_numbered, wanted_cursor, screen_of}
 use Rattle.panels.specs.Size.{message_start}
-use Rattle.host_core.specs.Application.{IsMessageRow, IsShowable, is_wanted_char, message_place, no_panel, panel_at}
+use Rattle.host_core.specs.Application.{IsMessageRow, IsShape, IsShowable, is_wanted_char, message_place, no_panel, panel_at}
 use Rattle.host_core.proofs.KeptWhole.{IsInRun, KeptInRuns, kept_whole}
 use Rattle.host_core.specs.Laws.{PanelsAreShown, ScreensAreWanted}
 
@@ -177,44 +177,82 @@ nowhere_laid = record {
 }
 
 pub laid_out_at : (set : Panels) (number : ℕ) → AreLaidOut set → IsLaidOut (panel_at set number)
-laid_out_at set number laid = at_panel IsLaidOut (slice_get set.panels (shown_in set M2 number)) nowhere_laid (laid (shown_in set M2 number))
+laid_out_at set number laid = at_panel IsLaidOut (slice_get set.panels number) nowhere_laid (laid number)
 
 no_items : HasItemsApart no_panel
 no_items = record { texts = λ i j one other less is there. absurd (cc); fields = λ i j one other less is there. absurd (cc); both = λ i j text field is there. absurd (cc) }
 
 all_apart : (set : Panels) (number : ℕ) → AreApart set → HasItemsApart (panel_at set number)
-all_apart set number apart = at_panel HasItemsApart (slice_get set.panels (shown_in set M2 number)) no_items (apart (shown_in set M2 number))
+all_apart set number apart = at_panel HasItemsApart (slice_get set.panels number) no_items (apart number)
 
--- the panel that is shown is of model 2
-model_shown : (set : Panels) (number : ℕ) (found : Option PanelParts) → HaveOtherwise set → slice_get set.panels number ≡ found
-    → (unwrap_or (slice_get set.panels (option_map_or (shown_of M2 number) found number)) no_panel).model ≡ M2
-model_shown set number None have none = ap (λ (o : Option PanelParts). (unwrap_or o no_panel).model) none
-model_shown set number (Some panel) have there = by_model panel.model panel.otherwise refl (have number panel there)
+-- ---- which panel is shown
+
+-- the size of a model that may have it
+abbrev HasSize : Model → Shape → Type 0
+HasSize session size = (size ≡ model_2) ⊎ (size ≡ alternate_of session)
+
+size_of_shown : (model session : Model) → is_shown model session ≡ true → HasSize session (alternate_of model)
+size_of_shown M2 session is = inl refl
+size_of_shown M3 M3 is = inr refl
+size_of_shown M4 M4 is = inr refl
+size_of_shown M5 M5 is = inr refl
+size_of_shown M3 M2 is = absurd (cc)
+size_of_shown M3 M4 is = absurd (cc)
+size_of_shown M3 M5 is = absurd (cc)
+size_of_shown M4 M2 is = absurd (cc)
+size_of_shown M4 M3 is = absurd (cc)
+size_of_shown M4 M5 is = absurd (cc)
+size_of_shown M5 M2 is = absurd (cc)
+size_of_shown M5 M3 is = absurd (cc)
+size_of_shown M5 M4 is = absurd (cc)
+
+-- the panel that is shown is of model 2, or of the session's
+pub size_shown : (set : Panels) (session : Model) (number : ℕ) → HaveOtherwise set → HasSize session (shape_of (panel_at set (shown_in set session number)))
+size_shown set session number have = by_panel (slice_get set.panels number) refl
   where
-    model_at : Option PanelParts → Model
-    model_at found = (unwrap_or found no_panel).model
+    size_at : Option PanelParts → Shape
+    size_at found = shape_of (unwrap_or found no_panel)
 
-    by_model : (model : Model) (otherwise : Option ℕ) → panel.model ≡ model → IsOtherwise set.panels model otherwise
-        → (unwrap_or (slice_get set.panels (if is_shown model M2 then number else unwrap_or otherwise number)) no_panel).model ≡ M2
-    by_model M2 otherwise e is = ap model_at there ∙ e
-    by_model M3 None e is = let wrong : M3 ≡ M2 = is in absurd (cc)
-    by_model M4 None e is = let wrong : M4 ≡ M2 = is in absurd (cc)
-    by_model M5 None e is = let wrong : M5 ≡ M2 = is in absurd (cc)
-    by_model M3 (Some q) e (differs, other, at, base) = ap model_at at ∙ base
-    by_model M4 (Some q) e (differs, other, at, base) = ap model_at at ∙ base
-    by_model M5 (Some q) e (differs, other, at, base) = ap model_at at ∙ base
+    by_shown : (panel : PanelParts) (b : Bool) → slice_get set.panels number ≡ Some panel → is_shown panel.model session ≡ b
+        → HasSize session (shape_of (panel_at set (if b then number else unwrap_or panel.otherwise number)))
+    by_shown panel true there is = subst (HasSize session) (sym (ap size_at there)) (size_of_shown panel.model session is)
+    by_shown panel false there is = by_otherwise panel.otherwise (have number panel there)
+      where
+        by_otherwise : (otherwise : Option ℕ) → IsOtherwise set.panels panel.model otherwise → HasSize session (shape_of (panel_at set (unwrap_or otherwise number)))
+        by_otherwise None base =
+            let shown : is_shown panel.model session ≡ true = ap (λ (model : Model). is_shown model session) base in
+            absurd (cc)
+        by_otherwise (Some q) (differs, other, at, base) = inl (ap size_at at ∙ ap alternate_of base)
 
-pub shape_at : (set : Panels) (number : ℕ) → HaveOtherwise set → shape_of (panel_at set number) ≡ model_2
-shape_at set number have = ap alternate_of (model_shown set number (slice_get set.panels number) have refl)
+    by_panel : (found : Option PanelParts) → slice_get set.panels number ≡ found → HasSize session (shape_of (panel_at set (option_map_or (shown_of session number) found number)))
+    by_panel None none = inl (ap size_at none)
+    by_panel (Some panel) there = by_shown panel (is_shown panel.model session) there refl
+
+-- that in a session of model 2 has 24 rows of 80 cells
+pub shape_at : (set : Panels) (number : ℕ) → HaveOtherwise set → shape_of (panel_at set (shown_in set M2 number)) ≡ model_2
+shape_at set number have = by_either (size_shown set M2 number have)
+  where
+    by_either : HasSize M2 (shape_of (panel_at set (shown_in set M2 number))) → shape_of (panel_at set (shown_in set M2 number)) ≡ model_2
+    by_either (inl e) = e
+    by_either (inr e) = e
+
+-- ---- the application
+
+has_a_row : (model : Model) → IsShape (alternate_of model)
+has_a_row M2 = record { columns = omega arith; row = omega arith; addresses = omega arith }
+has_a_row M3 = record { columns = omega arith; row = omega arith; addresses = omega arith }
+has_a_row M4 = record { columns = omega arith; row = omega arith; addresses = omega arith }
+has_a_row M5 = record { columns = omega arith; row = omega arith; addresses = omega arith }
 
 pub panels_shown : PanelsLeaveTheRow → FieldsAreKeptWhole → NothingElseIsKept → PanelsAreShown
 panels_shown leave whole_fields nothing set have laid apart = record {
-  shape = record { columns = omega arith; row = omega arith; addresses = omega arith };
+  begins = has_a_row M2;
+  alternates = has_a_row;
+  sizes = λ session number values message keep. size_shown set session number have;
   showable = λ number values message keep.
       let panel = panel_at set number in
       let out = laid_out_at set number laid in
-      subst (λ (shape : Shape). IsShowable shape (screen_of panel values message keep)) (shape_at set number have)
-      (shows leave panel values message keep out (keeps_whole_of whole_fields nothing panel values message keep (all_apart set number apart) out));
+      shows leave panel values message keep out (keeps_whole_of whole_fields nothing panel values message keep (all_apart set number apart) out);
   whole = λ number values message.
       none_kept (wanted_cell (panel_at set number) values message false) (cell_kept (panel_at set number) values message) (range_with_len 0 (cells_in (shape_of (panel_at set number))));
 }

@@ -187,4 +187,4 @@ no_characters = record { texts = All-nil (λ text. HasCharacters text.content); 
 pub panels_ask : PanelsAskForScreens
 panels_ask set laid is number values message keep texts =
     asks (panel_at set number) values message keep texts (laid_out_at set number laid)
-    (at_panel IsOfCharacters (slice_get set.panels (shown_in set M2 number)) no_characters (is (shown_in set M2 number)))
+    (at_panel IsOfCharacters (slice_get set.panels number) no_characters (is number))

@@ -25,10 +25,10 @@ use Rattle.host_core.specs.declared.turn.Turn.{Turn}
 use Rattle.host_core.specs.declared.turn.Turn.TheVariants as whose
 use Rattle.host_core.specs.declared.turn_reason.TurnReason.{TurnReason}
 use Rattle.host_core.specs.declared.turn_reason.TurnReason.TheVariants as turn_reasons
-use Rattle.host_core.specs.Session.{Conn, Pending, is_agreed}
+use Rattle.host_core.specs.Session.{Conn, Pending, is_agreed, model_in}
 
--- what the host may do: read the whole screen, or show a panel with a message, with these values of fields; with `keep`, fields
--- keep what the operator left in them, if the belief allows that
+-- what the host may do: read the whole screen, or show a panel, in the form for the terminal's model, with a message and with these
+-- values of fields; with `keep`, fields keep what the operator left in them, if the belief allows that
 pub data Act : Type 0 where
   Read : Act
   Show : (panel : ℕ) → Message → (keep : Bool) → Values → Act
@@ -129,20 +129,23 @@ pub record Sent : Type 0 where
   pub conn : Conn
   pub message : ToTerminal
 
--- what is believed stays as it is until the command is answered
+-- What is believed stays as it is until the command is answered. The screen has the wanted size from then on: the command erases where
+-- what is believed hasn't.
 abbrev pub done : Application → Conn → Act → Sent
 done app conn Act.Read = record {
   conn = record conn { pending = Pending.Reading conn.next_seq; next_seq = next_number conn.next_seq };
   message = ToTerminal.ReadBuffer conn.next_seq;
 }
 done app conn (Act.Show panel message keep values) =
-    let wanted = wanted_by app conn panel message keep values in
+    let shown = app.shown (model_in conn) panel in
+    let wanted = wanted_by app conn shown message keep values in
     record {
       conn = record conn {
+        shape = wanted.size;
         turn = whose.Terminal;
         pending = Pending.Writing conn.next_seq (paint (cells_in wanted.size) conn.shadow wanted);
         next_seq = next_number conn.next_seq;
-        panel = panel;
+        panel = shown;
         message = message;
         values = values;
       };

@@ -1,8 +1,9 @@
 -- What a host shows, and where its keys lead (our profile).
-use Rattle.std.specs.Prelude.{◌≡◌, ◌<◌, ◌≤◌, ◌-◌, ℕ, Bool, true, false, List, [], ◌∷◌, length, drop, None, slice_get, unwrap_or, All}
+use Rattle.std.specs.Prelude.{◌≡◌, ◌⊎◌, ◌<◌, ◌≤◌, ◌-◌, ℕ, Bool, true, false, List, [], ◌∷◌, length, drop, None, slice_get, unwrap_or, All}
 use Rattle.std.specs.List.{list_any, list_all}
 use Rattle.std.specs.Map.{values_of}
-use Rattle.codes3270.specs.Size.{Shape, cells_in, model_2, most_cells}
+use Rattle.codes3270.specs.Size.{Shape, alternate_of, cells_in, model_2, most_cells}
+use Rattle.codes3270.specs.declared.size.Model.{Model}
 use Rattle.codes3270.specs.declared.size.Model.TheVariants.{M2}
 use Rattle.codes3270.specs.declared.attention.Aid.{Aid}
 use Rattle.datastream.specs.Wanted.{WantedScreen, IsScreen}
@@ -18,11 +19,16 @@ use Rattle.panels.specs.Panel.{PanelParts, Panels, shown_in}
 use Rattle.panels.specs.Next.{next_of}
 use Rattle.panels.specs.Screen.{Values, screen_of}
 
--- Panels by their numbers: the panel shown first, the fields of each, where a key leads from it, and the screen that it asks for; with
--- `keep`, fields keep what the operator left in them. Each connection begins with a screen of the shape `begins`.
+-- The sizes that screens may have: `begins` at the begin of each connection and after Erase/Write, and the alternate size of a model
+-- after Erase/Write Alternate.
+--
+-- Panels by their numbers: the first one; the one that is shown to a terminal of a model where one is asked for; the fields of each,
+-- where a key leads from it, and the screen that it asks for; with `keep`, fields keep what the operator left in them.
 pub record Application : Type 0 where
   pub begins : Shape
+  pub alternate : Model → Shape
   pub start : ℕ
+  pub shown : Model → (panel : ℕ) → ℕ
   pub fields : ℕ → List Field
   pub next : ℕ → Aid → Next
   pub screen : (panel : ℕ) → Values → Message → (keep : Bool) → WantedScreen
@@ -65,10 +71,16 @@ pub record IsShowable (shape : Shape) (wanted : WantedScreen) : Type 0 where
 abbrev pub KeepsNothing : WantedScreen → Type 0
 KeepsNothing wanted = list_any is_keep wanted.cells ≡ false
 
--- For now each screen that is asked for has the shape that connections begin with.
+-- the size is one of the two that a terminal of this model may have
+abbrev pub IsSizeOf : Application → Model → Shape → Type 0
+IsSizeOf app model size = (size ≡ app.begins) ⊎ (size ≡ app.alternate model)
+
+-- What is shown to a terminal has a size that the terminal may have.
 pub record IsApplication (app : Application) : Type 0 where
-  pub shape : IsShape app.begins
-  pub showable : (panel : ℕ) (values : Values) (message : Message) (keep : Bool) → IsShowable app.begins (app.screen panel values message keep)
+  pub begins : IsShape app.begins
+  pub alternates : (model : Model) → IsShape (app.alternate model)
+  pub sizes : (model : Model) (panel : ℕ) (values : Values) (message : Message) (keep : Bool) → IsSizeOf app model (app.screen (app.shown model panel) values message keep).size
+  pub showable : (panel : ℕ) (values : Values) (message : Message) (keep : Bool) → let screen = app.screen panel values message keep in IsShowable screen.size screen
   pub whole : (panel : ℕ) (values : Values) (message : Message) → KeepsNothing (app.screen panel values message false)
 
 -- values of characters that a cell can hold
@@ -87,14 +99,16 @@ AsksForScreens app =
 abbrev pub no_panel : PanelParts
 no_panel = record { model = M2; otherwise = None; texts = []; fields = []; cursor = 0; targets = [] }
 
--- the panel that is shown where the one with a number is asked for: so far each terminal is shown the panels of a model 2
+-- the panel with a number
 abbrev pub panel_at : Panels → ℕ → PanelParts
-panel_at set number = unwrap_or (slice_get set.panels (shown_in set M2 number)) no_panel
+panel_at set number = unwrap_or (slice_get set.panels number) no_panel
 
 abbrev pub application_of : Panels → Application
 application_of set = record {
   begins = model_2;
+  alternate = alternate_of;
   start = set.start;
+  shown = λ model panel. shown_in set model panel;
   fields = λ panel. (panel_at set panel).fields;
   next = λ panel aid. next_of (panel_at set panel) aid;
   screen = λ panel values message keep. screen_of (panel_at set panel) values message keep;

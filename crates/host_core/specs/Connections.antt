@@ -3,6 +3,7 @@ use Rattle.std.specs.Prelude.{◌≡◌, ◌≤◌, ⊤, ℕ, Option, Some, None
 use Rattle.std.specs.Vec.{vec_capacity}
 use Rattle.std.specs.declared.alloc.Global.{Global}
 use Rattle.std.specs.Borrow.{Bor}
+use Rattle.panels.specs.Panel.{Panels}
 use Rattle.shadow.specs.Belief.{Shadow}
 use Rattle.host_core.specs.Keeps.{IsRunning}
 use Rattle.host_core.specs.Rooms.{out_room}
@@ -23,9 +24,9 @@ IsSoundConnection kept.Free out = ⊤
 IsSoundConnection (kept.Open held) out = IsRunning held.value.decoder × (out_room ≤ vec_capacity out)
 IsSoundConnection (kept.Closed cause) out = ⊤
 
--- what is shown stays a panel that there is
+-- what is shown stays shown
 abbrev pub StaysShown : Service → Service → Type 0
-StaysShown old new = (count : ℕ) → IsShown count old → IsShown count new
+StaysShown old new = (panels : Panels) → IsShown panels old → IsShown panels new
 
 -- what is believed of the screen of a number that is open
 abbrev pub ShadowIf : Option (Bor Shadow) → Service → Type 0

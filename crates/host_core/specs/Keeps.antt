@@ -14,6 +14,7 @@ use Rattle.lu_pool.specs.Pool.{Holds}
 use Rattle.lu_pool.specs.declared.entry.Entry.{Entry}
 use Rattle.panels.specs.Screen.{Values}
 use Rattle.panels.specs.declared.message.Message.TheVariants.{Fresh}
+use Rattle.shadow.specs.Belief.{Shadow, IsOfSize}
 use Rattle.shadow.specs.Stores.{is_plain}
 use Rattle.telnet_wire.specs.Held.{Held, IsRunning as Running}
 use Rattle.telnet_wire.specs.Items.{WireItem, sent_bytes}
@@ -70,15 +71,24 @@ number_kept (unanswered.Writing number) = Some number
 number_kept (unanswered.Reading number) = Some number
 number_kept (unanswered.Noting number) = Some number
 
--- a write that the belief can take, for a screen of this shape
-abbrev pub IsPlainWrite : Shape → List ℕ → Type 0
-IsPlainWrite shape bytes = IsCommand shape shape (command_in shape bytes) bytes × (is_plain (command_in shape bytes) ≡ true)
+-- a write that the belief can take, which leaves a screen of this shape
+pub record IsPlainWrite (shape : Shape) (bytes : List ℕ) : Type 0 where
+  pub spelt : IsCommand shape shape (command_in shape bytes) bytes
+  pub plain : is_plain (command_in shape bytes) ≡ true
+  pub size : (command_in shape bytes).size ≡ shape
 
 abbrev pub IsKept : Shape → Unanswered → List ℕ → Type 0
 IsKept shape unanswered.Nothing sent = ⊤
 IsKept shape (unanswered.Writing number) sent = IsPlainWrite shape (drop header_length sent)
 IsKept shape (unanswered.Reading number) sent = ⊤
 IsKept shape (unanswered.Noting number) sent = IsPlainWrite shape (drop header_length sent)
+
+-- What is believed has the size of the screen, unless an erase waits for its answer: it sets the size then.
+abbrev pub BelievesTheSize : Shape → Unanswered → List ℕ → Shadow → Type 0
+BelievesTheSize shape unanswered.Nothing sent shadow = IsOfSize (cells_in shape) shadow
+BelievesTheSize shape (unanswered.Writing number) sent shadow = (command_in shape (drop header_length sent)).code ≡ Write → IsOfSize (cells_in shape) shadow
+BelievesTheSize shape (unanswered.Reading number) sent shadow = IsOfSize (cells_in shape) shadow
+BelievesTheSize shape (unanswered.Noting number) sent shadow = IsOfSize (cells_in shape) shadow
 
 -- ---- items
 

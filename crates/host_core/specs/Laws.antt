@@ -7,9 +7,9 @@ use Rattle.shadow.specs.Fits.{is_paintable}
 use Rattle.panels.specs.Panel.{PanelParts, Panels, AreLaidOut, AreApart, AreOfCharacters, HaveOtherwise}
 use Rattle.panels.specs.declared.message.Message.{Message}
 use Rattle.panels.specs.Screen.{Values, IsWantedOf, screen_of}
-use Rattle.host_core.specs.Application.{Application, application_of, AsksForScreens, IsApplication, IsShowable}
+use Rattle.host_core.specs.Application.{Application, application_of, AsksForScreens, IsApplication, IsShowable, IsSizeOf}
 use Rattle.host_core.specs.Messages.{ToTerminal}
-use Rattle.host_core.specs.Session.{Conn}
+use Rattle.host_core.specs.Session.{Conn, model_in}
 use Rattle.host_core.specs.Acts.{Act, done}
 
 -- what is painted fits what is believed or keeps nothing, and is a screen of this shape
@@ -23,9 +23,14 @@ PaintsWhatFits shape shadow (ToTerminal.ReadBuffer number) = Unit {0}
 PaintsWhatFits shape shadow (ToTerminal.TalksDown saying) = ⊥
 PaintsWhatFits shape shadow (ToTerminal.Note number command) = ⊥
 
--- Whatever the host does, it paints what fits its belief, or what keeps nothing.
+-- Whatever the host does, it paints what fits its belief, or what keeps nothing, in the size that the connection has from then on.
 abbrev pub ActsFit : Type 0
-ActsFit = (app : Application) (conn : Conn) (act : Act) → IsApplication app → PaintsWhatFits app.begins conn.shadow (done app conn act).message
+ActsFit = (app : Application) (conn : Conn) (act : Act) → IsApplication app → let sent = done app conn act in PaintsWhatFits sent.conn.shape conn.shadow sent.message
+
+-- That is a size which the terminal may have, if it was one before.
+abbrev pub SizesAreTheModels : Type 0
+SizesAreTheModels = (app : Application) (conn : Conn) (act : Act) → IsApplication app → IsSizeOf app (model_in conn) conn.shape
+    → IsSizeOf app (model_in conn) (done app conn act).conn.shape
 
 -- ---- panels
 

@@ -3,12 +3,14 @@ use Rattle.std.specs.Prelude.{◌≡◌, ⊤, ℕ, List, [], ◌++◌, Option, m
 use Rattle.std.specs.declared.alloc.Global.{Global}
 use Rattle.codes3270.specs.Size.{model_2}
 use Rattle.datastream.specs.Grammar.{CommandParts}
+use Rattle.datastream.specs.InboundText.{InboundParts}
 use Rattle.lu_pool.specs.Asking.{answer_to}
 use Rattle.lu_pool.specs.Holders.{granted_if}
 use Rattle.lu_pool.specs.declared.entry.Entry.{Entry}
 use Rattle.telnet_wire.specs.Items.{WireItem, sent_bytes}
 use Rattle.tn3270e_msg.specs.Talk.{Talk}
 use Rattle.tn3270e_msg.specs.declared.cause.Cause.{Cause}
+use Rattle.tn3270e_msg.specs.declared.cause.Cause.TheVariants.{BadInbound}
 use Rattle.tn3270e_msg.specs.declared.host_talk.HostState.{HostState}
 use Rattle.host_core.specs.Items.{Talks}
 use Rattle.host_core.specs.Keeps.{command_in}
@@ -16,14 +18,20 @@ use Rattle.host_core.specs.Messages.{ToTerminal}
 use Rattle.host_core.specs.Rejections.{kept_with}
 use Rattle.host_core.specs.Says.{item_sent}
 use Rattle.host_core.specs.Session.{Conn, Pending}
-use Rattle.host_core.specs.Takes.{with_talk}
+use Rattle.host_core.specs.Takes.{HostStep, closed_by, key_data_came, with_talk}
+use Rattle.host_core.specs.declared.turn.Turn.{Turn}
+use Rattle.host_core.specs.declared.turn.Turn.TheVariants as whose
 use Rattle.host_core.specs.declared.rejection.Rejection.{Rejection}
+
+-- where none waits
+abbrev pub no_write : CommandParts
+no_write = command_in model_2 []
 
 -- the write that waits for its answer
 abbrev pub write_of : Pending → CommandParts
-write_of Pending.Nothing = command_in model_2 []
+write_of Pending.Nothing = no_write
 write_of (Pending.Writing number command) = command
-write_of (Pending.Reading number) = command_in model_2 []
+write_of (Pending.Reading number) = no_write
 write_of (Pending.Noting number command) = command
 
 -- a write does
@@ -42,3 +50,8 @@ pub record TalkTaken (number : ℕ) (pool : List Entry) (old : Talk HostState) (
   pub pool_is : left ≡ granted_if number grants pool
   pub sent : after.items ≡ before.items ++ sent_bytes (map item_sent sends)
   pub rejections : keeps ≡ kept_with rejects kept
+
+-- data that comes while nothing waits for an answer, or a note does
+abbrev pub key_data_in_turn : InboundParts → Turn → Conn → HostStep
+key_data_in_turn parts whose.Host conn = closed_by BadInbound conn
+key_data_in_turn parts whose.Terminal conn = key_data_came parts parts.form conn

@@ -2,14 +2,14 @@
 use Rattle.std.specs.Prelude.{ℕ, ◌+◌, ◌*◌, ◌≤◌, vec_len, Vec}
 use Rattle.std.specs.Vec.{vec_capacity}
 use Rattle.std.specs.declared.alloc.Global.{Global}
-use Rattle.codes3270.specs.Size.{cells_in, model_2}
+use Rattle.codes3270.specs.Size.{most_cells, most_columns}
 use Rattle.tn3270e_msg.specs.Header.{header_length}
 use Rattle.tn3270e_msg.specs.Writing.{reply_room}
 use Rattle.host_core.specs.Messages.{ToTerminal}
 
--- the most bytes of a record that a host sends: a header, and a paint with three bytes for each cell
+-- the most bytes of a record that a host sends: a header, and a paint of the largest screen with three bytes for each cell
 abbrev pub record_room : ℕ
-record_room = header_length + (9 + 3 * cells_in model_2)
+record_room = header_length + (9 + 3 * most_cells)
 
 -- with each byte doubled, and its end
 abbrev pub command_room : ℕ
@@ -19,9 +19,9 @@ command_room = 2 * record_room + 2
 abbrev pub read_buffer_room : ℕ
 read_buffer_room = 2 * (header_length + 1) + 2
 
--- a note: a header, the beginning of a Write and the last row behind its attribute, with each byte doubled, and its end
+-- a note: a header, the beginning of a Write and the longest last row behind its attribute, with each byte doubled, and its end
 abbrev pub note_room : ℕ
-note_room = 2 * (header_length + (4 + model_2.columns)) + 2
+note_room = 2 * (header_length + (4 + most_columns)) + 2
 
 -- the most bytes that each takes on the wire
 abbrev pub room_for : ToTerminal → ℕ

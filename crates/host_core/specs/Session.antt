@@ -1,17 +1,20 @@
 -- One connection as the host has it (our profile).
-use Rattle.std.specs.Prelude.{ℕ, []}
+use Rattle.std.specs.Prelude.{ℕ, [], unwrap_or}
 use Rattle.codes3270.specs.Size.{Shape}
+use Rattle.codes3270.specs.declared.size.Model.{Model}
+use Rattle.codes3270.specs.declared.size.Model.TheVariants.{M2}
 use Rattle.datastream.specs.Grammar.{CommandParts}
 use Rattle.shadow.specs.Belief.{Shadow}
 use Rattle.panels.specs.declared.message.Message.{Message}
 use Rattle.panels.specs.declared.message.Message.TheVariants.{Fresh}
 use Rattle.panels.specs.Screen.{Values}
+use Rattle.host_core.specs.Application.{Application}
 use Rattle.host_core.specs.declared.turn_reason.TurnReason.{TurnReason}
 use Rattle.host_core.specs.declared.turn_reason.TurnReason.TheVariants.{Agreement}
 use Rattle.host_core.specs.declared.turn.Turn.{Turn}
 use Rattle.host_core.specs.declared.turn.Turn.TheVariants.{Host}
 use Rattle.tn3270e_msg.specs.Talk.{Talk}
-use Rattle.tn3270e_msg.specs.HostTable.{host_start}
+use Rattle.tn3270e_msg.specs.HostTable.{host_start, model_asked}
 pub use Rattle.tn3270e_msg.specs.HostTable.{agreed_lu, is_agreed}
 use Rattle.tn3270e_msg.specs.declared.host_talk.HostState.{HostState}
 
@@ -34,17 +37,22 @@ pub record Conn : Type 0 where
   pub values : Values  -- of the fields
   pub turn_reason : TurnReason
 
--- at the begin of a connection, when the host has offered TN3270E, to a screen of this shape
-abbrev pub new_conn : Shape → Conn
-new_conn shape = record {
+-- at the begin of a connection, when the host has offered TN3270E; nothing is shown yet, and the first panel is to be, in the form in
+-- which a model 2 is shown it
+abbrev pub new_conn : Application → Conn
+new_conn app = record {
   talk = host_start;
-  shape = shape;
+  shape = app.begins;
   turn = Host;
   pending = Pending.Nothing;
   next_seq = 0;
   shadow = Shadow.NothingKnown;
-  panel = 0;
+  panel = app.shown M2 app.start;
   message = Fresh;
   values = [];
   turn_reason = Agreement;
 }
+
+-- the model of the terminal, once it has asked for its type; all are like a model 2 before
+abbrev pub model_in : Conn → Model
+model_in conn = unwrap_or (model_asked conn.talk.state) M2

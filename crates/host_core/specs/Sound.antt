@@ -2,6 +2,9 @@
 use Rattle.std.specs.Prelude.{◌≡◌, ◌<◌, ◌↔◌, ⊤, ℕ, List, length, Option, Some}
 use Rattle.lu_pool.specs.Pool.{Holds}
 use Rattle.lu_pool.specs.declared.entry.Entry.{Entry}
+use Rattle.panels.specs.Panel.{Panels, shape_of}
+use Rattle.host_core.specs.Application.{panel_at}
+use Rattle.host_core.specs.Session.{Conn}
 use Rattle.host_core.specs.State.{Service, Host, most_connections, service_at, lu_of}
 
 -- The pool holds this LU for the connection with this number, and no other; or none at all.
@@ -12,15 +15,19 @@ HoldsJust number pool held = (lu : List ℕ) → Holds pool number lu ↔ (held 
 abbrev pub LusAreHeld : Host → Type 0
 LusAreHeld host = (number : ℕ) → HoldsJust number host.pool (lu_of (service_at number host))
 
--- the panel that is shown is one of `count`
-abbrev pub IsShown : ℕ → Service → Type 0
-IsShown count Service.Free = ⊤
-IsShown count (Service.Open rest conn) = conn.panel < count
-IsShown count (Service.Closed cause) = ⊤
+-- the connection's panel is there, and is one for a screen of the connection's size
+pub record IsOnPanel (panels : Panels) (conn : Conn) : Type 0 where
+  pub there : conn.panel < length panels.panels
+  pub size : shape_of (panel_at panels conn.panel) ≡ conn.shape
 
--- each connection is shown a panel that there is
+abbrev pub IsShown : Panels → Service → Type 0
+IsShown panels Service.Free = ⊤
+IsShown panels (Service.Open rest conn) = IsOnPanel panels conn
+IsShown panels (Service.Closed cause) = ⊤
+
+-- so each connection is shown a panel
 abbrev pub PanelsAreShown : Host → Type 0
-PanelsAreShown host = (number : ℕ) → IsShown (length host.panels.panels) (service_at number host)
+PanelsAreShown host = (number : ℕ) → IsShown host.panels (service_at number host)
 
 pub record IsSound (host : Host) : Type 0 where
   pub connections : length host.connections ≡ most_connections

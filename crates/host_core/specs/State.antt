@@ -1,6 +1,6 @@
 -- A host, seen from outside (our profile).
 use Rattle.std.specs.Prelude.{ℕ, List, [], ◌∷◌, Option, Some, None, replicate, slice_set, slice_index_or}
-use Rattle.codes3270.specs.Size.{model_2}
+use Rattle.codes3270.specs.declared.size.Model.{Model}
 use Rattle.lu_pool.specs.Holders.{all_free, given_back}
 use Rattle.lu_pool.specs.declared.entry.Entry.{Entry}
 use Rattle.panels.specs.Panel.{Panels}
@@ -8,9 +8,10 @@ use Rattle.shadow.specs.Belief.{Shadow}
 use Rattle.telnet_wire.specs.Items.{Opt, sent_bytes}
 use Rattle.telnet_wire.specs.Reading.{Rest, nothing}
 use Rattle.telnet_wire.specs.declared.wire.Verb.TheVariants.{Do}
-use Rattle.tn3270e_msg.specs.HostTable.{granted}
+use Rattle.tn3270e_msg.specs.HostTable.{granted, model_asked}
 use Rattle.tn3270e_msg.specs.declared.cause.Cause.{Cause}
 use Rattle.host_core.specs.Answering.{number_of}
+use Rattle.host_core.specs.Application.{application_of}
 use Rattle.host_core.specs.Session.{Conn, new_conn, agreed_lu}
 use Rattle.host_core.specs.declared.phase.Phase.{Phase}
 use Rattle.host_core.specs.declared.rejection.Rejection.{Rejection}
@@ -45,8 +46,8 @@ abbrev pub unused : Connection
 unused = record { service = Service.Free; out = []; rejections = [] }
 
 -- TN3270E is offered at once, on a screen of 24 rows of 80 cells
-abbrev pub opened : Connection
-opened = record { service = Service.Open nothing (new_conn model_2); out = sent_bytes (Opt Do 40 ∷ []); rejections = [] }
+abbrev pub opened : Panels → Connection
+opened panels = record { service = Service.Open nothing (new_conn (application_of panels)); out = sent_bytes (Opt Do 40 ∷ []); rejections = [] }
 
 abbrev pub phase_agreed : Option (List ℕ) → Phase
 phase_agreed None = phase.Talking
@@ -67,6 +68,12 @@ abbrev pub turn_of : Service → Turn
 turn_of Service.Free = HostTurn
 turn_of (Service.Open rest conn) = conn.turn
 turn_of (Service.Closed cause) = HostTurn
+
+-- the model of the terminal, once it has asked for its type
+abbrev pub model_of : Service → Option Model
+model_of Service.Free = None
+model_of (Service.Open rest conn) = model_asked conn.talk.state
+model_of (Service.Closed cause) = None
 
 -- the number of the command that isn't answered yet
 abbrev pub pending_of : Service → Option ℕ

@@ -1,19 +1,22 @@
 //! What a host does in its turn.
-ghost use Rattle.std.specs.Prelude.{◌≡◌, ◌≤◌, ◌<◌, ℕ, Bool, false, Some, OnOk, OnErr, length};
+ghost use Rattle.std.specs.Prelude.{◌≡◌, ◌≤◌, ◌<◌, ℕ, Bool, false, true, Some, OnOk, OnErr, length};
 ghost use Rattle.std.specs.List.{list_any};
 ghost use Rattle.std.specs.Vec.{vec_capacity};
+ghost use Rattle.codes3270.specs.Size.{cells_in};
 ghost use Rattle.codes3270.specs.declared.attention.Aid.TheVariants.{Clear};
 ghost use Rattle.panels.specs.Keys.{IsKey};
 ghost use Rattle.panels.specs.Screen.{Values as FieldValues};
 ghost use Rattle.panels.specs.declared.message.Message.TheVariants.{Fresh};
 ghost use Rattle.panels.specs.declared.next.Next.TheVariants.{Go};
 ghost use Rattle.host_core.specs.Acts.{Act as Doing, acted, done, gone_to, is_in_doubt as in_doubt, is_to_be_read, led, may_act, repeated, target_or, unless_missing};
-ghost use Rattle.host_core.specs.Application.{Application, application_of};
+ghost use Rattle.shadow.specs.Belief.{IsOfSize};
+ghost use Rattle.host_core.specs.Application.{Application, application_of, panel_at};
 ghost use Rattle.host_core.specs.Choices.{CanBeShown};
 ghost use Rattle.host_core.specs.Does.{Grow};
 ghost use Rattle.host_core.specs.Keeps.{DoesOn, act_of, reads, show_for, show_once, teaches, values_shown};
 ghost use Rattle.host_core.specs.Learning.{HaveFields};
 ghost use Rattle.host_core.specs.Session.{is_agreed};
+ghost use Rattle.host_core.specs.Sound.{IsOnPanel};
 ghost use Rattle.host_core.specs.declared.turn_reason.TurnReason.TheVariants.{Key as KeyPressed};
 
 use crate::acted::Acted;
@@ -29,7 +32,7 @@ use panels::{Field, Message, Next, PanelSet};
 use shadow::Shadow;
 use telnet_wire::Memory;
 
-/// What the host shows: a panel, with a message, and whether fields keep what the operator left in them.
+/// What the host is to show: a panel, with a message, and whether fields keep what the operator left in them.
 #[derive(Clone, Copy)]
 pub(crate) struct Shown {
     pub(crate) panel: usize,
@@ -123,7 +126,8 @@ fn teaches(turn_reason: TurnReason) -> bool
 impl Session {
     /// Whether the screen is to be read before a key is answered: after PA, or where some field of the panel is in doubt.
     fn is_to_be_read(&self, panels: &PanelSet, aid: &Aid) -> bool
-        requires { self.now.panel < length panels.now.panels }
+        requires panel { self.now.panel < length panels.now.panels }
+        requires fields { HaveFields self.now.shadow (panel_at panels.now self.now.panel).fields }
         ensures { result ≡ is_to_be_read (application_of panels.now) self.now aid.now }
     {
         match aid {
@@ -195,7 +199,7 @@ impl Session {
         }
     }
 
-    /// What is shown, once the values of fields are set: at agreement the first panel, after a refusal the same panel, whole.
+    /// What is to be shown, once the values of fields are set: at agreement the first panel, after a refusal the same panel, whole.
     fn shown(&self, panels: &PanelSet) -> Shown
         requires { self.now.panel < length panels.now.panels }
         ensures act { act_of self.now.values result ≡ show_for (application_of panels.now) self.now self.now.turn_reason }
@@ -218,7 +222,8 @@ impl Session {
 
     /// Whether the screen is read before anything is shown.
     fn reads_first(&self, panels: &PanelSet) -> bool
-        requires { self.now.panel < length panels.now.panels }
+        requires panel { self.now.panel < length panels.now.panels }
+        requires fields { HaveFields self.now.shadow (panel_at panels.now self.now.panel).fields }
         ensures { result ≡ reads (application_of panels.now) self.now self.now.turn_reason }
     {
         match self.turn_reason {
@@ -234,7 +239,8 @@ impl Session {
 
     /// Sets the values of fields, before a panel is shown. Memory is needed only if a value has to grow.
     fn learn(&mut self, panels: &PanelSet) -> Result<(), Memory>
-        requires { self.old.panel < length panels.now.panels }
+        requires panel { self.old.panel < length panels.now.panels }
+        requires fields { HaveFields self.old.shadow (panel_at panels.now self.old.panel).fields }
         ensures values { OnOk result (self.new ≡ record self.old { values = values_shown (application_of panels.now) self.old }) }
         ensures memory { OnErr result (Grow self.old.values (values_shown (application_of panels.now) self.old)) }
         ensures err { OnErr result (self.new ≡ self.old) }
@@ -256,7 +262,9 @@ impl Session {
 
     /// Whether it may act: in its turn, once the session is agreed and its last command answered.
     fn may_act(&self) -> bool
-        ensures { result ≡ may_act self.now.turn self.now.pending (is_agreed self.now.talk.state) }
+        ensures may { result ≡ may_act self.now.turn self.now.pending (is_agreed self.now.talk.state) }
+        // Nothing waits for its answer then, so that what is believed has the size of the screen.
+        ensures known { result ≡ true → IsOfSize (cells_in self.now.shape) self.now.shadow }
     {
         match self.turn {
             Turn::Terminal => false,
@@ -267,10 +275,21 @@ impl Session {
         }
     }
 
+    /// Law: what is believed, if it is something, has the fields of the panel that is shown.
+    fn fields_are_believed(&self, panels: &PanelSet)
+        requires panel { IsOnPanel panels.now self.now }
+        requires known { IsOfSize (cells_in self.now.shape) self.now.shadow }
+        ensures { HaveFields self.now.shadow (panel_at panels.now self.now.panel).fields }
+    {
+        panels.panels_are_sound();
+    }
+
     /// Reads the whole screen, if there is room for the command.
     fn read_in_turn(&mut self, out: &mut Vec<u8>) -> Acted
+        requires known { IsOfSize (cells_in self.old.shape) self.old.shadow }
         ensures acted { (app : Application) → DoesOn (Some (done app self.old Doing.Read)) self.old out.old result self.new out.new }
         ensures panel { self.new.panel ≡ self.old.panel }
+        ensures shape { self.new.shape ≡ self.old.shape }
         ensures capacity { vec_capacity out.old ≤ vec_capacity out.new }
     {
         if out.reserve(READ_BUFFER_ROOM).is_err() {
@@ -282,9 +301,10 @@ impl Session {
 
     /// Shows a panel, if there is room for the command and for the values of fields.
     fn show_in_turn(&mut self, panels: &PanelSet, out: &mut Vec<u8>) -> Acted
-        requires panel { self.old.panel < length panels.now.panels }
+        requires panel { IsOnPanel panels.now self.old }
+        requires fields { HaveFields self.old.shadow (panel_at panels.now self.old.panel).fields }
         ensures acted { DoesOn (Some (done (application_of panels.now) self.old (show_once (application_of panels.now) self.old))) self.old out.old result self.new out.new }
-        ensures panel { self.new.panel < length panels.now.panels }
+        ensures panel { IsOnPanel panels.now self.new }
         ensures capacity { vec_capacity out.old ≤ vec_capacity out.new }
     {
         if out.reserve(COMMAND_ROOM).is_err() {
@@ -301,14 +321,15 @@ impl Session {
     /// Sends what there is to do in its turn. Nothing has changed if memory is refused, which is asked for if the value of some
     /// field has to grow, or if the command may not fit into the room that is there.
     pub(crate) fn act(&mut self, panels: &PanelSet, out: &mut Vec<u8>) -> Acted
-        requires panel { self.old.panel < length panels.now.panels }
+        requires panel { IsOnPanel panels.now self.old }
         ensures acted { DoesOn (acted (application_of panels.now) self.old) self.old out.old result self.new out.new }
-        ensures panel { self.new.panel < length panels.now.panels }
+        ensures panel { IsOnPanel panels.now self.new }
         ensures capacity { vec_capacity out.old ≤ vec_capacity out.new }
     {
         if !self.may_act() {
             return Acted::Nothing;
         }
+        self.fields_are_believed(panels);
         if self.reads_first(panels) {
             return self.read_in_turn(out);
         }

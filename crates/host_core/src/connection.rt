@@ -15,7 +15,7 @@ ghost use Rattle.host_core.specs.Rejections.{oldest, without_oldest};
 ghost use Rattle.host_core.specs.Rooms.{HasRoomFor, out_room};
 ghost use Rattle.host_core.specs.Sound.{HoldsJust, IsShown};
 ghost use Rattle.host_core.specs.State.Service.{Free};
-ghost use Rattle.host_core.specs.State.{opened, unused, lu_of, phase_of, turn_of, pending_of};
+ghost use Rattle.host_core.specs.State.{opened, unused, lu_of, model_of, phase_of, turn_of, pending_of};
 
 use crate::acted::Acted;
 use crate::feeding::feed_open;
@@ -26,6 +26,7 @@ use crate::room::OUT_ROOM;
 use crate::session::Session;
 use crate::turn::Turn;
 use arrayvec::ArrayVec;
+use codes3270::Model as TerminalModel;
 use lu_pool::Pool;
 use panels::PanelSet;
 use shadow::Shadow;
@@ -58,6 +59,7 @@ impl HostEnd {
         ensures holds { HoldsJust number pool.new (claim (cause_of result.stop) self.new.session) }
         ensures others { OthersHold number pool.old pool.new }
         ensures panel { self.new.session.panel ≡ self.old.session.panel }
+        ensures shape { self.new.session.shape ≡ self.old.session.shape }
         ensures left { IsLeft (cause_of result.stop) self.new.decoder }
         ensures capacity { vec_capacity out.old ≤ vec_capacity out.new }
     {
@@ -134,18 +136,19 @@ impl Connection {
     }
 
     /// Begins a connection, and offers TN3270E there. All the room that a session needs is made here, and that for output.
-    pub(crate) fn open(&mut self) -> Result<(), Memory>
+    pub(crate) fn open(&mut self, panels: &PanelSet) -> Result<(), Memory>
         requires free { self.old.service ≡ Free }
-        ensures opened { OnOk result (self.new ≡ opened) }
+        ensures opened { OnOk result (self.new ≡ opened panels.now) }
         ensures unchanged { OnErr result (self.new ≡ self.old) }
         ensures held { lu_of self.new.service ≡ None }
-        ensures shown { (count : ℕ) → 0 < count → IsShown count self.new.service }
+        ensures shown { IsShown panels.now self.new.service }
     {
+        panels.panels_are_sound();
         let alloc = *self.out.allocator();
         let Ok(decoder) = Decoder::new(alloc, RECORD_LIMIT) else {
             return Err(AllocError);
         };
-        let session = Session::new(alloc)?;
+        let session = Session::new(alloc, panels)?;
         let end = Box::new(alloc, HostEnd { decoder, session })?;
         make_out_room(&mut self.out)?;
         self.out.clear();
@@ -188,10 +191,10 @@ impl Connection {
 
     /// Acts, as the host does.
     pub(crate) fn act(&mut self, panels: &PanelSet) -> Acted
-        requires { IsShown (length panels.now.panels) self.old.service }
+        requires { IsShown panels.now self.old.service }
         ensures acted { Does (acted_by (application_of panels.now) self.old.service) self.old result self.new }
         ensures held { lu_of self.new.service ≡ lu_of self.old.service }
-        ensures shown { IsShown (length panels.now.panels) self.new.service }
+        ensures shown { IsShown panels.now self.new.service }
     {
         match &mut self.service {
             Service::Free | Service::Closed(_) => Acted::Nothing,
@@ -301,6 +304,16 @@ impl Connection {
         }
     }
 
+    /// The model of the terminal, once it has asked for its type.
+    pub(crate) fn model(&self) -> Option<TerminalModel>
+        ensures { result ≡ model_of self.now.service }
+    {
+        match &self.service {
+            Service::Free | Service::Closed(_) => None,
+            Service::Open(end) => end.session.model(),
+        }
+    }
+
     pub(crate) fn pending(&self) -> Option<u16>
         ensures { result ≡ pending_of self.now.service }
     {
@@ -316,7 +329,7 @@ impl Connection {
         panels: &PanelSet,
         measure: &mut ScreenMeasure,
     ) -> Option<usize>
-        requires { IsShown (length panels.now.panels) self.now.service }
+        requires { IsShown panels.now self.now.service }
         ensures { result ≡ whole_length (application_of panels.now) self.now.service }
     {
         match &self.service {

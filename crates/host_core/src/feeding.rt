@@ -38,6 +38,7 @@ pub(crate) fn feed_open(
     ensures holds { HoldsJust number pool.new (claim (cause_of result.stop) session.new) }
     ensures others { OthersHold number pool.old pool.new }
     ensures panel { session.new.panel ≡ session.old.panel }
+    ensures shape { session.new.shape ≡ session.old.shape }
     ensures left { IsLeft (cause_of result.stop) decoder.new }
     ensures capacity { vec_capacity out.old ≤ vec_capacity out.new }
 {
@@ -78,6 +79,7 @@ fn take_byte(
     ensures holds { HoldsJust number pool.new (claim result session.new) }
     ensures others { OthersHold number pool.old pool.new }
     ensures panel { session.new.panel ≡ session.old.panel }
+    ensures shape { session.new.shape ≡ session.old.shape }
     ensures left { IsLeft result decoder.new }
     ensures capacity { vec_capacity out.old ≤ vec_capacity out.new }
 {

@@ -8,7 +8,7 @@ ghost use Rattle.host_core.specs.Measuring.{whole_length};
 ghost use Rattle.host_core.specs.Notes.{IsNoteText};
 ghost use Rattle.host_core.specs.Rejections.{oldest, without_oldest};
 ghost use Rattle.host_core.specs.Sound.{IsSound, NobodyShares};
-ghost use Rattle.host_core.specs.State.{new_host, most_connections, opened, unused, given_up, connection_at, service_at, with_connection, phase_of, turn_of, pending_of, shadow_of};
+ghost use Rattle.host_core.specs.State.{new_host, most_connections, opened, unused, given_up, connection_at, service_at, with_connection, model_of, phase_of, turn_of, pending_of, shadow_of};
 ghost use Rattle.host_core.specs.declared.phase.Phase.TheVariants as phase;
 
 use crate::acted::Acted;
@@ -17,6 +17,7 @@ use crate::measuring::ScreenMeasure;
 use crate::phase::Phase;
 use crate::rejection::Rejection;
 use crate::turn::Turn;
+use codes3270::Model as TerminalModel;
 use lu_pool::Pool;
 use panels::PanelSet;
 use shadow::Shadow;
@@ -96,12 +97,10 @@ impl Host {
     pub fn open(&mut self, conn: usize) -> Result<(), Memory>
         requires number { conn < most_connections }
         requires free { phase_of (service_at conn self.old) ≡ phase.Free }
-        ensures opened { OnOk result (self.new ≡ with_connection conn opened self.old) }
+        ensures opened { OnOk result (self.new ≡ with_connection conn (opened self.old.panels) self.old) }
         ensures unchanged { OnErr result (self.new ≡ self.old) }
     {
-        // For the contract: there is a first panel.
-        let _first = self.panels.start();
-        self.connections[conn].open()
+        self.connections[conn].open(&self.panels)
     }
 
     /// Takes bytes that came on a connection, up to one for which there is no room or that closes the connection, and answers
@@ -135,7 +134,7 @@ impl Host {
     /// Sends a note, of at most 131 characters of code page 037, into the last row while the operator has the turn. What is
     /// longer than the row's room is cut. Nothing if it isn't the terminal's turn, a command waits for its answer, or the ends
     /// haven't agreed. Memory is needed only if the bytes that wait to be sent leave less of the connection's room than the largest
-    /// note takes, 180 bytes.
+    /// note takes, 284 bytes.
     pub fn note(&mut self, conn: usize, text: &[u8]) -> Acted
         requires number { conn < most_connections }
         requires text { IsNoteText text.now }
@@ -208,6 +207,15 @@ impl Host {
         ensures { result ≡ turn_of (service_at conn self.now) }
     {
         self.connections[conn].turn()
+    }
+
+    /// The model of the terminal of a connection, from its request for a device type on; None before, and on a number that is
+    /// free or closed. Panels of that model are shown there, and the other panels in their place.
+    pub fn model(&self, conn: usize) -> Option<TerminalModel>
+        requires number { conn < most_connections }
+        ensures { result ≡ model_of (service_at conn self.now) }
+    {
+        self.connections[conn].model()
     }
 
     /// The number of the command that waits for its answer, if one does.

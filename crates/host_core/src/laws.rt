@@ -1,7 +1,7 @@
 //! Laws of hosts over bytes: each is the contract of a function that does nothing. Proofs of
 //! other crates use them; no program calls them, and the root doesn't export them.
 ghost use Rattle.host_core.specs.Answering.{BelievesNoSooner, BelievesNotesNoSooner, CommandsAreNumbered, NotesAreNumbered, OnlyItsResponse};
-ghost use Rattle.host_core.specs.Laws.{ActsFit, PanelsAreShown, PanelsAskForScreens, ScreensAreWanted};
+ghost use Rattle.host_core.specs.Laws.{ActsFit, SizesAreTheModels, PanelsAreShown, PanelsAskForScreens, ScreensAreWanted};
 ghost use Rattle.host_core.specs.NoteLaws.{HeldTakesNotes, NotesAreNotes, NotesAreOverCharacters, NotesOverwrite, NotesWriteProtected, PaintsTakeNotes, SameAttributesTakeNotes};
 ghost use Rattle.host_core.specs.Machine.{OneOutcome, PiecesCompose, PiecesPart};
 
@@ -21,15 +21,18 @@ pub fn one_machine()
     datastream::laws::one_reading();
 }
 
-/// Law: whatever a host does, it paints what fits its belief, or what keeps nothing.
+/// Law: whatever a host does, it paints what fits its belief, or what keeps nothing; and the screen has, from then on, a size which a
+/// terminal of that model may have.
 pub fn what_is_shown_fits()
-    ensures { ActsFit }
+    ensures fits { ActsFit }
+    ensures sizes { SizesAreTheModels }
 {}
 
 /// Law: panels that are laid out on the screens of their models, no two of whose items share a cell,
 /// and of which each one of another model has one of model 2 in its place, are an application: each
-/// screen that they ask for has the model 2's shape, with its last row for messages, keeps whole
-/// fields or none, and is the one of its panel cell by cell. Where panels and
+/// screen that they ask for has the size of its panel's model, with its last row for messages, keeps
+/// whole fields or none, and is the one of its panel cell by cell; and what is shown to a terminal has
+/// a size that the terminal may have. Where panels and
 /// values have characters alone that a cell can hold, so have the screens.
 pub fn panels_are_shown()
     ensures application { PanelsAreShown }

@@ -23,7 +23,7 @@
 //!
 //! // Nothing of it is believed before the client's positive response to record 0.
 //! host.feed(0, b"\x02\x00\x00\x00\x00\x00\xff\xef");
-//! assert!(rt; host.shadow(0).known(Addr::first().next()) == Some(Cell::Char(0xe6)));
+//! assert!(rt; host.shadow(0).known(Addr::first().next(Size::base())) == Some(Cell::Char(0xe6)));
 //!
 //! // The connection is gone: its LU is free, and its number may be opened again.
 //! host.closed(0);

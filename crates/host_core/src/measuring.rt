@@ -1,18 +1,17 @@
 //! What screens would take on the wire, had the host known nothing of what the terminals show.
 ghost use Rattle.std.specs.Prelude.{◌≡◌, ◌<◌, ◌≤◌, false, length, true};
-ghost use Rattle.codes3270.specs.Size.{model_2};
 ghost use Rattle.datastream.specs.Wanted.{IsScreen};
 ghost use Rattle.shadow.specs.Belief.Shadow.{NothingKnown};
 ghost use Rattle.shadow.specs.Fits.{is_paintable};
-ghost use Rattle.host_core.specs.Application.{application_of};
+ghost use Rattle.panels.specs.Panel.{shape_of};
+ghost use Rattle.host_core.specs.Application.{application_of, panel_at};
 ghost use Rattle.host_core.specs.Measuring.{length_over_nothing, shown_whole, whole_length_if};
 
-use crate::laws::{panels_are_shown, what_is_shown_fits};
+use crate::laws::panels_are_shown;
 use crate::pending::Pending;
 use crate::room::{COMMAND_ROOM, RECORD_ROOM};
 use crate::sending::{begin_record, panel_in, send_record};
 use crate::session::Session;
-use codes3270::Size;
 use datastream::{Want, Wanted};
 use panels::{Message, PanelSet, Values};
 use shadow::Shadow;
@@ -22,7 +21,7 @@ use std::marker::Model;
 use telnet_wire::Memory;
 use tn3270e_msg::ALWAYS_RESPONSE;
 
-/// The room in which screens are measured: some 18 kilobytes, made once. Contracts see nothing of it.
+/// The room in which screens are measured: some 32 kilobytes, made once. Contracts see nothing of it.
 #[derive(Drop)]
 pub struct ScreenMeasure {
     record: Vec<u8>,
@@ -52,7 +51,6 @@ impl ScreenMeasure {
     /// How many bytes the command with this number takes that paints a screen of which nothing is known.
     fn length(&mut self, number: u16, wanted: &Wanted) -> usize
         requires fits { is_paintable NothingKnown wanted.now ≡ true }
-        requires size { wanted.now.size ≡ model_2 }
         requires screen { IsScreen wanted.now }
         ensures { result ≡ length_over_nothing number wanted.now }
     {
@@ -74,13 +72,11 @@ fn put_whole(
     values: &Values,
 )
     requires panel { panel < length panels.now.panels }
-    requires size { wanted.old.size ≡ model_2 }
+    requires size { wanted.old.size ≡ shape_of (panel_at panels.now panel) }
     ensures wanted { wanted.new ≡ (application_of panels.now).screen panel values.now message false }
     ensures fits { is_paintable NothingKnown wanted.new ≡ true }
     ensures screen { IsScreen wanted.new }
-    ensures size { wanted.new.size ≡ model_2 }
 {
-    what_is_shown_fits();
     panels_are_shown();
     panels.panels_are_sound();
     panel_in(panels, panel).put_wanted(wanted, values, message, false);
@@ -97,7 +93,8 @@ impl Session {
         requires { self.now.panel < length panels.now.panels }
         ensures { result ≡ length_over_nothing number (shown_whole (application_of panels.now) self.now) }
     {
-        let mut wanted = Wanted::filled(Want::Keep, Size::base());
+        let size = panel_in(panels, self.panel).size();
+        let mut wanted = Wanted::filled(Want::Keep, size);
         put_whole(&mut wanted, panels, self.panel, self.message, &self.values);
         measure.length(number, &wanted)
     }

@@ -1,9 +1,10 @@
 //! The notes that are sent in the operator's turn.
-ghost use Rattle.std.specs.Prelude.{◌≡◌, ◌-◌, ◌+◌, ◌≤◌, ◌++◌, take, replicate, length, All, true, vec_len};
+ghost use Rattle.std.specs.Prelude.{◌≡◌, ◌-◌, ◌+◌, ◌<◌, ◌≤◌, ◌++◌, take, replicate, length, All, true, vec_len};
 ghost use Rattle.std.specs.Vec.{vec_capacity};
-ghost use Rattle.codes3270.specs.Size.{model_2};
+ghost use Rattle.codes3270.specs.Size.{cells_in, most_columns};
 ghost use Rattle.codes3270.specs.Storable.{is_storable};
-ghost use Rattle.host_core.specs.Application.{message_place};
+ghost use Rattle.shadow.specs.Belief.{IsOfSize};
+ghost use Rattle.host_core.specs.Application.{IsShape, message_place};
 ghost use Rattle.host_core.specs.Keeps.{DoesOn, IsSentOn};
 ghost use Rattle.host_core.specs.Notes.{IsNoteText, may_note, note_command, noted, noted_as};
 ghost use Rattle.host_core.specs.Rooms.{HasRoomFor, note_room};
@@ -16,47 +17,55 @@ use crate::room::NOTE_ROOM;
 use crate::sending::{begin_record, send_record};
 use crate::session::Session;
 use crate::turn::Turn;
-use codes3270::{Addr, CELLS, COLUMNS, Size, Wcc};
+use codes3270::{Addr, MOST_COLUMNS, Size, Wcc};
 use datastream::{CommandCode, CommandWriter};
 use tn3270e_msg::{ALWAYS_RESPONSE, next_seq};
 
 /// How many characters the last row has behind its attribute.
-const ROOM: usize = COLUMNS as usize - 1;
+fn room_in(size: Size) -> usize
+    ensures room { result ≡ size.columns - 1 }
+    ensures few { result < most_columns }
+{
+    usize::from(size.cols()) - 1
+}
 
 /// Where a note begins: behind the attribute of the last row.
-fn note_place() -> Addr
-    ensures { result ≡ message_place model_2 + 1 }
+fn note_place(size: Size) -> Addr
+    ensures place { result ≡ message_place size + 1 }
+    ensures shape { IsShape size }
+    ensures narrow { size.columns ≤ most_columns }
 {
-    match Addr::new(CELLS - COLUMNS + 1, Size::base()) {
+    match Addr::new(size.cells() - size.cols() + 1, size) {
         Some(addr) => addr,
         None => unreachable!(),
     }
 }
 
-/// The front of a text, as far as the row has room.
-fn front_of(text: &[u8]) -> &[u8]
+/// The front of a text, as far as there is room.
+fn front_of(text: &[u8], room: usize) -> &[u8]
     requires { IsNoteText text.now }
-    ensures front { result.now ≡ take (model_2.columns - 1) text.now }
-    ensures short { length result.now ≤ model_2.columns - 1 }
+    ensures front { result.now ≡ take room text.now }
+    ensures short { length result.now ≤ room }
     ensures storable { All (λ byte. is_storable byte ≡ true) result.now }
 {
-    if text.len() < ROOM {
+    if text.len() < room {
         text
     } else {
-        &text[..ROOM]
+        &text[..room]
     }
 }
 
 /// So many nulls.
 fn nulls(count: usize) -> &'static [u8]
-    requires { count ≤ model_2.columns - 1 }
+    requires { count < most_columns }
     ensures nulls { result.now ≡ replicate count 0 }
     ensures storable { All (λ byte. is_storable byte ≡ true) result.now }
 {
     &NULLS[..count]
 }
 
-static NULLS: [u8; ROOM] = [0; ROOM];
+// The row of the largest screen, without its attribute.
+static NULLS: [u8; MOST_COLUMNS - 1] = [0; MOST_COLUMNS - 1];
 
 /// Appends characters.
 fn put_text(writer: &mut CommandWriter<'_>, text: &[u8])
@@ -69,12 +78,14 @@ fn put_text(writer: &mut CommandWriter<'_>, text: &[u8])
     writer.chars(text).unwrap();
 }
 
-/// Appends a note: a Write that only puts a text into the last row, and nulls after the text.
-fn write_note(writer: &mut CommandWriter<'_>, text: &[u8])
+/// Appends a note, for a screen of a size: a Write that only puts a text into the last row, and nulls after the text.
+fn write_note(writer: &mut CommandWriter<'_>, text: &[u8], size: Size)
     requires text { IsNoteText text.now }
-    requires room { vec_len writer.old.out.now + (4 + model_2.columns) ≤ vec_capacity writer.old.out.now }
+    requires room { vec_len writer.old.out.now + (4 + most_columns) ≤ vec_capacity writer.old.out.now }
     ensures same_vector { writer.new.out.ghost_name ≡ writer.old.out.ghost_name }
-    ensures appended { writer.new.out.now.items ≡ writer.old.out.now.items ++ written (note_command model_2 text.now) }
+    ensures appended { writer.new.out.now.items ≡ writer.old.out.now.items ++ written (note_command size text.now) }
+    ensures shape { IsShape size }
+    ensures narrow { size.columns ≤ most_columns }
     ensures capacity { vec_capacity writer.old.out.now ≤ vec_capacity writer.new.out.now }
 {
     let quiet = Wcc {
@@ -82,28 +93,32 @@ fn write_note(writer: &mut CommandWriter<'_>, text: &[u8])
         restore: false,
         reset: false,
     };
-    let front = front_of(text);
+    let room = room_in(size);
+    let front = front_of(text, room);
     writer.begin(CommandCode::Write, quiet).unwrap();
-    writer.sba(note_place()).unwrap();
+    writer.sba(note_place(size)).unwrap();
     put_text(writer, front);
-    put_text(writer, nulls(ROOM - front.len()));
+    put_text(writer, nulls(room - front.len()));
 }
 
 /// Appends a note to a record.
-fn put_note(bytes: &mut Vec<u8>, text: &[u8])
+fn put_note(bytes: &mut Vec<u8>, text: &[u8], size: Size)
     requires text { IsNoteText text.now }
-    requires room { vec_len bytes.old + (4 + model_2.columns) ≤ vec_capacity bytes.old }
-    ensures appended { bytes.new.items ≡ bytes.old.items ++ written (note_command model_2 text.now) }
+    requires room { vec_len bytes.old + (4 + most_columns) ≤ vec_capacity bytes.old }
+    ensures appended { bytes.new.items ≡ bytes.old.items ++ written (note_command size text.now) }
+    ensures shape { IsShape size }
+    ensures narrow { size.columns ≤ most_columns }
     ensures capacity { vec_capacity bytes.old ≤ vec_capacity bytes.new }
 {
     let mut writer = CommandWriter::new(bytes);
-    write_note(&mut writer, text);
+    write_note(&mut writer, text, size);
 }
 
 impl Session {
     /// Whether a note may be sent: in the operator's turn, where nothing waits for an answer.
     fn may_note(&self) -> bool
-        ensures { result ≡ may_note self.now.turn self.now.pending (is_agreed self.now.talk.state) }
+        ensures may { result ≡ may_note self.now.turn self.now.pending (is_agreed self.now.talk.state) }
+        ensures known { result ≡ true → IsOfSize (cells_in self.now.shape) self.now.shadow }
     {
         match self.turn {
             Turn::Host => false,
@@ -118,11 +133,12 @@ impl Session {
     fn send_note(&mut self, text: &[u8], out: &mut Vec<u8>)
         requires text { IsNoteText text.now }
         requires room { HasRoomFor note_room out.old }
+        requires known { IsOfSize (cells_in self.old.shape) self.old.shadow }
         ensures sent { IsSentOn (noted_as text.now self.old) out.old out.new self.new }
         ensures capacity { vec_capacity out.old ≤ vec_capacity out.new }
     {
         begin_record(&mut self.sent, ALWAYS_RESPONSE, self.next_seq);
-        put_note(&mut self.sent, text);
+        put_note(&mut self.sent, text, self.size);
         send_record(self.sent.as_slice(), out);
         self.pending = Pending::Noting(self.next_seq);
         self.next_seq = next_seq(self.next_seq);
@@ -133,6 +149,7 @@ impl Session {
         requires text { IsNoteText text.now }
         ensures noted { DoesOn (noted text.now self.old) self.old out.old result self.new out.new }
         ensures panel { self.new.panel ≡ self.old.panel }
+        ensures shape { self.new.shape ≡ self.old.shape }
         ensures capacity { vec_capacity out.old ≤ vec_capacity out.new }
     {
         if !self.may_note() {

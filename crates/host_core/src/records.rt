@@ -1,13 +1,14 @@
 //! What a host makes of the records of a terminal: data and responses.
-ghost use Rattle.std.specs.Prelude.{◌≡◌, true, drop};
-ghost use Rattle.codes3270.specs.Size.{model_2};
+ghost use Rattle.std.specs.Prelude.{◌≡◌, true, drop, IfNone};
+ghost use Rattle.codes3270.specs.Size.{cells_in};
 ghost use Rattle.datastream.specs.Grammar.{IsSpelt};
+ghost use Rattle.shadow.specs.Belief.{IsOfSize};
 ghost use Rattle.shadow.specs.Exactness.{is_erase};
 ghost use Rattle.shadow.specs.Stores.{is_plain};
 ghost use Rattle.tn3270e_msg.specs.Header.{header_length};
 ghost use Rattle.host_core.specs.Items.{TakesRecord, verdict_of};
 ghost use Rattle.host_core.specs.Keeps.{IsPlainWrite, command_in, silent};
-ghost use Rattle.host_core.specs.Parts.{IsWrite, write_of};
+ghost use Rattle.host_core.specs.Parts.{IsWrite, key_data_in_turn, write_of};
 ghost use Rattle.host_core.specs.Takes.{believed, buffer_came, data_came, form_awaited, hears, key_data_came, once_read, refused, response_came, verdict_came};
 
 use crate::pending::Pending;
@@ -31,14 +32,14 @@ fn once_read(turn_reason: TurnReason) -> TurnReason
     }
 }
 
-/// The write in a record, after its header.
-fn write_in(sent: &[u8]) -> Command<'_>
-    requires { IsPlainWrite model_2 (drop header_length sent.now) }
-    ensures command { result ≡ command_in model_2 (drop header_length sent.now) }
+/// The write in a record, after its header; it leaves a screen of this size.
+fn write_in(sent: &[u8], size: Size) -> Command<'_>
+    requires { IsPlainWrite size (drop header_length sent.now) }
+    ensures command { result ≡ command_in size (drop header_length sent.now) }
     ensures plain { is_plain result ≡ true }
+    ensures size { result.size ≡ size }
     ensures spelt { IsSpelt result }
 {
-    let size = Size::base();
     read_command(&sent[HEADER_LENGTH..], size, size).unwrap()
 }
 
@@ -58,27 +59,19 @@ impl Session {
         ensures taken { TakesRecord self.old bytes.now (silent self.new result) }
         ensures talk { self.new.talk ≡ self.old.talk }
         ensures panel { self.new.panel ≡ self.old.panel }
+        ensures shape { self.new.shape ≡ self.old.shape }
     {
         let Ok((header, body)) = read_header(bytes) else {
             return Some(Cause::BadRecord);
         };
         match header.kind {
-            DataType::Data3270 => match read_inbound(body, self.form_awaited(), self.size()) {
+            DataType::Data3270 => match read_inbound(body, self.form_awaited(), self.size) {
                 Ok(inbound) => self.hear(&inbound),
                 Err(_) => Some(Cause::BadInbound),
             },
             DataType::Response => self.take_response(&header),
             _ => None,
         }
-    }
-
-    /// The size of the terminal's screen.
-    fn size(&self) -> Size
-        ensures { result ≡ self.now.shape }
-    {
-        // For the contract: the parts that a connection is seen by.
-        let _turn = self.turn;
-        Size::base()
     }
 
     /// The form in which data is read.
@@ -99,23 +92,39 @@ impl Session {
         ensures came { silent self.new result ≡ data_came inbound.now self.old.turn self.old.pending self.old }
         ensures talk { self.new.talk ≡ self.old.talk }
         ensures panel { self.new.panel ≡ self.old.panel }
+        ensures shape { self.new.shape ≡ self.old.shape }
     {
         match self.pending {
             Pending::Reading(_) => self.hear_buffer(inbound),
             Pending::Writing(_) => Some(Cause::BadInbound),
-            Pending::Nothing | Pending::Noting(_) => match self.turn {
-                Turn::Host => Some(Cause::BadInbound),
-                Turn::Terminal => self.hear_key(inbound),
-            },
+            Pending::Nothing => self.hear_in_turn(inbound),
+            Pending::Noting(_) => self.hear_in_turn(inbound),
+        }
+    }
+
+    /// Hears data in the terminal's turn, that of a key.
+    fn hear_in_turn(&mut self, inbound: &Inbound<'_>) -> Option<Cause>
+        requires size { inbound.now.size ≡ self.old.shape }
+        requires known { IsOfSize (cells_in self.old.shape) self.old.shadow }
+        ensures came { silent self.new result ≡ key_data_in_turn inbound.now self.old.turn self.old }
+        ensures talk { self.new.talk ≡ self.old.talk }
+        ensures panel { self.new.panel ≡ self.old.panel }
+        ensures shape { self.new.shape ≡ self.old.shape }
+    {
+        match self.turn {
+            Turn::Host => Some(Cause::BadInbound),
+            Turn::Terminal => self.hear_key(inbound),
         }
     }
 
     /// Hears the whole screen.
     fn hear_buffer(&mut self, inbound: &Inbound<'_>) -> Option<Cause>
-        requires { inbound.now.size ≡ self.old.shape }
+        requires size { inbound.now.size ≡ self.old.shape }
+        requires known { IsOfSize (cells_in self.old.shape) self.old.shadow }
         ensures came { silent self.new result ≡ buffer_came inbound.now inbound.now.form self.old }
         ensures talk { self.new.talk ≡ self.old.talk }
         ensures panel { self.new.panel ≡ self.old.panel }
+        ensures shape { self.new.shape ≡ self.old.shape }
     {
         let Form::Buffer = inbound.form() else {
             return Some(Cause::BadInbound);
@@ -129,10 +138,12 @@ impl Session {
 
     /// Hears what a key sends.
     fn hear_key(&mut self, inbound: &Inbound<'_>) -> Option<Cause>
-        requires { inbound.now.size ≡ self.old.shape }
+        requires size { inbound.now.size ≡ self.old.shape }
+        requires known { IsOfSize (cells_in self.old.shape) self.old.shadow }
         ensures came { silent self.new result ≡ key_data_came inbound.now inbound.now.form self.old }
         ensures talk { self.new.talk ≡ self.old.talk }
         ensures panel { self.new.panel ≡ self.old.panel }
+        ensures shape { self.new.shape ≡ self.old.shape }
     {
         let Form::Modified = inbound.form() else {
             return Some(Cause::BadInbound);
@@ -145,10 +156,13 @@ impl Session {
 
     /// Hears inbound data, so that the turn is the host's for this reason; what waits for an answer still does.
     fn believe(&mut self, inbound: &Inbound<'_>, turn_reason: TurnReason) -> Option<Cause>
-        requires { inbound.now.size ≡ self.old.shape }
+        requires size { inbound.now.size ≡ self.old.shape }
+        requires known { IsOfSize (cells_in self.old.shape) self.old.shadow }
         ensures came { silent self.new result ≡ believed turn_reason self.old.pending self.old (hears inbound.now self.old) }
         ensures talk { self.new.talk ≡ self.old.talk }
         ensures panel { self.new.panel ≡ self.old.panel }
+        ensures shape { self.new.shape ≡ self.old.shape }
+        ensures known { IfNone result (IsOfSize (cells_in self.new.shape) self.new.shadow) }
     {
         // What is sent can be stored, and so what is believed of it; and that has its size.
         what_is_believed_can_be_stored();
@@ -170,6 +184,7 @@ impl Session {
         ensures came { silent self.new result ≡ response_came header.now.seq (verdict_of header.now.flag) self.old.pending self.old }
         ensures talk { self.new.talk ≡ self.old.talk }
         ensures panel { self.new.panel ≡ self.old.panel }
+        ensures shape { self.new.shape ≡ self.old.shape }
     {
         match self.pending {
             Pending::Nothing => Some(Cause::BadResponse),
@@ -195,9 +210,10 @@ impl Session {
         ensures came { silent self.new result ≡ verdict_came (write_of self.old.pending) (verdict_of flag) self.old }
         ensures talk { self.new.talk ≡ self.old.talk }
         ensures panel { self.new.panel ≡ self.old.panel }
+        ensures shape { self.new.shape ≡ self.old.shape }
     {
         what_is_believed_can_be_stored();
-        let command = write_in(&self.sent);
+        let command = write_in(&self.sent, self.size);
         if flag == POSITIVE {
             self.shadow.sent_taken(&command);
             self.pending = Pending::Nothing;

@@ -2,8 +2,9 @@
 ghost use Rattle.std.specs.Prelude.{◌≡◌, ◌<◌, ◌≤◌, ◌+◌, ◌*◌, ◌++◌, ◌∷◌, [], ℕ, true, length, vec_len};
 ghost use Rattle.std.specs.Vec.{vec_capacity};
 ghost use Rattle.codes3270.specs.declared.attention.Aid.{Aid as Identifier};
-ghost use Rattle.codes3270.specs.Size.{model_2};
+ghost use Rattle.codes3270.specs.Size.{cells_in};
 ghost use Rattle.datastream.specs.Wanted.{IsScreen};
+ghost use Rattle.shadow.specs.Belief.{IsOfSize};
 ghost use Rattle.shadow.specs.Fits.{is_paintable};
 ghost use Rattle.panels.specs.Keys.{IsKey};
 ghost use Rattle.panels.specs.Panel.{IsLaidOut, shape_of, target_of};
@@ -15,31 +16,32 @@ ghost use Rattle.host_core.specs.Choices.{CanBeShown};
 ghost use Rattle.host_core.specs.Keeps.{IsSentOn, act_of};
 ghost use Rattle.host_core.specs.Rooms.{HasRoomFor, command_room, read_buffer_room, record_room};
 ghost use Rattle.host_core.specs.Says.{command_header, read_buffer_bytes};
+ghost use Rattle.host_core.specs.Session.{model_in};
+ghost use Rattle.host_core.specs.Sound.{IsOnPanel};
 
 use crate::acting::Shown;
-use crate::laws::{panels_are_shown, what_is_shown_fits};
+use crate::laws::panels_are_shown;
 use crate::pending::Pending;
 use crate::session::Session;
 use crate::turn::Turn;
-use codes3270::{Model, Size, Wcc};
+use codes3270::Wcc;
 use datastream::{CommandCode, CommandWriter, Want, Wanted};
 use panels::{Panel, PanelSet, Values};
 use shadow::laws::what_is_wanted_is_painted;
 use telnet_wire::put_record;
 use tn3270e_msg::{ALWAYS_RESPONSE, DataType, ERROR_RESPONSE, Header, header_bytes, next_seq};
 
-/// The panel that is shown where the one with a number is asked for.
+/// The panel with a number.
 pub(crate) fn panel_in(panels: &PanelSet, number: usize) -> &Panel
     requires { number < length panels.now.panels }
     ensures panel { result.now ≡ panel_at panels.now number }
-    // It is laid out on a model 2's screen.
-    ensures shape { shape_of result.now ≡ model_2 }
+    // It is laid out on the screen of its model.
     ensures laid_out { IsLaidOut result.now }
     // Its keys lead to panels that are there.
     ensures targets { (aid : Identifier) (target : ℕ) → IsKey aid → target_of result.now aid ≡ Some target → target < length panels.now.panels }
 {
     panels.panels_are_sound();
-    match panels.panel(panels.shown(number, Model::M2)) {
+    match panels.panel(number) {
         Some(panel) => panel,
         None => unreachable!(),
     }
@@ -90,9 +92,11 @@ fn put_read_buffer(bytes: &mut Vec<u8>)
 impl Session {
     /// Asks for the whole screen.
     pub(crate) fn read(&mut self, out: &mut Vec<u8>)
-        requires { HasRoomFor read_buffer_room out.old }
+        requires room { HasRoomFor read_buffer_room out.old }
+        requires known { IsOfSize (cells_in self.old.shape) self.old.shadow }
         ensures sent { (app : Application) → IsSentOn (done app self.old Doing.Read) out.old out.new self.new }
         ensures panel { self.new.panel ≡ self.old.panel }
+        ensures shape { self.new.shape ≡ self.old.shape }
         ensures capacity { vec_capacity out.old ≤ vec_capacity out.new }
     {
         begin_record(&mut self.sent, ERROR_RESPONSE, self.next_seq);
@@ -102,10 +106,23 @@ impl Session {
         self.next_seq = next_seq(self.next_seq);
     }
 
+    /// The same, of the panel that is shown to the terminal of this session's model.
+    fn in_model(&self, panels: &PanelSet, asked: Shown) -> Shown
+        requires { CanBeShown (length panels.now.panels) asked }
+        ensures shown { result ≡ record asked { panel = (application_of panels.now).shown (model_in self.now) asked.panel } }
+        ensures can_be_shown { CanBeShown (length panels.now.panels) result }
+    {
+        Shown {
+            panel: panels.shown(asked.panel, self.shown_model()),
+            message: asked.message,
+            keep: asked.keep,
+        }
+    }
+
     /// Puts the screen that is wanted: one that keeps fields where that fits what is believed, else a whole one.
     fn put_wanted(&self, wanted: &mut Wanted, panels: &PanelSet, shown: &Shown, values: &Values)
         requires shown { CanBeShown (length panels.now.panels) shown.now }
-        requires size { wanted.old.size ≡ model_2 }
+        requires size { wanted.old.size ≡ shape_of (panel_at panels.now shown.now.panel) }
         ensures { wanted.new ≡ wanted_by (application_of panels.now) self.now shown.now.panel shown.now.message shown.now.keep values.now }
     {
         let panel = panel_in(panels, shown.panel);
@@ -120,16 +137,15 @@ impl Session {
         panel.put_wanted(wanted, values, shown.message, false);
     }
 
-    /// The same. It fits what is believed or keeps nothing, and is a screen of the profile, of a model 2's size.
+    /// The same. It fits what is believed or keeps nothing, and is a screen of the profile, of the panel's size.
     fn put_fitting(&self, wanted: &mut Wanted, panels: &PanelSet, shown: &Shown, values: &Values)
         requires shown { CanBeShown (length panels.now.panels) shown.now }
-        requires size { wanted.old.size ≡ model_2 }
+        requires size { wanted.old.size ≡ shape_of (panel_at panels.now shown.now.panel) }
         ensures wanted { wanted.new ≡ wanted_by (application_of panels.now) self.now shown.now.panel shown.now.message shown.now.keep values.now }
         ensures fits { is_paintable self.now.shadow wanted.new ≡ true }
         ensures screen { IsScreen wanted.new }
-        ensures size { wanted.new.size ≡ model_2 }
+        ensures size { wanted.new.size ≡ shape_of (panel_at panels.now shown.now.panel) }
     {
-        what_is_shown_fits();
         panels_are_shown();
         panels.panels_are_sound();
         self.put_wanted(wanted, panels, shown, values);
@@ -147,19 +163,23 @@ impl Session {
         &self.values
     }
 
-    /// Shows a panel with a message and the values of fields.
-    pub(crate) fn show(&mut self, panels: &PanelSet, shown: Shown, out: &mut Vec<u8>)
-        requires shown { CanBeShown (length panels.now.panels) shown }
+    /// Shows a panel, in the form for the terminal's model, with a message and the values of fields.
+    pub(crate) fn show(&mut self, panels: &PanelSet, asked: Shown, out: &mut Vec<u8>)
+        requires asked { CanBeShown (length panels.now.panels) asked }
         requires room { HasRoomFor command_room out.old }
-        ensures sent { IsSentOn (done (application_of panels.now) self.old (act_of self.old.values shown)) out.old out.new self.new }
+        ensures sent { IsSentOn (done (application_of panels.now) self.old (act_of self.old.values asked)) out.old out.new self.new }
+        ensures panel { IsOnPanel panels.now self.new }
         ensures capacity { vec_capacity out.old ≤ vec_capacity out.new }
     {
         what_is_wanted_is_painted();
-        let mut wanted = Wanted::filled(Want::Keep, Size::base());
+        let shown = self.in_model(panels, asked);
+        let size = panel_in(panels, shown.panel).size();
+        let mut wanted = Wanted::filled(Want::Keep, size);
         self.put_fitting(&mut wanted, panels, &shown, self.values());
         begin_record(&mut self.sent, ALWAYS_RESPONSE, self.next_seq);
         self.shadow.paint(&mut self.sent, &wanted).unwrap();
         send_record(self.sent.as_slice(), out);
+        self.size = size;
         self.turn = Turn::Terminal;
         self.pending = Pending::Writing(self.next_seq);
         self.next_seq = next_seq(self.next_seq);

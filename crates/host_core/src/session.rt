@@ -1,25 +1,31 @@
 //! A connection as the host has it, once its stream is read.
 ghost use Rattle.std.specs.Prelude.{◌≡◌, IfOk};
-ghost use Rattle.codes3270.specs.Size.{model_2};
-ghost use Rattle.host_core.specs.Session.{agreed_lu, new_conn};
+ghost use Rattle.host_core.specs.Application.{application_of};
+ghost use Rattle.host_core.specs.Session.{agreed_lu, model_in, new_conn};
+ghost use Rattle.host_core.specs.Sound.{IsOnPanel};
+ghost use Rattle.tn3270e_msg.specs.HostTable.{model_asked};
 
 use crate::pending::Pending;
 use crate::room::RECORD_ROOM;
 use crate::turn::Turn;
 use crate::turn_reason::TurnReason;
-use panels::{Message, Values};
+use codes3270::{Model as TerminalModel, Size};
+use panels::{Message, PanelSet, Values};
 use shadow::Shadow;
 use std::alloc::Global;
 use std::marker::Model;
 use telnet_wire::Memory;
 use tn3270e_msg::{HostTalk, Lu};
 
-/// The talk, whose turn it is, what waits for an answer, what is believed of the screen, and what is shown there.
+/// The talk, the size of the terminal's screen, whose turn it is, what waits for an answer, what is believed of the screen, and what is
+/// shown there.
 ///
 /// Contracts see it as the connection's parts; the command that waits for an answer is the one whose bytes were sent last.
 #[derive(Drop)]
 pub(crate) struct Session {
     pub(crate) talk: HostTalk,
+    // As the host's last erase set it.
+    pub(crate) size: Size,
     pub(crate) turn: Turn,
     pub(crate) pending: Pending,
     pub(crate) next_seq: u16,
@@ -34,10 +40,8 @@ pub(crate) struct Session {
 
 impl Model for Session {
     ghost use Rattle.std.specs.Prelude.{◌≤◌, vec_capacity};
-    ghost use Rattle.codes3270.specs.Size.{cells_in, model_2};
-    ghost use Rattle.host_core.specs.Keeps.{IsKept, pending_in};
+    ghost use Rattle.host_core.specs.Keeps.{BelievesTheSize, IsKept, pending_in};
     ghost use Rattle.host_core.specs.Rooms.{record_room};
-    ghost use Rattle.shadow.specs.Belief.{IsOfSize};
     ghost use Rattle.shadow.specs.Storable.{CanBeStored};
     ghost use Rattle.host_core.specs.Session.{Conn};
 
@@ -45,9 +49,9 @@ impl Model for Session {
 
     ghost view = { λ s. record {
       talk = s.talk;
-      shape = model_2;
+      shape = s.size;
       turn = s.turn;
-      pending = pending_in model_2 s.pending s.sent.items;
+      pending = pending_in s.size s.pending s.sent.items;
       next_seq = s.next_seq;
       shadow = s.shadow;
       panel = s.panel;
@@ -56,22 +60,25 @@ impl Model for Session {
       turn_reason = s.turn_reason;
     } };
 
-    ghost invariant = { λ s. IsKept model_2 s.pending s.sent.items × (record_room ≤ vec_capacity s.sent) × CanBeStored s.shadow × IsOfSize (cells_in model_2) s.shadow };
+    ghost invariant = { λ s. IsKept s.size s.pending s.sent.items × (record_room ≤ vec_capacity s.sent) × CanBeStored s.shadow × BelievesTheSize s.size s.pending s.sent.items s.shadow };
 }
 
 impl Session {
     /// As a connection begins, when TN3270E was offered. It makes the room for the records that it will send.
-    pub(crate) fn new(alloc: Global) -> Result<Session, Memory>
-        ensures { IfOk result (λ session. session ≡ new_conn model_2) }
+    pub(crate) fn new(alloc: Global, panels: &PanelSet) -> Result<Session, Memory>
+        ensures begins { IfOk result (λ session. session ≡ new_conn (application_of panels.now)) }
+        ensures panel { IfOk result (λ session. IsOnPanel panels.now session) }
     {
+        panels.panels_are_sound();
         let sent = Vec::with_capacity(alloc, RECORD_ROOM)?;
         Ok(Session {
             talk: HostTalk::new(),
+            size: Size::base(),
             turn: Turn::Host,
             pending: Pending::Nothing,
             next_seq: 0,
             shadow: Shadow::blank(),
-            panel: 0,
+            panel: panels.shown(panels.start(), TerminalModel::M2),
             message: Message::Fresh,
             values: Values::new(alloc),
             turn_reason: TurnReason::Agreement,
@@ -84,5 +91,19 @@ impl Session {
         ensures { result ≡ agreed_lu self.now.talk.state }
     {
         self.talk.agreed_lu()
+    }
+
+    /// The model of the terminal, once it has asked for its type.
+    pub(crate) fn model(&self) -> Option<TerminalModel>
+        ensures { result ≡ model_asked self.now.talk.state }
+    {
+        self.talk.model()
+    }
+
+    /// The same, and model 2 before: the model for which panels are chosen.
+    pub(crate) fn shown_model(&self) -> TerminalModel
+        ensures { result ≡ model_in self.now }
+    {
+        self.model().unwrap_or(TerminalModel::M2)
     }
 }

@@ -35,6 +35,7 @@ pub(crate) fn take_item(
     ensures holds { IfNone result (HoldsJust number pool.new (granted session.new.talk.state)) }
     ensures others { OthersHold number pool.old pool.new }
     ensures panel { session.new.panel ≡ session.old.panel }
+    ensures shape { session.new.shape ≡ session.old.shape }
     ensures capacity { vec_capacity out.old ≤ vec_capacity out.new }
 {
     let Item::Record(bytes) = item else {

@@ -1,7 +1,10 @@
 -- What the host sends, at each moment; and a connection that is lost.
-use Rattle.std.proofs.Common.{◌≡◌, ◌<◌, ℕ, Bool, true, false, Option, None, Some, List, [], ◌∷◌, ◌++◌, length, refl, ap, sym, subst, ◌∙◌, if◌then◌else◌}
+use Rattle.std.proofs.Common.{◌≡◌, ◌<◌, ℕ, Bool, true, false, Option, None, Some, List, [], ◌∷◌, ◌++◌, length, refl, ap, sym, subst, ◌∙◌, if◌then◌else◌, unwrap_or}
+use Rattle.tn3270e_msg.specs.HostTable.{model_asked}
+use Rattle.tn3270e_msg.specs.Device.{device_for, model_of}
+use Rattle.codes3270.specs.declared.size.Model.{Model}
 use Rattle.codes3270.specs.Size.{Shape, cells_in}
-use Rattle.codes3270.specs.declared.size.Model.TheVariants.{M2}
+use Rattle.codes3270.specs.declared.size.Model.TheVariants.{M2, M3, M4, M5}
 use Rattle.codes3270.specs.declared.attention.Aid.{Aid}
 use Rattle.codes3270.specs.declared.attention.Aid.TheVariants.{NoAid, Enter as EnterAid, Clear as ClearAid, Pf as PfAid, Pa as PaAid}
 use Rattle.datastream.specs.Grammar.{CommandParts}
@@ -16,7 +19,7 @@ use Rattle.shadow.specs.Paint.{paint}
 use Rattle.tn3270e_msg.specs.Talk.{Talk, start_at}
 use Rattle.tn3270e_msg.specs.declared.host_talk.HostState.{HostState}
 use Rattle.host_core.specs.Acts.{Act, Sent as Sending, after_key, act_on, wanted_by, done, may_act, acted}
-use Rattle.host_core.specs.Application.{Application, IsApplication}
+use Rattle.host_core.specs.Application.{Application, IsApplication, IsSizeOf}
 use Rattle.host_core.specs.Laws.{IsPaintable}
 use Rattle.host_core.specs.Messages.{ToTerminal}
 use Rattle.host_core.specs.NoteLaws.{IsNoteOf}
@@ -25,12 +28,12 @@ use Rattle.host_core.specs.declared.turn.Turn.{Turn}
 use Rattle.host_core.specs.declared.turn.Turn.TheVariants as whose
 use Rattle.host_core.specs.declared.turn_reason.TurnReason.{TurnReason}
 use Rattle.host_core.specs.declared.turn_reason.TurnReason.TheVariants as turn_reasons
-use Rattle.host_core.specs.Session.{Conn, Pending, is_agreed}
+use Rattle.host_core.specs.Session.{Conn, Pending, is_agreed, model_in}
 use Rattle.world3270.specs.Given.{Given}
 use Rattle.world3270.specs.Link.{Link, sent, host_sent}
-use Rattle.world3270.specs.Moments.{Kind, UnderWay, Talking, Serving, Moment, IsAt, host_talk_at, term_state_at, turn_at, pending_at, down_at, up_at}
+use Rattle.world3270.specs.Moments.{Kind, UnderWay, Talking, Serving, Moment, IsAt, host_talk_at, term_state_at, turn_at, pending_at, down_at, up_at, agreed, served_down, served_up}
 use Rattle.world3270.specs.TurnReasons.{IsOccasion, IsOpenBy, IsOpenFor}
-use Rattle.world3270.specs.Stages.{scene_of, FactsAreExact, IsNew, Decides, Fact, Kept}
+use Rattle.world3270.specs.Stages.{scene_of, FactsAreExact, IsNew, Decides, Fact, Kept, Sizes, resizes_at}
 use Rattle.world3270.specs.View.{View, view_of}
 use Rattle.world3270.proofs.Down.{none_open}
 use Rattle.world3270.proofs.Queues.{more, still}
@@ -45,43 +48,64 @@ shown app conn panel message keep values = done app conn (Act.Show panel message
 -- what a sending leaves of the host's end
 record Sends (link : Link) (sending : Sending) : Type 0 where
   talk : sending.conn.talk ≡ link.host.talk
-  shape : sending.conn.shape ≡ link.host.shape
   shadow : sending.conn.shadow ≡ link.host.shadow
 
 -- what is under way then
 sent_at : (link : Link) (sending : Sending) (wanted : Option (List ℕ)) (from to : Moment) → Sends link sending → IsAt (view_of link) wanted from
-    → host_talk_at to ≡ host_talk_at from → term_state_at to ≡ term_state_at from → sending.conn.turn ≡ turn_at to → sending.conn.pending ≡ pending_at to
-    → down_at from ++ sending.message ∷ [] ≡ down_at to → up_at wanted to ≡ up_at wanted from → IsAt (view_of (sent_view sending link)) wanted to
+    → host_talk_at link.term.display.model to ≡ host_talk_at link.term.display.model from → term_state_at to ≡ term_state_at from → sending.conn.turn ≡ turn_at to → sending.conn.pending ≡ pending_at to
+    → down_at link.term.display.model from ++ sending.message ∷ [] ≡ down_at link.term.display.model to → up_at link.term.display.model wanted to ≡ up_at link.term.display.model wanted from → IsAt (view_of (sent_view sending link)) wanted to
 sent_at link sending wanted from to same at host term turn pending down up = record {
   host_talk = same.talk ∙ at.host_talk ∙ sym host;
-  term_talk = at.term_talk ∙ ap (λ state. record { model = M2; wanted = wanted; talk = start_at state }) (sym term);
+  term_talk = at.term_talk ∙ ap (λ state. record { model = link.term.display.model; wanted = wanted; talk = start_at state }) (sym term);
   turn = turn;
   pending = pending;
-  goes_down = subst (UnderWay link.lost (sent link.lost link.down (sending.message ∷ []))) down (more link.lost link.down (down_at from) (sending.message ∷ []) at.goes_down);
+  goes_down = subst (UnderWay link.lost (sent link.lost link.down (sending.message ∷ []))) down (more link.lost link.down (down_at link.term.display.model from) (sending.message ∷ []) at.goes_down);
   goes_up = subst (UnderWay link.lost link.up) (sym up) at.goes_up;
 }
 
 -- a sending that leads to a moment
-kept_sent : (app : Application) (link : Link) (sending : Sending) (k : Kept app (view_of link)) (to : Moment) → Sends link sending → IsAt (view_of (sent_view sending link)) k.wanted to
+kept_sent : (app : Application) (link : Link) (sending : Sending) (k : Kept app (view_of link)) (to : Moment) → Sends link sending → IsSizeOf app link.term.display.model sending.conn.shape
+    → (resizes_at to ≡ false → link.term.display.shape ≡ sending.conn.shape) → IsAt (view_of (sent_view sending link)) k.wanted to
     → Fact k.wanted (scene_of (view_of (sent_view sending link))) to → Kept app (view_of (sent_view sending link))
-kept_sent app link sending k to same at fact = record {
-  shape = record { begins = same.shape ∙ k.shape.begins; same = k.shape.same ∙ sym same.shape };
-  whole = subst (λ (s : Shape). length link.term.display.screen.cells ≡ cells_in s) (sym same.shape) k.whole;
-  cursor = subst (λ (s : Shape). link.term.display.screen.cursor < cells_in s) (sym same.shape) k.cursor;
+kept_sent app link sending k to same size steady at fact = record {
+  whole = k.whole;
+  cursor = k.cursor;
   unreturned = k.unreturned;
   exact = subst FactsAreExact (sym same.shadow) k.exact;
   wanted = k.wanted;
   moment = to;
+  sizes = record { host = size; screen = k.sizes.screen; same = steady };
   at = at;
   fact = fact;
 }
 
 -- ---- the host acts
 
-paintable : Given → (app : Application) → IsApplication app → (link : Link) → link.host.shape ≡ app.begins → (panel : ℕ) (message : Message) (keep : Bool) (values : Values)
-    → IsPaintable link.host.shape link.host.shadow (wanted_by app link.host panel message keep values)
-paintable given app is link begins panel message keep values =
-    subst (λ (s : Shape). IsPaintable s link.host.shadow (wanted_by app link.host panel message keep values)) (sym begins) (given.belief.fit app link.host (Act.Show panel message keep values) is).0
+-- the screen that is asked for, of the panel that is shown to the terminal
+abbrev wants_of : Application → Conn → ℕ → Message → Bool → Values → WantedScreen
+wants_of app conn panel message keep values = wanted_by app conn (app.shown (model_in conn) panel) message keep values
+
+paintable : Given → (app : Application) → IsApplication app → (link : Link) → (panel : ℕ) (message : Message) (keep : Bool) (values : Values)
+    → let wants = wants_of app link.host panel message keep values in IsPaintable wants.size link.host.shadow wants
+paintable given app is link panel message keep values = (given.belief.fit app link.host (Act.Show panel message keep values) is).0
+
+-- the model that the host knows is the terminal's
+own_model : (model : Model) → model_of (device_for model) ≡ model
+own_model M2 = refl
+own_model M3 = refl
+own_model M4 = refl
+own_model M5 = refl
+
+model_here : (link : Link) (lu : List ℕ) → link.host.talk ≡ agreed link.term.display.model lu → model_in link.host ≡ link.term.display.model
+model_here link lu talks = ap (λ (t : Talk HostState). unwrap_or (model_asked t.state) M2) talks ∙ own_model link.term.display.model
+
+-- so what is shown has a size that the terminal may have
+size_shown : Given → (app : Application) → IsApplication app → (link : Link) (k : Kept app (view_of link)) (lu : List ℕ) (panel : ℕ) (message : Message) (keep : Bool) (values : Values)
+    → link.host.talk ≡ agreed link.term.display.model lu → IsSizeOf app link.term.display.model (wants_of app link.host panel message keep values).size
+size_shown given app is link k lu panel message keep values talks =
+    let here = model_here link lu talks in
+    subst (λ (m : Model). IsSizeOf app m (wants_of app link.host panel message keep values).size) here
+    (given.belief.sizes app link.host (Act.Show panel message keep values) is (subst (λ (m : Model). IsSizeOf app m link.host.shape) (sym here) k.sizes.host))
 
 -- after Clear nothing is read
 key_uncleared : (app : Application) (conn : Conn) (pressed : Aid) (buffered : Bool) → after_key app conn pressed buffered ≡ Act.Read → pressed ≡ ClearAid → ⊥
@@ -114,7 +138,7 @@ shown_closed app conn turn_reasons.Refusal shadow panel message keep values e o 
 
 abbrev command_of : Application → Conn → ℕ → Message → Bool → Values → CommandParts
 command_of app conn panel message keep values =
-    let wanted = wanted_by app conn panel message keep values in paint (cells_in wanted.size) conn.shadow wanted
+    let wanted = wants_of app conn panel message keep values in paint (cells_in wanted.size) conn.shadow wanted
 
 module _ (given : Given) (app : Application) (is : IsApplication app) (link : Link) (k : Kept app (view_of link)) where
   -- before the terminal knows that both agreed
@@ -122,10 +146,10 @@ module _ (given : Given) (app : Application) (is : IsApplication app) (link : Li
       → Kept app (view_of (sent_view (shown app link.host panel message keep values) link))
   paints_first lu panel message keep values at n =
       let sending : Sending = shown app link.host panel message keep values in
-      let wants : WantedScreen = wanted_by app link.host panel message keep values in
-      let same : Sends link sending = record { talk = refl; shape = refl; shadow = refl } in
+      let wants : WantedScreen = wants_of app link.host panel message keep values in
+      let same : Sends link sending = record { talk = refl; shadow = refl } in
       let to : Moment = Moment.Begins lu link.host.next_seq (command_of app link.host panel message keep values) wants link.host.shadow in
-      kept_sent app link sending k to same
+      kept_sent app link sending k to same (size_shown given app is link k lu panel message keep values at.host_talk) (λ steady. absurd (cc))
       (sent_at link sending k.wanted (Moment.Talks (Talking.Agreeing lu)) to same at refl refl refl refl refl refl)
       (record {
         lock = n.lock;
@@ -133,17 +157,17 @@ module _ (given : Given) (app : Application) (is : IsApplication app) (link : Li
         command_is = refl;
         meets = subst (λ s. Meets s link.term.display.screen) (sym n.shadow) tt;
         closed = none_open link.host.shadow n.shadow;
-        paintable = paintable given app is link k.shape.begins panel message keep values;
+        paintable = paintable given app is link panel message keep values;
       })
 
   paints : (lu : List ℕ) (panel : ℕ) (message : Message) (keep : Bool) (values : Values) → NothingIsOpen link.host.shadow → IsAt (view_of link) k.wanted (Moment.Serves lu Serving.Deciding) → Decides (scene_of (view_of link)) link.host.shadow
       → Kept app (view_of (sent_view (shown app link.host panel message keep values) link))
   paints lu panel message keep values closed at f =
       let sending : Sending = shown app link.host panel message keep values in
-      let wants : WantedScreen = wanted_by app link.host panel message keep values in
-      let same : Sends link sending = record { talk = refl; shape = refl; shadow = refl } in
+      let wants : WantedScreen = wants_of app link.host panel message keep values in
+      let same : Sends link sending = record { talk = refl; shadow = refl } in
       let to : Moment = Moment.Serves lu (Serving.Painting link.host.next_seq (command_of app link.host panel message keep values) wants link.host.shadow) in
-      kept_sent app link sending k to same
+      kept_sent app link sending k to same (size_shown given app is link k lu panel message keep values at.host_talk) (λ steady. absurd (cc))
       (sent_at link sending k.wanted (Moment.Serves lu Serving.Deciding) to same at refl refl refl refl refl refl)
       (record {
         lock = f.lock;
@@ -151,21 +175,21 @@ module _ (given : Given) (app : Application) (is : IsApplication app) (link : Li
         command_is = refl;
         meets = f.sees.meets;
         closed = closed;
-        paintable = paintable given app is link k.shape.begins panel message keep values;
+        paintable = paintable given app is link panel message keep values;
       })
 
-  asks : (lu : List ℕ) → (link.term.display.screen.aid ≡ ClearAid → ⊥) → IsAt (view_of link) k.wanted (Moment.Serves lu Serving.Deciding) → Decides (scene_of (view_of link)) link.host.shadow → Kept app (view_of (sent_view (done app link.host Act.Read) link))
-  asks lu not_cleared at f =
+  asks : (lu : List ℕ) → link.term.display.shape ≡ link.host.shape → (link.term.display.screen.aid ≡ ClearAid → ⊥) → IsAt (view_of link) k.wanted (Moment.Serves lu Serving.Deciding) → Decides (scene_of (view_of link)) link.host.shadow → Kept app (view_of (sent_view (done app link.host Act.Read) link))
+  asks lu steady not_cleared at f =
       let sending : Sending = done app link.host Act.Read in
-      let same : Sends link sending = record { talk = refl; shape = refl; shadow = refl } in
+      let same : Sends link sending = record { talk = refl; shadow = refl } in
       let to : Moment = Moment.Serves lu (Serving.Reading link.host.next_seq) in
-      kept_sent app link sending k to same
+      kept_sent app link sending k to same k.sizes.host (λ s. steady)
       (sent_at link sending k.wanted (Moment.Serves lu Serving.Deciding) to same at refl refl at.turn refl refl refl)
       (record { decides = f; not_cleared = not_cleared })
 
-  acts_at : (lu : List ℕ) (act : Act) → act_on app link.host link.host.turn_reason ≡ act → IsAt (view_of link) k.wanted (Moment.Serves lu Serving.Deciding) → Decides (scene_of (view_of link)) link.host.shadow → Kept app (view_of (sent_view (done app link.host act) link))
-  acts_at lu Act.Read e at f = asks lu (reads_uncleared app link.host link.host.turn_reason link.term.display.screen.aid f.turn_reason e) at f
-  acts_at lu (Act.Show panel message keep values) e at f =
+  acts_at : (lu : List ℕ) (act : Act) → link.term.display.shape ≡ link.host.shape → act_on app link.host link.host.turn_reason ≡ act → IsAt (view_of link) k.wanted (Moment.Serves lu Serving.Deciding) → Decides (scene_of (view_of link)) link.host.shadow → Kept app (view_of (sent_view (done app link.host act) link))
+  acts_at lu Act.Read steady e at f = asks lu steady (reads_uncleared app link.host link.host.turn_reason link.term.display.screen.aid f.turn_reason e) at f
+  acts_at lu (Act.Show panel message keep values) steady e at f =
       paints lu panel message keep values (shown_closed app link.host link.host.turn_reason link.host.shadow panel message keep values e f.closed) at f
 
   -- at agreement the first panel is shown
@@ -180,9 +204,9 @@ module _ (given : Given) (app : Application) (is : IsApplication app) (link : Li
 
   -- it may act at two moments alone
   may_act_at : link.host.turn ≡ whose.Host → link.host.pending ≡ Pending.Nothing → is_agreed link.host.talk.state ≡ true → Kept app (view_of now)
-  may_act_at turns pends agrees = by_moment k.moment k.at k.fact
+  may_act_at turns pends agrees = by_moment k.moment k.sizes k.at k.fact
     where
-      not_yet : (moment : Moment) → IsAt (view_of link) k.wanted moment → is_agreed (host_talk_at moment).state ≡ true
+      not_yet : (moment : Moment) → IsAt (view_of link) k.wanted moment → is_agreed (host_talk_at link.term.display.model moment).state ≡ true
       not_yet moment at = sym (ap (λ (t : Talk HostState). is_agreed t.state) at.host_talk) ∙ agrees
 
       by_talk : (talking : Talking) → IsAt (view_of link) k.wanted (Moment.Talks talking) → IsNew (scene_of (view_of link)) → Kept app (view_of now)
@@ -196,26 +220,26 @@ module _ (given : Given) (app : Application) (is : IsApplication app) (link : Li
       by_talk (Talking.Rejecting reason) at n = let x = not_yet (Moment.Talks (Talking.Rejecting reason)) at in absurd (cc)
       by_talk (Talking.Rejected reason) at n = let x = not_yet (Moment.Talks (Talking.Rejected reason)) at in absurd (cc)
 
-      by_serving : (lu : List ℕ) (serving : Serving) → IsAt (view_of link) k.wanted (Moment.Serves lu serving) → Fact k.wanted (scene_of (view_of link)) (Moment.Serves lu serving) → turn_at (Moment.Serves lu serving) ≡ whose.Host
+      by_serving : (lu : List ℕ) (serving : Serving) → Sizes app (view_of link) (Moment.Serves lu serving) → IsAt (view_of link) k.wanted (Moment.Serves lu serving) → Fact k.wanted (scene_of (view_of link)) (Moment.Serves lu serving) → turn_at (Moment.Serves lu serving) ≡ whose.Host
           → pending_at (Moment.Serves lu serving) ≡ Pending.Nothing → Kept app (view_of now)
-      by_serving lu Serving.Deciding at f t p = acts_at lu (act_on app link.host link.host.turn_reason) refl at f
-      by_serving lu (Serving.Reading number) at f t p = absurd (cc)
-      by_serving lu (Serving.Reported number parts) at f t p = absurd (cc)
-      by_serving lu (Serving.NotedLate number command) at f t p = absurd (cc)
-      by_serving lu (Serving.AnsweredLate number command) at f t p = absurd (cc)
-      by_serving lu (Serving.Painting number command wants over) at f t p = absurd (cc)
-      by_serving lu (Serving.Answering kind number command) at f t p = absurd (cc)
-      by_serving lu Serving.Operating at f t p = absurd (cc)
-      by_serving lu (Serving.Noting number command) at f t p = absurd (cc)
-      by_serving lu (Serving.KeyAlone parts) at f t p = absurd (cc)
-      by_serving lu (Serving.KeyBehind kind number command parts) at f t p = absurd (cc)
-      by_serving lu (Serving.KeyNoted number command parts) at f t p = absurd (cc)
-      by_serving lu (Serving.KeyBefore number command parts) at f t p = absurd (cc)
+      by_serving lu Serving.Deciding s at f t p = acts_at lu (act_on app link.host link.host.turn_reason) (s.same refl) refl at f
+      by_serving lu (Serving.Reading number) s at f t p = absurd (cc)
+      by_serving lu (Serving.Reported number parts) s at f t p = absurd (cc)
+      by_serving lu (Serving.NotedLate number command) s at f t p = absurd (cc)
+      by_serving lu (Serving.AnsweredLate number command) s at f t p = absurd (cc)
+      by_serving lu (Serving.Painting number command wants over) s at f t p = absurd (cc)
+      by_serving lu (Serving.Answering kind number command) s at f t p = absurd (cc)
+      by_serving lu Serving.Operating s at f t p = absurd (cc)
+      by_serving lu (Serving.Noting number command) s at f t p = absurd (cc)
+      by_serving lu (Serving.KeyAlone parts) s at f t p = absurd (cc)
+      by_serving lu (Serving.KeyBehind kind number command parts) s at f t p = absurd (cc)
+      by_serving lu (Serving.KeyNoted number command parts) s at f t p = absurd (cc)
+      by_serving lu (Serving.KeyBefore number command parts) s at f t p = absurd (cc)
 
-      by_moment : (moment : Moment) → IsAt (view_of link) k.wanted moment → Fact k.wanted (scene_of (view_of link)) moment → Kept app (view_of now)
-      by_moment (Moment.Talks talking) at f = by_talk talking at f.0
-      by_moment (Moment.Begins lu number command wants over) at f = let t = sym at.turn ∙ turns in absurd (cc)
-      by_moment (Moment.Serves lu serving) at f = by_serving lu serving at f (sym at.turn ∙ turns) (sym at.pending ∙ pends)
+      by_moment : (moment : Moment) → Sizes app (view_of link) moment → IsAt (view_of link) k.wanted moment → Fact k.wanted (scene_of (view_of link)) moment → Kept app (view_of now)
+      by_moment (Moment.Talks talking) s at f = by_talk talking at f.0
+      by_moment (Moment.Begins lu number command wants over) s at f = let t = sym at.turn ∙ turns in absurd (cc)
+      by_moment (Moment.Serves lu serving) s at f = by_serving lu serving s at f (sym at.turn ∙ turns) (sym at.pending ∙ pends)
 
   acts_by : (turn : Turn) (pending : Pending) (agreed : Bool) → link.host.turn ≡ turn → link.host.pending ≡ pending → is_agreed link.host.talk.state ≡ agreed
       → Kept app (view_of (host_sent (if may_act turn pending agreed then Some (done app link.host (act_on app link.host link.host.turn_reason)) else None) link))
@@ -240,48 +264,48 @@ module _ (app : Application) (text : List ℕ) (is : IsNoteText text) (link : Li
   command = note_command link.host.shape text
 
   same_end : Sends link noting
-  same_end = record { talk = refl; shape = refl; shadow = refl }
+  same_end = record { talk = refl; shadow = refl }
 
   is_note : IsNoteOf link.host.shape command
   is_note = record { text = text; is_text = is; is = refl }
 
-  notes_at : (lu : List ℕ) (from to : Serving) → IsAt (view_of link) k.wanted (Moment.Serves lu from) → turn_at (Moment.Serves lu from) ≡ turn_at (Moment.Serves lu to)
+  notes_at : (lu : List ℕ) (from to : Serving) → link.term.display.shape ≡ link.host.shape → IsAt (view_of link) k.wanted (Moment.Serves lu from) → turn_at (Moment.Serves lu from) ≡ turn_at (Moment.Serves lu to)
       → Pending.Noting link.host.next_seq command ≡ pending_at (Moment.Serves lu to)
-      → down_at (Moment.Serves lu from) ++ ToTerminal.Note link.host.next_seq command ∷ [] ≡ down_at (Moment.Serves lu to) → up_at k.wanted (Moment.Serves lu to) ≡ up_at k.wanted (Moment.Serves lu from)
+      → served_down from ++ ToTerminal.Note link.host.next_seq command ∷ [] ≡ served_down to → served_up to ≡ served_up from
       → Fact k.wanted (scene_of (view_of (sent_view noting link))) (Moment.Serves lu to) → Kept app (view_of (sent_view noting link))
-  notes_at lu from to at turn pending down up fact =
-      kept_sent app link noting k (Moment.Serves lu to) same_end (sent_at link noting k.wanted (Moment.Serves lu from) (Moment.Serves lu to) same_end at refl refl (at.turn ∙ turn) pending down up) fact
+  notes_at lu from to steady at turn pending down up fact =
+      kept_sent app link noting k (Moment.Serves lu to) same_end k.sizes.host (λ s. steady) (sent_at link noting k.wanted (Moment.Serves lu from) (Moment.Serves lu to) same_end at refl refl (at.turn ∙ turn) pending down up) fact
 
   -- it may do so at two moments alone
   may_note_at : link.host.turn ≡ whose.Terminal → link.host.pending ≡ Pending.Nothing → Kept app (view_of (sent_view noting link))
-  may_note_at turns pends = by_moment k.moment k.at k.fact
+  may_note_at turns pends = by_moment k.moment k.sizes k.at k.fact
     where
-      by_serving : (lu : List ℕ) (serving : Serving) → IsAt (view_of link) k.wanted (Moment.Serves lu serving) → Fact k.wanted (scene_of (view_of link)) (Moment.Serves lu serving) → turn_at (Moment.Serves lu serving) ≡ whose.Terminal
+      by_serving : (lu : List ℕ) (serving : Serving) → Sizes app (view_of link) (Moment.Serves lu serving) → IsAt (view_of link) k.wanted (Moment.Serves lu serving) → Fact k.wanted (scene_of (view_of link)) (Moment.Serves lu serving) → turn_at (Moment.Serves lu serving) ≡ whose.Terminal
           → pending_at (Moment.Serves lu serving) ≡ Pending.Nothing → Kept app (view_of (sent_view noting link))
-      by_serving lu Serving.Operating at f t p =
-          notes_at lu Serving.Operating (Serving.Noting link.host.next_seq command) at refl refl refl refl
+      by_serving lu Serving.Operating s at f t p =
+          notes_at lu Serving.Operating (Serving.Noting link.host.next_seq command) (s.same refl) at refl refl refl refl
           (f, is_note)
-      by_serving lu (Serving.KeyAlone parts) at f t p =
-          notes_at lu (Serving.KeyAlone parts) (Serving.KeyNoted link.host.next_seq command parts) at refl refl refl refl
+      by_serving lu (Serving.KeyAlone parts) s at f t p =
+          notes_at lu (Serving.KeyAlone parts) (Serving.KeyNoted link.host.next_seq command parts) (s.same refl) at refl refl refl refl
           (f.0, f.1, record { note = is_note; takes = f.2 })
-      by_serving lu Serving.Deciding at f t p = absurd (cc)
-      by_serving lu (Serving.Reading number) at f t p = absurd (cc)
-      by_serving lu (Serving.Reported number parts) at f t p = absurd (cc)
-      by_serving lu (Serving.NotedLate number command) at f t p = absurd (cc)
-      by_serving lu (Serving.AnsweredLate number command) at f t p = absurd (cc)
-      by_serving lu (Serving.Painting number command wants over) at f t p = absurd (cc)
-      by_serving lu (Serving.Answering Kind.APaint number command) at f t p = absurd (cc)
-      by_serving lu (Serving.Answering Kind.ANote number command) at f t p = absurd (cc)
-      by_serving lu (Serving.Noting number command) at f t p = absurd (cc)
-      by_serving lu (Serving.KeyBehind Kind.APaint number command parts) at f t p = absurd (cc)
-      by_serving lu (Serving.KeyBehind Kind.ANote number command parts) at f t p = absurd (cc)
-      by_serving lu (Serving.KeyNoted number command parts) at f t p = absurd (cc)
-      by_serving lu (Serving.KeyBefore number command parts) at f t p = absurd (cc)
+      by_serving lu Serving.Deciding s at f t p = absurd (cc)
+      by_serving lu (Serving.Reading number) s at f t p = absurd (cc)
+      by_serving lu (Serving.Reported number parts) s at f t p = absurd (cc)
+      by_serving lu (Serving.NotedLate number command) s at f t p = absurd (cc)
+      by_serving lu (Serving.AnsweredLate number command) s at f t p = absurd (cc)
+      by_serving lu (Serving.Painting number command wants over) s at f t p = absurd (cc)
+      by_serving lu (Serving.Answering Kind.APaint number command) s at f t p = absurd (cc)
+      by_serving lu (Serving.Answering Kind.ANote number command) s at f t p = absurd (cc)
+      by_serving lu (Serving.Noting number command) s at f t p = absurd (cc)
+      by_serving lu (Serving.KeyBehind Kind.APaint number command parts) s at f t p = absurd (cc)
+      by_serving lu (Serving.KeyBehind Kind.ANote number command parts) s at f t p = absurd (cc)
+      by_serving lu (Serving.KeyNoted number command parts) s at f t p = absurd (cc)
+      by_serving lu (Serving.KeyBefore number command parts) s at f t p = absurd (cc)
 
-      by_moment : (moment : Moment) → IsAt (view_of link) k.wanted moment → Fact k.wanted (scene_of (view_of link)) moment → Kept app (view_of (sent_view noting link))
-      by_moment (Moment.Talks talking) at f = let t = sym at.turn ∙ turns in absurd (cc)
-      by_moment (Moment.Begins lu number command wants over) at f = let p = sym at.pending ∙ pends in absurd (cc)
-      by_moment (Moment.Serves lu serving) at f = by_serving lu serving at f (sym at.turn ∙ turns) (sym at.pending ∙ pends)
+      by_moment : (moment : Moment) → Sizes app (view_of link) moment → IsAt (view_of link) k.wanted moment → Fact k.wanted (scene_of (view_of link)) moment → Kept app (view_of (sent_view noting link))
+      by_moment (Moment.Talks talking) s at f = let t = sym at.turn ∙ turns in absurd (cc)
+      by_moment (Moment.Begins lu number command wants over) s at f = let p = sym at.pending ∙ pends in absurd (cc)
+      by_moment (Moment.Serves lu serving) s at f = by_serving lu serving s at f (sym at.turn ∙ turns) (sym at.pending ∙ pends)
 
   notes_by : (turn : Turn) (pending : Pending) (agreed : Bool) → link.host.turn ≡ turn → link.host.pending ≡ pending
       → Kept app (view_of (host_sent (if may_note turn pending agreed then Some (noted_as text link.host) else None) link))
@@ -306,19 +330,19 @@ lost_at v wanted moment at = record {
   term_talk = at.term_talk;
   turn = at.turn;
   pending = at.pending;
-  goes_down = still v.lost v.down (down_at moment) at.goes_down;
-  goes_up = still v.lost v.up (up_at wanted moment) at.goes_up;
+  goes_down = still v.lost v.down (down_at v.model moment) at.goes_down;
+  goes_up = still v.lost v.up (up_at v.model wanted moment) at.goes_up;
 }
 
 pub loses : (app : Application) (v : View) → Kept app v → Kept app (record v { lost = true })
 loses app v k = record {
-  shape = record { begins = k.shape.begins; same = k.shape.same };
   whole = k.whole;
   cursor = k.cursor;
   unreturned = k.unreturned;
   exact = k.exact;
   wanted = k.wanted;
   moment = k.moment;
+  sizes = record { host = k.sizes.host; screen = k.sizes.screen; same = k.sizes.same };
   at = lost_at v k.wanted k.moment k.at;
   fact = k.fact;
 }

@@ -1,5 +1,7 @@
 -- What a terminal makes of the next message, at each moment.
 use Rattle.std.proofs.Common.{◌≡◌, ◌==◌, if◌then◌else◌, inr, ◌<◌, ℕ, Bool, true, false, Option, None, Some, List, [], ◌∷◌, ◌++◌, length, map, suc, arith, refl, ap, sym, subst, ◌∙◌, Result, Ok, Err, IsOkAnd}
+use Rattle.tn3270e_msg.specs.Device.{device_for, device_text, has_text}
+use Rattle.codes3270.specs.declared.size.Model.{Model}
 use Rattle.std.specs.Prelude.{is_some, filter_map, replicate}
 use Rattle.std.specs.List.{list_any}
 use Rattle.std.specs.Str.{bytes_eq}
@@ -11,7 +13,7 @@ use Rattle.codes3270.specs.declared.attention.Aid.{Aid}
 use Rattle.codes3270.specs.declared.attention.Aid.TheVariants.{NoAid, Enter, Clear, Pf, Pa}
 use Rattle.codes3270.specs.declared.attribute.Cell.{Cell}
 use Rattle.codes3270.specs.declared.attribute.Cell.TheVariants.{Char}
-use Rattle.codes3270.specs.declared.size.Model.TheVariants.{M2}
+use Rattle.codes3270.specs.declared.size.Model.TheVariants.{M2, M3, M4, M5}
 use Rattle.datastream.specs.Grammar.{CommandParts}
 use Rattle.datastream.specs.InboundFields.{buffer_data}
 use Rattle.datastream.specs.InboundText.{InboundParts}
@@ -42,7 +44,7 @@ use Rattle.tn3270e_msg.specs.declared.reply.OwnedMessage.TheVariants.{SendType, 
 use Rattle.tn3270e_msg.specs.declared.term_talk.TermState.{TermState}
 use Rattle.tn3270e_msg.specs.declared.term_talk.TermState.TheVariants.{TypeAsked, FunctionsAsked, Agreed, Closed}
 use Rattle.tn3270e_msg.proofs.Agreement.{responses_alone, same_bytes}
-use Rattle.host_core.specs.Application.{Application, IsShape, IsApplication}
+use Rattle.host_core.specs.Application.{Application, IsShape, IsApplication, IsSizeOf}
 use Rattle.host_core.specs.Messages.{ToTerminal, ToHost}
 use Rattle.host_core.specs.NoteLaws.{TakesNotes, IsNoteOf}
 use Rattle.host_core.specs.declared.turn_reason.TurnReason.{TurnReason}
@@ -55,7 +57,7 @@ use Rattle.world3270.specs.Unreturned.{UnmodifiedIsKept}
 use Rattle.world3270.specs.Link.{Link, sent}
 use Rattle.world3270.specs.Moments.{Kind, Talking, Serving, Moment, UnderWay, IsAt, host_talk_at, term_state_at, turn_at, pending_at, down_at, up_at}
 use Rattle.world3270.specs.TurnReasons.{IsOccasion, IsOpenBy, IsOpenFor, IsCleared}
-use Rattle.world3270.specs.Stages.{scene_of, once_taken, FactsAreExact, Suits, IsPainted, Operates, Sees, IsRead, Fact, Kept}
+use Rattle.world3270.specs.Stages.{scene_of, once_taken, FactsAreExact, Suits, IsPainted, Operates, Sees, IsRead, Fact, Kept, Sizes, resizes_at}
 use Rattle.world3270.specs.Terminal.{TermStep, with_talk, is_bound, bound_to, once_bound, paint_came, note_came, read_came, talked, took}
 use Rattle.world3270.specs.View.{view_of}
 use Rattle.world3270.proofs.Queues.{more, front, nothing}
@@ -73,22 +75,26 @@ pub record Obeyed (app : Application) (link : Link) (rest : List ToTerminal) (st
 -- ---- from moment to moment
 
 -- what the terminal's step makes of the moment: the host's end stays as it is
-pub record Leads (wanted : Option (List ℕ)) (from to : Moment) (sends : List ToHost) : Type 0 where
-  pub host_talk : host_talk_at to ≡ host_talk_at from
+pub record Leads (model : Model) (wanted : Option (List ℕ)) (from to : Moment) (sends : List ToHost) : Type 0 where
+  pub host_talk : host_talk_at model to ≡ host_talk_at model from
   pub turn : turn_at to ≡ turn_at from
   pub pending : pending_at to ≡ pending_at from
-  pub up : up_at wanted from ++ sends ≡ up_at wanted to
+  pub up : up_at model wanted from ++ sends ≡ up_at model wanted to
 
-leads : (link : Link) (step : TermStep) (rest : List ToTerminal) (wanted : Option (List ℕ)) (from to : Moment) → IsAt (view_of link) wanted from → Leads wanted from to step.sends
-    → step.end.talk ≡ record { model = M2; wanted = wanted; talk = start_at (term_state_at to) } → UnderWay link.lost rest (down_at to) → IsAt (view_of (term_view step rest link)) wanted to
-leads link step rest wanted from to at l talk left = record {
-  host_talk = at.host_talk ∙ sym l.host_talk;
-  term_talk = talk;
-  turn = at.turn ∙ sym l.turn;
-  pending = at.pending ∙ sym l.pending;
-  goes_down = left;
-  goes_up = subst (UnderWay link.lost (sent link.lost link.up step.sends)) l.up (more link.lost link.up (up_at wanted from) step.sends at.goes_up);
-}
+leads : (link : Link) (step : TermStep) (rest : List ToTerminal) (wanted : Option (List ℕ)) (from to : Moment) → step.end.display.model ≡ link.term.display.model
+    → IsAt (view_of link) wanted from → Leads link.term.display.model wanted from to step.sends
+    → step.end.talk ≡ record { model = link.term.display.model; wanted = wanted; talk = start_at (term_state_at to) } → UnderWay link.lost rest (down_at link.term.display.model to)
+    → IsAt (view_of (term_view step rest link)) wanted to
+leads link step rest wanted from to same at l talk left =
+    let model : Model = link.term.display.model in
+    subst (λ (m : Model). IsAt (record (view_of (term_view step rest link)) { model = m }) wanted to) (sym same) (record {
+      host_talk = at.host_talk ∙ sym l.host_talk;
+      term_talk = talk;
+      turn = at.turn ∙ sym l.turn;
+      pending = at.pending ∙ sym l.pending;
+      goes_down = left;
+      goes_up = subst (UnderWay link.lost (sent link.lost link.up step.sends)) l.up (more link.lost link.up (up_at model wanted from) step.sends at.goes_up);
+    })
 
 -- ---- the talk
 
@@ -96,15 +102,15 @@ abbrev talk_step : Link → TermState → List ToHost → TermStep
 talk_step link state sends = record { end = with_talk link.term (start_at state); sends = sends; closes = None }
 
 -- a line of the terminal's table, that leads to a state with a reply
-record TalkTransition (wanted : Option (List ℕ)) (state : TermState) (saying : Saying) (next : TermState) (sends : List ToHost) : Type 0 where
+record TalkTransition (model : Model) (wanted : Option (List ℕ)) (state : TermState) (saying : Saying) (next : TermState) (sends : List ToHost) : Type 0 where
   reply : Reply
-  leads : follow Closed (start_at state) (term_transition M2 wanted state (says saying)) ≡ (start_at next, reply)
+  leads : follow Closed (start_at state) (term_transition model wanted state (says saying)) ≡ (start_at next, reply)
   quiet : closing reply ≡ None
   sends_is : map ToHost.TalksUp (sayings reply) ≡ sends
 
-talk_took : (link : Link) (wanted : Option (List ℕ)) (state next : TermState) (saying : Saying) (sends : List ToHost) → link.term.talk ≡ record { model = M2; wanted = wanted; talk = start_at state }
-    → TalkTransition wanted state saying next sends → took link.term (ToTerminal.TalksDown saying) ≡ talk_step link next sends
-talk_took link wanted state next saying sends e transition =
+talk_took : (link : Link) (model : Model) (wanted : Option (List ℕ)) (state next : TermState) (saying : Saying) (sends : List ToHost) → link.term.talk ≡ record { model = model; wanted = wanted; talk = start_at state }
+    → TalkTransition model wanted state saying next sends → took link.term (ToTerminal.TalksDown saying) ≡ talk_step link next sends
+talk_took link model wanted state next saying sends e transition =
     ap (λ (t : Term). talked link.term t saying) e
     ∙ ap (λ (p : Talk TermState × Reply). record { end = with_talk link.term p.0; sends = map ToHost.TalksUp (sayings p.1); closes = closing p.1 }) transition.leads
     ∙ ap (λ c. record { end = with_talk link.term (start_at next); sends = map ToHost.TalksUp (sayings transition.reply); closes = c }) transition.quiet
@@ -112,49 +118,60 @@ talk_took link wanted state next saying sends e transition =
 
 -- the talk moves on
 talks : (app : Application) (link : Link) (rest : List ToTerminal) (k : Kept app (view_of link)) (from to : Moment) (saying : Saying) (sends : List ToHost) (message : ToTerminal)
-    → IsAt (view_of link) k.wanted from → message ≡ ToTerminal.TalksDown saying → TalkTransition k.wanted (term_state_at from) saying (term_state_at to) sends
-    → Leads k.wanted from to sends → list_any is_negative (filter_map verdict_in sends) ≡ false → UnderWay link.lost rest (down_at to)
+    → (resizes_at to ≡ false → link.term.display.shape ≡ link.host.shape)
+    → IsAt (view_of link) k.wanted from → message ≡ ToTerminal.TalksDown saying → TalkTransition link.term.display.model k.wanted (term_state_at from) saying (term_state_at to) sends
+    → Leads link.term.display.model k.wanted from to sends → list_any is_negative (filter_map verdict_in sends) ≡ false → UnderWay link.lost rest (down_at link.term.display.model to)
     → Fact k.wanted (scene_of (view_of (term_view (talk_step link (term_state_at to) sends) rest link))) to → Obeyed app link rest (took link.term message)
-talks app link rest k from to saying sends message at is transition l positive left fact =
+talks app link rest k from to saying sends message same at is transition l positive left fact =
     subst (λ m. Obeyed app link rest (took link.term m)) (sym is)
-    (subst (Obeyed app link rest) (sym (talk_took link k.wanted (term_state_at from) (term_state_at to) saying sends at.term_talk transition))
+    (subst (Obeyed app link rest) (sym (talk_took link link.term.display.model k.wanted (term_state_at from) (term_state_at to) saying sends at.term_talk transition))
     (record {
       kept = record {
-        shape = record { begins = k.shape.begins; same = k.shape.same };
         whole = k.whole;
         cursor = k.cursor;
         unreturned = k.unreturned;
         exact = k.exact;
         wanted = k.wanted;
         moment = to;
-        at = leads link (talk_step link (term_state_at to) sends) rest k.wanted from to at l (ap (λ (t : Term). record { model = t.model; wanted = t.wanted; talk = start_at (term_state_at to) }) at.term_talk) left;
+        sizes = record { host = k.sizes.host; screen = k.sizes.screen; same = same };
+        at = leads link (talk_step link (term_state_at to) sends) rest k.wanted from to refl at l (ap (λ (t : Term). record { model = t.model; wanted = t.wanted; talk = start_at (term_state_at to) }) at.term_talk) left;
         fact = fact;
       };
       open_end = refl;
       positive = positive;
     }))
 
-granted_transition : Given → (wanted : Option (List ℕ)) (lu : List ℕ) → Suits wanted lu → TalkTransition wanted TypeAsked (Saying.Sub (TypeIs Model2 lu)) (FunctionsAsked lu) (ToHost.TalksUp (Saying.Sub FunRequest) ∷ [])
-granted_transition given None lu suits = record {
+-- its own type is the one that it asked for
+own_type : (model : Model) → has_text (device_for model) (device_text (device_for model)) ≡ true
+own_type M2 = refl
+own_type M3 = refl
+own_type M4 = refl
+own_type M5 = refl
+
+granted_transition : Given → (model : Model) (wanted : Option (List ℕ)) (lu : List ℕ) → Suits wanted lu
+    → TalkTransition model wanted TypeAsked (Saying.Sub (TypeIs (device_for model) lu)) (FunctionsAsked lu) (ToHost.TalksUp (Saying.Sub FunRequest) ∷ [])
+granted_transition given model None lu suits = record {
   reply = reply.Sub FunRequest Going;
-  leads = ap (λ (l : Option (List ℕ)). follow Closed (start_at TypeAsked) (grant_transition None true l)) (given.belief.names lu suits.is_lu);
+  leads = ap (λ (own : Bool). follow Closed (start_at TypeAsked) (grant_transition None own (lu_of lu))) (own_type model)
+      ∙ ap (λ (l : Option (List ℕ)). follow Closed (start_at TypeAsked) (grant_transition None true l)) (given.belief.names lu suits.is_lu);
   quiet = refl;
   sends_is = refl;
 }
-granted_transition given (Some name) lu suits =
+granted_transition given model (Some name) lu suits =
     let same : bytes_eq lu name ≡ true = ap (λ n. bytes_eq lu n) (sym suits.is_wanted) ∙ same_bytes lu in
     record {
       reply = reply.Sub FunRequest Going;
-      leads = ap (λ (l : Option (List ℕ)). follow Closed (start_at TypeAsked) (grant_transition (Some name) true l)) (given.belief.names lu suits.is_lu)
+      leads = ap (λ (own : Bool). follow Closed (start_at TypeAsked) (grant_transition (Some name) own (lu_of lu))) (own_type model)
+          ∙ ap (λ (l : Option (List ℕ)). follow Closed (start_at TypeAsked) (grant_transition (Some name) true l)) (given.belief.names lu suits.is_lu)
           ∙ (rw same refl);
       quiet = refl;
       sends_is = refl;
     }
 
-agreed_transition : (wanted : Option (List ℕ)) (lu : List ℕ) → TalkTransition wanted (FunctionsAsked lu) (Saying.Sub FunIs) (Agreed lu) []
-agreed_transition wanted lu = record {
+agreed_transition : (model : Model) (wanted : Option (List ℕ)) (lu : List ℕ) → TalkTransition model wanted (FunctionsAsked lu) (Saying.Sub FunIs) (Agreed lu) []
+agreed_transition model wanted lu = record {
   reply = _;
-  leads = ap (λ w. follow Closed (start_at (FunctionsAsked lu)) (term_transition M2 wanted (FunctionsAsked lu) (Comes.IsFunctions w))) responses_alone;
+  leads = ap (λ w. follow Closed (start_at (FunctionsAsked lu)) (term_transition model wanted (FunctionsAsked lu) (Comes.IsFunctions w))) responses_alone;
   quiet = refl;
   sends_is = refl;
 }
@@ -185,10 +202,11 @@ bound : (link : Link) (wanted : Option (List ℕ)) (lu : List ℕ) (serving : Se
 bound link wanted lu serving at = ap (λ (t : Term). is_some (bound_to t.talk.state)) at.term_talk
 
 -- a step of a session that leaves the talk
-serves : (link : Link) (step : TermStep) (rest : List ToTerminal) (wanted : Option (List ℕ)) (lu : List ℕ) (from to : Serving) → IsAt (view_of link) wanted (Moment.Serves lu from)
-    → Leads wanted (Moment.Serves lu from) (Moment.Serves lu to) step.sends → step.end.talk ≡ link.term.talk → UnderWay link.lost rest (down_at (Moment.Serves lu to))
+serves : (link : Link) (step : TermStep) (rest : List ToTerminal) (wanted : Option (List ℕ)) (lu : List ℕ) (from to : Serving) → step.end.display.model ≡ link.term.display.model
+    → IsAt (view_of link) wanted (Moment.Serves lu from) → Leads link.term.display.model wanted (Moment.Serves lu from) (Moment.Serves lu to) step.sends
+    → step.end.talk ≡ link.term.talk → UnderWay link.lost rest (down_at link.term.display.model (Moment.Serves lu to))
     → IsAt (view_of (term_view step rest link)) wanted (Moment.Serves lu to)
-serves link step rest wanted lu from to at l same left = leads link step rest wanted (Moment.Serves lu from) (Moment.Serves lu to) at l (same ∙ at.term_talk) left
+serves link step rest wanted lu from to model at l same left = leads link step rest wanted (Moment.Serves lu from) (Moment.Serves lu to) model at l (same ∙ at.term_talk) left
 
 -- ---- a paint
 
@@ -212,14 +230,18 @@ takes_paint given app is link rest k lu number command wants over at f left =
     subst (Obeyed app link rest) (ap (λ b. once_bound b (paint_came number wants link.term) link.term) (sym (bound link k.wanted lu _ at)))
     (record {
       kept = record {
-        shape = record { begins = k.shape.begins; same = k.shape.same };
-        whole = painted-length wants screen ∙ f.paintable.showable.cells;
-        cursor = f.paintable.showable.cursor;
+        whole = painted-length wants screen ∙ same;
+        cursor = subst (λ n. wants.cursor < n) (sym base) f.paintable.showable.cursor;
         unreturned = λ wrong. absurd wrong;
         exact = k.exact;
         wanted = k.wanted;
         moment = Moment.Serves lu (Serving.Answering Kind.APaint number command);
-        at = serves link (paint_came number wants link.term) rest k.wanted lu _ (Serving.Answering Kind.APaint number command) at (record { host_talk = refl; turn = refl; pending = refl; up = refl }) refl left;
+        sizes = record {
+          host = k.sizes.host;
+          screen = subst (λ (s : Shape). IsSizeOf app link.term.display.model s) (sym f.paintable.showable.size) k.sizes.host;
+          same = λ steady. f.paintable.showable.size;
+        };
+        at = serves link (paint_came number wants link.term) rest k.wanted lu _ (Serving.Answering Kind.APaint number command) refl at (record { host_talk = refl; turn = refl; pending = refl; up = refl }) refl left;
         fact = record {
           shown = new;
           lock = λ wrong. absurd (cc);
@@ -238,22 +260,22 @@ takes_paint given app is link rest k lu number command wants over at f left =
 
 -- ---- a Read Buffer
 
-takes_read : (app : Application) (link : Link) (rest : List ToTerminal) (k : Kept app (view_of link)) (lu : List ℕ) (number : ℕ) → IsAt (view_of link) k.wanted (Moment.Serves lu (Serving.Reading number))
+takes_read : (app : Application) (link : Link) (rest : List ToTerminal) (k : Kept app (view_of link)) → link.term.display.shape ≡ link.host.shape → (lu : List ℕ) (number : ℕ) → IsAt (view_of link) k.wanted (Moment.Serves lu (Serving.Reading number))
     → IsRead (scene_of (view_of link)) → UnderWay link.lost rest [] → Obeyed app link rest (took link.term (ToTerminal.ReadBuffer number))
-takes_read app link rest k lu number at f left =
+takes_read app link rest k same lu number at f left =
     let parts : InboundParts = buffer_data link.term.display.shape link.term.display.screen in
     subst (Obeyed app link rest) (ap (λ b. once_bound b (read_came link.term) link.term) (sym (bound link k.wanted lu _ at)))
     (record {
       kept = record {
-        shape = record { begins = k.shape.begins; same = k.shape.same };
         whole = k.whole;
         cursor = k.cursor;
         unreturned = k.unreturned;
         exact = k.exact;
         wanted = k.wanted;
         moment = Moment.Serves lu (Serving.Reported number parts);
-        at = serves link (read_came link.term) rest k.wanted lu _ (Serving.Reported number parts) at (record { host_talk = refl; turn = refl; pending = refl; up = refl }) refl left;
-        fact = (f, ap (λ (size : Shape). buffer_data size link.term.display.screen) k.shape.same);
+        sizes = record { host = k.sizes.host; screen = k.sizes.screen; same = λ steady. same };
+        at = serves link (read_came link.term) rest k.wanted lu _ (Serving.Reported number parts) refl at (record { host_talk = refl; turn = refl; pending = refl; up = refl }) refl left;
+        fact = (f, ap (λ (size : Shape). buffer_data size link.term.display.screen) same);
       };
       open_end = refl;
       positive = refl;
@@ -343,7 +365,12 @@ pub ok_map : {E : Type 0} (P Q : Shadow → Type 0) (r : Result Shadow E) → ((
 ok_map P Q (Ok x) f h = f x h
 ok_map P Q (Err fault) f h = absurd h
 
-module _ (given : Given) (app : Application) (is : IsApplication app) (link : Link) (rest : List ToTerminal) (k : Kept app (view_of link)) where
+-- a size that a terminal may have is a screen's
+pub shape_of_model : (app : Application) (model : Model) (size : Shape) → IsApplication app → IsSizeOf app model size → IsShape size
+shape_of_model app model size is (inl base) = subst IsShape (sym base) is.begins
+shape_of_model app model size is (inr alternate) = subst IsShape (sym alternate) (is.alternates model)
+
+module _ (given : Given) (app : Application) (is : IsApplication app) (link : Link) (rest : List ToTerminal) (k : Kept app (view_of link)) (same : link.term.display.shape ≡ link.host.shape) where
   abbrev screen : Screen
   screen = link.term.display.screen
 
@@ -351,25 +378,29 @@ module _ (given : Given) (app : Application) (is : IsApplication app) (link : Li
   shape = link.host.shape
 
   is_shape : IsShape link.host.shape
-  is_shape = subst IsShape (sym k.shape.begins) is.shape
+  is_shape = shape_of_model app link.term.display.model link.host.shape is k.sizes.host
+
+  whole_here : length screen.cells ≡ cells_in shape
+  whole_here = k.whole ∙ ap (λ (s : Shape). cells_in s) same
 
   -- at any moment of the session at which a note goes down
   takes_note : (lu : List ℕ) (number : ℕ) (command : CommandParts) (from to : Serving) → IsAt (view_of link) k.wanted (Moment.Serves lu from) → IsNoteOf shape command → TakesNotes shape screen.cells
-      → Leads k.wanted (Moment.Serves lu from) (Moment.Serves lu to) (note_came number command link.term).sends → UnderWay link.lost rest (down_at (Moment.Serves lu to))
+      → Leads link.term.display.model k.wanted (Moment.Serves lu from) (Moment.Serves lu to) (note_came number command link.term).sends
+      → UnderWay link.lost rest (down_at link.term.display.model (Moment.Serves lu to))
       → Fact k.wanted (scene_of (view_of (term_view (note_came number command link.term) rest link))) (Moment.Serves lu to) → Obeyed app link rest (took link.term (ToTerminal.Note number command))
   takes_note lu number command from to at note takes l left fact =
-      let noted = noted_on_it given shape command screen is_shape note k.whole takes in
+      let noted = noted_on_it given shape command screen is_shape note whole_here takes in
       subst (Obeyed app link rest) (ap (λ b. once_bound b (note_came number command link.term) link.term) (sym (bound link k.wanted lu from at)))
       (record {
         kept = record {
-          shape = record { begins = k.shape.begins; same = k.shape.same };
           whole = noted.size ∙ k.whole;
-          cursor = subst (λ n. n < cells_in link.host.shape) (sym noted.cursor) k.cursor;
-          unreturned = λ sent. kept_by given shape command screen link.term.display.erased link.term.display.last_restored.cells is_shape note k.whole takes (k.unreturned (subst SentFields noted.aid sent));
+          cursor = subst (λ n. n < cells_in link.term.display.shape) (sym noted.cursor) k.cursor;
+          unreturned = λ sent. kept_by given shape command screen link.term.display.erased link.term.display.last_restored.cells is_shape note whole_here takes (k.unreturned (subst SentFields noted.aid sent));
           exact = k.exact;
           wanted = k.wanted;
           moment = Moment.Serves lu to;
-          at = serves link (note_came number command link.term) rest k.wanted lu from to at l refl left;
+          sizes = record { host = k.sizes.host; screen = k.sizes.screen; same = λ steady. same };
+          at = serves link (note_came number command link.term) rest k.wanted lu from to refl at l refl left;
           fact = fact;
         };
         open_end = refl;
@@ -381,7 +412,7 @@ module _ (given : Given) (app : Application) (is : IsApplication app) (link : Li
       → Operates (once_taken link.host.shape command link.host.shadow) (scene_of (view_of (term_view (note_came number command link.term) rest link)))
   operates_noted command note f number =
       let shown : Screen = f.shown in
-      let whole : length shown.cells ≡ cells_in link.host.shape = sym f.held.same_length ∙ k.whole in
+      let whole : length shown.cells ≡ cells_in link.host.shape = sym f.held.same_length ∙ whole_here in
       let written_on : cells_in command.size ≡ cells_in link.host.shape = ap (λ (c : CommandParts). cells_in c.size) note.is in
       let noted = noted_on_it given shape command shown is_shape note whole (TakesNotes.formatted f.messages) in
       let writes = given.notes.writes_protected shape command shown.cells is_shape note whole f.messages in
@@ -407,7 +438,7 @@ as_message : (app : Application) (link : Link) (rest : List ToTerminal) (m messa
 as_message app link rest m message e o = subst (λ x. Obeyed app link rest (took link.term x)) (sym e) o
 
 pub obeys : Given → (app : Application) → IsApplication app → (link : Link) (message : ToTerminal) (rest : List ToTerminal) → link.down ≡ message ∷ rest → Kept app (view_of link) → Obeyed app link rest (took link.term message)
-obeys given app is link message rest e k = by_moment k.moment k.at k.fact
+obeys given app is link message rest e k = by_moment k.moment k.sizes k.at k.fact
   where
     screen : Screen
     screen = link.term.display.screen
@@ -415,26 +446,26 @@ obeys given app is link message rest e k = by_moment k.moment k.at k.fact
     no_more : UnderWay link.lost link.down [] → Obeyed app link rest (took link.term message)
     no_more way = absurd (nothing link.lost link.down message rest e way)
 
-    by_talk : (talking : Talking) → IsAt (view_of link) k.wanted (Moment.Talks talking) → Fact k.wanted (scene_of (view_of link)) (Moment.Talks talking) → Obeyed app link rest (took link.term message)
-    by_talk Talking.Offering at f =
+    by_talk : (talking : Talking) → link.term.display.shape ≡ link.host.shape → IsAt (view_of link) k.wanted (Moment.Talks talking) → Fact k.wanted (scene_of (view_of link)) (Moment.Talks talking) → Obeyed app link rest (took link.term message)
+    by_talk Talking.Offering same at f =
         let first = front link.lost link.down message rest _ [] e at.goes_down in
-        talks app link rest k (Moment.Talks Talking.Offering) (Moment.Talks Talking.Accepting) (Saying.Opt Do 40) (ToHost.TalksUp (Saying.Opt Will 40) ∷ []) message at first.0
+        talks app link rest k (Moment.Talks Talking.Offering) (Moment.Talks Talking.Accepting) (Saying.Opt Do 40) (ToHost.TalksUp (Saying.Opt Will 40) ∷ []) message (λ steady. same) at first.0
         (record { reply = reply.Opt Will 40; leads = refl; quiet = refl; sends_is = refl }) (record { host_talk = refl; turn = refl; pending = refl; up = refl }) refl first.1
         (f.0, f.1)
-    by_talk Talking.AskingType at f =
+    by_talk Talking.AskingType same at f =
         let first = front link.lost link.down message rest _ [] e at.goes_down in
-        talks app link rest k (Moment.Talks Talking.AskingType) (Moment.Talks Talking.NamingType) (Saying.Sub SendType) (ToHost.TalksUp (Saying.Sub (TypeRequest M2 k.wanted)) ∷ []) message at first.0
-        (record { reply = reply.Sub (TypeRequest M2 k.wanted) Going; leads = refl; quiet = refl; sends_is = refl }) (record { host_talk = refl; turn = refl; pending = refl; up = refl }) refl first.1
+        talks app link rest k (Moment.Talks Talking.AskingType) (Moment.Talks Talking.NamingType) (Saying.Sub SendType) (ToHost.TalksUp (Saying.Sub (TypeRequest link.term.display.model k.wanted)) ∷ []) message (λ steady. same) at first.0
+        (record { reply = reply.Sub (TypeRequest link.term.display.model k.wanted) Going; leads = refl; quiet = refl; sends_is = refl }) (record { host_talk = refl; turn = refl; pending = refl; up = refl }) refl first.1
         (f.0, f.1)
-    by_talk (Talking.Granting lu) at f =
+    by_talk (Talking.Granting lu) same at f =
         let first = front link.lost link.down message rest _ [] e at.goes_down in
-        talks app link rest k (Moment.Talks (Talking.Granting lu)) (Moment.Talks (Talking.AskingFunctions lu)) (Saying.Sub (TypeIs Model2 lu)) (ToHost.TalksUp (Saying.Sub FunRequest) ∷ []) message at first.0
-        (granted_transition given k.wanted lu f.1) (record { host_talk = refl; turn = refl; pending = refl; up = refl }) refl first.1
+        talks app link rest k (Moment.Talks (Talking.Granting lu)) (Moment.Talks (Talking.AskingFunctions lu)) (Saying.Sub (TypeIs (device_for link.term.display.model) lu)) (ToHost.TalksUp (Saying.Sub FunRequest) ∷ []) message (λ steady. same) at first.0
+        (granted_transition given link.term.display.model k.wanted lu f.1) (record { host_talk = refl; turn = refl; pending = refl; up = refl }) refl first.1
         (f.0, tt)
-    by_talk (Talking.Agreeing lu) at f =
+    by_talk (Talking.Agreeing lu) same at f =
         let first = front link.lost link.down message rest _ [] e at.goes_down in
-        talks app link rest k (Moment.Talks (Talking.Agreeing lu)) (Moment.Serves lu Serving.Deciding) (Saying.Sub FunIs) [] message at first.0
-        (agreed_transition k.wanted lu) (record { host_talk = refl; turn = refl; pending = refl; up = refl }) refl first.1
+        talks app link rest k (Moment.Talks (Talking.Agreeing lu)) (Moment.Serves lu Serving.Deciding) (Saying.Sub FunIs) [] message (λ steady. same) at first.0
+        (agreed_transition link.term.display.model k.wanted lu) (record { host_talk = refl; turn = refl; pending = refl; up = refl }) refl first.1
         (record {
           lock = f.0.lock;
           turn_reason = subst (λ o. IsOccasion o screen.aid) (sym f.0.turn_reason) f.0.aid;
@@ -448,66 +479,67 @@ obeys given app is link message rest e k = by_moment k.moment k.at k.fact
             told = λ sent. absurd (subst SentFields f.0.aid sent);
           };
         })
-    by_talk (Talking.Rejecting reason) at f =
+    by_talk (Talking.Rejecting reason) same at f =
         let first = front link.lost link.down message rest _ [] e at.goes_down in
-        talks app link rest k (Moment.Talks (Talking.Rejecting reason)) (Moment.Talks (Talking.Rejected reason)) (Saying.Sub (TypeReject reason)) [] message at first.0
+        talks app link rest k (Moment.Talks (Talking.Rejecting reason)) (Moment.Talks (Talking.Rejected reason)) (Saying.Sub (TypeReject reason)) [] message (λ steady. same) at first.0
         (record { reply = reply.Refused reason; leads = refl; quiet = refl; sends_is = refl }) (record { host_talk = refl; turn = refl; pending = refl; up = refl }) refl first.1
         (f.0, tt)
-    by_talk Talking.Accepting at f = no_more at.goes_down
-    by_talk Talking.NamingType at f = no_more at.goes_down
-    by_talk (Talking.AskingFunctions lu) at f = no_more at.goes_down
-    by_talk (Talking.Rejected reason) at f = no_more at.goes_down
+    by_talk Talking.Accepting same at f = no_more at.goes_down
+    by_talk Talking.NamingType same at f = no_more at.goes_down
+    by_talk (Talking.AskingFunctions lu) same at f = no_more at.goes_down
+    by_talk (Talking.Rejected reason) same at f = no_more at.goes_down
 
-    by_serving : (lu : List ℕ) (serving : Serving) → IsAt (view_of link) k.wanted (Moment.Serves lu serving) → Fact k.wanted (scene_of (view_of link)) (Moment.Serves lu serving) → Obeyed app link rest (took link.term message)
-    by_serving lu (Serving.Reading number) at f =
+    by_serving : (lu : List ℕ) (serving : Serving) → Sizes app (view_of link) (Moment.Serves lu serving) → IsAt (view_of link) k.wanted (Moment.Serves lu serving) → Fact k.wanted (scene_of (view_of link)) (Moment.Serves lu serving) → Obeyed app link rest (took link.term message)
+    by_serving lu (Serving.Reading number) s at f =
         let first = front link.lost link.down message rest _ [] e at.goes_down in
-        as_message app link rest (ToTerminal.ReadBuffer number) message first.0 (takes_read app link rest k lu number at f first.1)
-    by_serving lu (Serving.Painting number command wants over) at f =
+        as_message app link rest (ToTerminal.ReadBuffer number) message first.0 (takes_read app link rest k (s.same refl) lu number at f first.1)
+    by_serving lu (Serving.Painting number command wants over) s at f =
         let first = front link.lost link.down message rest _ [] e at.goes_down in
         as_message app link rest (ToTerminal.Paint number wants over) message first.0 (takes_paint given app is link rest k lu number command wants over at f first.1)
-    by_serving lu (Serving.Noting number command) at f =
+    by_serving lu (Serving.Noting number command) s at f =
         let first = front link.lost link.down message rest _ [] e at.goes_down in
         let row = given.notes.held_takes link.host.shape link.term.display.erased f.0.shown.cells screen.cells f.0.held f.0.messages in
         as_message app link rest (ToTerminal.Note number command) message first.0
-        (takes_note given app is link rest k lu number command (Serving.Noting number command) (Serving.Answering Kind.ANote number command) at f.1 (TakesNotes.formatted row)
-        (record { host_talk = refl; turn = refl; pending = refl; up = refl }) first.1 (operates_noted given app is link rest k command f.1 f.0 number))
-    by_serving lu (Serving.KeyNoted number command parts) at f =
+        (takes_note given app is link rest k (s.same refl) lu number command (Serving.Noting number command) (Serving.Answering Kind.ANote number command) at f.1 (TakesNotes.formatted row)
+        (record { host_talk = refl; turn = refl; pending = refl; up = refl }) first.1 (operates_noted given app is link rest k (s.same refl) command f.1 f.0 number))
+    by_serving lu (Serving.KeyNoted number command parts) s at f =
         let first = front link.lost link.down message rest _ [] e at.goes_down in
-        let noted = noted_on_it given link.host.shape command screen (is_shape given app is link rest k) f.2.note k.whole f.2.takes in
+        let noted = noted_on_it given link.host.shape command screen (is_shape given app is link rest k (s.same refl)) f.2.note (whole_here given app is link rest k (s.same refl)) f.2.takes in
         as_message app link rest (ToTerminal.Note number command) message first.0
-        (takes_note given app is link rest k lu number command (Serving.KeyNoted number command parts) (Serving.KeyBefore number command parts) at f.2.note f.2.takes
+        (takes_note given app is link rest k (s.same refl) lu number command (Serving.KeyNoted number command parts) (Serving.KeyBefore number command parts) at f.2.note f.2.takes
         (record { host_talk = refl; turn = refl; pending = refl; up = refl }) first.1 (
           record { lock = f.0.lock; form = f.0.form; size = f.0.size; pressed = f.0.pressed ∙ sym noted.aid; some = λ none. f.0.some (sym noted.aid ∙ none) },
           ok_map (Sees link.host.shape screen) (λ shadow. Sees link.host.shape (after_command command screen) (once_taken link.host.shape command shadow)) (heard (cells_in link.host.shape) link.host.shadow parts)
-              (λ shadow s. sees_noted given link.host.shape command screen shadow f.2.note k.whole noted s) f.1,
+              (λ shadow seen. sees_noted given link.host.shape command screen shadow f.2.note (whole_here given app is link rest k (s.same refl)) noted seen) f.1,
         ))
-    by_serving lu (Serving.NotedLate number command) at f =
+    by_serving lu (Serving.NotedLate number command) s at f =
         let first = front link.lost link.down message rest _ [] e at.goes_down in
-        let noted = noted_on_it given link.host.shape command screen (is_shape given app is link rest k) f.1.note k.whole f.1.takes in
+        let noted = noted_on_it given link.host.shape command screen (is_shape given app is link rest k (s.same refl)) f.1.note (whole_here given app is link rest k (s.same refl)) f.1.takes in
         as_message app link rest (ToTerminal.Note number command) message first.0
-        (takes_note given app is link rest k lu number command (Serving.NotedLate number command) (Serving.AnsweredLate number command) at f.1.note f.1.takes
+        (takes_note given app is link rest k (s.same refl) lu number command (Serving.NotedLate number command) (Serving.AnsweredLate number command) at f.1.note f.1.takes
         (record { host_talk = refl; turn = refl; pending = refl; up = refl }) first.1
         (record {
           lock = f.0.lock;
           turn_reason = subst (IsOccasion link.host.turn_reason) (sym noted.aid) f.0.turn_reason;
           closed = open_for link.host.turn_reason link.host.shadow (once_taken link.host.shape command link.host.shadow)
-              (λ o. subst (λ n. NothingIsOpen (taken n command link.host.shadow)) k.whole (given.notes.opens command link.host.shadow screen noted.over f.0.sees.meets o)) f.0.closed;
-          sees = sees_noted given link.host.shape command screen link.host.shadow f.1.note k.whole noted f.0.sees;
+              (λ o. subst (λ n. NothingIsOpen (taken n command link.host.shadow)) (whole_here given app is link rest k (s.same refl)) (given.notes.opens command link.host.shadow screen noted.over f.0.sees.meets o)) f.0.closed;
+          sees = sees_noted given link.host.shape command screen link.host.shadow f.1.note (whole_here given app is link rest k (s.same refl)) noted f.0.sees;
         }))
-    by_serving lu Serving.Deciding at f = no_more at.goes_down
-    by_serving lu (Serving.Reported number parts) at f = no_more at.goes_down
-    by_serving lu (Serving.AnsweredLate number command) at f = no_more at.goes_down
-    by_serving lu (Serving.Answering kind number command) at f = no_more at.goes_down
-    by_serving lu Serving.Operating at f = no_more at.goes_down
-    by_serving lu (Serving.KeyAlone parts) at f = no_more at.goes_down
-    by_serving lu (Serving.KeyBehind kind number command parts) at f = no_more at.goes_down
-    by_serving lu (Serving.KeyBefore number command parts) at f = no_more at.goes_down
+    by_serving lu Serving.Deciding s at f = no_more at.goes_down
+    by_serving lu (Serving.Reported number parts) s at f = no_more at.goes_down
+    by_serving lu (Serving.AnsweredLate number command) s at f = no_more at.goes_down
+    by_serving lu (Serving.Answering kind number command) s at f = no_more at.goes_down
+    by_serving lu Serving.Operating s at f = no_more at.goes_down
+    by_serving lu (Serving.KeyAlone parts) s at f = no_more at.goes_down
+    by_serving lu (Serving.KeyBehind kind number command parts) s at f = no_more at.goes_down
+    by_serving lu (Serving.KeyBefore number command parts) s at f = no_more at.goes_down
 
-    by_moment : (moment : Moment) → IsAt (view_of link) k.wanted moment → Fact k.wanted (scene_of (view_of link)) moment → Obeyed app link rest (took link.term message)
-    by_moment (Moment.Talks talking) at f = by_talk talking at f
-    by_moment (Moment.Begins lu number command wants over) at f =
+    by_moment : (moment : Moment) → Sizes app (view_of link) moment → IsAt (view_of link) k.wanted moment → Fact k.wanted (scene_of (view_of link)) moment → Obeyed app link rest (took link.term message)
+    by_moment (Moment.Talks talking) s at f = by_talk talking (s.same refl) at f
+    by_moment (Moment.Begins lu number command wants over) s at f =
         let first = front link.lost link.down message rest _ _ e at.goes_down in
-        talks app link rest k (Moment.Begins lu number command wants over) (Moment.Serves lu (Serving.Painting number command wants over)) (Saying.Sub FunIs) [] message at first.0
-        (agreed_transition k.wanted lu) (record { host_talk = refl; turn = refl; pending = refl; up = refl }) refl first.1
+        talks app link rest k (Moment.Begins lu number command wants over) (Moment.Serves lu (Serving.Painting number command wants over)) (Saying.Sub FunIs) [] message
+        (λ steady. absurd (cc)) at first.0
+        (agreed_transition link.term.display.model k.wanted lu) (record { host_talk = refl; turn = refl; pending = refl; up = refl }) refl first.1
         f
-    by_moment (Moment.Serves lu serving) at f = by_serving lu serving at f
+    by_moment (Moment.Serves lu serving) s at f = by_serving lu serving s at f

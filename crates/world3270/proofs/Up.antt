@@ -1,5 +1,7 @@
 -- What a host makes of the next message, at each moment.
 use Rattle.std.proofs.Common.{◌≡◌, ◌<◌, ℕ, Bool, true, false, Option, None, Some, Result, Ok, Err, List, [], ◌∷◌, ◌++◌, length, refl, ap, sym, subst, ◌∙◌, IsOkAnd, IfOk}
+use Rattle.tn3270e_msg.specs.Device.{device_for}
+use Rattle.codes3270.specs.declared.size.Model.{Model}
 use Rattle.codes3270.specs.Size.{Shape, cells_in}
 use Rattle.codes3270.specs.declared.size.Model.TheVariants.{M2}
 use Rattle.codes3270.specs.declared.attention.Aid.{Aid}
@@ -30,7 +32,7 @@ use Rattle.tn3270e_msg.specs.declared.reply.Reply.{Reply}
 use Rattle.tn3270e_msg.specs.declared.reply.Reply.TheVariants as reply
 use Rattle.tn3270e_msg.specs.declared.reply.OwnedMessage.TheVariants.{SendType, TypeRequest, TypeIs, TypeReject, FunRequest, FunIs}
 use Rattle.tn3270e_msg.proofs.Agreement.{responses_alone, own_device}
-use Rattle.host_core.specs.Application.{Application}
+use Rattle.host_core.specs.Application.{Application, IsSizeOf}
 use Rattle.host_core.specs.Messages.{ToTerminal, ToHost, Verdict}
 use Rattle.host_core.specs.declared.turn.Turn.TheVariants as whose
 use Rattle.host_core.specs.declared.turn_reason.TurnReason.{TurnReason}
@@ -41,9 +43,9 @@ use Rattle.host_core.specs.declared.rejection.Rejection.{Rejection}
 use Rattle.host_core.specs.Takes.{HostStep, Answers, quiet, with_talk, replied, granted_by, talked_on, talked, hears, believed, once_read, key_came, key_data_came, data_came, answered, if_answers, response_came, once_agreed, took}
 use Rattle.world3270.specs.Given.{Given}
 use Rattle.world3270.specs.Link.{Link, sent}
-use Rattle.world3270.specs.Moments.{Kind, awaiting, Talking, Serving, Moment, UnderWay, IsAt, host_talk_at, term_state_at, turn_at, pending_at, down_at, up_at}
+use Rattle.world3270.specs.Moments.{Kind, awaiting, Talking, Serving, Moment, UnderWay, IsAt, host_talk_at, term_state_at, turn_at, pending_at, down_at, up_at, served_down, served_up}
 use Rattle.world3270.specs.TurnReasons.{IsOccasion, IsOpenBy, IsOpenFor}
-use Rattle.world3270.specs.Stages.{scene_of, once_taken, FactsAreExact, Suits, Sees, IsPressed, WillBeHeard, IsRead, Fact, Kept}
+use Rattle.world3270.specs.Stages.{scene_of, once_taken, FactsAreExact, Suits, Sees, IsPressed, WillBeHeard, IsRead, Fact, Kept, Sizes}
 use Rattle.world3270.specs.View.{view_of}
 use Rattle.world3270.proofs.OneOfMany.{same_number}
 use Rattle.world3270.proofs.Queues.{more, front, nothing}
@@ -69,18 +71,18 @@ pub record Answered (app : Application) (pool : List Entry) (link : Link) (rest 
 -- ---- from moment to moment
 
 -- the host's step leaves the terminal's end as it is
-record Leads (wanted : Option (List ℕ)) (from to : Moment) (sends : List ToTerminal) : Type 0 where
+record Leads (model : Model) (wanted : Option (List ℕ)) (from to : Moment) (sends : List ToTerminal) : Type 0 where
   term : term_state_at to ≡ term_state_at from
-  down : down_at from ++ sends ≡ down_at to
+  down : down_at model from ++ sends ≡ down_at model to
 
-leads : (link : Link) (step : HostStep) (rest : List ToHost) (wanted : Option (List ℕ)) (from to : Moment) → IsAt (view_of link) wanted from → Leads wanted from to step.sends
-    → step.conn.talk ≡ host_talk_at to → step.conn.turn ≡ turn_at to → step.conn.pending ≡ pending_at to → UnderWay link.lost rest (up_at wanted to) → IsAt (view_of (host_view step rest link)) wanted to
+leads : (link : Link) (step : HostStep) (rest : List ToHost) (wanted : Option (List ℕ)) (from to : Moment) → IsAt (view_of link) wanted from → Leads link.term.display.model wanted from to step.sends
+    → step.conn.talk ≡ host_talk_at link.term.display.model to → step.conn.turn ≡ turn_at to → step.conn.pending ≡ pending_at to → UnderWay link.lost rest (up_at link.term.display.model wanted to) → IsAt (view_of (host_view step rest link)) wanted to
 leads link step rest wanted from to at l talk turn pending left = record {
   host_talk = talk;
-  term_talk = at.term_talk ∙ ap (λ state. record { model = M2; wanted = wanted; talk = start_at state }) (sym l.term);
+  term_talk = at.term_talk ∙ ap (λ state. record { model = link.term.display.model; wanted = wanted; talk = start_at state }) (sym l.term);
   turn = turn;
   pending = pending;
-  goes_down = subst (UnderWay link.lost (sent link.lost link.down step.sends)) l.down (more link.lost link.down (down_at from) step.sends at.goes_down);
+  goes_down = subst (UnderWay link.lost (sent link.lost link.down step.sends)) l.down (more link.lost link.down (down_at link.term.display.model from) step.sends at.goes_down);
   goes_up = left;
 }
 
@@ -91,23 +93,25 @@ talk_step link next sends grants rejects = record { conn = with_talk link.host n
 
 -- the talk moves on, by a step that is known
 talks : (app : Application) (pool : List Entry) (link : Link) (rest : List ToHost) (k : Kept app (view_of link)) (from to : Talking) (saying : Saying) (sends : List ToTerminal) (grants : Option (List ℕ)) (rejects : Option Rejection) (message : ToHost)
+    → link.term.display.shape ≡ link.host.shape
     → IsAt (view_of link) k.wanted (Moment.Talks from) → message ≡ ToHost.TalksUp saying
-    → talked (answer_to pool) link.host (host_talk_at (Moment.Talks from)) (says saying) ≡ talk_step link (host_talk_at (Moment.Talks to)) sends grants rejects
-    → Grants pool link.host (talk_step link (host_talk_at (Moment.Talks to)) sends grants rejects) → Leads k.wanted (Moment.Talks from) (Moment.Talks to) sends → UnderWay link.lost rest (up_at k.wanted (Moment.Talks to))
+    → talked (answer_to pool) link.host (host_talk_at link.term.display.model (Moment.Talks from)) (says saying) ≡ talk_step link (host_talk_at link.term.display.model (Moment.Talks to)) sends grants rejects
+    → Grants pool link.host (talk_step link (host_talk_at link.term.display.model (Moment.Talks to)) sends grants rejects) → Leads link.term.display.model k.wanted (Moment.Talks from) (Moment.Talks to) sends
+    → UnderWay link.lost rest (up_at link.term.display.model k.wanted (Moment.Talks to))
     → Fact k.wanted (scene_of (view_of link)) (Moment.Talks to) → Answered app pool link rest (took (answer_to pool) link.host message)
-talks app pool link rest k from to saying sends grants rejects message at is step g l left fact =
+talks app pool link rest k from to saying sends grants rejects message same at is step g l left fact =
     subst (λ m. Answered app pool link rest (took (answer_to pool) link.host m)) (sym is)
     (subst (Answered app pool link rest) (sym (ap (λ (t : Talk HostState). talked (answer_to pool) link.host t (says saying)) at.host_talk ∙ step))
     (record {
       kept = record {
-        shape = record { begins = k.shape.begins; same = k.shape.same };
         whole = k.whole;
         cursor = k.cursor;
         unreturned = k.unreturned;
         exact = k.exact;
         wanted = k.wanted;
         moment = Moment.Talks to;
-        at = leads link (talk_step link (host_talk_at (Moment.Talks to)) sends grants rejects) rest k.wanted (Moment.Talks from) (Moment.Talks to) at l refl at.turn at.pending left;
+        sizes = record { host = k.sizes.host; screen = k.sizes.screen; same = λ steady. same };
+        at = leads link (talk_step link (host_talk_at link.term.display.model (Moment.Talks to)) sends grants rejects) rest k.wanted (Moment.Talks from) (Moment.Talks to) at l refl at.turn at.pending left;
         fact = fact;
       };
       open_end = refl;
@@ -118,68 +122,72 @@ claim_at : (conn : Conn) (talk : Talk HostState) → conn.talk ≡ talk → gran
 claim_at conn talk e = ap (λ (t : Talk HostState). granted t.state) (sym e)
 
 -- a terminal that asks for its type of device, and for an LU, if it wants one
-abbrev asking_type : Option (List ℕ) → Saying
-asking_type wanted = Saying.Sub (TypeRequest M2 wanted)
+abbrev asking_type : Model → Option (List ℕ) → Saying
+asking_type model wanted = Saying.Sub (TypeRequest model wanted)
 
-abbrev at_asking : Talk HostState
-at_asking = start_at (Asking Model2)
+abbrev at_asking : Model → Talk HostState
+at_asking model = start_at (Asking (device_for model))
 
-asks_pool : Given → (wanted : Option (List ℕ)) → IsLuIfSome wanted → follow HostClosed (start_at Asked) (host_transition Asked (says (asking_type wanted))) ≡ (at_asking, reply.AskPool wanted)
-asks_pool given None is = ap (λ d. follow HostClosed (start_at Asked) (request_transition d None)) (own_device M2)
-asks_pool given (Some name) is =
-    ap (λ d. follow HostClosed (start_at Asked) (request_transition d (Some (Connect name)))) (own_device M2)
-    ∙ ap (λ l. follow HostClosed (start_at Asked) (named_transition Model2 l)) (given.belief.names name is)
+asks_pool : Given → (model : Model) (wanted : Option (List ℕ)) → IsLuIfSome wanted
+    → follow HostClosed (start_at Asked) (host_transition Asked (says (asking_type model wanted))) ≡ (at_asking model, reply.AskPool wanted)
+asks_pool given model None is = ap (λ d. follow HostClosed (start_at Asked) (request_transition d None)) (own_device model)
+asks_pool given model (Some name) is =
+    ap (λ d. follow HostClosed (start_at Asked) (request_transition d (Some (Connect name)))) (own_device model)
+    ∙ ap (λ l. follow HostClosed (start_at Asked) (named_transition (device_for model) l)) (given.belief.names name is)
 
-pool_asked : Given → (pool : Answers) (conn : Conn) (wanted : Option (List ℕ)) → IsLuIfSome wanted
-    → talked pool conn (start_at Asked) (says (asking_type wanted)) ≡ replied conn (lu_asked (says (asking_type wanted))) (granted_by (pool wanted)) (follow HostClosed at_asking (answer_transition Model2 (pool wanted)))
-pool_asked given pool conn wanted is = ap (λ (p : Talk HostState × Reply). talked_on pool conn (lu_asked (says (asking_type wanted))) p.0 p.1) (asks_pool given wanted is)
+pool_asked : Given → (pool : Answers) (conn : Conn) (model : Model) (wanted : Option (List ℕ)) → IsLuIfSome wanted
+    → talked pool conn (start_at Asked) (says (asking_type model wanted))
+    ≡ replied conn (lu_asked (says (asking_type model wanted))) (granted_by (pool wanted)) (follow HostClosed (at_asking model) (answer_transition (device_for model) (pool wanted)))
+pool_asked given pool conn model wanted is =
+    ap (λ (p : Talk HostState × Reply). talked_on pool conn (lu_asked (says (asking_type model wanted))) p.0 p.1) (asks_pool given model wanted is)
 
-abbrev answered_by : Conn → Option (List ℕ) → Result (List ℕ) Reason → HostStep
-answered_by conn wanted answer = replied conn (lu_asked (says (asking_type wanted))) (granted_by answer) (follow HostClosed at_asking (answer_transition Model2 answer))
+abbrev answered_by : Conn → Model → Option (List ℕ) → Result (List ℕ) Reason → HostStep
+answered_by conn model wanted answer =
+    replied conn (lu_asked (says (asking_type model wanted))) (granted_by answer) (follow HostClosed (at_asking model) (answer_transition (device_for model) answer))
 
 suits : Given → (pool : List Entry) (wanted : Option (List ℕ)) (lu : List ℕ) → IsSound pool → IsLuIfSome wanted → answer_to pool wanted ≡ Ok lu → Suits wanted lu
 suits given pool None lu sound is e = record { is_lu = given.pool.lus pool None lu sound e; is_wanted = tt }
 suits given pool (Some name) lu sound is e = record { is_lu = given.pool.lus pool (Some name) lu sound e; is_wanted = given.pool.asked pool name lu is e }
 
 grants_type : Given → (app : Application) (pool : List Entry) → IsSound pool → (link : Link) (rest : List ToHost) (k : Kept app (view_of link)) (message : ToHost)
+    → link.term.display.shape ≡ link.host.shape
     → IsAt (view_of link) k.wanted (Moment.Talks Talking.NamingType) → Fact k.wanted (scene_of (view_of link)) (Moment.Talks Talking.NamingType) → UnderWay link.lost rest []
-    → message ≡ ToHost.TalksUp (asking_type k.wanted) → Answered app pool link rest (took (answer_to pool) link.host message)
-grants_type given app pool sound link rest k message at f left e = by_answer (answer_to pool k.wanted) refl
+    → message ≡ ToHost.TalksUp (asking_type link.term.display.model k.wanted) → Answered app pool link rest (took (answer_to pool) link.host message)
+grants_type given app pool sound link rest k message same at f left e = by_answer (answer_to pool k.wanted) refl
   where
     by_answer : (answer : Result (List ℕ) Reason) → answer_to pool k.wanted ≡ answer → Answered app pool link rest (took (answer_to pool) link.host message)
     by_answer (Ok lu) a =
-        talks app pool link rest k Talking.NamingType (Talking.Granting lu) (asking_type k.wanted) (ToTerminal.TalksDown (Saying.Sub (TypeIs Model2 lu)) ∷ []) (Some lu) None message at e
-        (pool_asked given (answer_to pool) link.host k.wanted f.1 ∙ ap (answered_by link.host k.wanted) a) (Grants.one k.wanted lu refl refl a) (record { term = refl; down = refl }) left
+        talks app pool link rest k Talking.NamingType (Talking.Granting lu) (asking_type link.term.display.model k.wanted) (ToTerminal.TalksDown (Saying.Sub (TypeIs (device_for link.term.display.model) lu)) ∷ []) (Some lu) None message same at e
+        (pool_asked given (answer_to pool) link.host link.term.display.model k.wanted f.1 ∙ ap (answered_by link.host link.term.display.model k.wanted) a) (Grants.one k.wanted lu refl refl a) (record { term = refl; down = refl }) left
         (f.0, suits given pool k.wanted lu sound f.1 a)
     by_answer (Err reason) a =
-        talks app pool link rest k Talking.NamingType (Talking.Rejecting reason) (asking_type k.wanted) (ToTerminal.TalksDown (Saying.Sub (TypeReject reason)) ∷ []) None
-        (Some (record { lu = lu_asked (says (asking_type k.wanted)); reason = reason })) message at e
-        (pool_asked given (answer_to pool) link.host k.wanted f.1 ∙ ap (answered_by link.host k.wanted) a) (Grants.none refl (claim_at link.host (start_at Asked) at.host_talk)) (record { term = refl; down = refl }) left
+        talks app pool link rest k Talking.NamingType (Talking.Rejecting reason) (asking_type link.term.display.model k.wanted) (ToTerminal.TalksDown (Saying.Sub (TypeReject reason)) ∷ []) None
+        (Some (record { lu = lu_asked (says (asking_type link.term.display.model k.wanted)); reason = reason })) message same at e
+        (pool_asked given (answer_to pool) link.host link.term.display.model k.wanted f.1 ∙ ap (answered_by link.host link.term.display.model k.wanted) a) (Grants.none refl (claim_at link.host (start_at Asked) at.host_talk)) (record { term = refl; down = refl }) left
         (f.0, tt)
 
 -- ---- records
-
--- a session's step that says nothing, and leaves the talk and the shape
-record Serves (link : Link) (conn : Conn) : Type 0 where
-  talk : conn.talk ≡ link.host.talk
-  shape : conn.shape ≡ link.host.shape
 
 module _ (app : Application) (pool : List Entry) (link : Link) (rest : List ToHost) (k : Kept app (view_of link)) where
   agreed_at : (lu : List ℕ) (serving : Serving) → IsAt (view_of link) k.wanted (Moment.Serves lu serving) → is_agreed link.host.talk.state ≡ true
   agreed_at lu serving at = ap (λ (t : Talk HostState). is_agreed t.state) at.host_talk
 
-  serves : (lu : List ℕ) (from to : Serving) (conn : Conn) → IsAt (view_of link) k.wanted (Moment.Serves lu from) → conn.talk ≡ link.host.talk → conn.shape ≡ link.host.shape → FactsAreExact conn.shadow
-      → conn.turn ≡ turn_at (Moment.Serves lu to) → conn.pending ≡ pending_at (Moment.Serves lu to) → down_at (Moment.Serves lu from) ++ [] ≡ down_at (Moment.Serves lu to) → UnderWay link.lost rest (up_at k.wanted (Moment.Serves lu to))
+  serves : (lu : List ℕ) (from to : Serving) (conn : Conn) → link.term.display.shape ≡ link.host.shape → IsAt (view_of link) k.wanted (Moment.Serves lu from) → conn.talk ≡ link.host.talk → conn.shape ≡ link.host.shape → FactsAreExact conn.shadow
+      → conn.turn ≡ turn_at (Moment.Serves lu to) → conn.pending ≡ pending_at (Moment.Serves lu to) → served_down from ++ [] ≡ served_down to → UnderWay link.lost rest (served_up to)
       → Fact k.wanted (scene_of (view_of (host_view (quiet conn) rest link))) (Moment.Serves lu to) → Answered app pool link rest (quiet conn)
-  serves lu from to conn at talk shape exact turn pending down left fact = record {
+  serves lu from to conn same at talk shape exact turn pending down left fact = record {
     kept = record {
-      shape = record { begins = shape ∙ k.shape.begins; same = k.shape.same ∙ sym shape };
-      whole = subst (λ (s : Shape). length link.term.display.screen.cells ≡ cells_in s) (sym shape) k.whole;
-      cursor = subst (λ (s : Shape). link.term.display.screen.cursor < cells_in s) (sym shape) k.cursor;
+      whole = k.whole;
+      cursor = k.cursor;
       unreturned = k.unreturned;
       exact = exact;
       wanted = k.wanted;
       moment = Moment.Serves lu to;
+      sizes = record {
+        host = subst (λ (s : Shape). IsSizeOf app link.term.display.model s) (sym shape) k.sizes.host;
+        screen = k.sizes.screen;
+        same = λ steady. same ∙ sym shape;
+      };
       at = leads link (quiet conn) rest k.wanted (Moment.Serves lu from) (Moment.Serves lu to) at (record { term = refl; down = down }) (talk ∙ at.host_talk) turn pending left;
       fact = fact;
     };
@@ -259,7 +267,7 @@ read_occasion turn_reasons.Agreement aid is = is
 read_occasion (turn_reasons.Key pressed buffered) aid is = is
 read_occasion turn_reasons.Refusal aid is = absurd is
 
-module _ (given : Given) (app : Application) (pool : List Entry) (link : Link) (rest : List ToHost) (k : Kept app (view_of link)) where
+module _ (given : Given) (app : Application) (pool : List Entry) (link : Link) (rest : List ToHost) (k : Kept app (view_of link)) (same : link.term.display.shape ≡ link.host.shape) where
   abbrev screen : Screen
   screen = link.term.display.screen
 
@@ -269,19 +277,19 @@ module _ (given : Given) (app : Application) (pool : List Entry) (link : Link) (
   -- what is heard is believed, and it is the host's turn
   believes : (lu : List ℕ) (from to : Serving) (parts : InboundParts) (turn_reason : TurnReason) (pending : Pending) (Then : Shadow → Type 0) (r : Result Shadow HeardFault)
       → IsAt (view_of link) k.wanted (Moment.Serves lu from) → IfOk r KnownIsExact → IfOk r ProtectedIsExact → IsOkAnd r Then
-      → whose.Host ≡ turn_at (Moment.Serves lu to) → pending ≡ pending_at (Moment.Serves lu to) → down_at (Moment.Serves lu from) ++ [] ≡ down_at (Moment.Serves lu to) → UnderWay link.lost rest (up_at k.wanted (Moment.Serves lu to))
+      → whose.Host ≡ turn_at (Moment.Serves lu to) → pending ≡ pending_at (Moment.Serves lu to) → served_down from ++ [] ≡ served_down to → UnderWay link.lost rest (served_up to)
       → ((shadow : Shadow) → Then shadow
       → Fact k.wanted (record { shape = link.host.shape; shadow = shadow; turn_reason = turn_reason; lock = link.term.display.keyboard.lock; screen = screen; last_restored = link.term.display.last_restored; erased = link.term.display.erased }) (Moment.Serves lu to))
       → Answered app pool link rest (believed turn_reason pending link.host r)
   believes lu from to parts turn_reason pending Then (Ok shadow) at knows protects ok turn pends down left fact =
-      serves app pool link rest k lu from to (record link.host { shadow = shadow; turn = whose.Host; pending = pending; turn_reason = turn_reason }) at refl refl (record { known = knows; protected = protects }) turn pends down left (fact shadow ok)
+      serves app pool link rest k lu from to (record link.host { shadow = shadow; turn = whose.Host; pending = pending; turn_reason = turn_reason }) same at refl refl (record { known = knows; protected = protects }) turn pends down left (fact shadow ok)
   believes lu from to parts turn_reason pending Then (Err fault) at knows protects ok turn pends down left fact = absurd ok
 
   -- a key's data
   hears_key : (lu : List ℕ) (from to : Serving) (parts : InboundParts) (message : ToHost) (Then : Shadow → Type 0) → IsAt (view_of link) k.wanted (Moment.Serves lu from) → IsPressed (scene_of (view_of link)) parts
       → WillBeHeard link.host.shape link.host.shadow parts Then → message ≡ ToHost.Data parts → turn_at (Moment.Serves lu from) ≡ whose.Terminal → IsKeyTime (pending_at (Moment.Serves lu from))
-      → whose.Host ≡ turn_at (Moment.Serves lu to) → pending_at (Moment.Serves lu from) ≡ pending_at (Moment.Serves lu to) → down_at (Moment.Serves lu from) ++ [] ≡ down_at (Moment.Serves lu to)
-      → UnderWay link.lost rest (up_at k.wanted (Moment.Serves lu to))
+      → whose.Host ≡ turn_at (Moment.Serves lu to) → pending_at (Moment.Serves lu from) ≡ pending_at (Moment.Serves lu to) → served_down from ++ [] ≡ served_down to
+      → UnderWay link.lost rest (served_up to)
       → ((shadow : Shadow) → Then shadow
       → Fact k.wanted (record { shape = link.host.shape; shadow = shadow; turn_reason = turn_reasons.Key screen.aid false; lock = link.term.display.keyboard.lock; screen = screen; last_restored = link.term.display.last_restored; erased = link.term.display.erased }) (Moment.Serves lu to))
       → Answered app pool link rest (took (answer_to pool) link.host message)
@@ -294,13 +302,13 @@ module _ (given : Given) (app : Application) (pool : List Entry) (link : Link) (
   -- a response to a write
   hears_response : (lu : List ℕ) (from to : Serving) (kind : Kind) (number : ℕ) (command : CommandParts) (message : ToHost) → IsAt (view_of link) k.wanted (Moment.Serves lu from) → message ≡ ToHost.Response number Verdict.Positive
       → pending_at (Moment.Serves lu from) ≡ awaiting kind number command → FactsAreExact (once_taken link.host.shape command link.host.shadow)
-      → turn_at (Moment.Serves lu from) ≡ turn_at (Moment.Serves lu to) → Pending.Nothing ≡ pending_at (Moment.Serves lu to) → down_at (Moment.Serves lu from) ++ [] ≡ down_at (Moment.Serves lu to)
-      → UnderWay link.lost rest (up_at k.wanted (Moment.Serves lu to)) → Fact k.wanted (scene_of (view_of (host_view (quiet (answered command link.host)) rest link))) (Moment.Serves lu to)
+      → turn_at (Moment.Serves lu from) ≡ turn_at (Moment.Serves lu to) → Pending.Nothing ≡ pending_at (Moment.Serves lu to) → served_down from ++ [] ≡ served_down to
+      → UnderWay link.lost rest (served_up to) → Fact k.wanted (scene_of (view_of (host_view (quiet (answered command link.host)) rest link))) (Moment.Serves lu to)
       → Answered app pool link rest (took (answer_to pool) link.host message)
   hears_response lu from to kind number command message at e waits exact turn pends down left fact =
       as_step app pool link rest k (ToHost.Response number Verdict.Positive) message (quiet (answered command link.host)) e
       (response_took (answer_to pool) link.host kind number command (agreed_at app pool link rest k lu from at) (at.pending ∙ waits))
-      (serves app pool link rest k lu from to (answered command link.host) at refl refl exact (at.turn ∙ turn) pends down left fact)
+      (serves app pool link rest k lu from to (answered command link.host) same at refl refl exact (at.turn ∙ turn) pends down left fact)
 
   -- the whole screen, as it was asked for
   hears_buffer : (lu : List ℕ) (number : ℕ) (parts : InboundParts) (message : ToHost) → IsAt (view_of link) k.wanted (Moment.Serves lu (Serving.Reported number parts)) → IsRead (scene_of (view_of link))
@@ -311,7 +319,7 @@ module _ (given : Given) (app : Application) (pool : List Entry) (link : Link) (
       (buffer_took (answer_to pool) link.host link.host.shape screen number (agreed_at app pool link rest k lu (Serving.Reported number parts) at) at.pending)
       (believes lu (Serving.Reported number parts) Serving.Deciding read (once_read link.host.turn_reason) Pending.Nothing (λ s. Sees link.host.shape screen s × NothingIsOpen s) (hears read link.host) at
       (given.belief.heard_exact size link.host.shadow read k.exact.known) (given.belief.heard_protected size link.host.shadow read k.exact.protected)
-      (by_result (heard size link.host.shadow read) (subst (λ n. IsOkAnd (heard n link.host.shadow read) (Believed false screen)) k.whole (given.belief.reads link.host.shape link.host.shadow screen f.decides.sees.meets))
+      (by_result (heard size link.host.shadow read) (subst (λ n. IsOkAnd (heard n link.host.shadow read) (Believed false screen)) (k.whole ∙ ap (λ (s : Shape). cells_in s) same) (given.belief.reads link.host.shape link.host.shadow screen f.decides.sees.meets))
       (given.belief.heard_exact size link.host.shadow read k.exact.known) (given.belief.heard_protected size link.host.shadow read k.exact.protected) (given.belief.read_leaves size link.host.shadow read refl))
       refl refl refl left (λ shadow sees. record { lock = f.decides.lock; turn_reason = read_occasion link.host.turn_reason screen.aid f.decides.turn_reason; closed = open_read link.host.turn_reason shadow link.host.shadow sees.1 f.decides.closed; sees = sees.0 }))
     where
@@ -324,7 +332,7 @@ module _ (given : Given) (app : Application) (pool : List Entry) (link : Link) (
 
 pub answers : Given → (app : Application) (pool : List Entry) → IsSound pool → (link : Link) (message : ToHost) (rest : List ToHost) → link.up ≡ message ∷ rest → Kept app (view_of link)
     → Answered app pool link rest (took (answer_to pool) link.host message)
-answers given app pool sound link message rest e k = by_moment k.moment k.at k.fact
+answers given app pool sound link message rest e k = by_moment k.moment k.sizes k.at k.fact
   where
     screen : Screen
     screen = link.term.display.screen
@@ -332,64 +340,64 @@ answers given app pool sound link message rest e k = by_moment k.moment k.at k.f
     no_more : UnderWay link.lost link.up [] → Answered app pool link rest (took (answer_to pool) link.host message)
     no_more way = absurd (nothing link.lost link.up message rest e way)
 
-    by_talk : (talking : Talking) → IsAt (view_of link) k.wanted (Moment.Talks talking) → Fact k.wanted (scene_of (view_of link)) (Moment.Talks talking) → Answered app pool link rest (took (answer_to pool) link.host message)
-    by_talk Talking.Accepting at f =
+    by_talk : (talking : Talking) → link.term.display.shape ≡ link.host.shape → IsAt (view_of link) k.wanted (Moment.Talks talking) → Fact k.wanted (scene_of (view_of link)) (Moment.Talks talking) → Answered app pool link rest (took (answer_to pool) link.host message)
+    by_talk Talking.Accepting same at f =
         let first = front link.lost link.up message rest _ [] e at.goes_up in
-        talks app pool link rest k Talking.Accepting Talking.AskingType (Saying.Opt Will 40) (ToTerminal.TalksDown (Saying.Sub SendType) ∷ []) None None message at first.0 refl
+        talks app pool link rest k Talking.Accepting Talking.AskingType (Saying.Opt Will 40) (ToTerminal.TalksDown (Saying.Sub SendType) ∷ []) None None message same at first.0 refl
         (Grants.none refl (claim_at link.host (start_at Offered) at.host_talk)) (record { term = refl; down = refl }) first.1 f
-    by_talk Talking.NamingType at f =
+    by_talk Talking.NamingType same at f =
         let first = front link.lost link.up message rest _ [] e at.goes_up in
-        grants_type given app pool sound link rest k message at f first.1 first.0
-    by_talk (Talking.AskingFunctions lu) at f =
+        grants_type given app pool sound link rest k message same at f first.1 first.0
+    by_talk (Talking.AskingFunctions lu) same at f =
         let first = front link.lost link.up message rest _ [] e at.goes_up in
-        talks app pool link rest k (Talking.AskingFunctions lu) (Talking.Agreeing lu) (Saying.Sub FunRequest) (ToTerminal.TalksDown (Saying.Sub FunIs) ∷ []) None None message at first.0
-        (ap (λ w. let next = follow HostClosed (start_at (Named Model2 lu)) (host_transition (Named Model2 lu) (Comes.RequestsFunctions w)) in talked_on (answer_to pool) link.host None next.0 next.1) responses_alone)
-        (Grants.none refl (claim_at link.host (start_at (Named Model2 lu)) at.host_talk)) (record { term = refl; down = refl }) first.1 f
-    by_talk Talking.Offering at f = no_more at.goes_up
-    by_talk Talking.AskingType at f = no_more at.goes_up
-    by_talk (Talking.Granting lu) at f = no_more at.goes_up
-    by_talk (Talking.Agreeing lu) at f = no_more at.goes_up
-    by_talk (Talking.Rejecting reason) at f = no_more at.goes_up
-    by_talk (Talking.Rejected reason) at f = no_more at.goes_up
+        talks app pool link rest k (Talking.AskingFunctions lu) (Talking.Agreeing lu) (Saying.Sub FunRequest) (ToTerminal.TalksDown (Saying.Sub FunIs) ∷ []) None None message same at first.0
+        (ap (λ w. let next = follow HostClosed (start_at (Named (device_for link.term.display.model) lu)) (host_transition (Named (device_for link.term.display.model) lu) (Comes.RequestsFunctions w)) in talked_on (answer_to pool) link.host None next.0 next.1) responses_alone)
+        (Grants.none refl (claim_at link.host (start_at (Named (device_for link.term.display.model) lu)) at.host_talk)) (record { term = refl; down = refl }) first.1 f
+    by_talk Talking.Offering same at f = no_more at.goes_up
+    by_talk Talking.AskingType same at f = no_more at.goes_up
+    by_talk (Talking.Granting lu) same at f = no_more at.goes_up
+    by_talk (Talking.Agreeing lu) same at f = no_more at.goes_up
+    by_talk (Talking.Rejecting reason) same at f = no_more at.goes_up
+    by_talk (Talking.Rejected reason) same at f = no_more at.goes_up
 
-    by_serving : (lu : List ℕ) (serving : Serving) → IsAt (view_of link) k.wanted (Moment.Serves lu serving) → Fact k.wanted (scene_of (view_of link)) (Moment.Serves lu serving) → Answered app pool link rest (took (answer_to pool) link.host message)
-    by_serving lu (Serving.Reported number parts) at f =
+    by_serving : (lu : List ℕ) (serving : Serving) → Sizes app (view_of link) (Moment.Serves lu serving) → IsAt (view_of link) k.wanted (Moment.Serves lu serving) → Fact k.wanted (scene_of (view_of link)) (Moment.Serves lu serving) → Answered app pool link rest (took (answer_to pool) link.host message)
+    by_serving lu (Serving.Reported number parts) s at f =
         let first = front link.lost link.up message rest _ [] e at.goes_up in
-        hears_buffer given app pool link rest k lu number parts message at f.0 f.1 first.0 first.1
-    by_serving lu (Serving.AnsweredLate number command) at f =
+        hears_buffer given app pool link rest k (s.same refl) lu number parts message at f.0 f.1 first.0 first.1
+    by_serving lu (Serving.AnsweredLate number command) s at f =
         let first = front link.lost link.up message rest _ [] e at.goes_up in
-        hears_response given app pool link rest k lu (Serving.AnsweredLate number command) Serving.Deciding Kind.ANote number command message at first.0 refl f.sees.exact refl refl refl first.1
+        hears_response given app pool link rest k (s.same refl) lu (Serving.AnsweredLate number command) Serving.Deciding Kind.ANote number command message at first.0 refl f.sees.exact refl refl refl first.1
         (record { lock = f.lock; turn_reason = f.turn_reason; closed = f.closed; sees = f.sees })
-    by_serving lu (Serving.Answering kind number command) at f =
+    by_serving lu (Serving.Answering kind number command) s at f =
         let first = front link.lost link.up message rest _ [] e at.goes_up in
-        hears_response given app pool link rest k lu (Serving.Answering kind number command) Serving.Operating kind number command message at first.0 refl f.exact refl refl refl first.1
+        hears_response given app pool link rest k (s.same refl) lu (Serving.Answering kind number command) Serving.Operating kind number command message at first.0 refl f.exact refl refl refl first.1
         (record { shown = f.shown; lock = f.lock; exact = f.exact; meets = f.meets; closed = f.closed; knows = f.knows; held = f.held; messages = f.messages; noted = f.noted })
-    by_serving lu (Serving.KeyBehind kind number command parts) at f =
+    by_serving lu (Serving.KeyBehind kind number command parts) s at f =
         let first = front link.lost link.up message rest _ _ e at.goes_up in
-        hears_response given app pool link rest k lu (Serving.KeyBehind kind number command parts) (Serving.KeyAlone parts) kind number command message at first.0 refl
+        hears_response given app pool link rest k (s.same refl) lu (Serving.KeyBehind kind number command parts) (Serving.KeyAlone parts) kind number command message at first.0 refl
         f.3 refl refl refl first.1
         (record { lock = f.0.lock; form = f.0.form; size = f.0.size; pressed = f.0.pressed; some = f.0.some }, f.1, f.2)
-    by_serving lu (Serving.KeyAlone parts) at f =
+    by_serving lu (Serving.KeyAlone parts) s at f =
         let first = front link.lost link.up message rest _ [] e at.goes_up in
-        hears_key given app pool link rest k lu (Serving.KeyAlone parts) Serving.Deciding parts message (Sees link.host.shape screen) at f.0 f.1 first.0 refl (IsKeyTime.nothing_waits refl) refl refl refl first.1
+        hears_key given app pool link rest k (s.same refl) lu (Serving.KeyAlone parts) Serving.Deciding parts message (Sees link.host.shape screen) at f.0 f.1 first.0 refl (IsKeyTime.nothing_waits refl) refl refl refl first.1
         (λ shadow sees. record { lock = f.0.lock; turn_reason = (refl, f.0.some); closed = sees.closed; sees = sees })
-    by_serving lu (Serving.KeyNoted number command parts) at f =
+    by_serving lu (Serving.KeyNoted number command parts) s at f =
         let first = front link.lost link.up message rest _ [] e at.goes_up in
-        hears_key given app pool link rest k lu (Serving.KeyNoted number command parts) (Serving.NotedLate number command) parts message (Sees link.host.shape screen) at f.0 f.1 first.0 refl (IsKeyTime.note_waits number command refl) refl refl refl first.1
+        hears_key given app pool link rest k (s.same refl) lu (Serving.KeyNoted number command parts) (Serving.NotedLate number command) parts message (Sees link.host.shape screen) at f.0 f.1 first.0 refl (IsKeyTime.note_waits number command refl) refl refl refl first.1
         (λ shadow sees. (record { lock = f.0.lock; turn_reason = (refl, f.0.some); closed = sees.closed; sees = sees }, record { note = f.2.note; takes = f.2.takes }))
-    by_serving lu (Serving.KeyBefore number command parts) at f =
+    by_serving lu (Serving.KeyBefore number command parts) s at f =
         let first = front link.lost link.up message rest _ _ e at.goes_up in
-        hears_key given app pool link rest k lu (Serving.KeyBefore number command parts) (Serving.AnsweredLate number command) parts message (λ shadow. Sees link.host.shape screen (once_taken link.host.shape command shadow)) at f.0 f.1 first.0 refl
+        hears_key given app pool link rest k (s.same refl) lu (Serving.KeyBefore number command parts) (Serving.AnsweredLate number command) parts message (λ shadow. Sees link.host.shape screen (once_taken link.host.shape command shadow)) at f.0 f.1 first.0 refl
         (IsKeyTime.note_waits number command refl) refl refl refl first.1
         (λ shadow sees. record { lock = f.0.lock; turn_reason = (refl, f.0.some); closed = sees.closed; sees = sees })
-    by_serving lu Serving.Deciding at f = no_more at.goes_up
-    by_serving lu (Serving.Reading number) at f = no_more at.goes_up
-    by_serving lu (Serving.NotedLate number command) at f = no_more at.goes_up
-    by_serving lu (Serving.Painting number command wants over) at f = no_more at.goes_up
-    by_serving lu Serving.Operating at f = no_more at.goes_up
-    by_serving lu (Serving.Noting number command) at f = no_more at.goes_up
+    by_serving lu Serving.Deciding s at f = no_more at.goes_up
+    by_serving lu (Serving.Reading number) s at f = no_more at.goes_up
+    by_serving lu (Serving.NotedLate number command) s at f = no_more at.goes_up
+    by_serving lu (Serving.Painting number command wants over) s at f = no_more at.goes_up
+    by_serving lu Serving.Operating s at f = no_more at.goes_up
+    by_serving lu (Serving.Noting number command) s at f = no_more at.goes_up
 
-    by_moment : (moment : Moment) → IsAt (view_of link) k.wanted moment → Fact k.wanted (scene_of (view_of link)) moment → Answered app pool link rest (took (answer_to pool) link.host message)
-    by_moment (Moment.Talks talking) at f = by_talk talking at f
-    by_moment (Moment.Begins lu number command wants over) at f = no_more at.goes_up
-    by_moment (Moment.Serves lu serving) at f = by_serving lu serving at f
+    by_moment : (moment : Moment) → Sizes app (view_of link) moment → IsAt (view_of link) k.wanted moment → Fact k.wanted (scene_of (view_of link)) moment → Answered app pool link rest (took (answer_to pool) link.host message)
+    by_moment (Moment.Talks talking) s at f = by_talk talking (s.same refl) at f
+    by_moment (Moment.Begins lu number command wants over) s at f = no_more at.goes_up
+    by_moment (Moment.Serves lu serving) s at f = by_serving lu serving s at f

@@ -1,5 +1,6 @@
 -- What always holds of a world: the headline, and that nobody is turned away (our profile).
-use Rattle.std.specs.Prelude.{◌≡◌, ◌≤◌, ℕ, Bool, true, false, List, []}
+use Rattle.std.specs.Prelude.{◌≡◌, ◌≤◌, ℕ, Bool, true, false, List, [], length}
+use Rattle.codes3270.specs.declared.size.Model.{Model}
 use Rattle.std.specs.List.{list_any}
 use Rattle.lu_pool.specs.Pool.{IsPool}
 use Rattle.lu_pool.specs.declared.entry.Entry.{Entry}
@@ -10,10 +11,14 @@ use Rattle.world3270.specs.Headline.{Headline}
 use Rattle.world3270.specs.Seen.{seen}
 use Rattle.world3270.specs.World.{World, Event, AreEvents, new_world}
 
--- a host with some application and some pool of LUs, up to 16 terminals, and any list of events
+-- a host with some application and some pool of LUs, up to 16 terminals of any models, and any list of events
+abbrev pub AlwaysOf : (Application → World → Type 0) → Type 0
+AlwaysOf Holds = (app : Application) (pool : List Entry) (models : List Model) (events : List Event)
+    → IsApplication app → IsPool pool → length models ≤ 16 → AreEvents events → Holds app (run app events (new_world app pool models))
+
+-- the same, of what doesn't look at the application
 abbrev pub Always : (World → Type 0) → Type 0
-Always Holds = (app : Application) (pool : List Entry) (terminals : ℕ) (events : List Event)
-    → IsApplication app → IsPool pool → terminals ≤ 16 → AreEvents events → Holds (run app events (new_world app pool terminals))
+Always Holds = AlwaysOf (λ app world. Holds world)
 
 -- the headline of a world over messages
 abbrev pub HeadlineHolds : World → Type 0

@@ -207,7 +207,7 @@ nop_sent number world = with_host (with_connection number (kept_alive (connectio
 pub data Connects (terminal : ℕ) (wanted : Option (List ℕ)) (number : ℕ) (old : ByteWorld) (answer : Stepped) (new : ByteWorld) : Type 0 where
   refused : answer ≡ stepped.Memory → new ≡ old → Connects terminal wanted number old answer new
   done : answer ≡ stepped.Done
-      → new ≡ with_transits number begun_transits (with_slot terminal (attached_slot (model_at terminal old) wanted number) (with_host (with_connection number opened old.host) old))
+      → new ≡ with_transits number begun_transits (with_slot terminal (attached_slot (model_at terminal old) wanted number) (with_host (with_connection number (opened old.host.panels) old.host) old))
       → Connects terminal wanted number old answer new
 
 abbrev pub ConnectsIf : ℕ → Option (List ℕ) → Option ℕ → ByteWorld → Stepped → ByteWorld → Type 0

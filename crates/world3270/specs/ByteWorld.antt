@@ -1,7 +1,7 @@
 -- The world over bytes (our profile): a host, what is under way on each connection, and terminals,
 -- each with the history of its screen. What an end has to send is under way: there is no other
 -- queue.
-use Rattle.std.specs.Prelude.{◌==◌, ◌≤◌, ◌-◌, ℕ, Bool, true, false, List, [], Option, Some, None, is_some, drop, position, replicate, slice_index_or, slice_set, take}
+use Rattle.std.specs.Prelude.{◌==◌, ◌≤◌, ◌-◌, ℕ, Bool, true, false, List, [], Option, Some, None, is_some, drop, position, replicate, slice_index_or, slice_set, take, map}
 use Rattle.lu_pool.specs.declared.entry.Entry.{Entry}
 use Rattle.panels.specs.Panel.{Panels}
 use Rattle.host_core.specs.State.{Host, Service, connection_at, service_at, new_host, most_connections}
@@ -162,11 +162,12 @@ up_of number world = under_way (transits_at number world).up (terminal_out numbe
 
 -- ---- a world at its begin
 
-abbrev pub new_byte_world : Panels → List Entry → ℕ → ByteWorld
-new_byte_world panels pool terminals = record {
+-- with a terminal of each of these models
+abbrev pub new_byte_world : Panels → List Entry → List Model → ByteWorld
+new_byte_world panels pool models = record {
   host = new_host panels pool;
   links = replicate most_connections unused_transits;
-  slots = replicate terminals (new_slot M2);
+  slots = map new_slot models;
 }
 
 -- a world has 1 to 16 terminals

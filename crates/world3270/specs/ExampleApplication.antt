@@ -109,7 +109,7 @@ led_to (suc panel) Clear = Go 0
 led_to _ _ = Again
 
 abbrev pub example : Application
-example = record { begins = small; start = 0; fields = fields_of; next = led_to; screen = screen_of }
+example = record { begins = small; alternate = λ model. small; start = 0; shown = λ model panel. panel; fields = fields_of; next = led_to; screen = screen_of }
 
 abbrev pub l1 : List ℕ
 l1 = codes "L1"

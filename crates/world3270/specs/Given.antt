@@ -10,7 +10,7 @@ use Rattle.shadow.specs.Notes.{PlacedStaysKnown, NoteStaysListed, NoteStaysTold,
 use Rattle.shadow.specs.Openness.{ClearIsHeard, LongOpensNothing, ReadLeavesNothingOpen, PaintOpensNothing}
 use Rattle.tn3270e_msg.specs.Laws.{NameIsReadAsItself}
 use Rattle.lu_pool.specs.HolderLaws.{PoolsAreSound, StaysSoundFree, StaysSoundGranted, StaysSoundBack, NobodyHolds, AnswersWhatIsFree, AnswersNames, AnswersTheName, GrantIsHeld, OthersStay, OthersKeep, BackIsFree}
-use Rattle.host_core.specs.Laws.{ActsFit}
+use Rattle.host_core.specs.Laws.{ActsFit, SizesAreTheModels}
 use Rattle.host_core.specs.NoteLaws.{NotesAreNotes, NotesOverwrite, NotesAreOverCharacters, NotesWriteProtected, PaintsTakeNotes, HeldTakesNotes, SameAttributesTakeNotes}
 
 -- what is said, written and heard
@@ -33,6 +33,7 @@ pub record GivenBelief : Type 0 where
   pub read_leaves : ReadLeavesNothingOpen
   pub paint_opens : PaintOpensNothing
   pub fit : ActsFit
+  pub sizes : SizesAreTheModels
   pub names : NameIsReadAsItself
 
 -- keys

@@ -1,5 +1,6 @@
 -- What each event makes of the world (our profile).
 use Rattle.std.specs.Prelude.{◌≡◌, ℕ, List, [], ◌∷◌, ◌++◌, filter_map, Option, Some, None, if◌then◌else◌}
+use Rattle.codes3270.specs.declared.size.Model.{Model}
 use Rattle.keyboard.specs.declared.key.Key.{Key}
 use Rattle.keyboard.specs.State.{fresh}
 use Rattle.lu_pool.specs.Asking.{answer_to}
@@ -14,7 +15,7 @@ use Rattle.host_core.specs.Takes.{HostStep, pool_after, took as host_took}
 use Rattle.world3270.specs.Terminal.{Display, TermStep, new_display, after_key, key_came, took as term_took}
 use Rattle.world3270.specs.Link.{Link, begun, cut, host_left, host_stepped, host_sent, term_left, term_stepped}
 use Rattle.world3270.specs.Placed.{has_place, free_number}
-use Rattle.world3270.specs.World.{Place, World, Event, with_at, with_link, with_place}
+use Rattle.world3270.specs.World.{Place, World, Event, with_at, with_link, with_place, display_at}
 
 -- ---- history
 
@@ -107,18 +108,18 @@ abbrev pub term_saw : ℕ → Place → World → World
 term_saw terminal (Place.At number) world = parted terminal number (left_alone (world.link number).term.display) world
 term_saw terminal (Place.Alone display) world = world
 
-abbrev pub joined : Application → ℕ → Option (List ℕ) → Option ℕ → World → World
-joined app terminal wanted None world = world
-joined app terminal wanted (Some number) world = record world {
-  link = with_at number (begun app.begins terminal wanted) world.link;
+abbrev pub joined : Application → ℕ → Model → Option (List ℕ) → Option ℕ → World → World
+joined app terminal model wanted None world = world
+joined app terminal model wanted (Some number) world = record world {
+  link = with_at number (begun app model terminal wanted) world.link;
   place = with_at terminal (Place.At number) world.place;
 }
 
 -- ---- restarting
 
 abbrev pub term_anew : Application → ℕ → Place → World → World
-term_anew app terminal (Place.At number) world = parted terminal number (new_display app.begins) world
-term_anew app terminal (Place.Alone display) world = with_place terminal (Place.Alone (new_display app.begins)) world
+term_anew app terminal (Place.At number) world = parted terminal number (new_display (world.link number).term.display.model app.begins) world
+term_anew app terminal (Place.Alone display) world = with_place terminal (Place.Alone (new_display display.model app.begins)) world
 
 abbrev pub host_left_from : Link → Link
 host_left_from link = if link.host_here then host_left link else link
@@ -138,7 +139,7 @@ done app (Event.Note number text) world = host_noted number text world
 done app (Event.Lose number) world = with_link number (cut (world.link number)) world
 done app (Event.HostSees number) world = host_parted number world
 done app (Event.TermSees terminal) world = term_saw terminal (world.place terminal) world
-done app (Event.Connect terminal wanted) world = joined app terminal wanted (free_number world.link) world
+done app (Event.Connect terminal wanted) world = joined app terminal (display_at world (world.place terminal)).model wanted (free_number world.link) world
 done app (Event.RestartTerm terminal) world = term_anew app terminal (world.place terminal) world
 done app Event.RestartHost world = host_anew world
 

@@ -1,6 +1,8 @@
 -- One connection with its two ends, and what may happen on it (our profile).
 use Rattle.std.specs.Prelude.{◌||◌, not, ℕ, Bool, true, false, List, [], ◌∷◌, ◌++◌, Option, Some, None, if◌then◌else◌, is_some}
-use Rattle.codes3270.specs.Size.{Shape}
+use Rattle.host_core.specs.Application.{Application}
+use Rattle.codes3270.specs.declared.size.Model.TheVariants.{M2}
+use Rattle.codes3270.specs.declared.size.Model.{Model}
 use Rattle.telnet_wire.specs.declared.wire.Verb.TheVariants.{Do}
 use Rattle.tn3270e_msg.specs.declared.cause.Cause.{Cause}
 use Rattle.host_core.specs.Messages.{ToTerminal, ToHost}
@@ -29,28 +31,28 @@ is_free link = not (link.host_here || is_some link.term_here)
 abbrev pub is_up : Link → Bool
 is_up link = not (link.lost || is_free link)
 
--- at the begin: the host has offered TN3270E; the terminal with that number, whose screen has that shape, wants an LU, if one
-abbrev pub begun : Shape → ℕ → Option (List ℕ) → Link
-begun shape terminal wanted = record {
+-- at the begin: the host has offered TN3270E; the terminal with that number, which is of this model, wants an LU, if one
+abbrev pub begun : Application → Model → ℕ → Option (List ℕ) → Link
+begun app model terminal wanted = record {
   lost = false;
   down = ToTerminal.TalksDown (Saying.Opt Do 40) ∷ [];
   up = [];
   host_here = true;
-  host = new_conn shape;
+  host = new_conn app;
   term_here = Some terminal;
-  term = new_end shape wanted;
+  term = new_end model app.begins wanted;
 }
 
 -- a number that was never used: as if its connection was lost before anything was said
-abbrev pub unused : Shape → Link
-unused shape = record {
+abbrev pub unused : Application → Link
+unused app = record {
   lost = true;
   down = [];
   up = [];
   host_here = false;
-  host = new_conn shape;
+  host = new_conn app;
   term_here = None;
-  term = new_end shape None;
+  term = new_end M2 app.begins None;
 }
 
 -- the connection is lost

@@ -1,14 +1,14 @@
 -- The moments of a connection, for proofs: what is under way, and how far both ends are, one line a moment (RFC 1647, sections 7 and
 -- 8.1; turns are our profile). At most one command is under way; what vanished on a lost connection counts as under way for good.
 use Rattle.std.specs.Prelude.{◌≡◌, ℕ, Bool, false, List, [], ◌∷◌, ◌++◌, Option}
+use Rattle.tn3270e_msg.specs.Device.{device_for}
+use Rattle.codes3270.specs.declared.size.Model.{Model}
 use Rattle.datastream.specs.Grammar.{CommandParts}
 use Rattle.datastream.specs.InboundText.{InboundParts}
 use Rattle.datastream.specs.Wanted.{WantedScreen}
 use Rattle.shadow.specs.Belief.{Shadow}
 use Rattle.telnet_wire.specs.declared.wire.Verb.TheVariants.{Will, Do}
 use Rattle.tn3270e_msg.specs.Talk.{Talk, start_at, Saying}
-use Rattle.codes3270.specs.declared.size.Model.TheVariants.{M2}
-use Rattle.tn3270e_msg.specs.declared.device.Device.TheVariants.{Model2}
 use Rattle.tn3270e_msg.specs.declared.host_talk.HostState.{HostState}
 use Rattle.tn3270e_msg.specs.declared.host_talk.HostState.TheVariants.{Offered, Asked, Named, Agreed as HostAgreed}
 use Rattle.tn3270e_msg.specs.declared.reply.Reason.{Reason}
@@ -73,19 +73,20 @@ pub data Moment : Type 0 where
 abbrev pub rejected_once : Talk HostState
 rejected_once = record { state = Asked; refusals_left = 7 }
 
-abbrev pub agreed : List ℕ → Talk HostState
-agreed lu = start_at (HostAgreed Model2 lu)
+-- `model`: the terminal's
+abbrev pub agreed : Model → List ℕ → Talk HostState
+agreed model lu = start_at (HostAgreed (device_for model) lu)
 
-abbrev pub host_in_talk : Talking → Talk HostState
-host_in_talk Talking.Offering = start_at Offered
-host_in_talk Talking.Accepting = start_at Offered
-host_in_talk Talking.AskingType = start_at Asked
-host_in_talk Talking.NamingType = start_at Asked
-host_in_talk (Talking.Granting lu) = start_at (Named Model2 lu)
-host_in_talk (Talking.AskingFunctions lu) = start_at (Named Model2 lu)
-host_in_talk (Talking.Agreeing lu) = agreed lu
-host_in_talk (Talking.Rejecting reason) = rejected_once
-host_in_talk (Talking.Rejected reason) = rejected_once
+abbrev pub host_in_talk : Model → Talking → Talk HostState
+host_in_talk model Talking.Offering = start_at Offered
+host_in_talk model Talking.Accepting = start_at Offered
+host_in_talk model Talking.AskingType = start_at Asked
+host_in_talk model Talking.NamingType = start_at Asked
+host_in_talk model (Talking.Granting lu) = start_at (Named (device_for model) lu)
+host_in_talk model (Talking.AskingFunctions lu) = start_at (Named (device_for model) lu)
+host_in_talk model (Talking.Agreeing lu) = agreed model lu
+host_in_talk model (Talking.Rejecting reason) = rejected_once
+host_in_talk model (Talking.Rejected reason) = rejected_once
 
 abbrev pub term_in_talk : Talking → TermState
 term_in_talk Talking.Offering = Waiting
@@ -98,10 +99,10 @@ term_in_talk (Talking.Agreeing lu) = FunctionsAsked lu
 term_in_talk (Talking.Rejecting reason) = TypeAsked
 term_in_talk (Talking.Rejected reason) = Refused reason
 
-abbrev pub host_talk_at : Moment → Talk HostState
-host_talk_at (Moment.Talks talking) = host_in_talk talking
-host_talk_at (Moment.Begins lu number command wanted over) = agreed lu
-host_talk_at (Moment.Serves lu serving) = agreed lu
+abbrev pub host_talk_at : Model → Moment → Talk HostState
+host_talk_at model (Moment.Talks talking) = host_in_talk model talking
+host_talk_at model (Moment.Begins lu number command wanted over) = agreed model lu
+host_talk_at model (Moment.Serves lu serving) = agreed model lu
 
 abbrev pub term_state_at : Moment → TermState
 term_state_at (Moment.Talks talking) = term_in_talk talking
@@ -152,20 +153,20 @@ says_up saying = ToHost.TalksUp saying ∷ []
 abbrev pub done_with : ℕ → ToHost
 done_with number = ToHost.Response number Verdict.Positive
 
-abbrev pub talk_down : Talking → List ToTerminal
-talk_down Talking.Offering = says_down (Saying.Opt Do 40)
-talk_down Talking.AskingType = says_down (Saying.Sub SendType)
-talk_down (Talking.Granting lu) = says_down (Saying.Sub (TypeIs Model2 lu))
-talk_down (Talking.Agreeing lu) = says_down (Saying.Sub FunIs)
-talk_down (Talking.Rejecting reason) = says_down (Saying.Sub (TypeReject reason))
-talk_down _ = []
+abbrev pub talk_down : Model → Talking → List ToTerminal
+talk_down model Talking.Offering = says_down (Saying.Opt Do 40)
+talk_down model Talking.AskingType = says_down (Saying.Sub SendType)
+talk_down model (Talking.Granting lu) = says_down (Saying.Sub (TypeIs (device_for model) lu))
+talk_down model (Talking.Agreeing lu) = says_down (Saying.Sub FunIs)
+talk_down model (Talking.Rejecting reason) = says_down (Saying.Sub (TypeReject reason))
+talk_down model _ = []
 
 -- `wanted`: the LU that the terminal wants, if one
-abbrev pub talk_up : Option (List ℕ) → Talking → List ToHost
-talk_up wanted Talking.Accepting = says_up (Saying.Opt Will 40)
-talk_up wanted Talking.NamingType = says_up (Saying.Sub (TypeRequest M2 wanted))
-talk_up wanted (Talking.AskingFunctions lu) = says_up (Saying.Sub FunRequest)
-talk_up wanted _ = []
+abbrev pub talk_up : Model → Option (List ℕ) → Talking → List ToHost
+talk_up model wanted Talking.Accepting = says_up (Saying.Opt Will 40)
+talk_up model wanted Talking.NamingType = says_up (Saying.Sub (TypeRequest model wanted))
+talk_up model wanted (Talking.AskingFunctions lu) = says_up (Saying.Sub FunRequest)
+talk_up model wanted _ = []
 
 abbrev pub served_down : Serving → List ToTerminal
 served_down (Serving.Reading number) = ToTerminal.ReadBuffer number ∷ []
@@ -185,15 +186,15 @@ served_up (Serving.KeyNoted number command parts) = ToHost.Data parts ∷ []
 served_up (Serving.KeyBefore number command parts) = ToHost.Data parts ∷ done_with number ∷ []
 served_up _ = []
 
-abbrev pub down_at : Moment → List ToTerminal
-down_at (Moment.Talks talking) = talk_down talking
-down_at (Moment.Begins lu number command wanted over) = ToTerminal.TalksDown (Saying.Sub FunIs) ∷ ToTerminal.Paint number wanted over ∷ []
-down_at (Moment.Serves lu serving) = served_down serving
+abbrev pub down_at : Model → Moment → List ToTerminal
+down_at model (Moment.Talks talking) = talk_down model talking
+down_at model (Moment.Begins lu number command wanted over) = ToTerminal.TalksDown (Saying.Sub FunIs) ∷ ToTerminal.Paint number wanted over ∷ []
+down_at model (Moment.Serves lu serving) = served_down serving
 
-abbrev pub up_at : Option (List ℕ) → Moment → List ToHost
-up_at wanted (Moment.Talks talking) = talk_up wanted talking
-up_at wanted (Moment.Begins lu number command paints over) = []
-up_at wanted (Moment.Serves lu serving) = served_up serving
+abbrev pub up_at : Model → Option (List ℕ) → Moment → List ToHost
+up_at model wanted (Moment.Talks talking) = talk_up model wanted talking
+up_at model wanted (Moment.Begins lu number command paints over) = []
+up_at model wanted (Moment.Serves lu serving) = served_up serving
 
 -- the queue holds the first of these messages, and all of them unless the connection is lost
 pub record UnderWay {X : Type 0} (lost : Bool) (queue messages : List X) : Type 0 where
@@ -203,9 +204,9 @@ pub record UnderWay {X : Type 0} (lost : Bool) (queue messages : List X) : Type 
 
 -- a connection is at a moment
 pub record IsAt (v : View) (wanted : Option (List ℕ)) (moment : Moment) : Type 0 where
-  pub host_talk : v.host.talk ≡ host_talk_at moment
-  pub term_talk : v.talk ≡ record { model = M2; wanted = wanted; talk = start_at (term_state_at moment) }
+  pub host_talk : v.host.talk ≡ host_talk_at v.model moment
+  pub term_talk : v.talk ≡ record { model = v.model; wanted = wanted; talk = start_at (term_state_at moment) }
   pub turn : v.host.turn ≡ turn_at moment
   pub pending : v.host.pending ≡ pending_at moment
-  pub goes_down : UnderWay v.lost v.down (down_at moment)
-  pub goes_up : UnderWay v.lost v.up (up_at wanted moment)
+  pub goes_down : UnderWay v.lost v.down (down_at v.model moment)
+  pub goes_up : UnderWay v.lost v.up (up_at v.model wanted moment)

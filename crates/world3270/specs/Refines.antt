@@ -1,6 +1,7 @@
 -- How the world over bytes follows the world over messages (our profile): after each event the bytes represent a world that a list of
 -- events over messages leads to.
-use Rattle.std.specs.Prelude.{◌≡◌, ◌<◌, ◌≤◌, ⊤, ℕ, List, [], ◌∷◌, ◌++◌, Option, Some, None, IfSome, drop, take, All}
+use Rattle.std.specs.Prelude.{◌≡◌, ◌<◌, ◌≤◌, ⊤, ℕ, List, [], ◌∷◌, ◌++◌, Option, Some, None, IfSome, drop, take, All, length}
+use Rattle.codes3270.specs.declared.size.Model.{Model}
 use Rattle.lu_pool.specs.Pool.{IsPool}
 use Rattle.lu_pool.specs.declared.entry.Entry.{Entry}
 use Rattle.panels.specs.Panel.{Panels, AreSound}
@@ -25,20 +26,20 @@ use Rattle.world3270.specs.declared.event.Stepped.TheVariants as stepped
 
 -- ---- a world that a list of events leads to
 
--- with what a world begins: panels, a pool of LUs, and a number of terminals
+-- with what a world begins: panels, a pool of LUs, and the models of its terminals
 pub record Begin : Type 0 where
   pub panels : Panels
   pub pool : List Entry
-  pub terminals : ℕ
+  pub models : List Model
 
 pub record IsBegin (begin : Begin) : Type 0 where
   pub panels : AreSound begin.panels
   pub pool : IsPool begin.pool
-  pub few : begin.terminals ≤ 16
+  pub few : length begin.models ≤ 16
 
 -- the world over messages after these events
 abbrev pub after : Begin → List MessageEvent → World
-after begin events = run (application_of begin.panels) events (new_world (application_of begin.panels) begin.pool begin.terminals)
+after begin events = run (application_of begin.panels) events (new_world (application_of begin.panels) begin.pool begin.models)
 
 -- the bytes represent the world after these events
 pub record Reached (begin : Begin) (events : List MessageEvent) (bytes : ByteWorld) : Type 0 where
@@ -99,7 +100,7 @@ IsCounted event world = ⊤
 
 -- A world that begins represents one that begins.
 abbrev pub BeginIsReached : Type 0
-BeginIsReached = (begin : Begin) → IsBegin begin → Reached begin [] (new_byte_world begin.panels begin.pool begin.terminals)
+BeginIsReached = (begin : Begin) → IsBegin begin → Reached begin [] (new_byte_world begin.panels begin.pool begin.models)
 
 -- what the event is over messages, and that the new bytes represent the world after it
 pub record GoesOn (begin : Begin) (events : List MessageEvent) (event : Event) (old : ByteWorld) (answer : Stepped) (new : ByteWorld) : Type 0 where

@@ -1,7 +1,9 @@
 -- What is sent can be spelt: the screen before each operator is always one that can be sent, and each paint is a command of the
 -- data stream (our profile).
-use Rattle.std.specs.Prelude.{◌≡◌, ◌≤◌, ◌<◌, ⊤, ℕ, List, length, All}
-use Rattle.codes3270.specs.Size.{Shape, cells_in}
+use Rattle.std.specs.Prelude.{◌≡◌, ◌≤◌, ◌<◌, ⊤, ℕ, List, length, All, ◌⊎◌}
+use Rattle.datastream.specs.declared.command_code.CommandCode.TheVariants.{Write}
+use Rattle.codes3270.specs.declared.size.Model.{Model}
+use Rattle.codes3270.specs.Size.{Shape, cells_in, model_2}
 use Rattle.datastream.specs.Grammar.{IsCommand, IsSpelt as IsSpeltCommand}
 use Rattle.datastream.specs.InboundFields.{IsSendable}
 use Rattle.datastream.specs.InboundText.{IsInbound}
@@ -10,29 +12,22 @@ use Rattle.datastream.specs.Wanted.{IsScreen}
 use Rattle.keyboard.specs.Sendable.{IsKey}
 use Rattle.lu_pool.specs.Pool.{IsPool}
 use Rattle.lu_pool.specs.declared.entry.Entry.{Entry}
-use Rattle.host_core.specs.Application.{Application, IsApplication, AsksForScreens, AreTexts}
+use Rattle.host_core.specs.Application.{Application, IsApplication, AsksForScreens, AreTexts, IsSizeOf}
 use Rattle.host_core.specs.Messages.{ToTerminal, ToHost}
 use Rattle.shadow.specs.Paint.{paint, paint_bytes}
 use Rattle.world3270.specs.Terminal.{Display}
 use Rattle.world3270.specs.Happens.{run}
-use Rattle.world3270.specs.World.{Place, World, Event, AreEvents, new_world}
+use Rattle.world3270.specs.World.{Place, World, Event, AreEvents, new_world, display_at}
 
--- what the operator of a terminal has before him
-abbrev pub display_at : World → Place → Display
-display_at world (Place.At number) = (world.link number).term.display
-display_at world (Place.Alone display) = display
+-- the screen has one of the two sizes that the terminal's model may have, and the cursor is on it
+pub record HasSize (app : Application) (display : Display) : Type 0 where
+  pub size : IsSizeOf app display.model display.shape
+  pub whole : length display.screen.cells ≡ cells_in display.shape
+  pub cursor : display.screen.cursor < cells_in display.shape
 
--- the screen has the shape that the terminal began with, and the cursor is on it
-pub record HasShape (shape : Shape) (display : Display) : Type 0 where
-  pub shape_is : display.shape ≡ shape
-  pub whole : length display.screen.cells ≡ cells_in shape
-  pub cursor : display.screen.cursor < cells_in shape
-
--- Over every list of events each terminal's screen keeps the shape that it began with.
-abbrev pub ScreensKeepTheirShape : Type 0
-ScreensKeepTheirShape = (app : Application) (pool : List Entry) (terminals : ℕ) (events : List Event)
-    → IsApplication app → IsPool pool → terminals ≤ 16 → AreEvents events
-    → let world = run app events (new_world app pool terminals) in (terminal : ℕ) → HasShape app.begins (display_at world (world.place terminal))
+-- Each terminal's screen has.
+abbrev pub ScreensHaveASize : Application → World → Type 0
+ScreensHaveASize app world = (terminal : ℕ) → HasSize app (display_at world (world.place terminal))
 
 -- an event's key is one that a terminal has
 abbrev pub IsTyped : Event → Type 0
@@ -41,8 +36,8 @@ IsTyped _ = ⊤
 
 -- Over every list of events with such keys, for any application that asks for screens of the profile.
 abbrev pub AlwaysTyped : (World → Type 0) → Type 0
-AlwaysTyped Holds = (app : Application) (pool : List Entry) (terminals : ℕ) (events : List Event)
-    → IsApplication app → AsksForScreens app → IsPool pool → terminals ≤ 16 → AreEvents events → All IsTyped events → Holds (run app events (new_world app pool terminals))
+AlwaysTyped Holds = (app : Application) (pool : List Entry) (models : List Model) (events : List Event)
+    → IsApplication app → AsksForScreens app → IsPool pool → length models ≤ 16 → AreEvents events → All IsTyped events → Holds (run app events (new_world app pool models))
 
 -- a screen that can be sent, with as many cells as its shape has
 pub record CanBeSent (shape : Shape) (screen : Screen) : Type 0 where
@@ -74,10 +69,14 @@ PaintsAScreen (ToTerminal.Note number command) = ⊤
 abbrev pub PaintsAreScreens : World → Type 0
 PaintsAreScreens world = (number : ℕ) → All PaintsAScreen (world.link number).down
 
--- a paint's bytes spell its orders
+-- The bytes are the command for each screen that may have the wanted size, and has it already if the command is a Write.
+abbrev pub IsSpeltFor : WantedScreen → CommandParts → List ℕ → Type 0
+IsSpeltFor wanted command bytes = (now alternate : Shape) → (wanted.size ≡ model_2) ⊎ (wanted.size ≡ alternate) → (command.code ≡ Write → wanted.size ≡ now) → IsCommand now alternate command bytes
+
+-- a paint's bytes spell it
 abbrev pub IsSpelt : ToTerminal → Type 0
 IsSpelt (ToTerminal.TalksDown saying) = ⊤
-IsSpelt (ToTerminal.Paint number wanted over) = IsCommand wanted.size wanted.size (paint (cells_in wanted.size) over wanted) (paint_bytes (cells_in wanted.size) over wanted)
+IsSpelt (ToTerminal.Paint number wanted over) = IsSpeltFor wanted (paint (cells_in wanted.size) over wanted) (paint_bytes (cells_in wanted.size) over wanted)
 IsSpelt (ToTerminal.ReadBuffer number) = ⊤
 IsSpelt (ToTerminal.Note number command) = IsSpeltCommand command
 

@@ -1,5 +1,5 @@
 -- What is known of a connection at each of its moments, for proofs (our profile): the headline's invariant.
-use Rattle.std.specs.Prelude.{◌≡◌, ◌<◌, ⊤, ℕ, Bool, false, List, [], length, Option, Some, None, IsTrue, IsOkAnd}
+use Rattle.std.specs.Prelude.{◌≡◌, ◌<◌, ⊤, ℕ, Bool, false, List, [], length, Option, Some, None, IsTrue, IsOkAnd, true}
 use Rattle.codes3270.specs.Size.{Shape, cells_in}
 use Rattle.codes3270.specs.declared.attention.Aid.TheVariants.{NoAid, Clear}
 use Rattle.datastream.specs.Fields.{fields}
@@ -21,7 +21,7 @@ use Rattle.shadow.specs.Paint.{paint}
 use Rattle.shadow.specs.Taken.{taken}
 use Rattle.tn3270e_msg.specs.Lu.{is_lu}
 use Rattle.tn3270e_msg.specs.Talk.{IsLuIfSome}
-use Rattle.host_core.specs.Application.{Application}
+use Rattle.host_core.specs.Application.{Application, IsSizeOf}
 use Rattle.host_core.specs.Laws.{IsPaintable}
 use Rattle.host_core.specs.NoteLaws.{HasMessageRow, TakesNotes, IsNoteOf}
 use Rattle.host_core.specs.declared.turn_reason.TurnReason.{TurnReason}
@@ -32,7 +32,8 @@ use Rattle.world3270.specs.TurnReasons.{IsOccasion, IsOpenBy, IsOpenFor, IsClear
 use Rattle.world3270.specs.Unreturned.{NotedSince, UnmodifiedIsKept}
 use Rattle.world3270.specs.View.{View}
 
--- what the facts are about: the screen's shape, what the host believes of it and why it acts; the lock, the screen, and its history
+-- what the facts are about: the size that the host set last, what it believes of the screen and why it acts; the lock, the screen, and
+-- its history
 pub record Scene : Type 0 where
   pub shape : Shape
   pub shadow : Shadow
@@ -179,19 +180,31 @@ Fact wanted s (Moment.Talks talking) = IsNew s × TalkFact wanted talking
 Fact wanted s (Moment.Begins lu number command paints over) = IsPainted s command paints over
 Fact wanted s (Moment.Serves lu serving) = ServingFact s serving
 
--- both ends have a screen of one shape, which for now is the one that connections begin with
-pub record SameShape (app : Application) (v : View) : Type 0 where
-  pub begins : v.host.shape ≡ app.begins
-  pub same : v.shape ≡ v.host.shape
+-- a paint is under way: until the terminal takes it its screen may have another size than the host's
+abbrev pub resizes_in : Serving → Bool
+resizes_in (Serving.Painting number command wanted over) = true
+resizes_in _ = false
+
+abbrev pub resizes_at : Moment → Bool
+resizes_at (Moment.Talks talking) = false
+resizes_at (Moment.Begins lu number command wanted over) = true
+resizes_at (Moment.Serves lu serving) = resizes_in serving
+
+-- The size that the host set last, and that of the screen, are sizes that the terminal may have; and they are the same, but at those
+-- moments.
+pub record Sizes (app : Application) (v : View) (moment : Moment) : Type 0 where
+  pub host : IsSizeOf app v.model v.host.shape
+  pub screen : IsSizeOf app v.model v.shape
+  pub same : resizes_at moment ≡ false → v.shape ≡ v.host.shape
 
 -- a connection is at some moment, and this holds at each
 pub record Kept (app : Application) (v : View) : Type 0 where
-  pub shape : SameShape app v
-  pub whole : length v.screen.cells ≡ cells_in v.host.shape
-  pub cursor : v.screen.cursor < cells_in v.host.shape
+  pub whole : length v.screen.cells ≡ cells_in v.shape
+  pub cursor : v.screen.cursor < cells_in v.shape
   pub unreturned : SentFields v.screen.aid → UnmodifiedIsKept v.erased v.last_restored.cells v.screen.cells
   pub exact : FactsAreExact v.host.shadow
   pub wanted : Option (List ℕ)
   pub moment : Moment
+  pub sizes : Sizes app v moment
   pub at : IsAt v wanted moment
   pub fact : Fact wanted (scene_of v) moment

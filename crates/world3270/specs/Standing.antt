@@ -1,6 +1,7 @@
 -- When a world over bytes represents one over messages (our profile): each connection does, and
 -- each terminal has its place.
 use Rattle.std.specs.Prelude.{◌≡◌, ◌≤◌, ⊤, ℕ, Bool, false, List, [], length, Option, Some, None, is_some}
+use Rattle.host_core.specs.Application.{application_of}
 use Rattle.codes3270.specs.Size.{model_2}
 use Rattle.codes3270.specs.declared.size.Model.TheVariants.{M2}
 use Rattle.telnet_wire.specs.Reading.{Rest, nothing}
@@ -10,18 +11,21 @@ use Rattle.term_core.specs.State.{Detached}
 use Rattle.world3270.specs.ByteSteps.{is_lost}
 use Rattle.world3270.specs.ByteWorld.{ByteWorld, Transit, TerminalSlot, under_way, is_live, is_there, new_tracked, transits_at, slot_at, host_there, terminal_at, host_out, out_of, down_of}
 use Rattle.world3270.specs.TrackedTerminals.{TrackedTerminal, of_model_2}
-use Rattle.world3270.specs.Stands.{ByteLink, LinkStands}
+use Rattle.world3270.specs.Stands.{ByteLink, LinkStands, sized}
 use Rattle.world3270.specs.Terminal.{Display}
 use Rattle.world3270.specs.World.{Place, World}
 
 -- ---- a connection of the world over bytes
 
--- the host's state of a connection, and what its decoder holds; for a number that isn't open, those
--- of a new connection
+-- a state that no step reads, for a number that isn't open
+abbrev pub nobodys : Conn
+nobodys = new_conn (application_of (record { start = 0; lus = []; panels = [] }))
+
+-- the host's state of a connection, and what its decoder holds
 abbrev pub conn_of : Service → Conn
-conn_of Service.Free = new_conn model_2
+conn_of Service.Free = nobodys
 conn_of (Service.Open rest conn) = conn
-conn_of (Service.Closed cause) = new_conn model_2
+conn_of (Service.Closed cause) = nobodys
 
 abbrev pub rest_of : Service → Rest
 rest_of Service.Free = nothing
@@ -69,12 +73,11 @@ pub record AreTransits (here : Option ℕ) (number : ℕ) (world : ByteWorld) : 
 
 -- ---- terminals
 
--- a terminal that is alone: it is a model 2 with that screen, keyboard and history, and has nothing to send
+-- a terminal that is alone: it has that screen, keyboard and history, and has nothing to send
 pub record IsAlone (tracked : TrackedTerminal) (display : Display) : Type 0 where
   pub detached : tracked.terminal.link ≡ Detached
   pub silent : tracked.terminal.out ≡ []
-  pub shape : display.shape ≡ model_2
-  pub screen : tracked.terminal.station.screen ≡ of_model_2 display.screen
+  pub screen : tracked.terminal.station.screen ≡ sized display
   pub keyboard : tracked.terminal.station.keyboard ≡ display.keyboard
   pub last_restored : tracked.history.last_restored ≡ display.last_restored
   pub erased : tracked.history.erased ≡ display.erased

@@ -1,14 +1,17 @@
 -- When bytes represent messages: what is under way in each direction spells them, one item each,
 -- and nothing else but NOPs to the terminal (RFC 854; RFC 1647, sections 8.1 and 10.4; what is sent
 -- when is our profile).
-use Rattle.std.specs.Prelude.{◌≡◌, ◌≢◌, ◌<◌, ◌^◌, ◌==◌, not, ℕ, Bool, true, false, List, [], filter, length, Option, Some}
-use Rattle.codes3270.specs.Size.{model_2}
+use Rattle.std.specs.Prelude.{◌≡◌, ◌≢◌, ◌<◌, ◌^◌, ◌==◌, not, ℕ, Bool, true, false, List, [], filter, length, Option, Some, ◌≤◌}
+use Rattle.datastream.specs.declared.command_code.CommandCode.TheVariants.{Write}
+use Rattle.presentation.specs.Sizes.{SizedScreen}
+use Rattle.world3270.specs.Sendable.{IsSpeltFor}
+use Rattle.codes3270.specs.Size.{model_2, Shape, cells_in, most_cells}
 use Rattle.datastream.specs.Grammar.{CommandParts, IsCommand}
 use Rattle.datastream.specs.InboundText.{IsInbound}
 use Rattle.datastream.specs.Meaning.{after_command}
 use Rattle.datastream.specs.Screen.{Screen}
 use Rattle.datastream.specs.Wanted.{WantedScreen}
-use Rattle.shadow.specs.Belief.{Shadow}
+use Rattle.shadow.specs.Belief.{Shadow, cells_believed}
 use Rattle.shadow.specs.Meets.{Meets}
 use Rattle.shadow.specs.Painted.{plainly_painted}
 use Rattle.shadow.specs.Pairs.{Pairwise}
@@ -27,14 +30,16 @@ use Rattle.tn3270e_msg.specs.Talk.{item_of}
 use Rattle.host_core.specs.Session.{Conn}
 use Rattle.world3270.specs.Link.{Link}
 use Rattle.world3270.specs.TrackedTerminals.{TrackedTerminal, ByteEnd, end_at, of_model_2}
-use Rattle.world3270.specs.Terminal.{TermEnd}
+use Rattle.world3270.specs.Terminal.{TermEnd, Display}
 
 -- ---- one item down
 
--- The command is a write that restores, and leaves the wanted screen of every screen that meets what is believed.
+-- The command is a write that restores, and leaves the wanted screen of every screen that meets what is believed. It erases unless what
+-- is believed has the wanted size.
 pub record Paints (command : CommandParts) (wanted : WantedScreen) (believed : Shadow) : Type 0 where
   pub writes : is_restoring_write command ≡ true
   pub size : command.size ≡ wanted.size
+  pub over : command.code ≡ Write → cells_believed believed ≡ Some (cells_in wanted.size)
   pub paints : (screen : Screen) → Meets believed screen
       → after_command command screen ≡ plainly_painted wanted screen
 
@@ -45,7 +50,7 @@ pub record IsPaint (item : WireItem) (number : ℕ) (wanted : WantedScreen) (bel
   pub command : CommandParts
   pub is_record : item ≡ Record bytes
   pub begins : Begins bytes (command_header always_response number) body
-  pub spelt : IsCommand model_2 model_2 command body
+  pub spelt : IsSpeltFor wanted command body
   pub paints : Paints command wanted believed
 
 -- a record that asks for a response where its Read Buffer is refused
@@ -54,15 +59,15 @@ pub record IsRead (item : WireItem) (number : ℕ) : Type 0 where
   pub body : List ℕ
   pub is_record : item ≡ Record bytes
   pub begins : Begins bytes (command_header error_response number) body
-  pub spelt : IsCommand model_2 model_2 (read_buffer_command model_2) body
+  pub spelt : (now alternate : Shape) → cells_in now ≤ most_cells → IsCommand now alternate (read_buffer_command now) body
 
--- a record that asks for a response in any case, with this very write
+-- a record that asks for a response in any case, with this very write, for a screen of its size
 pub record IsNoted (item : WireItem) (number : ℕ) (command : CommandParts) : Type 0 where
   pub bytes : List ℕ
   pub body : List ℕ
   pub is_record : item ≡ Record bytes
   pub begins : Begins bytes (command_header always_response number) body
-  pub spelt : IsCommand model_2 model_2 command body
+  pub spelt : (alternate : Shape) → IsCommand command.size alternate command body
 
 abbrev pub StandsDown : WireItem → ToTerminal → Type 0
 StandsDown item (ToTerminal.TalksDown saying) = item ≡ item_of saying
@@ -131,11 +136,14 @@ pub record ByteLink : Type 0 where
   pub term_here : Option ℕ
   pub tracked : TrackedTerminal
 
--- the terminal is a model 2; talk, screen and keyboard are those of the end, and so is their history
+-- the screen before an operator, with its model and size
+abbrev pub sized : Display → SizedScreen
+sized display = record { model = display.model; size = display.shape; screen = display.screen }
+
+-- talk, screen and keyboard are those of the end, and so is their history
 pub record IsEnd (bytes : ByteEnd) (end : TermEnd) : Type 0 where
-  pub shape_is : end.display.shape ≡ model_2
   pub talk_is : bytes.talk ≡ end.talk
-  pub screen_is : bytes.station.screen ≡ of_model_2 end.display.screen
+  pub screen_is : bytes.station.screen ≡ sized end.display
   pub keyboard_is : bytes.station.keyboard ≡ end.display.keyboard
   pub last_restored_is : bytes.history.last_restored ≡ end.display.last_restored
   pub erased_is : bytes.history.erased ≡ end.display.erased

@@ -1,6 +1,7 @@
 -- What holds of the ends of a connection whose bytes represent messages: a terminal makes of each
 -- item, and of each key, what it makes of it over messages (our profile).
 use Rattle.std.specs.Prelude.{◌≡◌, ⊤, ℕ, Bool, true, false, List, ◌++◌, length, Option, None}
+use Rattle.presentation.specs.Sizes.{HasSize}
 use Rattle.std.specs.List.{AllByRecursion}
 use Rattle.codes3270.specs.Size.{cells_in, model_2}
 use Rattle.datastream.specs.Grammar.{IsCommand}
@@ -22,7 +23,7 @@ use Rattle.term_core.specs.Presses.{key_outcome}
 use Rattle.host_core.specs.KeepAlive.{no_operation}
 use Rattle.host_core.specs.Messages.{ToTerminal}
 use Rattle.host_core.specs.Says.{command_header}
-use Rattle.world3270.specs.Sendable.{CanBeSent}
+use Rattle.world3270.specs.Sendable.{CanBeSent, IsSpeltFor}
 use Rattle.world3270.specs.TrackedTerminals.{TrackedTerminal, ByteEnd, ByteStep, EndTakes, tracked_after_key}
 use Rattle.world3270.specs.Stands.{StandsDown, StandsUp, IsEnd, Holds}
 use Rattle.world3270.specs.Terminal.{TermEnd, TermStep, is_bound, quiet, took, key_came}
@@ -32,7 +33,8 @@ use Rattle.world3270.specs.Terminal.{TermEnd, TermStep, is_bound, quiet, took, k
 -- A record with a paint of the wanted screen represents that paint, if it fits the belief.
 abbrev pub PaintStands : Type 0
 PaintStands = (number : ℕ) (wanted : WantedScreen) (believed : Shadow) (bytes body : List ℕ)
-    → length wanted.cells ≡ cells_in wanted.size → Begins bytes (command_header always_response number) body → IsCommand model_2 model_2 (paint (cells_in wanted.size) believed wanted) body → is_paintable believed wanted ≡ true
+    → length wanted.cells ≡ cells_in wanted.size → Begins bytes (command_header always_response number) body
+    → IsSpeltFor wanted (paint (cells_in wanted.size) believed wanted) body → is_paintable believed wanted ≡ true
     → StandsDown (Record bytes) (ToTerminal.Paint number wanted believed)
 
 -- ---- when a message may come
@@ -52,17 +54,25 @@ abbrev pub NamesWanted : TermState → Option (List ℕ) → Type 0
 NamesWanted Willing wanted = IsLuIfSome wanted
 NamesWanted _ wanted = ⊤
 
--- the screen meets what was believed
-pub record IsBelieved (believed : Shadow) (end : TermEnd) : Type 0 where
+-- the screen meets what was believed, and the wanted size is one that it may have
+pub record MayBePainted (wanted : WantedScreen) (believed : Shadow) (end : TermEnd) : Type 0 where
   pub is_open : IsOpen end.talk.talk.state
   pub meets : Meets believed end.display.screen
+  pub size : HasSize end.display.model wanted.size
+  pub now : HasSize end.display.model end.display.shape
+
+-- the note was written for the size that the screen has
+pub record MayBeNoted (command : CommandParts) (end : TermEnd) : Type 0 where
+  pub is_open : IsOpen end.talk.talk.state
+  pub note : IsNote command
+  pub size : command.size ≡ end.display.shape
 
 -- LUs are named, a paint finds a screen that it paints, and a record a talk that goes on
 abbrev pub MayCome : TermEnd → ToTerminal → Type 0
 MayCome end (ToTerminal.TalksDown saying) = IsSaid saying × NamesWanted end.talk.talk.state end.talk.wanted
-MayCome end (ToTerminal.Paint number wanted believed) = IsBelieved believed end
+MayCome end (ToTerminal.Paint number wanted believed) = MayBePainted wanted believed end
 MayCome end (ToTerminal.ReadBuffer number) = IsOpen end.talk.talk.state
-MayCome end (ToTerminal.Note number command) = IsOpen end.talk.talk.state × IsNote command
+MayCome end (ToTerminal.Note number command) = MayBeNoted command end
 
 -- ---- what a terminal makes of an item
 
@@ -111,7 +121,7 @@ WritesAreMarked = (message : ToTerminal) (item : WireItem) (old : ByteEnd) (end 
 -- The terminal's screen can then be sent, too.
 abbrev pub TakesKeepSendable : Type 0
 TakesKeepSendable = (message : ToTerminal) (item : WireItem) (end : TermEnd)
-    → StandsDown item message → MayCome end message → end.display.shape ≡ model_2
+    → StandsDown item message → MayCome end message
     → CanBeSent end.display.shape end.display.screen → let after = (took end message).end.display in CanBeSent after.shape after.screen
 
 -- ---- what it makes of a key

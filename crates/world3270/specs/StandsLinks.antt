@@ -1,9 +1,11 @@
 -- What holds of queues and connections whose bytes represent messages: a connection over bytes
 -- represents one over messages, whatever happens on it (our profile).
 use Rattle.std.specs.Prelude.{◌≡◌, ◌||◌, ⊤, ℕ, Bool, true, false, List, [], ◌∷◌, ◌++◌, Option, Some, None}
+use Rattle.host_core.specs.Application.{Application, application_of}
+use Rattle.codes3270.specs.declared.size.Model.{Model}
+use Rattle.panels.specs.Panel.{Panels}
 use Rattle.std.specs.List.{AllByRecursion, list_any}
-use Rattle.codes3270.specs.Size.{model_2}
-use Rattle.codes3270.specs.declared.size.Model.TheVariants.{M2}
+use Rattle.codes3270.specs.Size.{model_2, alternate_of}
 use Rattle.world3270.specs.Sendable.{CanBeSent}
 use Rattle.keyboard.specs.declared.key.Key.{Key}
 use Rattle.shadow.specs.Pairs.{Pairwise}
@@ -52,20 +54,21 @@ StandsGoOn {X} spoken Stands = (rest mid : Rest) (bytes behind : List ℕ) (item
 -- ---- a connection at its begin
 
 -- the host has offered TN3270E: DO TN3270E
-abbrev pub begun_bytes : ℕ → Option (List ℕ) → ByteLink
-begun_bytes terminal wanted = record {
+abbrev pub begun_bytes : Panels → Model → ℕ → Option (List ℕ) → ByteLink
+begun_bytes panels model terminal wanted = record {
   lost = false;
   down = 255 ∷ 253 ∷ 40 ∷ [];
   up = [];
   host_here = true;
-  host = new_conn model_2;
+  host = new_conn (application_of panels);
   host_rest = nothing;
   term_here = Some terminal;
-  tracked = newly_tracked M2 wanted;
+  tracked = newly_tracked model wanted;
 }
 
 abbrev pub BeginStands : Type 0
-BeginStands = (terminal : ℕ) (wanted : Option (List ℕ)) → LinkStands (begun_bytes terminal wanted) (begun model_2 terminal wanted)
+BeginStands = (panels : Panels) (model : Model) (terminal : ℕ) (wanted : Option (List ℕ))
+    → LinkStands (begun_bytes panels model terminal wanted) (begun (application_of panels) model terminal wanted)
 
 -- ---- a connection, as its terminal goes on
 
@@ -91,10 +94,15 @@ abbrev pub NoneCloses : TermEnd → List ToTerminal → Type 0
 NoneCloses end [] = ⊤
 NoneCloses end (message ∷ messages) = ((took end message).closes ≡ None) × NoneCloses (took end message).end messages
 
+-- the application's sizes are those of the 3278's models
+pub record HasTheSizes (app : Application) : Type 0 where
+  pub begins : app.begins ≡ model_2
+  pub alternate : (model : Model) → app.alternate model ≡ alternate_of model
+
 -- What comes down may come when it does, and closes nothing, whatever happens in the world.
-abbrev pub WhatComesMayCome : World → Type 0
-WhatComesMayCome world =
-    (number : ℕ) → let link = world.link number in MayComeAll link.term link.down × NoneCloses link.term link.down
+abbrev pub WhatComesMayCome : Application → World → Type 0
+WhatComesMayCome app world =
+    HasTheSizes app → (number : ℕ) → let link = world.link number in MayComeAll link.term link.down × NoneCloses link.term link.down
 
 -- messages come down one by one; `others` stay behind them
 abbrev pub took_down : List ToTerminal → List ToTerminal → Link → Link

@@ -1,7 +1,7 @@
 -- A terminal, over messages: what it makes of what a host sends, and of keys (RFC 1647, sections 7, 8.1 and 10.4; locks are our profile).
 use Rattle.std.specs.Prelude.{◌||◌, ℕ, Bool, true, false, List, [], ◌∷◌, map, Option, Some, None, is_some}
+use Rattle.codes3270.specs.declared.size.Model.{Model}
 use Rattle.codes3270.specs.Size.{Shape, cells_in}
-use Rattle.codes3270.specs.declared.size.Model.TheVariants.{M2}
 use Rattle.datastream.specs.Grammar.{CommandParts}
 use Rattle.datastream.specs.InboundFields.{modified_data, buffer_data}
 use Rattle.datastream.specs.Meaning.{after_command}
@@ -23,9 +23,11 @@ use Rattle.tn3270e_msg.specs.declared.term_talk.TermState.{TermState}
 use Rattle.tn3270e_msg.specs.declared.term_talk.TermState.TheVariants.{Waiting, Willing, TypeAsked, FunctionsAsked, Agreed, Refused as RefusedState, Closed}
 use Rattle.host_core.specs.Messages.{ToTerminal, ToHost, Verdict}
 
--- What the operator has before him, on a screen of some shape. `left` and `erased` are history, which no step reads: the screen just
--- after the terminal last took a write with restore on its latest connection, and whether Erase Input was done since.
+-- What the operator has before him: a terminal of a model, with a screen of a size that the model may have. `last_restored` and `erased`
+-- are history, which no step reads: the screen just after the terminal last took a write with restore on its latest connection, and
+-- whether Erase Input was done since.
 pub record Display : Type 0 where
+  pub model : Model
   pub shape : Shape
   pub screen : Screen
   pub keyboard : Keyboard
@@ -33,17 +35,24 @@ pub record Display : Type 0 where
   pub erased : Bool
 
 -- the screen is blank, and the keyboard waits
-abbrev pub new_display : Shape → Display
-new_display shape =
-    record { shape = shape; screen = blank_screen (cells_in shape); keyboard = fresh; last_restored = blank_screen (cells_in shape); erased = false }
+abbrev pub new_display : Model → Shape → Display
+new_display model shape = record {
+  model = model;
+  shape = shape;
+  screen = blank_screen (cells_in shape);
+  keyboard = fresh;
+  last_restored = blank_screen (cells_in shape);
+  erased = false;
+}
 
--- the end of a connection that a terminal holds, so far of model 2
+-- the end of a connection that a terminal holds
 pub record TermEnd : Type 0 where
   pub talk : Term
   pub display : Display
 
-abbrev pub new_end : Shape → Option (List ℕ) → TermEnd
-new_end shape wanted = record { talk = term_start M2 wanted; display = new_display shape }
+-- of a terminal of this model, on a screen of this size; it wants this LU, if one
+abbrev pub new_end : Model → Shape → Option (List ℕ) → TermEnd
+new_end model shape wanted = record { talk = term_start model wanted; display = new_display model shape }
 
 -- the LU that it is bound to
 abbrev pub bound_to : TermState → Option (List ℕ)
@@ -78,9 +87,10 @@ replied end talked = record { end = with_talk end talked.0; sends = map ToHost.T
 abbrev pub talked : TermEnd → Term → Saying → TermStep
 talked end talk saying = replied end (follow Closed talk.talk (term_transition talk.model talk.wanted talk.talk.state (says saying)))
 
--- the wanted screen is painted, and the keyboard freed
+-- the wanted screen is painted, in its size, and the keyboard freed
 abbrev pub painted : WantedScreen → Display → Display
 painted wanted display = record display {
+  shape = wanted.size;
   screen = plainly_painted wanted display.screen;
   keyboard = freed display.keyboard;
   last_restored = plainly_painted wanted display.screen;

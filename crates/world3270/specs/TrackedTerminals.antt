@@ -16,10 +16,6 @@ use Rattle.term_core.specs.Presses.{after_key, answer_to_key}
 use Rattle.term_core.specs.State.{Station, Terminal, connected}
 use Rattle.world3270.specs.Terminal.{erases_if}
 
--- the screen of a model 2
-abbrev pub of_model_2 : Screen → SizedScreen
-of_model_2 screen = record { model = M2; size = model_2; screen = screen }
-
 -- the screen just after the terminal last took a write with restore on its latest connection, and whether Erase Input was done since
 pub record History : Type 0 where
   pub last_restored : Screen

@@ -1,6 +1,7 @@
 -- What the stages of a session see of a connection, for proofs: what is under way, the host's end,
 -- and the operator's screen.
 use Rattle.std.specs.Prelude.{Bool, List}
+use Rattle.codes3270.specs.declared.size.Model.{Model}
 use Rattle.codes3270.specs.Size.{Shape}
 use Rattle.datastream.specs.Screen.{Screen}
 use Rattle.keyboard.specs.declared.key.Lock.{Lock}
@@ -15,6 +16,7 @@ pub record View : Type 0 where
   pub up : List ToHost
   pub host : Conn
   pub talk : Term
+  pub model : Model
   pub shape : Shape
   pub screen : Screen
   pub lock : Lock
@@ -28,6 +30,7 @@ view_of link = record {
   up = link.up;
   host = link.host;
   talk = link.term.talk;
+  model = link.term.display.model;
   shape = link.term.display.shape;
   screen = link.term.display.screen;
   lock = link.term.display.keyboard.lock;

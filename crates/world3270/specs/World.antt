@@ -1,5 +1,7 @@
 -- The world: a host, its connections, and terminals; and what may happen to them (our profile).
-use Rattle.std.specs.Prelude.{◌==◌, ⊤, ℕ, List, [], ◌∷◌, Option, if◌then◌else◌}
+use Rattle.std.specs.Prelude.{◌==◌, ⊤, ℕ, List, [], ◌∷◌, Option, if◌then◌else◌, length, slice_index_or}
+use Rattle.codes3270.specs.declared.size.Model.TheVariants.{M2}
+use Rattle.codes3270.specs.declared.size.Model.{Model}
 use Rattle.keyboard.specs.declared.key.Key.{Key}
 use Rattle.lu_pool.specs.declared.entry.Entry.{Entry}
 use Rattle.tn3270e_msg.specs.Talk.{IsLuIfSome}
@@ -30,13 +32,18 @@ pub record World : Type 0 where
 abbrev pub link_count : ℕ
 link_count = 64
 
--- a world at its begin: nobody holds an LU, no number is used
-abbrev pub new_world : Application → List Entry → ℕ → World
-new_world app pool terminals = record {
+-- what the operator of a terminal has before him
+abbrev pub display_at : World → Place → Display
+display_at world (Place.At number) = (world.link number).term.display
+display_at world (Place.Alone display) = display
+
+-- a world at its begin, with a terminal of each of these models: nobody holds an LU, no number is used
+abbrev pub new_world : Application → List Entry → List Model → World
+new_world app pool models = record {
   pool = all_free pool;
-  link = λ number. unused app.begins;
-  place = λ number. Place.Alone (new_display app.begins);
-  terminals = terminals;
+  link = λ number. unused app;
+  place = λ terminal. Place.Alone (new_display (slice_index_or models terminal M2) app.begins);
+  terminals = length models;
   causes = [];
   verdicts = [];
 }

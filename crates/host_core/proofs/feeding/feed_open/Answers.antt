@@ -16,5 +16,6 @@ loop-taken-preserved c = record {
   others = others_compose c.args.number c.args.pool.now c.loop-taken.pool c.take_byte.new.pool c.loop-taken.invariant.others c.in_default.ensures.others;
   capacity = omega arith;
   panel = c.in_default.ensures.panel ∙ c.loop-taken.invariant.panel;
+  shape = c.in_default.ensures.shape ∙ c.loop-taken.invariant.shape;
   taken = byte_more c.args.number _ c.args.bytes.now c.loop-taken.taken c.loop-taken.pool c.loop-taken.decoder c.loop-taken.session c.loop-taken.out c.reserve.new.self _ _ (omega arith) c.reserve.ensures.items c.loop-taken.invariant.taken c.in_default.ensures.taken;
 }

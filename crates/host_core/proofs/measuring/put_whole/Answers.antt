@@ -1,8 +1,7 @@
 use Rattle.std.proofs.Common.{false}
-use Rattle.codes3270.specs.Size.{model_2}
-use Rattle.host_core.specs.Acts.{Act}
 use Rattle.host_core.specs.Application.{application_of}
-use Rattle.host_core.specs.Session.{new_conn}
+use Rattle.shadow.specs.Belief.Shadow.{NothingKnown}
+use Rattle.host_core.proofs.Fitting.{whole_paints}
 use Rattle.host_core.proofs.Wanting.{screen_asked}
 use Rattle.host_core.proofs.measuring.put_whole.Goals as goal
 
@@ -13,4 +12,4 @@ returns-clause-wanted c =
 pub returns-clause-fits : goal.returns-clause-fits
 returns-clause-fits c =
     let app = c.panels_are_shown.ensures.application c.args.panels.now c.panels_are_sound.ensures.otherwise c.panels_are_sound.ensures.laid_out c.panels_are_sound.ensures.apart in
-    rw (returns-clause-wanted c) (c.what_is_shown_fits.ensures (application_of c.args.panels.now) (new_conn model_2) (Act.Show c.args.panel c.args.message false c.args.values.now) app).0.fits
+    rw (returns-clause-wanted c) (whole_paints (application_of c.args.panels.now) NothingKnown c.args.panel c.args.values.now c.args.message app).fits

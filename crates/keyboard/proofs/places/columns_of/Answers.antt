@@ -7,10 +7,10 @@ pub returns-clause-some : goal.returns-clause-some
 returns-clause-some c =
     let shape : Shape = c.size-size.result in
     let some : 0 < cells_in shape = rw c.cells-cells.ensures.value at c.cells-cells.ensures.some in
-    rw c.cols.ensures (some_columns shape.rows shape.columns some)
+    rw c.cols.ensures.value (some_columns shape.rows shape.columns some)
 
 pub returns-clause-few : goal.returns-clause-few
 returns-clause-few c =
     let shape : Shape = c.size-size.result in
     let some : 0 < cells_in shape = rw c.cells-cells.ensures.value at c.cells-cells.ensures.some in
-    rw (c.cols.ensures, ← c.size-size.ensures.size) (few_columns shape.rows shape.columns some)
+    rw (c.cols.ensures.value, ← c.size-size.ensures.size) (few_columns shape.rows shape.columns some)

@@ -10,6 +10,6 @@ invariant_of-self c =
       changed_sound c.args.conn c.give_back.new.self c.close.new.self host c.requires.number c.self.invariant.0
           (subst (λ (l : Connection). HoldsJust c.args.conn c.give_back.new.self (lu_of l.service)) (sym c.close.ensures.closed) (gave_none c.args.conn c.self.inside.pool c.give_back.new.self c.give_back.ensures.held))
           (gave_others c.args.conn c.self.inside.pool c.give_back.new.self c.give_back.ensures.held)
-          (subst (λ (l : Connection). IsShown (length host.panels.panels) l.service) (sym c.close.ensures.closed) tt),
+          (subst (λ (l : Connection). IsShown host.panels l.service) (sym c.close.ensures.closed) tt),
       c.self.invariant.1,
     )

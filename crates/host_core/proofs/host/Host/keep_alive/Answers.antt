@@ -13,6 +13,6 @@ invariant_of-self c =
       changed_sound c.args.conn c.self.inside.pool c.keep_alive.new.self host c.requires.number c.self.invariant.0
           (held_here c.args.conn c.keep_alive.new.self c.index_mut.result.now host c.self.invariant.0 got (ap lu_of stays))
           (others_stay c.args.conn c.self.inside.pool)
-          (subst (λ (s : Service). IsShown (length host.panels.panels) s) (sym stays) (shown_here c.args.conn c.index_mut.result.now host c.self.invariant.0 got)),
+          (subst (λ (s : Service). IsShown host.panels s) (sym stays) (shown_here c.args.conn c.index_mut.result.now host c.self.invariant.0 got)),
       c.self.invariant.1,
     )

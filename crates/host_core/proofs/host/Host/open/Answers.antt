@@ -10,7 +10,7 @@ invariant_of-self c =
       changed_sound c.args.conn c.self.inside.pool c.open.new.self host c.requires.number c.self.invariant.0
           (held_here c.args.conn c.open.new.self c.index_mut.result.now host c.self.invariant.0 got
           (c.open.ensures.held ∙ sym (ap lu_of (is_free c.args.conn host c.args.self.now c.index_mut.result.now c.self.view_is got c.requires.free))))
-          (others_stay c.args.conn c.self.inside.pool) (c.open.ensures.shown _ (omega arith)),
+          (others_stay c.args.conn c.self.inside.pool) (c.open.ensures.shown),
       c.self.invariant.1,
     )
 

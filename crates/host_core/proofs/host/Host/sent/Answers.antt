@@ -11,6 +11,6 @@ invariant_of-self c =
       changed_sound c.args.conn c.self.inside.pool c.sent.new.self host c.requires.number c.self.invariant.0
           (held_here c.args.conn c.sent.new.self c.index_mut.result.now host c.self.invariant.0 got (ap (λ (l : Connection). lu_of l.service) c.sent.ensures))
           (others_stay c.args.conn c.self.inside.pool)
-          (subst (λ (l : Connection). IsShown (length host.panels.panels) l.service) (sym c.sent.ensures) (shown_here c.args.conn c.index_mut.result.now host c.self.invariant.0 got)),
+          (subst (λ (l : Connection). IsShown host.panels l.service) (sym c.sent.ensures) (shown_here c.args.conn c.index_mut.result.now host c.self.invariant.0 got)),
       c.self.invariant.1,
     )

@@ -1,9 +1,26 @@
-use Rattle.std.proofs.Common.{◌≡◌, sym, ◌∙◌, ap, subst}
+use Rattle.std.proofs.Common.{◌≡◌, sym, ◌∙◌, ap, subst, Option, None, Some, false}
+use Rattle.codes3270.specs.Size.{cells_in}
+use Rattle.shadow.specs.Belief.{IsOfSize}
+use Rattle.tn3270e_msg.specs.declared.cause.Cause.{Cause}
+use Rattle.std.specs.Prelude.{is_some, IfNone}
 use Rattle.host_core.specs.Keeps.{silent}
 use Rattle.host_core.specs.Session.{Conn}
 use Rattle.host_core.specs.Takes.{believed, hears, once_read}
 use Rattle.host_core.proofs.RecordsTaken.{buffer_believed, buffer_refused}
 use Rattle.host_core.proofs.session.Session.hear_buffer.Goals as goal
+
+-- where it was believed the belief has the size
+none_known : (cause : Option Cause) (P : Type 0) → is_some cause ≡ false → IfNone cause P → P
+none_known None P none known = known
+none_known (Some cause) P none known = absurd (cc)
+
+pub invariant_of-self : goal.invariant_of-self
+invariant_of-self c = (
+  tt,
+  c.self.invariant.1,
+  c.self.invariant.2,
+  subst (λ (conn : Conn). IsOfSize (cells_in conn.shape) conn.shadow) (sym c.self.view_is) (none_known c.believe-cause.result _ c.if-is_none.ensures c.believe-cause.ensures.known),
+)
 
 pub returns-then-is_none-clause-came : goal.returns-then-is_none-clause-came
 returns-then-is_none-clause-came c =

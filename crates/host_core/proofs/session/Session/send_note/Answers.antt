@@ -1,5 +1,6 @@
-use Rattle.std.proofs.Common.{◌++◌, ◌∷◌, [], ℕ, List, ap, refl, arith, ◌∙◌}
-use Rattle.codes3270.specs.Size.{model_2}
+use Rattle.std.proofs.Common.{◌++◌, ◌∷◌, [], ℕ, List, ap, refl, arith, ◌∙◌, subst}
+use Rattle.host_core.specs.Application.{IsShape}
+use Rattle.host_core.specs.Session.{Conn}
 use Rattle.host_core.specs.Notes.{note_command}
 use Rattle.host_core.specs.Says.{written}
 use Rattle.telnet_wire.specs.Items.{Record, sent_bytes}
@@ -9,23 +10,24 @@ use Rattle.host_core.proofs.session.Session.send_note.Goals as goal
 pub send_record-requires : goal.send_record-requires
 send_record-requires c =
     let fits =
-    note_record_fits c.self.inside.next_seq c.args.text.now c.as_slice.result.now
-    (c.as_slice.ensures.value ∙ c.put_note.ensures.appended ∙ ap (λ (bytes : List ℕ). bytes ++ written (note_command model_2 c.args.text.now)) c.begin_record.ensures.begun) in
+    note_record_fits c.self.inside.size c.self.inside.next_seq c.args.text.now c.as_slice.result.now c.put_note.ensures.narrow
+    (c.as_slice.ensures.value ∙ c.put_note.ensures.appended ∙ ap (λ (bytes : List ℕ). bytes ++ written (note_command c.self.inside.size c.args.text.now)) c.begin_record.ensures.begun) in
     omega arith
 
 pub invariant_of-self : goal.invariant_of-self
 invariant_of-self c = (
-  note_is_kept c.self.inside.next_seq c.args.text.now c.put_note.new.bytes.items c.requires.text
-      (c.put_note.ensures.appended ∙ ap (λ (bytes : List ℕ). bytes ++ written (note_command model_2 c.args.text.now)) c.begin_record.ensures.begun),
+  note_is_kept c.self.inside.size c.self.inside.next_seq c.args.text.now c.put_note.new.bytes.items c.put_note.ensures.shape c.requires.text
+      (c.put_note.ensures.appended ∙ ap (λ (bytes : List ℕ). bytes ++ written (note_command c.self.inside.size c.args.text.now)) c.begin_record.ensures.begun),
   omega arith,
   c.self.invariant.2,
-  c.self.invariant.3,
+  rw (← c.self.view_is) at c.requires.known,
 )
 
 pub returns-clause-sent : goal.returns-clause-sent
 returns-clause-sent c =
+    let shaped : IsShape c.args.self.now.shape = subst (λ (conn : Conn). IsShape conn.shape) c.self.view_is c.put_note.ensures.shape in
     note_sent c.args.self.now _ c.args.text.now c.put_note.new.bytes.items c.args.out.now c.send_record.new.out
-    (rw (← c.self.view_is) refl) c.requires.text
-    (rw (← c.self.view_is) (c.put_note.ensures.appended ∙ ap (λ (bytes : List ℕ). bytes ++ written (note_command model_2 c.args.text.now)) c.begin_record.ensures.begun))
+    shaped c.requires.text
+    (rw (← c.self.view_is) (c.put_note.ensures.appended ∙ ap (λ (bytes : List ℕ). bytes ++ written (note_command c.self.inside.size c.args.text.now)) c.begin_record.ensures.begun))
     (rw (← c.self.view_is, c.next_seq-self-inside.ensures) refl)
     (c.send_record.ensures.sent ∙ ap (λ (bytes : List ℕ). c.args.out.now.items ++ sent_bytes (Record bytes ∷ [])) c.as_slice.ensures.value)

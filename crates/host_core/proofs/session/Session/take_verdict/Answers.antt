@@ -1,6 +1,5 @@
-use Rattle.codes3270.specs.Size.{model_2}
 use Rattle.host_core.proofs.RecordsTaken.{write_kept}
 use Rattle.host_core.proofs.session.Session.take_verdict.Goals as goal
 
 pub write_in-command-requires : goal.write_in-command-requires
-write_in-command-requires c = rw c.deref.ensures.value (write_kept model_2 c.self.inside.pending c.self.inside.sent.items c.self.invariant.0 (rw (← c.self.view_is) at c.requires))
+write_in-command-requires c = rw c.deref.ensures.value (write_kept c.self.inside.size c.self.inside.pending c.self.inside.sent.items c.self.invariant.0 (rw (← c.self.view_is) at c.requires))
