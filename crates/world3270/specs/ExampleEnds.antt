@@ -1,6 +1,7 @@
 -- What happens in the example's runs, and what is said of where they are: readers and proofs need it, and nothing rests on it (our
 -- profile).
 use Rattle.std.specs.Prelude.{◌≡◌, ◌∷◌, ◌++◌, ℕ, suc, zero, Bool, List, [], map, filter_map, replicate, Option, None, Some, option_map}
+use Rattle.codes3270.specs.declared.size.Model.TheVariants.{M2}
 use Rattle.codes3270.specs.declared.attention.Aid.{Aid}
 use Rattle.codes3270.specs.declared.attention.Aid.TheVariants.{NoAid}
 use Rattle.codes3270.specs.declared.attribute.Cell.TheVariants.{Char}
@@ -46,7 +47,7 @@ abbrev pub connected : List Event
 connected = connects ++ settle 0
 
 abbrev pub after : List Event → World
-after events = run example events (new_world example example_pool 1)
+after events = run example events (new_world example example_pool (M2 ∷ []))
 
 -- ---- where it ends
 

@@ -1,6 +1,7 @@
 -- A run of the example: the terminal's screen is cleared, then the terminal restarts, then the
 -- host. Readers and proofs need it, and nothing rests on it (our profile).
 use Rattle.std.specs.Prelude.{◌≡◌, true, false, List, [], ◌∷◌, ◌++◌, replicate, Some}
+use Rattle.codes3270.specs.declared.size.Model.TheVariants.{M2}
 use Rattle.codes3270.specs.declared.attention.Aid.TheVariants.{Clear}
 use Rattle.keyboard.specs.declared.key.Key.TheVariants as key
 use Rattle.shadow.specs.Belief.{Shadow}
@@ -45,7 +46,7 @@ back_at_new_host = host_anew ++ Event.TermSees 0 ∷ connected
 
 -- the terminal holds no connection, and its screen is blank
 abbrev pub alone : Place
-alone = Place.Alone (new_display example.begins)
+alone = Place.Alone (new_display M2 example.begins)
 
 -- the host still holds its connection, which holds L1
 abbrev pub host_waits : Apart

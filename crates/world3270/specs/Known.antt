@@ -4,7 +4,7 @@ use Rattle.host_core.specs.Laws.{PanelsAreShown, PanelsAskForScreens}
 use Rattle.shadow.specs.Laws.{PaintIsBounded}
 use Rattle.telnet_wire.specs.Laws.{DeliveriesCompose, DeliveryGoesOn, NothingIsRest, OneDelivery, ReadingNothing, WrongIsFinal}
 use Rattle.tn3270e_msg.specs.Laws.{OneHeader, FaultIsNoHeader}
-use Rattle.world3270.specs.Always.{Always, HeadlineHolds, NobodyRefuses}
+use Rattle.world3270.specs.Always.{Always, HeadlineHolds, NobodyRefuses, AlwaysOf}
 use Rattle.world3270.specs.Forms.{FormsAreAwaited}
 use Rattle.world3270.specs.Given.{Given}
 use Rattle.world3270.specs.Numbers.{NumbersFit}
@@ -24,7 +24,7 @@ pub record KnownWorlds : Type 0 where
   pub up_held : Always UpIsHeld
   pub forms : Always FormsAreAwaited
   pub numbers : Always NumbersFit
-  pub may : Always WhatComesMayCome
+  pub may : AlwaysOf WhatComesMayCome
   pub sendable : AlwaysTyped ScreensAreSendable
   pub paints : AlwaysTyped PaintsAreScreens
   pub spelt : AlwaysTyped PaintsAreSpelt

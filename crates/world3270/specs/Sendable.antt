@@ -4,11 +4,11 @@ use Rattle.std.specs.Prelude.{◌≡◌, ◌≤◌, ◌<◌, ⊤, ℕ, List, len
 use Rattle.datastream.specs.declared.command_code.CommandCode.TheVariants.{Write}
 use Rattle.codes3270.specs.declared.size.Model.{Model}
 use Rattle.codes3270.specs.Size.{Shape, cells_in, model_2}
-use Rattle.datastream.specs.Grammar.{IsCommand, IsSpelt as IsSpeltCommand}
+use Rattle.datastream.specs.Grammar.{IsCommand, IsSpelt as IsSpeltCommand, CommandParts}
 use Rattle.datastream.specs.InboundFields.{IsSendable}
 use Rattle.datastream.specs.InboundText.{IsInbound}
 use Rattle.datastream.specs.Screen.{Screen}
-use Rattle.datastream.specs.Wanted.{IsScreen}
+use Rattle.datastream.specs.Wanted.{IsScreen, WantedScreen}
 use Rattle.keyboard.specs.Sendable.{IsKey}
 use Rattle.lu_pool.specs.Pool.{IsPool}
 use Rattle.lu_pool.specs.declared.entry.Entry.{Entry}

@@ -10,7 +10,7 @@ use Rattle.host_core.specs.State.{Service, Connection, connection_at, service_at
 use Rattle.term_core.specs.State.{Detached}
 use Rattle.world3270.specs.ByteSteps.{is_lost}
 use Rattle.world3270.specs.ByteWorld.{ByteWorld, Transit, TerminalSlot, under_way, is_live, is_there, new_tracked, transits_at, slot_at, host_there, terminal_at, host_out, out_of, down_of}
-use Rattle.world3270.specs.TrackedTerminals.{TrackedTerminal, of_model_2}
+use Rattle.world3270.specs.TrackedTerminals.{TrackedTerminal}
 use Rattle.world3270.specs.Stands.{ByteLink, LinkStands, sized}
 use Rattle.world3270.specs.Terminal.{Display}
 use Rattle.world3270.specs.World.{Place, World}

@@ -29,7 +29,7 @@ use Rattle.host_core.specs.Says.{command_header, read_buffer_command}
 use Rattle.tn3270e_msg.specs.Talk.{item_of}
 use Rattle.host_core.specs.Session.{Conn}
 use Rattle.world3270.specs.Link.{Link}
-use Rattle.world3270.specs.TrackedTerminals.{TrackedTerminal, ByteEnd, end_at, of_model_2}
+use Rattle.world3270.specs.TrackedTerminals.{TrackedTerminal, ByteEnd, end_at}
 use Rattle.world3270.specs.Terminal.{TermEnd, Display}
 
 -- ---- one item down

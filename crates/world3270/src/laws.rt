@@ -1,6 +1,6 @@
 //! Laws of the worlds over messages and over bytes: each is the contract of a function that does nothing. Proofs of
 //! other crates use them; no program calls them, and the root doesn't export them.
-ghost use Rattle.world3270.specs.Always.{Always, HeadlineHolds, NobodyRefuses};
+ghost use Rattle.world3270.specs.Always.{Always, AlwaysOf, HeadlineHolds, NobodyRefuses};
 ghost use Rattle.world3270.specs.Example.{TheRunsEndSo};
 ghost use Rattle.world3270.specs.Forms.{FormsAreAwaited};
 ghost use Rattle.world3270.specs.Given.{Given};
@@ -14,7 +14,7 @@ ghost use Rattle.world3270.specs.OneOutcome.{EventsAreOne, RunsAreOne, StepsAreO
 ghost use Rattle.world3270.specs.Places.{EndsAgree, UpIsHeld, HoldersAreHere, LinksStay, HoldersStay, PoolIsSound};
 ghost use Rattle.world3270.specs.Refines.{BeginIsReached, HeadlineIsSeen, RunsGoOn, SkipsAreThose, StepsGoOn};
 ghost use Rattle.world3270.specs.TrackedTerminals.{HistoryFollows};
-ghost use Rattle.world3270.specs.Sendable.{AlwaysTyped, DataCanBeSpelt, PaintsAreScreens, PaintsAreSpelt, ScreensAreSendable, ScreensKeepTheirShape, ValuesAreTexts};
+ghost use Rattle.world3270.specs.Sendable.{AlwaysTyped, DataCanBeSpelt, PaintsAreScreens, PaintsAreSpelt, ScreensAreSendable, ScreensHaveASize, ValuesAreTexts};
 ghost use Rattle.world3270.specs.Skipped.{SkippedChangesNothing};
 ghost use Rattle.world3270.specs.Stands.{StandsDown, StandsUp, all_items, without_nops};
 ghost use Rattle.world3270.specs.StandsEnds.{NopHasNoEffect, PaintStands, TakesKeepSendable, TermPresses, TermTakes, WritesAreMarked};
@@ -56,7 +56,7 @@ fn what_is_given()
 }
 
 /// Law: the headline. After any list of events on a new world, with any application, any pool of
-/// LUs and up to 16 terminals: no two live sessions have one LU, and where a terminal is bound to
+/// LUs and up to 16 terminals of any models: no two live sessions have one LU, and where a terminal is bound to
 /// one the host's end agreed on that, and its connection holds it in the pool; and whenever the
 /// host holds the turn with its last command answered, the screen is as it believes, and after
 /// Enter or a PF key it has the text of each field that was returned, and each unprotected field
@@ -117,13 +117,13 @@ pub fn numbers_have_15_bits()
     what_is_given();
 }
 
-/// Law: over the same lists each terminal's screen keeps the shape that it began with; and that,
+/// Law: over the same lists each terminal's screen has one of the two sizes of its model; and that,
 /// where keys are those of a keyboard and the application asks for screens of the profile, each
 /// terminal's screen can be sent, all data under way can be spelt, what is painted is such a
 /// screen, each paint and each note under way is spelt by its bytes, and the values that the host
 /// has are characters.
 pub fn screens_can_be_sent()
-    ensures shape { ScreensKeepTheirShape }
+    ensures size { AlwaysOf ScreensHaveASize }
     ensures screens { AlwaysTyped ScreensAreSendable }
     ensures data { AlwaysTyped DataCanBeSpelt }
     ensures paints { AlwaysTyped PaintsAreScreens }
@@ -207,7 +207,7 @@ pub fn bytes_stand_for_messages()
     ensures host_leaves { HostLeaves }
     ensures term_leaves { TermLeaves }
     // In the world each message down may arrive as these steps require.
-    ensures coming { Always WhatComesMayCome }
+    ensures coming { AlwaysOf WhatComesMayCome }
 {
     what_is_given();
     what_is_wanted_is_painted();

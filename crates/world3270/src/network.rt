@@ -1,7 +1,6 @@
 //! The parts of a world: a host, the connections that it serves, and terminals; and how bytes move
 //! between them.
-ghost use Rattle.std.specs.Prelude.{◌≡◌, ◌<◌, ◌≤◌, None, Some, true, false, is_some, length, IfOk, IfSome, replicate, take};
-ghost use Rattle.codes3270.specs.declared.size.Model.TheVariants.{M2};
+ghost use Rattle.std.specs.Prelude.{◌≡◌, ◌<◌, ◌≤◌, None, Some, true, false, is_some, length, IfOk, IfSome, map, replicate, take};
 ghost use Rattle.host_core.specs.Feeds.{Feeds, counter_at, with_counter};
 ghost use Rattle.host_core.specs.State.{most_connections};
 ghost use Rattle.world3270.specs.ByteSteps.{Connects, TrackedFeeds, Steps, answer_acted, answer_fed, answer_pressed, down_came, free_number, has_place, host_gone, host_gone_below, host_gone_if, host_gone_if_there, host_told, is_held, is_link, is_up, lost_transits, terminal_gone, terminal_gone_if, terminal_told, up_came};
@@ -57,13 +56,13 @@ fn unused_links(alloc: Global) -> Result<Vec<Link>, Memory>
     Ok(links)
 }
 
-/// This number of new terminals.
-fn new_slots(alloc: Global, terminals: usize) -> Result<Vec<TerminalSlot>, Memory>
-    ensures { IfOk result (λ slots. slots.items ≡ replicate terminals (new_slot M2)) }
+/// A new terminal of each of these models.
+fn new_slots(alloc: Global, models: &[Model]) -> Result<Vec<TerminalSlot>, Memory>
+    ensures { IfOk result (λ slots. slots.items ≡ map new_slot models.now) }
 {
-    let mut slots = Vec::with_capacity(alloc, terminals)?;
-    for _ in 0..terminals {
-        slots.push(TerminalSlot::new(alloc, Model::M2)?)?;
+    let mut slots = Vec::with_capacity(alloc, models.len())?;
+    for model in models {
+        slots.push(TerminalSlot::new(alloc, *model)?)?;
     }
     Ok(slots)
 }
@@ -133,18 +132,18 @@ fn are_queued(bytes: &[u8], count: usize) -> bool
 }
 
 impl Network {
-    /// A new world with this number of terminals: nobody holds an LU, and no connection was ever
-    /// used.
+    /// A new world with a terminal of each of these models: nobody holds an LU, and no connection was
+    /// ever used.
     pub(crate) fn new(
         alloc: Global,
         panels: PanelSet,
         pool: Pool,
-        terminals: usize,
+        models: &[Model],
     ) -> Result<Network, Memory>
-        ensures { IfOk result (λ network. network ≡ new_byte_world panels pool terminals) }
+        ensures { IfOk result (λ network. network ≡ new_byte_world panels pool models.now) }
     {
         let links = unused_links(alloc)?;
-        let slots = new_slots(alloc, terminals)?;
+        let slots = new_slots(alloc, models)?;
         let host = Host::new(alloc, panels, pool)?;
         Ok(Network { host, links, slots })
     }

@@ -124,7 +124,7 @@ impl TerminalSlot {
         requires number { number < most_connections }
         requires free { phase_of (service_at number host.old) ≡ Phase.Free }
         ensures attached_slot { OnOk result (self.new ≡ attached_slot (model_of self.old.tracked.terminal) wanted number) }
-        ensures opened { OnOk result (host.new ≡ with_connection number opened host.old) }
+        ensures opened { OnOk result (host.new ≡ with_connection number (opened host.old.panels) host.old) }
         ensures unchanged { OnErr result (self.new ≡ self.old) }
         ensures unopened { OnErr result (host.new ≡ host.old) }
     {

@@ -11,6 +11,7 @@ ghost use Rattle.world3270.specs.SeenBytes.{seen_bytes};
 use crate::event::{Event, Ran, Stepped, events_are_real};
 use crate::laws::bytes_follow_messages;
 use crate::network::Network;
+use codes3270::Model as TerminalModel;
 use host_core::Host;
 use lu_pool::Pool;
 use panels::PanelSet;
@@ -53,21 +54,22 @@ fn refused_at(answer: Stepped) -> Option<usize>
 }
 
 impl World {
-    /// A new world, with 1 to 16 terminals: nobody holds an LU, and no connection was ever used.
+    /// A new world, with a terminal of each of these models, 1 to 16: nobody holds an LU, and no
+    /// connection was ever used.
     pub fn new(
         alloc: Global,
         panels: PanelSet,
         pool: Pool,
-        terminals: usize,
+        models: &[TerminalModel],
     ) -> Result<World, Memory>
-        requires { IsTerminalCount terminals }
-        ensures begins { IfOk result (λ world. world ≡ new_byte_world panels pool terminals) }
+        requires { IsTerminalCount (length models.now) }
+        ensures begins { IfOk result (λ world. world ≡ new_byte_world panels pool models.now) }
         ensures headline { IfOk result (λ world. Headline (seen_bytes world)) }
     {
         bytes_follow_messages();
         panels.panels_are_sound();
         pool.lus_are_listed_once();
-        let network = Network::new(alloc, panels, pool, terminals)?;
+        let network = Network::new(alloc, panels, pool, models)?;
         let world = World { network };
         world.headline_holds();
         Ok(world)
